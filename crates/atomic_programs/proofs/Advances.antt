@@ -1,5 +1,5 @@
 -- A machine's step in its place is a step of its hart's program.
-use Rattle.atomic_programs.proofs.Vocabulary.{◌≡◌, ◌<◌, ℕ, Option, Some, None, Bool, true, false, List, refl, sym, ◌∙◌, ap, length, get_or, set, get_or-set_same, get_or-set_other, eqb-true, eqb-false, nat_eq, if◌then◌else◌, Ret, Do, Did, Waits, Ran, Stops, OperationResult, Ended, StillWaits, WentOn, Broke, went, advance, Theory, Began, Refuses, Begins, Start, Step, Refused, is_some, Outcome, WasIdle, DidWait, DidRun, DidEnd, DidStop, WasStopped, changed, UnmarkedProgram, Code, Plain, PlainMade, HartMade, plain_moved, plain_tried, plain_prog, plain_unless, plain_step, plain_begun, plain_start, plain_makes, hart_begun, hart_start, hart_moved, hart_tried, hart_prog, hart_step, put_back, program_at, programs_in}
+use Rattle.atomic_programs.proofs.Vocabulary.{◌≡◌, ◌<◌, ℕ, Option, Some, None, Bool, true, false, List, refl, sym, ◌∙◌, ap, length, get_or, set, get_or-set_same, get_or-set_other, eqb-true, eqb-false, nat_eq, if◌then◌else◌, Ret, Do, ExecResult, Waits, Ran, Stops, OperationResult, Ended, StillWaits, WentOn, Broke, went, advance, Theory, Began, Refuses, Begins, Start, Step, Refused, is_some, Outcome, WasIdle, DidWait, DidRun, DidEnd, DidStop, WasStopped, changed, UnmarkedProgram, Code, Plain, PlainMade, HartMade, plain_moved, plain_tried, plain_prog, plain_unless, plain_step, plain_begun, plain_start, plain_makes, hart_begun, hart_start, hart_moved, hart_tried, hart_prog, hart_step, put_back, program_at, programs_in}
 
 -- one place of the table was set
 pub programs_in-set : {M T : Type 0} (program : M → T) (calls : List (Option M)) (h : ℕ) (x : Option M) → h < length calls
@@ -35,7 +35,7 @@ module _ (L : Theory) (C : Code L) where
     moved_back kind (Ret a) t on = λ i. record { came = DidEnd a; after = record { shared = t; stopped = on i; running = changed s.running h None } }
     moved_back kind (Do op m k) t on = λ i. record { came = DidRun kind; after = record { shared = t; stopped = on i; running = changed s.running h (Some (Do op m k)) } }
 
-    tried_back : (p : UnmarkedProgram L) (op : L.M.Op) (k : L.M.Answer op → UnmarkedProgram L) (x : Did (L.M.Answer op) C.Shared) → s.stopped ≡ false → s.running h ≡ Some p
+    tried_back : (p : UnmarkedProgram L) (op : L.M.Op) (k : L.M.Answer op → UnmarkedProgram L) (x : ExecResult (L.M.Answer op) C.Shared) → s.stopped ≡ false → s.running h ≡ Some p
         → plain_tried L C h s op k x ≡ put_back L C h s (hart_tried L C p s.shared op k x)
     tried_back p op k Waits on e = (λ i. record { came = DidWait; after = record { shared = s.shared; stopped = on i; running = s.running } }) ∙ same (Some p) s.shared false DidWait e
     tried_back p op k (Ran a t) on e = moved_back (C.kind op a) (k a) t on
@@ -82,7 +82,7 @@ module _ (L : Theory) (C : Code L) where
   hart_advances h y t (Ret a) r e = ap (by_moved (Ret a) t) e
   hart_advances h y t (Do op m f) r e = at (C.exec h y op t) ∙ ap (by_moved (Do op m f) t) e
     where
-      at : (x : Did (L.M.Answer op) C.Shared) → hart_tried L C (Do op m f) t op f x ≡ by_moved (Do op m f) t (went op (C.kind op) f x)
+      at : (x : ExecResult (L.M.Answer op) C.Shared) → hart_tried L C (Do op m f) t op f x ≡ by_moved (Do op m f) t (went op (C.kind op) f x)
       at Waits = refl
       at (Ran a u) = refl
       at (Stops u) = refl

@@ -1,10 +1,10 @@
 -- A call's step is the step of its part.
-use Rattle.atomic_programs.proofs.Vocabulary.{◌≡◌, Option, Some, None, refl, sym, ◌∙◌, ap, subst, Prog, Ret, Do, bind, plain, unmarked, asks, advance, Did, OperationResult, WentOn, Machine, P, ActOf, Lower, Handover, Handlers, lowered, moved_to, Stepped, Done, Stopped, Theory, Starts, lowered_calls, Running}
+use Rattle.atomic_programs.proofs.Vocabulary.{◌≡◌, Option, Some, None, refl, sym, ◌∙◌, ap, subst, Prog, Ret, Do, bind, plain, unmarked, asks, advance, ExecResult, OperationResult, WentOn, Machine, P, ActOf, LowerLayer, Handover, Handlers, lowered, moved_to, Stepped, Done, Stopped, Theory, Starts, lowered_calls, Running}
 use Rattle.atomic_programs.specs.declared.machines.Stepped.TheVariants.{Waits, Ran}
 use Rattle.atomic_programs.proofs.Basics.{bind-assoc, plain-bind, advance-bind, moved_bind}
 use Rattle.atomic_programs.specs.Below as layers
 
-module _ (U : Machine) (R : Lower U.World) (handler : Handlers U R) {Heard : Type 0} (answer_to : (op : U.Op) → Heard → U.Answer op) where
+module _ (U : Machine) (R : LowerLayer U.World) (handler : Handlers U R) {Heard : Type 0} (answer_to : (op : U.Op) → Heard → U.Answer op) where
   abbrev below : {A : Type 0} → R.Carry → P U A → Prog R.Op R.Answer ⊥ A
   below = layers.below U R handler answer_to
 
@@ -63,17 +63,17 @@ module _ (U : Machine) (R : Lower U.World) (handler : Handlers U R) {Heard : Typ
 
   -- ---- the step of a call under way
 
-  pub goes_on : {A K S : Type 0} (kind : (op : R.Op) → R.Answer op → K) (exec : (op : R.Op) → S → Did (R.Answer op) S) (q : Part) (p : P U A) (s : S) (op : R.Op) (r : OperationResult K Part S) → asks q ≡ Some op → advance kind exec q s ≡ r
+  pub goes_on : {A K S : Type 0} (kind : (op : R.Op) → R.Answer op → K) (exec : (op : R.Op) → S → ExecResult (R.Answer op) S) (q : Part) (p : P U A) (s : S) (op : R.Op) (r : OperationResult K Part S) → asks q ≡ Some op → advance kind exec q s ≡ r
       → advance kind exec (with_part q p) s ≡ moved_bind kind exec (λ x. below x.carry (hears p x.answer)) r
   goes_on kind exec q p s op r asked e = advance-bind kind exec q (λ x. below x.carry (hears p x.answer)) s op asked ∙ ap (moved_bind kind exec (λ x. below x.carry (hears p x.answer))) e
 
   -- where the part has ended, and the next one began
-  pub begins_next : {A K S : Type 0} (kind : (op : R.Op) → R.Answer op → K) (exec : (op : R.Op) → S → Did (R.Answer op) S) (q q' : Part) (p p' : P U A) (s t : S) (op : R.Op) (next : U.Op) (x : Heard) (c : R.Carry) (k : K) → asks q ≡ Some op
+  pub begins_next : {A K S : Type 0} (kind : (op : R.Op) → R.Answer op → K) (exec : (op : R.Op) → S → ExecResult (R.Answer op) S) (q q' : Part) (p p' : P U A) (s t : S) (op : R.Op) (next : U.Op) (x : Heard) (c : R.Carry) (k : K) → asks q ≡ Some op
       → advance kind exec q s ≡ WentOn k (Ret (record { answer = x; carry = c })) t → hears p x ≡ p' → asks p' ≡ Some next → IsPart c next q' → advance kind exec (with_part q p) s ≡ WentOn k (with_part q' p') t
   begins_next kind exec q q' p p' s t op next x c k asked e heard asks_next is = goes_on kind exec q p s op (WentOn k (Ret (record { answer = x; carry = c })) t) asked e ∙ (λ i. WentOn k (next_begins p p' x c next q' heard asks_next is i) t)
 
   module _ {Control PartOf Handed A B K S : Type 0} (program_of : Control → P U A) (part_of : PartOf → Part) (handed_as : Handed → Handover Heard R.Carry) (reply_of : B → A)
-      (kind : (op : R.Op) → R.Answer op → K) (exec : (op : R.Op) → S → Did (R.Answer op) S) where
+      (kind : (op : R.Op) → R.Answer op → K) (exec : (op : R.Op) → S → ExecResult (R.Answer op) S) where
     abbrev running_of : Running U R handler answer_to Control PartOf → Prog R.Op R.Answer ⊥ A
     running_of r = layers.running_of U R handler answer_to program_of part_of r
 
@@ -100,7 +100,7 @@ module _ (U : Machine) (R : Lower U.World) (handler : Handlers U R) {Heard : Typ
         ∙ goes r.control stepped result t follows
 
 -- what code begins with is what the theory of the lowered calls begins with
-pub starts_so : (T : Theory) (R : Lower T.M.World) (handler : Handlers T.M R) (begin : Starts T R) {Heard : Type 0} (answer_to : (op : T.M.Op) → Heard → T.M.Answer op) (call : T.Call)
+pub starts_so : (T : Theory) (R : LowerLayer T.M.World) (handler : Handlers T.M R) (begin : Starts T R) {Heard : Type 0} (answer_to : (op : T.M.Op) → Heard → T.M.Answer op) (call : T.Call)
     → plain ((lowered_calls T R handler begin).program call) ≡ layers.below T.M R handler answer_to R.none (T.program call)
 starts_so T R handler begin answer_to call = refl
 

@@ -1,5 +1,5 @@
 -- A run with its history, without it, is a run of the code's state.
-use Rattle.atomic_programs.proofs.Vocabulary.{◌≡◌, ℕ, suc, Option, Some, None, Bool, true, false, List, [], ◌∷◌, ◌++◌, refl, sym, ◌∙◌, ap, nat_eq, if◌then◌else◌, Ret, Do, plain, Did, Waits, Ran, Stops, did_in, P, OpWithAnswer, own, onto, Theory, Began, Refuses, Begins, Run, State, Event, Start, Step, Made, changed, is_some, told, all_told, moved, tried, step_prog, step_unless, step_run, begun, busy_in, start_run, makes, next, run, Outcome, outcomes, UnmarkedProgram, Code, IsCode, began_in, Plain, PlainMade, by_kind, plain_moved, plain_tried, plain_prog, plain_unless, plain_step, plain_begun, plain_start, plain_makes, plain_run, plain_outcomes, all_by_kind, prog_of, erase}
+use Rattle.atomic_programs.proofs.Vocabulary.{◌≡◌, ℕ, suc, Option, Some, None, Bool, true, false, List, [], ◌∷◌, ◌++◌, refl, sym, ◌∙◌, ap, nat_eq, if◌then◌else◌, Ret, Do, plain, ExecResult, Waits, Ran, Stops, exec_result_in, P, OpWithAnswer, own, onto, Theory, Began, Refuses, Begins, Run, State, Event, Start, Step, Made, changed, is_some, told, all_told, moved, tried, step_prog, step_unless, step_run, begun, busy_in, start_run, makes, next, run, Outcome, outcomes, UnmarkedProgram, Code, IsCode, began_in, Plain, PlainMade, by_kind, plain_moved, plain_tried, plain_prog, plain_unless, plain_step, plain_begun, plain_start, plain_makes, plain_run, plain_outcomes, all_by_kind, prog_of, erase}
 
 module _ (L : Theory) (C : Code L) where
   -- an event with its history, without it
@@ -38,8 +38,8 @@ module _ (L : Theory) (C : Code L) where
       moved_to : (ℕ → Option (UnmarkedProgram L)) → PlainMade L C
       moved_to f = record { came = by_kind L C (moved L h s r did ps (Do op m k) w).came; after = record { shared = C.shared w; stopped = s.stopped; running = f } }
 
-  erase-tried : (h : ℕ) (s : State L) (r : Run L) (op : L.M.Op) (ps : L.M.Answer op → List (ℕ × L.M.Step)) (k : L.M.Answer op → P L.M L.Reply) (x : Did (L.M.Answer op) L.M.World)
-      → plain_tried L C h (erase L C s) op (λ a. plain (k a)) (did_in C.shared x) ≡ erased (tried L h s r op ps k x)
+  erase-tried : (h : ℕ) (s : State L) (r : Run L) (op : L.M.Op) (ps : L.M.Answer op → List (ℕ × L.M.Step)) (k : L.M.Answer op → P L.M L.Reply) (x : ExecResult (L.M.Answer op) L.M.World)
+      → plain_tried L C h (erase L C s) op (λ a. plain (k a)) (exec_result_in C.shared x) ≡ erased (tried L h s r op ps k x)
   erase-tried h s r op ps k Waits = refl
   erase-tried h s r op ps k (Ran a w) = erase-moved h s r (op, a) (ps a) (k a) w
   erase-tried h s r op ps k (Stops w) = refl

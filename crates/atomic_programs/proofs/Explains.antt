@@ -1,5 +1,5 @@
 -- Over any list of events the replies are explained by the list of steps that the run has made.
-use Rattle.atomic_programs.proofs.Vocabulary.{◌≡◌, ◌≢◌, ℕ, suc, ◌<◌, ◌≤◌, ◌+◌, Option, Some, None, Bool, true, false, List, [], ◌∷◌, refl, sym, ◌∙◌, ap, subst, arith, ◌⊎◌, inl, inr, eqb-true, eqb-false, eq-eqb, ne_eqb, nat_eq, if◌then◌else◌, Ret, Do, Did, Waits, Ran, Stops, asks, OfNext, Machine, P, OpWithAnswer, own, onto, oldest_first, Goes, Grown, Halts, Good, Wp, Theory, Began, Refuses, Begins, IsBeginning, Begun, Ends, Right, Lawful, Run, PlacedStep, FinishedCall, State, Event, Start, Step, DidWait, changed, is_some, start_of, placed, told, all_told, unchanged, moved, tried, step_prog, step_unless, step_run, begun, busy_in, start_run, makes, next, run, fresh, HonestStep, IsHonest, AllHonest, Sound, In, steps_of, IsOfCall, IsBlocked, Holds, IsExplained}
+use Rattle.atomic_programs.proofs.Vocabulary.{◌≡◌, ◌≢◌, ℕ, suc, ◌<◌, ◌≤◌, ◌+◌, Option, Some, None, Bool, true, false, List, [], ◌∷◌, refl, sym, ◌∙◌, ap, subst, arith, ◌⊎◌, inl, inr, eqb-true, eqb-false, eq-eqb, ne_eqb, nat_eq, if◌then◌else◌, Ret, Do, ExecResult, Waits, Ran, Stops, asks, OfNext, Machine, P, OpWithAnswer, own, onto, oldest_first, Goes, Grown, Halts, Good, Wp, Theory, Began, Refuses, Begins, IsBeginning, Begun, Ends, Right, Lawful, Run, PlacedStep, FinishedCall, State, Event, Start, Step, DidWait, changed, is_some, start_of, placed, told, all_told, unchanged, moved, tried, step_prog, step_unless, step_run, begun, busy_in, start_run, makes, next, run, fresh, HonestStep, IsHonest, AllHonest, Sound, In, steps_of, IsOfCall, IsBlocked, Holds, IsExplained}
 use Rattle.atomic_programs.proofs.Sound.{Wp-others, Grown-all}
 use Rattle.atomic_programs.proofs.History.{Chained, Falling, chain_turned, rising_turned, steps_turned, in_history, In-own, steps_of-placed, steps_of-other, steps_of-none, New, In-placed, Falling-more, Falling-placed, Chained-placed, below_of}
 
@@ -472,7 +472,7 @@ Keeps-moved L laws base h s r did ps (Ret reply) w left k st falls wp =
     over3 f (inl i) = subst (λ (u : FinishedCall L). Over L u w (placed L s.now s.running ps s.list) (suc s.now)) (sym i) done
     over3 f (inr i) = over2 L laws base h s r ps w k st f i
 
-pub Keeps-tried : (L : Theory) (laws : Lawful L) (base : L.M.Tree) (h : ℕ) (s : State L) (r : Run L) (op : L.M.Op) (ps : L.M.Answer op → List (ℕ × L.M.Step)) (c : L.M.Answer op → P L.M L.Reply) (wait : Type 0) (x : Did (L.M.Answer op) L.M.World)
+pub Keeps-tried : (L : Theory) (laws : Lawful L) (base : L.M.Tree) (h : ℕ) (s : State L) (r : Run L) (op : L.M.Op) (ps : L.M.Answer op → List (ℕ × L.M.Step)) (c : L.M.Answer op → P L.M L.Reply) (wait : Type 0) (x : ExecResult (L.M.Answer op) L.M.World)
     → (e : s.running h ≡ Some r) → s.stopped ≡ false → (k : Keeps L base s)
     → Good L.M (L.M.Answer op) h ps (L.M.more op) (k.going h r e).left (Begun L r.call) r.done s.world wait x (λ l a u. Wp L.M h (Begun L r.call) (Ends L h r.call) (c a) l (onto (own h (ps a)) r.done) u) → Keeps L base (tried L h s r op ps c x).after
 Keeps-tried L laws base h s r op ps c wait Waits e y k g = Keeps-unchanged L base s k
@@ -527,7 +527,7 @@ may_make L laws base s k h r y e = at r.prog ((k.going h r e).wp y)
 
 -- a step waits only where it may
 module _ (L : Theory) (laws : Lawful L) (base : L.M.Tree) (s : State L) (k : Keeps L base s) (h : ℕ) (x : L.M.Outside) where
-  wait_tried : (r : Run L) (op : L.M.Op) (m : L.M.Answer op → Option L.M.Mark) (c : L.M.Answer op → P L.M L.Reply) (d : Did (L.M.Answer op) L.M.World)
+  wait_tried : (r : Run L) (op : L.M.Op) (m : L.M.Answer op → Option L.M.Mark) (c : L.M.Answer op → P L.M L.Reply) (d : ExecResult (L.M.Answer op) L.M.World)
       → s.running h ≡ Some r → r.prog ≡ Do op m c → s.stopped ≡ false → L.M.Honest h op s.world x → L.M.go h x op m s.world ≡ d
       → (tried L h s r op (λ a. L.M.places h op a (m a) s.world) c d).came ≡ DidWait → IsBlocked L h s
   wait_tried r op m c Waits e is y t none w =
@@ -540,7 +540,7 @@ module _ (L : Theory) (laws : Lawful L) (base : L.M.Tree) (s : State L) (k : Kee
         rest = c;
         is = e;
         asks = is;
-        may = subst (λ (d : Did (L.M.Answer op) L.M.World). Good L.M (L.M.Answer op) h (λ a. L.M.places h op a (m a) s.world) (L.M.more op) g.left (Begun L r.call) r.done s.world (L.M.MayWait h op s.world) d (λ l a u. Wp L.M h (Begun L r.call) (Ends L h r.call) (c a) l (onto (own h (L.M.places h op a (m a) s.world)) r.done) u)) none
+        may = subst (λ (d : ExecResult (L.M.Answer op) L.M.World). Good L.M (L.M.Answer op) h (λ a. L.M.places h op a (m a) s.world) (L.M.more op) g.left (Begun L r.call) r.done s.world (L.M.MayWait h op s.world) d (λ l a u. Wp L.M h (Begun L r.call) (Ends L h r.call) (c a) l (onto (own h (L.M.places h op a (m a) s.world)) r.done) u)) none
             ((wp s.world [] (laws.laws.same h s.world) (inv_of L s.stopped s.world k.holds y)).2 x t);
       }
   wait_tried r op m c (Ran a u) e is y t none w = absurd (wait_moved (c a) w)

@@ -1,5 +1,5 @@
 -- A block is taken by two puts below, in one step above.
-use Rattle.atomic_programs.proofs.Vocabulary.{◌≡◌, ◌≢◌, ◌<◌, ◌≤◌, ◌+◌, ◌⊎◌, inl, inr, ℕ, suc, zero, Bool, true, false, if◌then◌else◌, Option, Some, None, List, [], refl, sym, ◌∙◌, ap, subst, arith, Ret, Do, unmarked, Did, Waits, Ran, Stops, did_in, Machine, Fine, Good, Wp, Safe, Laws, Began, Begins, Begun, Ends, Right, Lawful, Event, AllHonest, run, fresh, IsExplained, IsCore, operations, operations_of, IsCode, BeginsBoth, StartsBoth, Lasts, Both, joined, LowerLaws, Below, Atomic, put, if_held, Above, Hold, Grab, Picks, hold_if, grabbed, exec_above, Kept, grabs, GetBits, PutBits, Zero, bits_if, lock_of, holder, TiedAt, low, first, grab_at, LowOp, low_may, grabs_above, rest, shared_of, lock_in, bits_in, exec_code, may_code, grabs_part, grabs_code}
+use Rattle.atomic_programs.proofs.Vocabulary.{◌≡◌, ◌≢◌, ◌<◌, ◌≤◌, ◌+◌, ◌⊎◌, inl, inr, ℕ, suc, zero, Bool, true, false, if◌then◌else◌, Option, Some, None, List, [], refl, sym, ◌∙◌, ap, subst, arith, Ret, Do, unmarked, ExecResult, Waits, Ran, Stops, exec_result_in, Machine, Fine, Good, Wp, Safe, Laws, Began, Begins, Begun, Ends, Right, Lawful, Event, AllHonest, run, fresh, IsExplained, IsCore, operations, operations_of, IsCode, BeginsBoth, StartsBoth, Lasts, Both, joined, LowerLaws, Below, Atomic, put, if_held, Above, Hold, Grab, Picks, hold_if, grabbed, exec_above, Kept, grabs, GetBits, PutBits, Zero, bits_if, lock_of, holder, TiedAt, low, first, grab_at, LowOp, low_may, grabs_above, rest, shared_of, lock_in, bits_in, exec_code, may_code, grabs_part, grabs_code}
 use Rattle.atomic_programs.proofs.Basics.{s-op, operations_laws, operations_below, refined, is_code_part, Wp-holding, Here, Silent, s-silent, ToAct, to_act, acted, Acting, s-act, put_same, put_other, put_elim, same_or, Ours, ours_none, ours_some, not_held, held_is, held_here, none_is, not_mine, ours_is, ours_put, put_like}
 use Rattle.atomic_programs.specs.Grab.{Op, Drop, Answer, machine, core, World, Lock, Unlock, lock_if, IsOut, Shows, Same, Base, handler, exec}
 
@@ -488,7 +488,7 @@ is_core =
       some = some;
     }
   where
-    same : {A S : Type 0} (x : Did A S) → did_in (λ (w : S). w) x ≡ x
+    same : {A S : Type 0} (x : ExecResult A S) → exec_result_in (λ (w : S). w) x ≡ x
     same Waits = refl
     same (Ran a w) = refl
     same (Stops w) = refl
@@ -523,16 +523,16 @@ grabs_are_code =
     is_code_part (operations_of grabs core) low handler (λ h i busy r. Begins r) grabs_part LowOp (λ op a. op)
     (record { goes = goes; may = may; honest = λ h op w x y. tt; starts = λ h i busy w. refl })
   where
-    goes : (h : ℕ) (x : Unit {0}) (op : LowOp) (w : World) → exec_code h x op (shared_of w) ≡ did_in shared_of (exec h x op w)
+    goes : (h : ℕ) (x : Unit {0}) (op : LowOp) (w : World) → exec_code h x op (shared_of w) ≡ exec_result_in shared_of (exec h x op w)
     goes h x (Lock i) w = at (w.lock i)
       where
-        at : (o : Option ℕ) → lock_in h i (shared_of w) o ≡ did_in shared_of (lock_if h i w o)
+        at : (o : Option ℕ) → lock_in h i (shared_of w) o ≡ exec_result_in shared_of (lock_if h i w o)
         at None = refl
         at (Some g) = refl
     goes h x (Unlock i) w = refl
     goes h x GetBits w = at w.bits_out
       where
-        at : (o : Option ℕ) → bits_in h (shared_of w) o ≡ did_in shared_of (bits_if h w o)
+        at : (o : Option ℕ) → bits_in h (shared_of w) o ≡ exec_result_in shared_of (bits_if h w o)
         at None = refl
         at (Some g) = refl
     goes h x (PutBits None) w = refl

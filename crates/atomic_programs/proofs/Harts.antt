@@ -1,5 +1,5 @@
 -- The example's code is the theory's.
-use Rattle.atomic_programs.proofs.Vocabulary.{◌≡◌, ℕ, Option, Some, Bool, true, false, List, [], ◌∷◌, ◌++◌, refl, ap, nat_lt, Did, Waits, Ran, Stops, did_in, Began, DidRun, IsCode, began_in, hart_moved, Cell, Refusal, with_value, begin_if, fits, exec, swaps, machine_of, event_of, events_of, outcome_of, outcomes_of, code, Kind}
+use Rattle.atomic_programs.proofs.Vocabulary.{◌≡◌, ℕ, Option, Some, Bool, true, false, List, [], ◌∷◌, ◌++◌, refl, ap, nat_lt, ExecResult, Waits, Ran, Stops, exec_result_in, Began, DidRun, IsCode, began_in, hart_moved, Cell, Refusal, with_value, begin_if, fits, exec, swaps, machine_of, event_of, events_of, outcome_of, outcomes_of, code, CellKind}
 use Rattle.atomic_programs.specs.Calls as calls
 use Rattle.atomic_programs.specs.Cell.{World}
 use Rattle.atomic_programs.specs.Cell as cell
@@ -19,7 +19,7 @@ is_code =
       starts = λ h call busy w. starts (nat_lt h 8) (fits call) w;
     }
   where
-    goes : {A : Type 0} (m : A → Option cell.Step) (t : ℕ) (x : Did A Cell) → x ≡ did_in (λ (w : World). w.cell) (with_value m t x)
+    goes : {A : Type 0} (m : A → Option cell.Step) (t : ℕ) (x : ExecResult A Cell) → x ≡ exec_result_in (λ (w : World). w.cell) (with_value m t x)
     goes m t Waits = refl
     goes m t (Ran a c) = refl
     goes m t (Stops c) = refl
@@ -30,7 +30,7 @@ is_code =
     starts true true w = refl
 
 -- a machine that is left has an operation to make
-pub goes_on : (m : Machine) (kind : Kind) (c : Cell) → hart_moved swaps code false kind (machine_of m) c ≡ record { came = DidRun kind; left = Some (machine_of m); shared = c; stopped = false }
+pub goes_on : (m : Machine) (kind : CellKind) (c : Cell) → hart_moved swaps code false kind (machine_of m) c ≡ record { came = DidRun kind; left = Some (machine_of m); shared = c; stopped = false }
 goes_on (MachineAt.SwapOpen n OpenAt.Take) kind c = refl
 goes_on (MachineAt.SwapOpen n (OpenAt.Fetch key)) kind c = refl
 goes_on (MachineAt.Store n old key) kind c = refl
@@ -44,4 +44,4 @@ events_more (x ∷ es) e = ap (λ (z : List (calls.Event cell.Call (Unit {0}))).
 
 pub outcomes_more : (os : List Outcome) (o : Outcome) → outcomes_of (os ++ o ∷ []) ≡ outcomes_of os ++ outcome_of o ∷ []
 outcomes_more [] o = refl
-outcomes_more (x ∷ os) o = ap (λ (z : List (calls.Outcome Kind ℕ Refusal)). outcome_of x ∷ z) (outcomes_more os o)
+outcomes_more (x ∷ os) o = ap (λ (z : List (calls.Outcome CellKind ℕ Refusal)). outcome_of x ∷ z) (outcomes_more os o)

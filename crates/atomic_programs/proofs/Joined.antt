@@ -1,8 +1,8 @@
 -- The rules of two machines as one.
-use Rattle.atomic_programs.proofs.Vocabulary.{◌≤◌, length, None, ◌≡◌, ◌≢◌, ◌<◌, ◌+◌, ◌-◌, ℕ, suc, Option, Some, List, [], ◌∷◌, refl, sym, subst, arith, inl, Ret, Do, bind, once, unmarked, Did, Waits, Ran, Stops, Machine, P, PlacesOne, own, onto, Goes, placed_with, Grown, Fine, Good, Wp, Laws, Uses, Lifts, Budget, Affords, AtomicWithin, Lasts, ActOf, Lower, Both, ran_to, placed_at, both, joined, LowerLaws, Handover, holding, Handlers, lowered, Below, AtEnd, Atomic}
+use Rattle.atomic_programs.proofs.Vocabulary.{◌≤◌, length, None, ◌≡◌, ◌≢◌, ◌<◌, ◌+◌, ◌-◌, ℕ, suc, Option, Some, List, [], ◌∷◌, refl, sym, subst, arith, inl, Ret, Do, bind, once, unmarked, ExecResult, Waits, Ran, Stops, Machine, P, PlacesOne, own, onto, Goes, placed_with, Grown, Fine, Good, Wp, Laws, Uses, Lifts, Budget, Affords, AtomicWithin, Lasts, ActOf, LowerLayer, Both, ran_to, placed_at, both, joined, LowerLaws, Handover, holding, Handlers, lowered, Below, AtEnd, Atomic}
 use Rattle.atomic_programs.proofs.Sound.{Wp-weaker, Wp-more, Wp-bind, Wp-others}
 
-pub joined_laws : (U : Machine) (R : Lower U.World) → Laws U → LowerLaws U R → Laws (joined U R)
+pub joined_laws : (U : Machine) (R : LowerLayer U.World) → Laws U → LowerLaws U R → Laws (joined U R)
 joined_laws U R above below =
     record {
       same = λ h w. (below.same h w.real, above.same h w.seen);
@@ -12,16 +12,16 @@ joined_laws U R above below =
       clean_before = λ h v w xs o y. above.clean_before h v.seen w.seen xs o.1 y;
     }
 
-goes_below : (U : Machine) (R : Lower U.World) (t : U.Tree) (ps : List (ℕ × U.Step)) (u : U.Tree) → Goes U t ps u → Goes (joined U R) t ps u
+goes_below : (U : Machine) (R : LowerLayer U.World) (t : U.Tree) (ps : List (ℕ × U.Step)) (u : U.Tree) → Goes U t ps u → Goes (joined U R) t ps u
 goes_below U R t [] u g = g
 goes_below U R t (p ∷ ps) u g = (g.0, g.1, goes_below U R g.0 ps u g.2)
 
 -- a step below places what the operation that it acts for places, or nothing
-pub joined_places_one : (U : Machine) (R : Lower U.World) → PlacesOne U → PlacesOne (joined U R)
+pub joined_places_one : (U : Machine) (R : LowerLayer U.World) → PlacesOne U → PlacesOne (joined U R)
 joined_places_one U R one h op a None w inv = omega arith
 joined_places_one U R one h op a (Some t) w inv = at (U.go h t.outside t.op t.mark w.seen)
   where
-    at : (d : Did (U.Answer t.op) U.World) → length (own h (placed_at (placed_with U h t.op t.mark w.seen) d)) ≤ 1
+    at : (d : ExecResult (U.Answer t.op) U.World) → length (own h (placed_at (placed_with U h t.op t.mark w.seen) d)) ≤ 1
     at Waits = omega arith
     at (Ran b u) = one h t.op b (t.mark b) w.seen inv.1
     at (Stops u) = omega arith
@@ -34,7 +34,7 @@ grows L h (Do op m k) B Q n fs xs v u lasts o i g y = (g u xs o i).0 y
 
 -- What holds of a program above holds of the lowered one, in as many steps, where the program of each operation that it makes acts at one moment, and the
 -- program can afford it.
-pub lift_within : (U : Machine) (R : Lower U.World) (handler : Handlers U R) (laws : Laws U) (h : ℕ) (b : Budget U) (Has : R.World → b.Spent → Type 0) {A : Type 0} (p : P U A) → Uses U (AtomicWithin U R handler b Has h) p
+pub lift_within : (U : Machine) (R : LowerLayer U.World) (handler : Handlers U R) (laws : Laws U) (h : ℕ) (b : Budget U) (Has : R.World → b.Spent → Type 0) {A : Type 0} (p : P U A) → Uses U (AtomicWithin U R handler b Has h) p
     → (s : b.Spent) → Affords U b s p → (c : R.Carry) → Lifts U R handler h c (λ w. Has w.real s) p
 lift_within U R handler laws h b Has (Ret a) used s affords c B Q lasts n es w has g base inv = (g, inv, (c, base))
 lift_within U R handler laws h b Has {A} (Do op m k) used s affords c B Q lasts n es w has g base inv =
@@ -56,7 +56,7 @@ lift_within U R handler laws h b Has {A} (Do op m k) used s affords c B Q lasts 
     enough : U.more op < n
     enough = (g w.seen [] (laws.same h w.seen) inv).3
 
-    one : (v : U.World) (fs : List U.Step) (r : Did (U.Answer op) U.World)
+    one : (v : U.World) (fs : List U.Step) (r : ExecResult (U.Answer op) U.World)
         → Good U (U.Answer op) h (placed_with U h op m v) (U.more op) n B fs v (U.MayWait h op v) r (λ l a u. Wp U h B Q (k a) l (onto (own h (U.places h op a (m a) v)) fs) u)
         → Good U (U.Answer op) h (placed_with U h op m v) (U.more op) (suc (U.more op)) B fs v (U.MayWait h op v) r (λ l a u. C a (onto (own h (U.places h op a (m a) v)) fs) u)
     one v fs Waits q = q
@@ -86,7 +86,7 @@ pub uses_so : (U : Machine) (Is So : (op : U.Op) → (U.Answer op → Option U.M
 uses_so U Is So (Ret a) so uses = tt
 uses_so U Is So (Do op m k) so uses = (so op m uses.0, λ a. uses_so U Is So (k a) so (uses.1 a))
 
-pub lift_using : (U : Machine) (R : Lower U.World) (handler : Handlers U R) (laws : Laws U) (h : ℕ) {A : Type 0} (p : P U A) → Uses U (Atomic U R handler h) p → (c : R.Carry) → Lifts U R handler h c (λ w. Unit {0}) p
+pub lift_using : (U : Machine) (R : LowerLayer U.World) (handler : Handlers U R) (laws : Laws U) (h : ℕ) {A : Type 0} (p : P U A) → Uses U (Atomic U R handler h) p → (c : R.Carry) → Lifts U R handler h c (λ w. Unit {0}) p
 lift_using U R handler laws h p used c B Q lasts n es w from g base inv =
     lift_within U R handler laws h (free U) (λ r s. Unit {0}) p
     (uses_so U (Atomic U R handler h) (AtomicWithin U R handler (free U) (λ r s. Unit {0}) h) p
@@ -99,7 +99,7 @@ uses_all U Is (Ret a) all = tt
 uses_all U Is (Do op m k) all = (all op m, λ a. uses_all U Is (k a) all)
 
 -- any program, where all operations' programs do
-pub lift : (U : Machine) (R : Lower U.World) (handler : Handlers U R) (laws : Laws U) (h : ℕ) (atomic : (op : U.Op) (m : U.Answer op → Option U.Mark) → Atomic U R handler h op m) {A : Type 0} (p : P U A) (c : R.Carry) → Lifts U R handler h c (λ w. Unit {0}) p
+pub lift : (U : Machine) (R : LowerLayer U.World) (handler : Handlers U R) (laws : Laws U) (h : ℕ) (atomic : (op : U.Op) (m : U.Answer op → Option U.Mark) → Atomic U R handler h op m) {A : Type 0} (p : P U A) (c : R.Carry) → Lifts U R handler h c (λ w. Unit {0}) p
 lift U R handler laws h atomic p c = lift_using U R handler laws h p (uses_all U (Atomic U R handler h) p atomic) c
 
 -- a program that hands on what it was handed
@@ -108,7 +108,7 @@ pub Wp-holding : (L : Machine) {A C : Type 0} (h : ℕ) (c : C) (p : P L A) (B :
 Wp-holding L {A} {C} h c p B Q n es w g =
     Wp-more L h (holding c p) B Q (n + 0) n es w (omega arith) (Wp-bind L h p (λ a. Ret (record { answer = a; carry = c })) B Q n 0 es w g)
 
-module _ (U : Machine) (R : Lower U.World) (above : Laws U) (below : LowerLaws U R) (h : ℕ) (B : List U.Step → Type 0) where
+module _ (U : Machine) (R : LowerLayer U.World) (above : Laws U) (below : LowerLaws U R) (h : ℕ) (B : List U.Step → Type 0) where
   -- what lasts while the others step
   abbrev pub Stable : (List U.Step → U.World → Type 0) → Type 0
   Stable G = (fs xs : List U.Step) (g u : U.World) → U.Others h g xs u → U.Inv u → G fs g → (U.Clean u → Grown B xs fs) × G (onto xs fs) u
@@ -135,12 +135,12 @@ module _ (U : Machine) (R : Lower U.World) (above : Laws U) (below : LowerLaws U
       (next.0, r.0, r.1, omega arith)
 
   -- A silent step: the world above stays as it is.
-  abbrev pub Silent : {A : Type 0} → Both R.World U.World → Type 0 → Did A R.World → (A → R.World → Type 0) → Type 0
+  abbrev pub Silent : {A : Type 0} → Both R.World U.World → Type 0 → ExecResult A R.World → (A → R.World → Type 0) → Type 0
   Silent v wait Waits N = wait
   Silent v wait (Ran a r) N = R.Shows r v.seen × ((g : ℕ) → g ≢ h → R.Same g v.real r) × N a r
   Silent v wait (Stops r) N = R.Halted r v.seen × ((g : ℕ) → g ≢ h → R.Same g v.real r)
 
-  silent_good : {A : Type 0} (v : Both R.World U.World) (wait : Type 0) (r : Did A R.World) (n : ℕ) (fs : List U.Step) (N : ℕ → A → Both R.World U.World → Type 0)
+  silent_good : {A : Type 0} (v : Both R.World U.World) (wait : Type 0) (r : ExecResult A R.World) (n : ℕ) (fs : List U.Step) (N : ℕ → A → Both R.World U.World → Type 0)
       → U.Inv v.seen → Silent v wait r (λ a u. N n a (record { real = u; seen = v.seen })) → Good (joined U R) A h (λ a. []) 0 (suc n) B fs v wait (both U h unmarked v.seen r) N
   silent_good v wait Waits n fs N inv g = g
   silent_good v wait (Ran a r) n fs N inv g =
@@ -184,18 +184,18 @@ module _ (U : Machine) (R : Lower U.World) (above : Laws U) (below : LowerLaws U
     act y a = Some (record { op = op; outside = y; mark = m })
 
     -- The acting step: the world above goes on as the operation alone does, to b and g.
-    abbrev pub Acting : {A : Type 0} → U.Outside → Both R.World U.World → Type 0 → Did A R.World → (A → U.Answer op → R.World → U.World → Type 0) → Type 0
+    abbrev pub Acting : {A : Type 0} → U.Outside → Both R.World U.World → Type 0 → ExecResult A R.World → (A → U.Answer op → R.World → U.World → Type 0) → Type 0
     Acting y v wait Waits N = wait
     Acting y v wait (Ran a r) N = (b : U.Answer op) × (g : U.World) × (U.go h y op m v.seen ≡ Ran b g) × U.Honest h op v.seen y × (U.Inv g → R.Shows r g) × ((other : ℕ) → other ≢ h → R.Same other v.real r) × N a b r g
     Acting y v wait (Stops r) N = R.Halted r v.seen × ((g : ℕ) → g ≢ h → R.Same g v.real r)
 
-    act_fine : (y : U.Outside) (v : Both R.World U.World) (r : R.World) (n : ℕ) (fs : List U.Step) (Next : List U.Step → Both R.World U.World → Type 0) (b : U.Answer op) (g : U.World) (d : Did (U.Answer op) U.World) → d ≡ Ran b g
+    act_fine : (y : U.Outside) (v : Both R.World U.World) (r : R.World) (n : ℕ) (fs : List U.Step) (Next : List U.Step → Both R.World U.World → Type 0) (b : U.Answer op) (g : U.World) (d : ExecResult (U.Answer op) U.World) → d ≡ Ran b g
         → Fine U h (U.places h op b (m b) v.seen) (U.more op) (suc (U.more op)) B fs v.seen g (λ l. C b (onto (own h (U.places h op b (m b) v.seen)) fs) g)
         → (U.Inv g → R.Shows r g) → ((other : ℕ) → other ≢ h → R.Same other v.real r)
         → ((gs : List U.Step) → U.Inv g → C b gs g → Next gs (record { real = r; seen = g }))
         → Fine (joined U R) h (placed_at (placed_with U h op m v.seen) d) 0 (suc n) B fs v (record { real = r; seen = ran_to v.seen d }) (λ l. (l ≡ n) × Next (onto (own h (placed_at (placed_with U h op m v.seen) d)) fs) (record { real = r; seen = ran_to v.seen d }))
     act_fine y v r n fs Next b g d is f shows others then_ =
-        subst (λ (z : Did (U.Answer op) U.World). Fine (joined U R) h (placed_at (placed_with U h op m v.seen) z) 0 (suc n) B fs v (record { real = r; seen = ran_to v.seen z }) (λ l. (l ≡ n) × Next (onto (own h (placed_at (placed_with U h op m v.seen) z)) fs) (record { real = r; seen = ran_to v.seen z }))) (sym is)
+        subst (λ (z : ExecResult (U.Answer op) U.World). Fine (joined U R) h (placed_at (placed_with U h op m v.seen) z) 0 (suc n) B fs v (record { real = r; seen = ran_to v.seen z }) (λ l. (l ≡ n) × Next (onto (own h (placed_at (placed_with U h op m v.seen) z)) fs) (record { real = r; seen = ran_to v.seen z }))) (sym is)
         (record {
           inv = (shows f.inv, f.inv);
           kept = λ other ne. (others other ne, f.kept other ne);
@@ -207,12 +207,12 @@ module _ (U : Machine) (R : Lower U.World) (above : Laws U) (below : LowerLaws U
           next = (refl, then_ (onto (own h (U.places h op b (m b) v.seen)) fs) f.inv f.next);
         })
 
-    act_good : {A : Type 0} (y : U.Outside) (v : Both R.World U.World) (wait : Type 0) (r : Did A R.World) (n : ℕ) (fs : List U.Step) (N : ℕ → A → List U.Step → Both R.World U.World → Type 0)
+    act_good : {A : Type 0} (y : U.Outside) (v : Both R.World U.World) (wait : Type 0) (r : ExecResult A R.World) (n : ℕ) (fs : List U.Step) (N : ℕ → A → List U.Step → Both R.World U.World → Type 0)
         → U.Inv v.seen → ToAct fs v.seen → Acting y v wait r (λ a b u g. (gs : List U.Step) → U.Inv g → C b gs g → N n a gs (record { real = u; seen = g }))
         → Good (joined U R) A h (λ a. placed_at (placed_with U h op m v.seen) (U.go h y op m v.seen)) 0 (suc n) B fs v wait (both U h (act y) v.seen r) (λ l a u. N l a (onto (own h (placed_at (placed_with U h op m v.seen) (U.go h y op m v.seen))) fs) u)
     act_good y v wait Waits n fs N inv t g = g
     act_good {A} y v wait (Ran a r) n fs N inv t g =
-        let fine = subst (λ (z : Did (U.Answer op) U.World). Good U (U.Answer op) h (placed_with U h op m v.seen) (U.more op) (suc (U.more op)) B fs v.seen (U.MayWait h op v.seen) z (λ l c u. C c (onto (own h (U.places h op c (m c) v.seen)) fs) u)) g.2 ((t v.seen [] (above.same h v.seen) inv).2 y g.3) in
+        let fine = subst (λ (z : ExecResult (U.Answer op) U.World). Good U (U.Answer op) h (placed_with U h op m v.seen) (U.more op) (suc (U.more op)) B fs v.seen (U.MayWait h op v.seen) z (λ l c u. C c (onto (own h (U.places h op c (m c) v.seen)) fs) u)) g.2 ((t v.seen [] (above.same h v.seen) inv).2 y g.3) in
         let f = act_fine y v r n fs (N n a) g.0 g.1 (U.go h y op m v.seen) g.2 fine g.4 g.5 g.6 in
         record {
           inv = f.inv;

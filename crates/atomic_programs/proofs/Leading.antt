@@ -1,5 +1,5 @@
 -- The steps placed at one event lead from the sequential object before it to the one after it.
-use Rattle.atomic_programs.proofs.Vocabulary.{◌≡◌, ◌≤◌, ℕ, suc, Option, Some, None, Bool, true, false, List, [], ◌∷◌, ◌++◌, length, refl, sym, ◌∙◌, ap, arith, append_assoc, nat_eq, if◌then◌else◌, Ret, Do, Did, Waits, Ran, Stops, asks, OfNext, P, OpWithAnswer, own, onto, oldest_first, Goes, PlacesOne, Good, Wp, Theory, Began, Refuses, Begins, Begun, Ends, Lawful, Run, PlacedStep, State, Event, Start, Step, start_of, placed, unchanged, moved, tried, step_prog, step_unless, step_run, begun, busy_in, start_run, next, hart_of, is_some, HonestStep, IsHonest, Sound, Chain, of_hart, Leads}
+use Rattle.atomic_programs.proofs.Vocabulary.{◌≡◌, ◌≤◌, ℕ, suc, Option, Some, None, Bool, true, false, List, [], ◌∷◌, ◌++◌, length, refl, sym, ◌∙◌, ap, arith, append_assoc, nat_eq, if◌then◌else◌, Ret, Do, ExecResult, Waits, Ran, Stops, asks, OfNext, P, OpWithAnswer, own, onto, oldest_first, Goes, PlacesOne, Good, Wp, Theory, Began, Refuses, Begins, Begun, Ends, Lawful, Run, PlacedStep, State, Event, Start, Step, start_of, placed, unchanged, moved, tried, step_prog, step_unless, step_run, begun, busy_in, start_run, next, hart_of, is_some, HonestStep, IsHonest, Sound, Chain, of_hart, Leads}
 use Rattle.atomic_programs.proofs.Basics.{append_nil, oldest_first_more, Keeps, inv_of, holds_of, is_some-false, sound_keeps}
 
 -- what an event places, the oldest first
@@ -57,7 +57,7 @@ module _ (L : Theory) (laws : Lawful L) (one : PlacesOne L.M) (base : L.M.Tree) 
   led_moved r did ps (Ret reply) w goes clean few = led_placed (moved L h s r did ps (Ret reply) w).after ps refl goes clean few
   led_moved r did ps (Do op m c) w goes clean few = led_placed (moved L h s r did ps (Do op m c) w).after ps refl goes clean few
 
-  led_tried : (r : Run L) (op : L.M.Op) (ps : L.M.Answer op → List (ℕ × L.M.Step)) (c : L.M.Answer op → P L.M L.Reply) (more n : ℕ) (B : List L.M.Step → Type 0) (es : List L.M.Step) (wait : Type 0) (N : ℕ → L.M.Answer op → L.M.World → Type 0) (x : Did (L.M.Answer op) L.M.World)
+  led_tried : (r : Run L) (op : L.M.Op) (ps : L.M.Answer op → List (ℕ × L.M.Step)) (c : L.M.Answer op → P L.M L.Reply) (more n : ℕ) (B : List L.M.Step → Type 0) (es : List L.M.Step) (wait : Type 0) (N : ℕ → L.M.Answer op → L.M.World → Type 0) (x : ExecResult (L.M.Answer op) L.M.World)
       → ((a : L.M.Answer op) → length (own h (ps a)) ≤ 1) → Good L.M (L.M.Answer op) h ps more n B es s.world wait x N → Leads L h s (tried L h s r op ps c x).after
   led_tried r op ps c more n B es wait N Waits few g = led_unchanged
   led_tried r op ps c more n B es wait N (Ran a w) few g = led_moved r (op, a) (ps a) (c a) w g.goes g.clean (few a)

@@ -1,13 +1,13 @@
 -- Programs over a layer in which a hart has more between two operations above.
-use Rattle.atomic_programs.proofs.Vocabulary.{ℕ, suc, List, [], ◌∷◌, Option, Ret, Do, once, Did, Waits, Ran, Stops, Machine, P, own, onto, Goes, placed_with, Good, Wp, Lower, LowerLaws, Both, joined, both, Handlers, Below, Lasts, Atomic, with_more, IfRan, Budget, AtomicWithin}
+use Rattle.atomic_programs.proofs.Vocabulary.{ℕ, suc, List, [], ◌∷◌, Option, Ret, Do, once, ExecResult, Waits, Ran, Stops, Machine, P, own, onto, Goes, placed_with, Good, Wp, LowerLayer, LowerLaws, Both, joined, both, Handlers, Below, Lasts, Atomic, with_more, IfRan, Budget, AtomicWithin}
 use Rattle.atomic_programs.proofs.Basics.{Wp-weaker}
 
-module _ (U : Machine) (R : Lower U.World) (More : ℕ → U.World → Type 0) where
+module _ (U : Machine) (R : LowerLayer U.World) (More : ℕ → U.World → Type 0) where
   goes_on : (t : U.Tree) (ps : List (ℕ × U.Step)) (u : U.Tree) → Goes (joined U R) t ps u → Goes (joined U (with_more R More)) t ps u
   goes_on t [] u g = g
   goes_on t (p ∷ ps) u g = (g.0, g.1, goes_on g.0 ps u g.2)
 
-  good_on : {A : Type 0} (h : ℕ) (ps : A → List (ℕ × U.Step)) (n : ℕ) (B : List U.Step → Type 0) (es : List U.Step) (v : Both R.World U.World) (wait : Type 0) (r : Did A (Both R.World U.World)) (M N : ℕ → A → Both R.World U.World → Type 0)
+  good_on : {A : Type 0} (h : ℕ) (ps : A → List (ℕ × U.Step)) (n : ℕ) (B : List U.Step → Type 0) (es : List U.Step) (v : Both R.World U.World) (wait : Type 0) (r : ExecResult A (Both R.World U.World)) (M N : ℕ → A → Both R.World U.World → Type 0)
       → ((l : ℕ) (a : A) (w : Both R.World U.World) → M l a w → N l a w) → Good (joined U R) A h ps 0 n B es v wait r M → Good (joined U (with_more R More)) A h ps 0 n B es v wait r N
   good_on h ps n B es v wait Waits M N f g = g
   good_on h ps n B es v wait (Ran a w) M N f g = record {
@@ -53,7 +53,7 @@ module _ (U : Machine) (R : Lower U.World) (More : ℕ → U.World → Type 0) w
     lasts_too : Lasts U h B C → Lasts U h B D
     lasts_too lasts a fs xs v u o i d = let x = lasts a fs xs v u o i d.0 in (x.0, (x.1, stays v u xs o d.1))
 
-    ran : (x : U.Outside) (v : U.World) (fs : List U.Step) (d : Did (U.Answer op) U.World) → IfRan (More h) d
+    ran : (x : U.Outside) (v : U.World) (fs : List U.Step) (d : ExecResult (U.Answer op) U.World) → IfRan (More h) d
         → Good U (U.Answer op) h (placed_with U h op m v) (U.more op) (suc (U.more op)) B fs v (U.MayWait h op v) d (λ l a u. C a (onto (own h (U.places h op a (m a) v)) fs) u)
         → Good U (U.Answer op) h (placed_with U h op m v) (U.more op) (suc (U.more op)) B fs v (U.MayWait h op v) d (λ l a u. D a (onto (own h (U.places h op a (m a) v)) fs) u)
     ran x v fs Waits more g = g

@@ -1,11 +1,11 @@
 -- What is shown of calls above holds of them below, and each run below is one of whole operations above.
-use Rattle.atomic_programs.proofs.Vocabulary.{◌≡◌, ◌⊎◌, ℕ, Option, Bool, false, List, [], refl, sym, ◌∙◌, ap, subst, inl, inr, Did, Waits, Ran, Stops, did_in, Machine, Theory, Began, Refuses, Begins, Begun, Ends, Right, Lawful, Event, AllHonest, run, fresh, IsExplained, IsCode, began_in, ActOf, both, Lower, Both, joined, LowerLaws, Handlers, lowered, AtEnd, Starts, began_to, began_both, lowered_calls, BeginsBoth, StartsBoth, AllAtomic, Part, IsPart, code_part, all_below, code_below, BeginsSome, AllLift, Core, IsCore, operations, operations_of}
+use Rattle.atomic_programs.proofs.Vocabulary.{◌≡◌, ◌⊎◌, ℕ, Option, Bool, false, List, [], refl, sym, ◌∙◌, ap, subst, inl, inr, ExecResult, Waits, Ran, Stops, exec_result_in, Machine, Theory, Began, Refuses, Begins, Begun, Ends, Right, Lawful, Event, AllHonest, run, fresh, IsExplained, IsCode, began_in, ActOf, both, LowerLayer, Both, joined, LowerLaws, Handlers, lowered, AtEnd, Starts, began_to, began_both, lowered_calls, BeginsBoth, StartsBoth, AllAtomic, Part, IsPart, code_part, all_below, code_below, BeginsSome, AllLift, Core, IsCore, operations, operations_of}
 use Rattle.atomic_programs.proofs.Sound.{Wp-weaker}
 use Rattle.atomic_programs.proofs.Explains.{ends_last, explains}
 use Rattle.atomic_programs.proofs.Joined.{joined_laws, lift}
 use Rattle.atomic_programs.proofs.Operations.{operations_lawful}
 
-pub operations_below : (U : Machine) (K : Core U) (R : Lower U.World) → LowerLaws U R → LowerLaws (operations U K) R
+pub operations_below : (U : Machine) (K : Core U) (R : LowerLayer U.World) → LowerLaws U R → LowerLaws (operations U K) R
 operations_below U K R below = record { same = below.same; trans = below.trans; kept = λ h g u xs o. below.kept h g u o.1.0 o.1.1; base = below.base; idle = below.idle }
 
 -- a start below that begins the call
@@ -19,7 +19,7 @@ begun_both {Refusal} {S} {G} g (Begins r) u e = (ap (λ (z : Both S G). begins z
     is : ◌≡◌ {A = Both S G} (record { real = r; seen = g }) u
     is = cc
 
-module _ (T : Theory) (R : Lower T.M.World) (handler : Handlers T.M R) (begin : Starts T R) (lawful : Lawful T) (below : LowerLaws T.M R) (starts : StartsBoth T R begin) where
+module _ (T : Theory) (R : LowerLayer T.M.World) (handler : Handlers T.M R) (begin : Starts T R) (lawful : Lawful T) (below : LowerLaws T.M R) (starts : StartsBoth T R begin) where
   pub lifted_lawful : AllLift T R handler begin → Lawful (lowered_calls T R handler begin)
   lifted_lawful lifts =
       record {
@@ -67,7 +67,7 @@ module _ (T : Theory) (R : Lower T.M.World) (handler : Handlers T.M R) (begin : 
 -- Every run below shows a run of the machine above: whole operations one after the other, which lead from what was seen of
 -- the first world to what is seen of the last one; each call's own are a run of its program with its reply, or a beginning
 -- of one where it is under way.
-pub refined : (T : Theory) (K : Core T.M) (R : Lower T.M.World) (handler : Handlers T.M R) (begin : Starts T R) (lawful : Lawful T) (below : LowerLaws T.M R) (core : IsCore T K) (starts : StartsBoth T R begin)
+pub refined : (T : Theory) (K : Core T.M) (R : LowerLayer T.M.World) (handler : Handlers T.M R) (begin : Starts T R) (lawful : Lawful T) (below : LowerLaws T.M R) (core : IsCore T K) (starts : StartsBoth T R begin)
     → AllAtomic (operations_of T K) R handler begin
     → (w : Both R.World T.M.World) (events : List (Event T.Call R.Outside)) → R.Shows w.real w.seen → T.M.Inv w.seen → ((h : ℕ) → R.Base h w.real w.seen R.none) → ((h : ℕ) → T.M.Idle h w.seen)
     → AllHonest (lowered_calls (operations_of T K) R handler begin) events (fresh (lowered_calls (operations_of T K) R handler begin) w)
@@ -81,12 +81,12 @@ refined T K R handler begin lawful below core starts atomic w events shows inv b
         record { above = b.above; begins = b.begins; shows = b.shows; halted = b.halted; kept = b.kept; rests = b.rests }
 
 -- The code runs the lowered calls, whichever history is kept beside: its outcomes are those of both.
-part_real : (U : Machine) {A R V : Type 0} (of : R → V) (h : ℕ) (m : A → Option (ActOf U)) (g : U.World) (d : Did A R) → did_in of d ≡ did_in (λ (w : Both R U.World). of w.real) (both U h m g d)
+part_real : (U : Machine) {A R V : Type 0} (of : R → V) (h : ℕ) (m : A → Option (ActOf U)) (g : U.World) (d : ExecResult A R) → exec_result_in of d ≡ exec_result_in (λ (w : Both R U.World). of w.real) (both U h m g d)
 part_real U of h m g Waits = refl
 part_real U of h m g (Ran a r) = refl
 part_real U of h m g (Stops r) = refl
 
-pub is_code_part : (T : Theory) (R : Lower T.M.World) (handler : Handlers T.M R) (begin : Starts T R) (part : Part T R) (Kind : Type 0) (kind : (op : R.Op) → R.Answer op → Kind) → IsPart T R begin part → IsCode (lowered_calls T R handler begin) (code_part T R handler begin part Kind kind)
+pub is_code_part : (T : Theory) (R : LowerLayer T.M.World) (handler : Handlers T.M R) (begin : Starts T R) (part : Part T R) (Kind : Type 0) (kind : (op : R.Op) → R.Answer op → Kind) → IsPart T R begin part → IsCode (lowered_calls T R handler begin) (code_part T R handler begin part Kind kind)
 is_code_part T R handler begin part Kind kind is =
     record {
       goes = λ h x op m w. is.goes h x op w.real ∙ part_real T.M part.of h m w.seen (R.exec h x op w.real);
@@ -99,12 +99,12 @@ is_code_part T R handler begin part Kind kind is =
     same of g (Refuses why) = refl
     same of g (Begins r) = refl
 
-pub is_code_below : (T : Theory) (R : Lower T.M.World) (handler : Handlers T.M R) (begin : Starts T R) (Kind : Type 0) (kind : (op : R.Op) → R.Answer op → Kind) → IsCode (lowered_calls T R handler begin) (code_below T R handler begin Kind kind)
+pub is_code_below : (T : Theory) (R : LowerLayer T.M.World) (handler : Handlers T.M R) (begin : Starts T R) (Kind : Type 0) (kind : (op : R.Op) → R.Answer op → Kind) → IsCode (lowered_calls T R handler begin) (code_below T R handler begin Kind kind)
 is_code_below T R handler begin Kind kind =
     is_code_part T R handler begin (all_below T R begin) Kind kind
     (record { goes = λ h x op w. goes (R.exec h x op w); may = λ h op w y. y; honest = λ h op w x y. y; starts = λ h call busy w. starts (begin h call busy w) })
   where
-    goes : {A S : Type 0} (d : Did A S) → d ≡ did_in (λ (w : S). w) d
+    goes : {A S : Type 0} (d : ExecResult A S) → d ≡ exec_result_in (λ (w : S). w) d
     goes Waits = refl
     goes (Ran a r) = refl
     goes (Stops r) = refl

@@ -1,5 +1,5 @@
 -- It is as lawful, and its code as right.
-use Rattle.atomic_programs.proofs.Vocabulary.{◌≡◌, ℕ, List, [], refl, ◌∙◌, Prog, Ret, Do, bind, Did, Waits, Ran, Stops, Machine, P, Good, Laws, Wp, onto, own, Handlers, Lower, lowered, Theory, Begun, Ends, Lawful, Code, IsCode, carrying, handlers_with_marks, keeping, keeping_code, lower_with_marks, with_marks}
+use Rattle.atomic_programs.proofs.Vocabulary.{◌≡◌, ℕ, List, [], refl, ◌∙◌, Prog, Ret, Do, bind, ExecResult, Waits, Ran, Stops, Machine, P, Good, Laws, Wp, onto, own, Handlers, LowerLayer, lowered, Theory, Begun, Ends, Lawful, Code, IsCode, carrying, handlers_with_marks, keeping, keeping_code, lower_with_marks, with_marks}
 use Rattle.std.specs.Prelude.{is_some}
 
 module _ (M : Machine) where
@@ -17,7 +17,7 @@ module _ (M : Machine) where
       )
     where
       good : ((a : M.Answer op) (l : ℕ) (fs : List M.Step) (u : M.World) → Wp M h B Q (k a) l fs u → Wp (with_marks M) h B Q (carrying (k a)) l fs u)
-          → (v : M.World) (fs : List M.Step) (d : Did (M.Answer op) M.World)
+          → (v : M.World) (fs : List M.Step) (d : ExecResult (M.Answer op) M.World)
           → Good M (M.Answer op) h (λ a. M.places h op a (m a) v) (M.more op) n B fs v (M.MayWait h op v) d (λ l a u. Wp M h B Q (k a) l (onto (own h (M.places h op a (m a) v)) fs) u)
           → Good (with_marks M) (M.Answer op) h (λ a. M.places h op a (m a) v) (M.more op) n B fs v (M.MayWait h op v) d (λ l a u. Wp (with_marks M) h B Q (carrying (k a)) l (onto (own h (M.places h op a (m a) v)) fs) u)
       good each v fs Waits f = f
@@ -54,7 +54,7 @@ carrying_bind (Ret a) f = refl
 carrying_bind (Do op m k) f = λ i. Do (op, λ x. is_some (m x)) m (λ x. carrying_bind (k x) f i)
 
 -- what tells the marks of a lowered call is told by its handlers
-pub lowered_so : (U : Machine) (R : Lower U.World) (handler : Handlers U R) {A : Type 0} (c : R.Carry) (p : P U A) → carrying (lowered U R handler c p) ≡ lowered U (lower_with_marks R) (handlers_with_marks U R handler) c p
+pub lowered_so : (U : Machine) (R : LowerLayer U.World) (handler : Handlers U R) {A : Type 0} (c : R.Carry) (p : P U A) → carrying (lowered U R handler c p) ≡ lowered U (lower_with_marks R) (handlers_with_marks U R handler) c p
 lowered_so U R handler c (Ret a) = refl
 lowered_so U R handler {A} c (Do op m k) =
     carrying_bind (handler c op m) (λ r. lowered U R handler r.carry (k r.answer))

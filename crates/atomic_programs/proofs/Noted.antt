@@ -1,5 +1,5 @@
 -- In every run of lowered calls each operation acts within the run of its own program below.
-use Rattle.atomic_programs.proofs.Vocabulary.{◌≡◌, ◌≢◌, ◌<◌, ◌+◌, ◌-◌, ℕ, suc, Option, Bool, true, false, List, [], ◌∷◌, ◌++◌, refl, sym, ◌∙◌, ap, subst, arith, ◌⊎◌, inl, inr, nat_eq, if◌then◌else◌, eq-eqb, ne_eqb, Ret, Do, bind, Did, Waits, Ran, Stops, asks, Machine, P, OpWithAnswer, own, onto, oldest_first, Goes, placed_with, Grown, Good, Wp, Laws, Theory, Begins, Begun, Ends, Lawful, Event, AllHonest, run, fresh, is_some, IsExplained, Lower, Both, joined, LowerLaws, Handover, Handlers, lowered, Lasts, Below, Atomic, Starts, began_to, lowered_calls, StartsBoth, CanBegin, AllAtomic, Core, IsCore, operations, operations_of, Note, Runs, Places, Notes, noted_steps, noted, After, Within, IsWhole, noted_calls}
+use Rattle.atomic_programs.proofs.Vocabulary.{◌≡◌, ◌≢◌, ◌<◌, ◌+◌, ◌-◌, ℕ, suc, Option, Bool, true, false, List, [], ◌∷◌, ◌++◌, refl, sym, ◌∙◌, ap, subst, arith, ◌⊎◌, inl, inr, nat_eq, if◌then◌else◌, eq-eqb, ne_eqb, Ret, Do, bind, ExecResult, Waits, Ran, Stops, asks, Machine, P, OpWithAnswer, own, onto, oldest_first, Goes, placed_with, Grown, Good, Wp, Laws, Theory, Begins, Begun, Ends, Lawful, Event, AllHonest, run, fresh, is_some, IsExplained, LowerLayer, Both, joined, LowerLaws, Handover, Handlers, lowered, Lasts, Below, Atomic, Starts, began_to, lowered_calls, StartsBoth, CanBegin, AllAtomic, Core, IsCore, operations, operations_of, Note, Runs, Places, Notes, noted_steps, noted, After, Within, IsWhole, noted_calls}
 use Rattle.atomic_programs.proofs.Basics.{Wp-weaker, Wp-more, Wp-bind, Wp-others, ends_last, explains, onto_rest, own_one, operations_laws, operations_lawful, operations_below, begun_both, lowered_lawful}
 
 -- no hart's steps are placed by another one
@@ -135,7 +135,7 @@ module _ (L : Machine) (alone : Alone L) (clean : (w : L.World) → L.Clean w) (
 
         made : (v : L.World)
             → ((a : L.Answer op) (l : ℕ) (ys : List L.Step) (es : Notes L) (u : L.World) → Stage (k a) ys es → Wp L h OneEntry C (k a) l ys u → Wp (noted L) h BegunWhole Q (k a) l es u)
-            → (d : Did (L.Answer op) L.World)
+            → (d : ExecResult (L.Answer op) L.World)
             → Good L (L.Answer op) h (placed_with L h op m v) (L.more op) n OneEntry gs v (L.MayWait h op v) d (λ l a u. Wp L h OneEntry C (k a) l (onto (own h (placed_with L h op m v a)) gs) u)
             → Good (noted L) (L.Answer op) h (placed_with (noted L) h op m v) (L.more op) n BegunWhole fs v (L.MayWait h op v) d (λ l a u. Wp (noted L) h BegunWhole Q (k a) l (onto (own h (placed_with (noted L) h op m v a)) fs) u)
         made v ih Waits f = f
@@ -155,7 +155,7 @@ module _ (L : Machine) (alone : Alone L) (clean : (w : L.World) → L.Clean w) (
         made v ih (Stops u) f = record { halted = f.halted; kept = λ other ne. (refl, f.kept other ne); tree = f.tree; clean = f.clean }
 
 -- The lowered program: at each seam between two operations above the notes so far are whole runs of handlers.
-module _ (U : Machine) (K : Core U) (R : Lower U.World) (handler : Handlers U R) (some : (op : U.Op) → U.Answer op) (some_below : (op : R.Op) → R.Answer op) (steps : (c : R.Carry) (op : U.Op) (m : U.Answer op → Option U.Mark) → is_some (asks (handler c op m)) ≡ true) where
+module _ (U : Machine) (K : Core U) (R : LowerLayer U.World) (handler : Handlers U R) (some : (op : U.Op) → U.Answer op) (some_below : (op : R.Op) → R.Answer op) (steps : (c : R.Carry) (op : U.Op) (m : U.Answer op → Option U.Mark) → is_some (asks (handler c op m)) ≡ true) where
   abbrev J : Machine
   J = joined (operations U K) R
 
@@ -224,7 +224,7 @@ module _ (U : Machine) (K : Core U) (R : Lower U.World) (handler : Handlers U R)
             begins : List (OpWithAnswer U) → List (OpWithAnswer U)
             begins zs = (op, a) ∷ zs
 
-        one : (v : U.World) (ys gs : List (OpWithAnswer U)) → gs ≡ [] → (d : Did (U.Answer op) U.World)
+        one : (v : U.World) (ys gs : List (OpWithAnswer U)) → gs ≡ [] → (d : ExecResult (U.Answer op) U.World)
             → Good (operations U K) (U.Answer op) h (placed_with (operations U K) h op m v) (U.more op) n B ys v (U.MayWait h op v) d (λ l a u. Wp (operations U K) h B Q (k a) l (onto (own h ((h, (op, a)) ∷ [])) ys) u)
             → Good (operations U K) (U.Answer op) h (placed_with (operations U K) h op m v) (U.more op) (suc (U.more op)) One gs v (U.MayWait h op v) d (λ l a u. C a (onto (own h ((h, (op, a)) ∷ [])) gs) u)
         one v ys gs e Waits q = q
@@ -241,7 +241,7 @@ module _ (U : Machine) (K : Core U) (R : Lower U.World) (handler : Handlers U R)
             }
         one v ys gs e (Stops u) q = q
 
-module _ (T : Theory) (K : Core T.M) (R : Lower T.M.World) (handler : Handlers T.M R) (begin : Starts T R) (lawful : Lawful T) (below : LowerLaws T.M R) (core : IsCore T K) (starts : StartsBoth T R begin)
+module _ (T : Theory) (K : Core T.M) (R : LowerLayer T.M.World) (handler : Handlers T.M R) (begin : Starts T R) (lawful : Lawful T) (below : LowerLaws T.M R) (core : IsCore T K) (starts : StartsBoth T R begin)
     (atomic : AllAtomic (operations_of T K) R handler begin) (some_below : (op : R.Op) → R.Answer op) (steps : (c : R.Carry) (op : T.M.Op) (m : T.M.Answer op → Option T.M.Mark) → is_some (asks (handler c op m)) ≡ true) where
   abbrev N : Theory
   N = noted_calls T K R handler begin

@@ -1,5 +1,5 @@
 -- What is noted of a run changes nothing of it.
-use Rattle.atomic_programs.proofs.Vocabulary.{◌≡◌, ℕ, suc, Option, Some, None, Bool, true, false, List, [], ◌∷◌, refl, sym, ◌∙◌, ap, subst, nat_eq, if◌then◌else◌, Ret, Do, Did, Waits, Ran, Stops, P, OpWithAnswer, own, onto, Theory, Began, Refuses, Begins, Run, PlacedStep, FinishedCall, State, Event, Start, Step, Came, Started, DidRun, DidEnd, Made, changed, is_some, start_of, placed, told, all_told, moved, tried, step_prog, step_unless, step_run, begun, busy_in, start_run, HonestStep, IsHonest, AllHonest, makes, next, run, outcomes, fresh, Note, Runs, Places, Notes, noted_steps, with_notes, entry_of, entries_of, SameRuns}
+use Rattle.atomic_programs.proofs.Vocabulary.{◌≡◌, ℕ, suc, Option, Some, None, Bool, true, false, List, [], ◌∷◌, refl, sym, ◌∙◌, ap, subst, nat_eq, if◌then◌else◌, Ret, Do, ExecResult, Waits, Ran, Stops, P, OpWithAnswer, own, onto, Theory, Began, Refuses, Begins, Run, PlacedStep, FinishedCall, State, Event, Start, Step, EventOutcome, Started, DidRun, DidEnd, Made, changed, is_some, start_of, placed, told, all_told, moved, tried, step_prog, step_unless, step_run, begun, busy_in, start_run, HonestStep, IsHonest, AllHonest, makes, next, run, outcomes, fresh, Note, Runs, Places, Notes, noted_steps, with_notes, entry_of, entries_of, SameRuns}
 
 module _ (L : Theory) (Written : L.Call → Notes L.M → L.Reply → Type 0) where
   abbrev N : Theory
@@ -109,7 +109,7 @@ module _ (L : Theory) (Written : L.Call → Notes L.M → L.Reply → Type 0) wh
       new_is : run_alone (Some new) ≡ Some (record { call = r.call; start = r.start; prog = Do op m k; count = suc r.count; done = onto (own h ps) (steps_alone r.done) })
       new_is = λ i. Some (record { call = r.call; start = r.start; prog = Do op m k; count = suc r.count; done = done_alone h h did ps r.done i })
 
-  tried_alone : (h : ℕ) (s : State N) (r : Run N) (op : L.M.Op) (ps : L.M.Answer op → List (ℕ × L.M.Step)) (k : L.M.Answer op → P L.M L.Reply) (d : Did (L.M.Answer op) L.M.World)
+  tried_alone : (h : ℕ) (s : State N) (r : Run N) (op : L.M.Op) (ps : L.M.Answer op → List (ℕ × L.M.Step)) (k : L.M.Answer op → P L.M L.Reply) (d : ExecResult (L.M.Answer op) L.M.World)
       → made_alone (tried N h s r op (λ a. (h, Runs (op, a)) ∷ noted_steps (ps a)) k d) ≡ tried L h (alone s) (call_alone r) op ps k d
   tried_alone h s r op ps k Waits = refl
   tried_alone h s r op ps k (Ran a w) = moved_alone h s r (op, a) (ps a) (k a) w
@@ -159,7 +159,7 @@ module _ (L : Theory) (Written : L.Call → Notes L.M → L.Reply → Type 0) wh
   run_is [] s t e = e
   run_is (x ∷ es) s t e = run_is es (next N x s) (next L x t) ((λ i. (makes_alone x s i).after) ∙ ap (next L x) e)
 
-  outcomes_is : (es : List (Event L.Call L.M.Outside)) (s : State N) (t : State L) → alone s ≡ t → ◌≡◌ {A = List (Came L)} (outcomes N es s) (outcomes L es t)
+  outcomes_is : (es : List (Event L.Call L.M.Outside)) (s : State N) (t : State L) → alone s ≡ t → ◌≡◌ {A = List (EventOutcome L)} (outcomes N es s) (outcomes L es t)
   outcomes_is [] s t e = refl
   outcomes_is (x ∷ es) s t e = λ i. (came_is i).came ∷ outcomes_is es (next N x s) (next L x t) (λ j. (came_is j).after) i
     where

@@ -1,5 +1,5 @@
 -- Every call over the machine of whole inodes, run on blocks.
-use Rattle.atomic_programs.proofs.Vocabulary.{◌≡◌, ◌<◌, ℕ, Bool, true, false, if◌then◌else◌, Option, None, Some, List, [], ◌∷◌, refl, subst, nat_lt, ltb-true, Did, Waits, Ran, Stops, did_in, asks, Began, Refuses, Begins, Lawful, Event, AllHonest, run, fresh, is_some, IsExplained, Both, BeginsBoth, StartsBoth, CanBegin, AllAtomic, lowered_calls, IsCore, operations_of, noted_calls, Labels, Keeps, whole, take_if, hart_count, World, Outside, Shows, Base, blocks, handler, Calls, theory, begins_at_once, core, operation_labels}
+use Rattle.atomic_programs.proofs.Vocabulary.{◌≡◌, ◌<◌, ℕ, Bool, true, false, if◌then◌else◌, Option, None, Some, List, [], ◌∷◌, refl, subst, nat_lt, ltb-true, ExecResult, Waits, Ran, Stops, exec_result_in, asks, Began, Refuses, Begins, Lawful, Event, AllHonest, run, fresh, is_some, IsExplained, Both, BeginsBoth, StartsBoth, CanBegin, AllAtomic, lowered_calls, IsCore, operations_of, noted_calls, Labels, Keeps, whole, take_if, hart_count, World, Outside, Shows, Base, blocks, handler, Calls, theory, begins_at_once, core, operation_labels}
 use Rattle.atomic_programs.proofs.Basics.{operations_laws, lowered_lawful, refined, blocks_laws}
 use Rattle.atomic_programs.proofs.Noted.{refined_within}
 use Rattle.atomic_programs.specs.Whole as above
@@ -51,7 +51,7 @@ never h above.Exit v u e = cc
 never h (above.Look i k) v u e = cc
 never h (above.Write i k z zs) v u e = cc
 
-same : {A S : Type 0} (x : Did A S) → did_in (λ (w : S). w) x ≡ x
+same : {A S : Type 0} (x : ExecResult A S) → exec_result_in (λ (w : S). w) x ≡ x
 same Waits = refl
 same (Ran a w) = refl
 same (Stops w) = refl

@@ -1,5 +1,5 @@
 -- Every program that is right over a machine shows the run of its own operations.
-use Rattle.atomic_programs.proofs.Vocabulary.{◌≡◌, ◌≢◌, ℕ, Option, List, [], ◌∷◌, ◌++◌, refl, sym, ◌∙◌, ap, subst, inl, inr, arith, eq-eqb, ne_eqb, Ret, Do, Did, Waits, Ran, Stops, did_in, Machine, P, OpWithAnswer, PlacesOne, own, onto, oldest_first, placed_with, Good, Wp, Laws, Theory, Begun, Ends, Lawful, Core, IsCore, operations, IsRun, operations_of, bare, bare_calls}
+use Rattle.atomic_programs.proofs.Vocabulary.{◌≡◌, ◌≢◌, ℕ, Option, List, [], ◌∷◌, ◌++◌, refl, sym, ◌∙◌, ap, subst, inl, inr, arith, eq-eqb, ne_eqb, Ret, Do, ExecResult, Waits, Ran, Stops, exec_result_in, Machine, P, OpWithAnswer, PlacesOne, own, onto, oldest_first, placed_with, Good, Wp, Laws, Theory, Begun, Ends, Lawful, Core, IsCore, operations, IsRun, operations_of, bare, bare_calls}
 use Rattle.atomic_programs.proofs.Sound.{Wp-weaker}
 
 pub operations_laws : (L : Machine) (K : Core L) → Laws L → Laws (operations L K)
@@ -42,7 +42,7 @@ module _ (L : Machine) (K : Core L) {A : Type 0} (whole : P L A) where
   RunEnds h r fs w = IsRun L whole (oldest_first fs) r × L.Idle h w
 
   module _ (some : (op : L.Op) → L.Answer op) (may : (h : ℕ) (op : L.Op) (w : L.World) → L.May h op w → K.May h op (K.of w)) (honest : (h : ℕ) (op : L.Op) (w : L.World) (x : L.Outside) → L.Honest h op w x → K.Honest h op (K.of w) x)
-      (goes : (h : ℕ) (x : L.Outside) (op : L.Op) (m : L.Answer op → Option L.Mark) (w : L.World) → did_in K.of (L.go h x op m w) ≡ K.go h x op (K.of w)) (stops : (h : ℕ) (x : L.Outside) (op : L.Op) (t u : K.World) → K.go h x op t ≡ Stops u → u ≡ t) where
+      (goes : (h : ℕ) (x : L.Outside) (op : L.Op) (m : L.Answer op → Option L.Mark) (w : L.World) → exec_result_in K.of (L.go h x op m w) ≡ K.go h x op (K.of w)) (stops : (h : ℕ) (x : L.Outside) (op : L.Op) (t u : K.World) → K.go h x op t ≡ Stops u → u ≡ t) where
     begun_run : (p : P L A) (fs : List (OpWithAnswer L)) → OnWay p fs → RunBegun fs
     begun_run p fs way = let x = some_run L some p in (x.0, x.1, subst (λ (zs : List (OpWithAnswer L)). IsRun L whole zs x.1) (onto_rest fs [] x.0) (way x.0 x.1 x.2))
 
@@ -61,7 +61,7 @@ module _ (L : Machine) (K : Core L) {A : Type 0} (whole : P L A) where
       where
         made : (v : L.World) (x : L.Outside) (gs : List L.Step) → L.May h op v → L.Honest h op v x
             → ((a : L.Answer op) (l : ℕ) (es : List L.Step) (u : L.World) → Wp L h B Q (k a) l es u → Wp (operations L K) h RunBegun (RunEnds h) (k a) l ((op, a) ∷ fs) u)
-            → (d : Did (L.Answer op) L.World) → L.go h x op m v ≡ d
+            → (d : ExecResult (L.Answer op) L.World) → L.go h x op m v ≡ d
             → Good L (L.Answer op) h (placed_with L h op m v) (L.more op) n B gs v (L.MayWait h op v) d (λ l a u. Wp L h B Q (k a) l (onto (own h (L.places h op a (m a) v)) gs) u)
             → Good (operations L K) (L.Answer op) h (placed_with (operations L K) h op m v) (L.more op) n RunBegun fs v (L.MayWait h op v) d (λ l a u. Wp (operations L K) h RunBegun (RunEnds h) (k a) l (onto (own h ((h, (op, a)) ∷ [])) fs) u)
         made v x gs allowed said next Waits is f = f
@@ -69,7 +69,7 @@ module _ (L : Machine) (K : Core L) {A : Type 0} (whole : P L A) where
             record {
               inv = f.inv;
               kept = λ other ne. (own_none other h (op, a) ne, (own other (L.places h op a (m a) v), f.kept other ne));
-              goes = λ y. (K.of u, (x, may h op v allowed, honest h op v x said, sym (goes h x op m v) ∙ ap (did_in K.of) is), refl);
+              goes = λ y. (K.of u, (x, may h op v allowed, honest h op v x said, sym (goes h x op m v) ∙ ap (exec_result_in K.of) is), refl);
               clean = λ y. tt;
               begun = λ y. inr (subst (λ (zs : List (OpWithAnswer L)). RunBegun (onto zs fs)) (sym (own_one h (op, a))) (begun_run (k a) ((op, a) ∷ fs) (λ rest r run. way ((op, a) ∷ rest) r (a, refl, run))));
               left = f.left;
@@ -77,7 +77,7 @@ module _ (L : Machine) (K : Core L) {A : Type 0} (whole : P L A) where
               next = subst (λ (zs : List (OpWithAnswer L)). Wp (operations L K) h RunBegun (RunEnds h) (k a) f.left (onto zs fs) u) (sym (own_one h (op, a))) (next a f.left (onto (own h (L.places h op a (m a) v)) gs) u f.next);
             }
         made v x gs allowed said next (Stops u) is f =
-            record { halted = f.halted; kept = λ other ne. (refl, ([], f.kept other ne)); tree = λ y. stops h x op (K.of v) (K.of u) (sym (goes h x op m v) ∙ ap (did_in K.of) is); clean = λ y. tt }
+            record { halted = f.halted; kept = λ other ne. (refl, ([], f.kept other ne)); tree = λ y. stops h x op (K.of v) (K.of u) (sym (goes h x op m v) ∙ ap (exec_result_in K.of) is); clean = λ y. tt }
 
 -- what is shown with a history is shown without one
 no_history : (L : Machine) {A : Type 0} (h : ℕ) (p : P L A) (B C : List L.Step → Type 0) (Q R : A → List L.Step → L.World → Type 0) (n : ℕ) (es : List L.Step) (w : L.World)
@@ -88,7 +88,7 @@ no_history L h (Do op m k) B C Q R n es w ends g =
   where
     go : (v : L.World) (gs : List L.Step)
         → ((a : L.Answer op) (l : ℕ) (fs : List L.Step) (u : L.World) → Wp L h B Q (k a) l fs u → Wp (bare L) h C R (k a) l fs u)
-        → (d : Did (L.Answer op) L.World)
+        → (d : ExecResult (L.Answer op) L.World)
         → Good L (L.Answer op) h (placed_with L h op m v) (L.more op) n B gs v (L.MayWait h op v) d (λ l a u. Wp L h B Q (k a) l (onto (own h (L.places h op a (m a) v)) gs) u)
         → Good (bare L) (L.Answer op) h (placed_with L h op m v) (L.more op) n C gs v (L.MayWait h op v) d (λ l a u. Wp (bare L) h C R (k a) l (onto (own h (L.places h op a (m a) v)) gs) u)
     go v gs ih Waits f = f

@@ -1,5 +1,5 @@
 -- Laws of programs.
-use Rattle.atomic_programs.proofs.Vocabulary.{◌≡◌, Option, Some, refl, ap, ◌∙◌, Prog, Ret, Do, bind, unmarked, marked, plain, Did, Waits, Ran, Stops, OperationResult, Ended, StillWaits, WentOn, Broke, went, advance, asks, OfNext, did_in, moved_in}
+use Rattle.atomic_programs.proofs.Vocabulary.{◌≡◌, Option, Some, refl, ap, ◌∙◌, Prog, Ret, Do, bind, unmarked, marked, plain, ExecResult, Waits, Ran, Stops, OperationResult, Ended, StillWaits, WentOn, Broke, went, advance, asks, OfNext, exec_result_in, moved_in}
 
 pub bind-assoc : {Op : Type 0} {Answer : Op → Type 0} {M A B C : Type 0} (p : Prog Op Answer M A) (f : A → Prog Op Answer M B) (g : B → Prog Op Answer M C) → bind (bind p f) g ≡ bind p (λ a. bind (f a) g)
 bind-assoc (Ret a) f g = refl
@@ -19,7 +19,7 @@ pub asks-plain : {Op : Type 0} {Answer : Op → Type 0} {M A : Type 0} (p : Prog
 asks-plain (Ret a) = refl
 asks-plain (Do op m k) = refl
 
-module _ {Op : Type 0} {Answer : Op → Type 0} {K S : Type 0} (kind : (op : Op) → Answer op → K) (exec : (op : Op) → S → Did (Answer op) S) {M A B : Type 0} where
+module _ {Op : Type 0} {Answer : Op → Type 0} {K S : Type 0} (kind : (op : Op) → Answer op → K) (exec : (op : Op) → S → ExecResult (Answer op) S) {M A B : Type 0} where
   -- what a program moves to, in a larger one
   abbrev pub moved_bind : (A → Prog Op Answer M B) → OperationResult K (Prog Op Answer M A) S → OperationResult K (Prog Op Answer M B) S
   moved_bind f Ended = Ended
@@ -32,18 +32,18 @@ module _ {Op : Type 0} {Answer : Op → Type 0} {K S : Type 0} (kind : (op : Op)
   advance-bind (Ret a) f s op e = cc
   advance-bind (Do op' m k) f s op e = go (exec op' s)
     where
-      go : (r : Did (Answer op') S) → went op' (kind op') (λ x. bind (k x) f) r ≡ moved_bind f (went op' (kind op') k r)
+      go : (r : ExecResult (Answer op') S) → went op' (kind op') (λ x. bind (k x) f) r ≡ moved_bind f (went op' (kind op') k r)
       go Waits = refl
       go (Ran a t) = refl
       go (Stops t) = refl
 
 -- a program whose next operation is of a part of the state moves the whole as it moves the part
-pub advance-within : {Op : Type 0} {Answer : Op → Type 0} {K M A S T : Type 0} (kind : (op : Op) → Answer op → K) (exec : (op : Op) → S → Did (Answer op) S) (whole : (op : Op) → T → Did (Answer op) T) (into : S → T) (p : Prog Op Answer M A) (s : S)
-    → ((op : Op) → asks p ≡ Some op → whole op (into s) ≡ did_in into (exec op s)) → advance kind whole p (into s) ≡ moved_in into (advance kind exec p s)
+pub advance-within : {Op : Type 0} {Answer : Op → Type 0} {K M A S T : Type 0} (kind : (op : Op) → Answer op → K) (exec : (op : Op) → S → ExecResult (Answer op) S) (whole : (op : Op) → T → ExecResult (Answer op) T) (into : S → T) (p : Prog Op Answer M A) (s : S)
+    → ((op : Op) → asks p ≡ Some op → whole op (into s) ≡ exec_result_in into (exec op s)) → advance kind whole p (into s) ≡ moved_in into (advance kind exec p s)
 advance-within kind exec whole into (Ret a) s same = refl
 advance-within {Op} {Answer} {K} {M} {A} {S} {T} kind exec whole into (Do op m k) s same = ap (went op (kind op) k) (same op refl) ∙ go (exec op s)
   where
-    go : (r : Did (Answer op) S) → went op (kind op) k (did_in into r) ≡ moved_in into (went op (kind op) k r)
+    go : (r : ExecResult (Answer op) S) → went op (kind op) k (exec_result_in into r) ≡ moved_in into (went op (kind op) k r)
     go Waits = refl
     go (Ran a t) = refl
     go (Stops t) = refl

@@ -1,5 +1,5 @@
 -- A sound state goes on to sound ones, and gives the code its premises.
-use Rattle.atomic_programs.proofs.Vocabulary.{◌≡◌, ℕ, Option, Some, None, Bool, true, false, List, [], ◌∷◌, ◌++◌, refl, sym, ◌∙◌, ap, subst, Ret, Do, plain, asks, OfNext, P, Theory, Lawful, Run, State, Event, Start, Step, Outcome, Came, HonestStep, IsHonest, AllHonest, Sound, asked, with_answer, all_asked, makes, next, run, outcomes, fresh, IsExplained, Code, IsCode, Plain, PlainMade, plain_makes, by_kind, all_by_kind, prog_of, erase, PlainHonestStep, PlainHonest, MayOf, SoundPlain, CameTo, Shown}
+use Rattle.atomic_programs.proofs.Vocabulary.{◌≡◌, ℕ, Option, Some, None, Bool, true, false, List, [], ◌∷◌, ◌++◌, refl, sym, ◌∙◌, ap, subst, Ret, Do, plain, asks, OfNext, P, Theory, Lawful, Run, State, Event, Start, Step, Outcome, EventOutcome, HonestStep, IsHonest, AllHonest, Sound, asked, with_answer, all_asked, makes, next, run, outcomes, fresh, IsExplained, Code, IsCode, Plain, PlainMade, plain_makes, by_kind, all_by_kind, prog_of, erase, PlainHonestStep, PlainHonest, MayOf, SoundPlain, CameTo, Shown}
 use Rattle.atomic_programs.proofs.Basics.{may_make, sound_keeps, explained_by, explains, erased, erase-makes}
 use Rattle.atomic_programs.proofs.Tracing.{traced}
 
@@ -13,9 +13,9 @@ honest-append L (e ∷ es) fs s a b = (a.0, honest-append L es fs (next L e s) a
 
 outcomes-more : (L : Theory) (es : List (Event L.Call L.M.Outside)) (e : Event L.Call L.M.Outside) (s : State L) → outcomes L (es ++ e ∷ []) s ≡ outcomes L es s ++ (makes L e (run L es s)).came ∷ []
 outcomes-more L [] e s = refl
-outcomes-more L (x ∷ es) e s = ap (λ (z : List (Came L)). (makes L x s).came ∷ z) (outcomes-more L es e (next L x s))
+outcomes-more L (x ∷ es) e s = ap (λ (z : List (EventOutcome L)). (makes L x s).came ∷ z) (outcomes-more L es e (next L x s))
 
-by_kind-more : (L : Theory) (C : Code L) (cs : List (Came L)) (c : Came L) → all_by_kind L C (cs ++ c ∷ []) ≡ all_by_kind L C cs ++ by_kind L C c ∷ []
+by_kind-more : (L : Theory) (C : Code L) (cs : List (EventOutcome L)) (c : EventOutcome L) → all_by_kind L C (cs ++ c ∷ []) ≡ all_by_kind L C cs ++ by_kind L C c ∷ []
 by_kind-more L C [] c = refl
 by_kind-more L C (x ∷ cs) c = ap (λ (z : List (Outcome C.Kind L.Reply L.Refusal)). by_kind L C x ∷ z) (by_kind-more L C cs c)
 

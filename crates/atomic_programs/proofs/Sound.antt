@@ -1,5 +1,5 @@
 -- The rules of the logic.
-use Rattle.atomic_programs.proofs.Vocabulary.{◌≡◌, ◌≤◌, ◌<◌, ◌+◌, ℕ, List, [], ◌∷◌, ◌++◌, refl, sym, subst, arith, inl, inr, Option, Ret, Do, bind, Did, Waits, Ran, Stops, Machine, P, own, onto, placed_with, Grown, Good, Wp, Safe, Laws}
+use Rattle.atomic_programs.proofs.Vocabulary.{◌≡◌, ◌≤◌, ◌<◌, ◌+◌, ℕ, List, [], ◌∷◌, ◌++◌, refl, sym, subst, arith, inl, inr, Option, Ret, Do, bind, ExecResult, Waits, Ran, Stops, Machine, P, own, onto, placed_with, Grown, Good, Wp, Safe, Laws}
 use Rattle.atomic_programs.proofs.Prog.{bind-assoc}
 
 pub onto-append : {A : Type 0} (xs ys es : List A) → onto (xs ++ ys) es ≡ onto ys (onto xs es)
@@ -24,7 +24,7 @@ pub Grown-all : {A : Type 0} (B : List A → Type 0) (xs es : List A) → B es �
 Grown-all {A} B xs es b (inl e) = subst (λ (z : List A). B (onto z es)) (sym e) b
 Grown-all B xs es b (inr c) = c
 
-pub Good-weaker : (L : Machine) {A : Type 0} (h : ℕ) (ps : A → List (ℕ × L.Step)) (c n : ℕ) (B C : List L.Step → Type 0) (es : List L.Step) (v : L.World) (wait : Type 0) (r : Did A L.World) (M N : ℕ → A → L.World → Type 0)
+pub Good-weaker : (L : Machine) {A : Type 0} (h : ℕ) (ps : A → List (ℕ × L.Step)) (c n : ℕ) (B C : List L.Step → Type 0) (es : List L.Step) (v : L.World) (wait : Type 0) (r : ExecResult A L.World) (M N : ℕ → A → L.World → Type 0)
     → ((fs : List L.Step) → B fs → C fs) → ((l : ℕ) (a : A) (w : L.World) → M l a w → N l a w) → Good L A h ps c n B es v wait r M → Good L A h ps c n C es v wait r N
 Good-weaker L h ps c n B C es v wait Waits M N b f g = g
 Good-weaker L h ps c n B C es v wait (Ran a w) M N b f g =
@@ -64,7 +64,7 @@ pub Wp-more : (L : Machine) {A : Type 0} (h : ℕ) (p : P L A) (B : List L.Step 
 Wp-more L h (Ret a) B Q n m es w le g = g
 Wp-more L h (Do op mk k) B Q n m es w le g = λ v xs o i. ((g v xs o i).0, (g v xs o i).1, λ x t. go v (onto xs es) (L.go h x op mk v) ((g v xs o i).2 x t), (let b : L.more op < n = (g v xs o i).3 in omega arith))
   where
-    go : (v : L.World) (fs : List L.Step) (r : Did (L.Answer op) L.World)
+    go : (v : L.World) (fs : List L.Step) (r : ExecResult (L.Answer op) L.World)
         → Good L (L.Answer op) h (placed_with L h op mk v) (L.more op) n B fs v (L.MayWait h op v) r (λ l a u. Wp L h B Q (k a) l (onto (own h (L.places h op a (mk a) v)) fs) u)
         → Good L (L.Answer op) h (placed_with L h op mk v) (L.more op) m B fs v (L.MayWait h op v) r (λ l a u. Wp L h B Q (k a) l (onto (own h (L.places h op a (mk a) v)) fs) u)
     go v fs Waits g = g
@@ -80,7 +80,7 @@ Wp-bind L h (Do op mk k) f B Q n m es w g =
   where
     go : (v : L.World) (fs : List L.Step)
         → ((a : L.Answer op) (l : ℕ) (u : L.World) → Wp L h B (λ a. Wp L h B Q (f a) m) (k a) l (onto (own h (L.places h op a (mk a) v)) fs) u → Wp L h B Q (bind (k a) f) (l + m) (onto (own h (L.places h op a (mk a) v)) fs) u)
-        → (r : Did (L.Answer op) L.World)
+        → (r : ExecResult (L.Answer op) L.World)
         → Good L (L.Answer op) h (placed_with L h op mk v) (L.more op) n B fs v (L.MayWait h op v) r (λ l a u. Wp L h B (λ a. Wp L h B Q (f a) m) (k a) l (onto (own h (L.places h op a (mk a) v)) fs) u)
         → Good L (L.Answer op) h (placed_with L h op mk v) (L.more op) (n + m) B fs v (L.MayWait h op v) r (λ l a u. Wp L h B Q (bind (k a) f) l (onto (own h (L.places h op a (mk a) v)) fs) u)
     go v fs ih Waits g = g

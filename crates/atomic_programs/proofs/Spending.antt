@@ -1,5 +1,5 @@
 -- What the steps of a program make of something that its hart has, beside all that is shown of the program.
-use Rattle.atomic_programs.proofs.Vocabulary.{◌≡◌, ℕ, List, refl, Ret, Do, bind, Did, Waits, Ran, Stops, Machine, P, own, onto, placed_with, Good, Wp, Tracks}
+use Rattle.atomic_programs.proofs.Vocabulary.{◌≡◌, ℕ, List, refl, Ret, Do, bind, ExecResult, Waits, Ran, Stops, Machine, P, own, onto, placed_with, Good, Wp, Tracks}
 
 module _ (L : Machine) (h : ℕ) {S : Type 0} (Has : L.World → S → Type 0) where
   -- where the program begins with more
@@ -30,7 +30,7 @@ module _ (L : Machine) (h : ℕ) {S : Type 0} (Has : L.World → S → Type 0) w
         Then : L.Answer op → ℕ → List L.Step → L.World → Type 0
         Then a l fs u = Wp L h B (λ b gs y. Q b gs y × Has y t) (k a) l fs u
 
-        step : (v : L.World) (fs : List L.Step) (d : Did (L.Answer op) L.World) → ((a : L.Answer op) (u : L.World) → d ≡ Ran a u → (l : ℕ) (gs : List L.Step) → Wp L h B Q (k a) l gs u → Then a l gs u)
+        step : (v : L.World) (fs : List L.Step) (d : ExecResult (L.Answer op) L.World) → ((a : L.Answer op) (u : L.World) → d ≡ Ran a u → (l : ℕ) (gs : List L.Step) → Wp L h B Q (k a) l gs u → Then a l gs u)
             → Good L (L.Answer op) h (placed_with L h op m v) (L.more op) n B fs v (L.MayWait h op v) d (λ l a u. Wp L h B Q (k a) l (onto (own h (L.places h op a (m a) v)) fs) u)
             → Good L (L.Answer op) h (placed_with L h op m v) (L.more op) n B fs v (L.MayWait h op v) d (λ l a u. Then a l (onto (own h (L.places h op a (m a) v)) fs) u)
         step v fs Waits led q = q

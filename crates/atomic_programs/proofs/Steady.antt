@@ -1,5 +1,5 @@
 -- What holds of each event in any state.
-use Rattle.atomic_programs.proofs.Vocabulary.{◌≡◌, ℕ, suc, Option, Some, None, Bool, true, false, List, [], ◌∷◌, ◌++◌, refl, sym, ◌∙◌, ap, append_assoc, inl, inr, Ret, Do, Did, Waits, Ran, Stops, P, OpWithAnswer, oldest_first, Theory, Began, Refuses, Begins, Run, State, Event, Start, Step, WasStopped, unchanged, moved, tried, step_prog, step_unless, step_run, begun, busy_in, start_run, makes, next, PlacedStep, placed, start_of, In, is_quiet, Steady}
+use Rattle.atomic_programs.proofs.Vocabulary.{◌≡◌, ℕ, suc, Option, Some, None, Bool, true, false, List, [], ◌∷◌, ◌++◌, refl, sym, ◌∙◌, ap, append_assoc, inl, inr, Ret, Do, ExecResult, Waits, Ran, Stops, P, OpWithAnswer, oldest_first, Theory, Began, Refuses, Begins, Run, State, Event, Start, Step, WasStopped, unchanged, moved, tried, step_prog, step_unless, step_run, begun, busy_in, start_run, makes, next, PlacedStep, placed, start_of, In, is_quiet, Steady}
 use Rattle.atomic_programs.proofs.Basics.{append_nil, oldest_first_more}
 
 module _ (L : Theory) (s : State L) where
@@ -7,7 +7,7 @@ module _ (L : Theory) (s : State L) where
   quiet_moved h r did ps (Ret reply) w q = cc
   quiet_moved h r did ps (Do op m k) w q = cc
 
-  quiet_tried : (h : ℕ) (r : Run L) (op : L.M.Op) (ps : L.M.Answer op → List (ℕ × L.M.Step)) (k : L.M.Answer op → P L.M L.Reply) (x : Did (L.M.Answer op) L.M.World) → is_quiet (tried L h s r op ps k x).came ≡ true → (tried L h s r op ps k x).after ≡ unchanged L s
+  quiet_tried : (h : ℕ) (r : Run L) (op : L.M.Op) (ps : L.M.Answer op → List (ℕ × L.M.Step)) (k : L.M.Answer op → P L.M L.Reply) (x : ExecResult (L.M.Answer op) L.M.World) → is_quiet (tried L h s r op ps k x).came ≡ true → (tried L h s r op ps k x).after ≡ unchanged L s
   quiet_tried h r op ps k Waits q = refl
   quiet_tried h r op ps k (Ran a w) q = quiet_moved h r (op, a) (ps a) (k a) w q
   quiet_tried h r op ps k (Stops w) q = cc
@@ -94,7 +94,7 @@ module _ (L : Theory) (s : State L) where
   more_moved h r did ps (Ret reply) w = placed_more L s.now s.running ps s.list
   more_moved h r did ps (Do op m k) w = placed_more L s.now s.running ps s.list
 
-  more_tried : (h : ℕ) (r : Run L) (op : L.M.Op) (ps : L.M.Answer op → List (ℕ × L.M.Step)) (k : L.M.Answer op → P L.M L.Reply) (x : Did (L.M.Answer op) L.M.World) → More L s.now s.list (tried L h s r op ps k x).after.list
+  more_tried : (h : ℕ) (r : Run L) (op : L.M.Op) (ps : L.M.Answer op → List (ℕ × L.M.Step)) (k : L.M.Answer op → P L.M L.Reply) (x : ExecResult (L.M.Answer op) L.M.World) → More L s.now s.list (tried L h s r op ps k x).after.list
   more_tried h r op ps k Waits = none_more L s.now s.list
   more_tried h r op ps k (Ran a w) = more_moved h r (op, a) (ps a) (k a) w
   more_tried h r op ps k (Stops w) = none_more L s.now s.list
@@ -127,7 +127,7 @@ module _ (L : Theory) (s : State L) where
   counts_moved h r did ps (Ret reply) w = refl
   counts_moved h r did ps (Do op m k) w = refl
 
-  counts_tried : (h : ℕ) (r : Run L) (op : L.M.Op) (ps : L.M.Answer op → List (ℕ × L.M.Step)) (k : L.M.Answer op → P L.M L.Reply) (x : Did (L.M.Answer op) L.M.World) → (tried L h s r op ps k x).after.now ≡ suc s.now
+  counts_tried : (h : ℕ) (r : Run L) (op : L.M.Op) (ps : L.M.Answer op → List (ℕ × L.M.Step)) (k : L.M.Answer op → P L.M L.Reply) (x : ExecResult (L.M.Answer op) L.M.World) → (tried L h s r op ps k x).after.now ≡ suc s.now
   counts_tried h r op ps k Waits = refl
   counts_tried h r op ps k (Ran a w) = counts_moved h r (op, a) (ps a) (k a) w
   counts_tried h r op ps k (Stops w) = refl

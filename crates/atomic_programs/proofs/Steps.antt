@@ -50,12 +50,12 @@ blocks_laws l keeps =
     }
 
 -- a step of hart h
-pub record Did (h : ℕ) (v r : World) : Type 0 where
+pub record LowerStep (h : ℕ) (v r : World) : Type 0 where
   pub inodes : (i : ℕ) → ((r.lock i ≡ v.lock i) × (at r.cell i ≡ at v.cell i) × (r.part i ≡ v.part i)) ⊎ (Ours h (v.lock i) × Ours h (r.lock i))
   pub buffers : (b : ℕ) → ((r.out b ≡ v.out b) × (r.cell b ≡ v.cell b) × (r.valid b ≡ v.valid b)) ⊎ (Ours h (v.out b) × Ours h (r.out b))
   pub txns : (g : ℕ) → g ≢ h → r.txn g ≡ v.txn g
 
-pub did_same : (h : ℕ) (v r : World) → Did h v r → (g : ℕ) → g ≢ h → Same g v r
+pub did_same : (h : ℕ) (v r : World) → LowerStep h v r → (g : ℕ) → g ≢ h → Same g v r
 did_same h v r did g ne = record { inodes = λ i. inode i (did.inodes i); buffers = λ b. buffer b (did.buffers b); txn = did.txns g ne; parts = λ i. part i (did.inodes i) }
   where
     inode : (i : ℕ) → ((r.lock i ≡ v.lock i) × (at r.cell i ≡ at v.cell i) × (r.part i ≡ v.part i)) ⊎ (Ours h (v.lock i) × Ours h (r.lock i)) → if_held (r.lock i) g (at r.cell i) ≡ if_held (v.lock i) g (at v.cell i)
@@ -86,13 +86,13 @@ ours_put h f k y j a b = elim (same_or j k) [
 ]
 
 -- the lock of inode i came into the hart's hand, or goes from it
-pub did_lock : (h i : ℕ) (y : Option ℕ) (mem : ℕ → Option Dinode) (v : World) → Ours h (v.lock i) → Ours h y → Did h v (record v { lock = put v.lock i y; mem = mem })
+pub did_lock : (h i : ℕ) (y : Option ℕ) (mem : ℕ → Option Dinode) (v : World) → Ours h (v.lock i) → Ours h y → LowerStep h v (record v { lock = put v.lock i y; mem = mem })
 did_lock h i y mem v a b =
     record { inodes = λ j. elim (ours_put h v.lock i y j a b) [ inl e ↦ inl (e.1, refl, refl) | inr o ↦ inr o ]; buffers = λ c. inl (refl, refl, refl); txns = λ g ne. refl }
 
 -- the same of a buffer whose block may change, but only in slots of the hart's inodes
 pub did_buffer : (h b : ℕ) (y : Option ℕ) (z : Block) (v : World) → Ours h (v.out b) → Ours h y
-    → ((i : ℕ) → i / 16 ≡ b → (z (i % 16) ≡ v.cell b (i % 16)) ⊎ Ours h (v.lock i)) → Did h v (record v { out = put v.out b y; cell = put v.cell b z })
+    → ((i : ℕ) → i / 16 ≡ b → (z (i % 16) ≡ v.cell b (i % 16)) ⊎ Ours h (v.lock i)) → LowerStep h v (record v { out = put v.out b y; cell = put v.cell b z })
 did_buffer h b y z v a c slots =
     record {
       inodes = λ i. elim (same_or (i / 16) b) [
@@ -107,11 +107,11 @@ did_buffer h b y z v a c slots =
     }
 
 -- the same where the block stays
-pub did_hand : (h b : ℕ) (y : Option ℕ) (v : World) → Ours h (v.out b) → Ours h y → Did h v (record v { out = put v.out b y })
+pub did_hand : (h b : ℕ) (y : Option ℕ) (v : World) → Ours h (v.out b) → Ours h y → LowerStep h v (record v { out = put v.out b y })
 did_hand h b y v a c =
     record { inodes = λ i. inl (refl, refl, refl); buffers = λ j. elim (ours_put h v.out b y j a c) [ inl e ↦ inl (e.1, refl, refl) | inr o ↦ inr o ]; txns = λ g ne. refl }
 
-pub did_read : (h b : ℕ) (v : World) → v.out b ≡ Some h → Did h v (record v { valid = put v.valid b true })
+pub did_read : (h b : ℕ) (v : World) → v.out b ≡ Some h → LowerStep h v (record v { valid = put v.valid b true })
 did_read h b v mine =
     record {
       inodes = λ i. inl (refl, refl, refl);
@@ -122,7 +122,7 @@ did_read h b v mine =
       txns = λ g ne. refl;
     }
 
-pub did_txn : (h : ℕ) (t : Bool) (v : World) → Did h v (record v { txn = put v.txn h t })
+pub did_txn : (h : ℕ) (t : Bool) (v : World) → LowerStep h v (record v { txn = put v.txn h t })
 did_txn h t v = record { inodes = λ i. inl (refl, refl, refl); buffers = λ b. inl (refl, refl, refl); txns = λ g ne. put_other v.txn h t g ne }
 
 -- What is shown above after a step.
@@ -194,7 +194,7 @@ pub shows_txn : (h : ℕ) (t : Bool) (v : World) (g : above.World) → Shows v g
 shows_txn h t v g s = record { locks = s.locks; dinos = s.dinos; txns = put_like g.txn v.txn h t s.txns; loaded = s.loaded; parts = s.parts }
 
 -- A part of an inode of the hart's: below it is written, and above it may be later.
-pub did_part : (h i k z : ℕ) (v : World) → v.lock i ≡ Some h → Did h v (record v { part = put v.part i (put (v.part i) k z) })
+pub did_part : (h i k z : ℕ) (v : World) → v.lock i ≡ Some h → LowerStep h v (record v { part = put v.part i (put (v.part i) k z) })
 did_part h i k z v mine =
     record {
       inodes = λ j. elim (same_or j i) [

@@ -1,5 +1,5 @@
 -- The calls of the cell do as they should.
-use Rattle.atomic_programs.proofs.Vocabulary.{◌≡◌, ◌≢◌, ◌<◌, ◌+◌, ◌-◌, ◌⊎◌, ℕ, Option, Some, None, Bool, true, false, List, [], ◌∷◌, refl, sym, ◌∙◌, ap, subst, arith, inl, inr, eqb-true, eq-eqb, ne_eqb, ltb-true, nat_eq, nat_lt, if◌then◌else◌, Do, unmarked, Did, Waits, Ran, own, onto, PlacesOne, Halts, Good, Wp, Safe, Laws, Began, Begins, IsBeginning, Begun, Ends, Right, Lawful, Event, AllHonest, run, fresh, IsExplained, Cell, LeavesIt, LeavesOne, failed, fetch_if, store_if, honest, may, fits, Take, Fetch, Store, Drop, Answer, Swapped, Saw, with_value, go, placed_by, own_of, Inv, MayWait, machine, Call, Look, Refusal, program, begin_if, swaps}
+use Rattle.atomic_programs.proofs.Vocabulary.{◌≡◌, ◌≢◌, ◌<◌, ◌+◌, ◌-◌, ◌⊎◌, ℕ, Option, Some, None, Bool, true, false, List, [], ◌∷◌, refl, sym, ◌∙◌, ap, subst, arith, inl, inr, eqb-true, eq-eqb, ne_eqb, ltb-true, nat_eq, nat_lt, if◌then◌else◌, Do, unmarked, ExecResult, Waits, Ran, own, onto, PlacesOne, Halts, Good, Wp, Safe, Laws, Began, Begins, IsBeginning, Begun, Ends, Right, Lawful, Event, AllHonest, run, fresh, IsExplained, Cell, LeavesIt, LeavesOne, failed, fetch_if, store_if, honest, may, fits, Take, Fetch, Store, Drop, Answer, Swapped, Saw, with_value, go, placed_by, own_of, Inv, MayWait, machine, Call, Look, Refusal, program, begin_if, swaps}
 use Rattle.atomic_programs.specs.Cell.{Outside, Passes, Fails, Op, Step, World, if_held, IsOut, Swap, P}
 use Rattle.atomic_programs.proofs.Basics.{s-op, explains}
 
@@ -57,7 +57,7 @@ pub s-take : {A : Type 0} {h : ℕ} {k : Unit {0} → P A} {B : List Step → Ty
 s-take {A} {h} {k} {B} {Q} {n} {es} {w} none few then_ = s-owned few (λ v o inv. tt) (λ v x o inv t. at v inv (o ∙ none) v.cell.holder refl)
   where
     at : (v : World) → Inv v → own_of h v ≡ None → (x : Option ℕ) → v.cell.holder ≡ x
-        → Good machine (Unit {0}) h (λ a. []) 0 n B es v (IsOut h v.cell.holder) (with_value unmarked v.value (elim x as (λ y. Did (Unit {0}) Cell) [ None ↦ Ran tt (record (v.cell) { holder = Some h }) | Some g ↦ Waits ])) (λ l a u. Wp machine h B Q (k a) l es u)
+        → Good machine (Unit {0}) h (λ a. []) 0 n B es v (IsOut h v.cell.holder) (with_value unmarked v.value (elim x as (λ y. ExecResult (Unit {0}) Cell) [ None ↦ Ran tt (record (v.cell) { holder = Some h }) | Some g ↦ Waits ])) (λ l a u. Wp machine h B Q (k a) l es u)
     at v inv own None e =
         record {
           inv = (inv.0, λ q. (let c : ◌≡◌ {A = Option ℕ} (Some h) None = q in cc));

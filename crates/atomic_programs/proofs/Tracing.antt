@@ -1,5 +1,5 @@
 -- A state's calls are just those that the events with their outcomes show.
-use Rattle.atomic_programs.proofs.Vocabulary.{◌≡◌, ◌≢◌, ℕ, suc, Option, Some, None, Bool, true, false, List, [], ◌∷◌, refl, sym, ◌∙◌, ap, subst, ◌⊎◌, inl, inr, Ret, Do, Did, Waits, Ran, Stops, P, OpWithAnswer, own, onto, Theory, Began, Refuses, Begins, Run, FinishedCall, State, Event, Start, Step, Came, Started, Refused, WasIdle, DidWait, DidRun, DidEnd, DidStop, WasStopped, told, all_told, unchanged, moved, tried, step_prog, step_unless, step_run, begun, busy_in, start_run, makes, next, run, fresh, In, EventReport, happened, IsTraced}
+use Rattle.atomic_programs.proofs.Vocabulary.{◌≡◌, ◌≢◌, ℕ, suc, Option, Some, None, Bool, true, false, List, [], ◌∷◌, refl, sym, ◌∙◌, ap, subst, ◌⊎◌, inl, inr, Ret, Do, ExecResult, Waits, Ran, Stops, P, OpWithAnswer, own, onto, Theory, Began, Refuses, Begins, Run, FinishedCall, State, Event, Start, Step, EventOutcome, Started, Refused, WasIdle, DidWait, DidRun, DidEnd, DidStop, WasStopped, told, all_told, unchanged, moved, tried, step_prog, step_unless, step_run, begun, busy_in, start_run, makes, next, run, fresh, In, EventReport, happened, IsTraced}
 use Rattle.atomic_programs.proofs.Basics.{changed_tells, Some-inj}
 
 module _ (L : Theory) where
@@ -13,15 +13,15 @@ module _ (L : Theory) where
       }
 
   -- the events so far, and one more
-  abbrev And : (EventReport L → Type 0) → ℕ → Event L.Call L.M.Outside → Came L → EventReport L → Type 0
+  abbrev And : (EventReport L → Type 0) → ℕ → Event L.Call L.M.Outside → EventOutcome L → EventReport L → Type 0
   And V n e c x = V x ⊎ (x ≡ record { number = n; event = e; came = c })
 
   module _ (V : EventReport L → Type 0) (s : State L) (t : IsTraced L V s) where
-    abbrev IsReply : Came L → Type 0
+    abbrev IsReply : EventOutcome L → Type 0
     IsReply c = (reply : L.Reply) × (c ≡ DidEnd reply)
 
     -- an event that gives no reply
-    no_reply : (e : Event L.Call L.M.Outside) (c : Came L) (u : State L) → (IsReply c → ⊥) → u.finished ≡ s.finished
+    no_reply : (e : Event L.Call L.M.Outside) (c : EventOutcome L) (u : State L) → (IsReply c → ⊥) → u.finished ≡ s.finished
         → ((h : ℕ) (r : Run L) → u.running h ≡ Some r → And V s.now e c (record { number = r.start; event = Start h r.call; came = Started })) → IsTraced L (And V s.now e c) u
     no_reply e c u none same runs =
         record {
@@ -38,7 +38,7 @@ module _ (L : Theory) where
             (d.0, subst (λ (fs : List (FinishedCall L)). In d.0 fs) (sym same) d.1, d.2, d.3, d.4)
         at x (inr q) h y reply ev ce = absurd (none (reply, sym (ap (λ (y : EventReport L). y.came) q) ∙ ce))
 
-    quietly : (e : Event L.Call L.M.Outside) (c : Came L) → (IsReply c → ⊥) → IsTraced L (And V s.now e c) (unchanged L s)
+    quietly : (e : Event L.Call L.M.Outside) (c : EventOutcome L) → (IsReply c → ⊥) → IsTraced L (And V s.now e c) (unchanged L s)
     quietly e c none = no_reply e c (unchanged L s) none refl (λ h r q. inl (t.under_way h r q))
 
     told_was : (h j : ℕ) (xs : List L.M.Step) (x : Option (Run L)) (r : Run L) → s.running j ≡ x → told L xs x ≡ Some r → V (record { number = r.start; event = Start j r.call; came = Started })
@@ -78,7 +78,7 @@ module _ (L : Theory) where
             same_hart : ◌≡◌ {A = Event L.Call L.M.Outside} (Step h y) (Step j z) → h ≡ j
             same_hart e = cc
 
-            same_reply : ◌≡◌ {A = Came L} (DidEnd reply) (DidEnd reply2) → reply ≡ reply2
+            same_reply : ◌≡◌ {A = EventOutcome L} (DidEnd reply) (DidEnd reply2) → reply ≡ reply2
             same_reply e = cc
 
         started : (f : FinishedCall L) → In f (new ∷ s.finished) → And V s.now (Step h y) (DidEnd reply) (record { number = f.start; event = Start f.hart f.call; came = Started })
@@ -96,7 +96,7 @@ module _ (L : Theory) where
         at j q (inl x) = let c : None ≡ Some q = x.1 in cc
         at j q (inr x) = told_was h j (own j ps) (s.running j) q refl x.1
 
-    after_tried : (h : ℕ) (y : L.M.Outside) (r : Run L) (op : L.M.Op) (ps : L.M.Answer op → List (ℕ × L.M.Step)) (k : L.M.Answer op → P L.M L.Reply) (x : Did (L.M.Answer op) L.M.World) → s.running h ≡ Some r
+    after_tried : (h : ℕ) (y : L.M.Outside) (r : Run L) (op : L.M.Op) (ps : L.M.Answer op → List (ℕ × L.M.Step)) (k : L.M.Answer op → P L.M L.Reply) (x : ExecResult (L.M.Answer op) L.M.World) → s.running h ≡ Some r
         → IsTraced L (And V s.now (Step h y) (tried L h s r op ps k x).came) (tried L h s r op ps k x).after
     after_tried h y r op ps k Waits is = quietly (Step h y) DidWait (λ y. (let c : DidWait ≡ DidEnd y.0 = y.1 in cc))
     after_tried h y r op ps k (Ran a w) is = after_moved h y r (op, a) (ps a) (k a) w is

@@ -1,11 +1,11 @@
 -- What this crate's proofs speak of: its own definitions, and what the crates below and the library call things.
 pub use Rattle.std.proofs.Common.{Bool, List, None, Option, Some, [], ap, append_assoc, arith, false, get_or, get_or-set_other, get_or-set_same, if◌then◌else◌, inl, inr, length, length-set, nat_eq, nat_lt, refl, set, slice_get, subst, suc, sym, true, zero, ℕ, ◌%◌, ◌++◌, ◌+◌, ◌-◌, ◌/◌, ◌<◌, ◌∙◌, ◌∷◌, ◌≡◌, ◌≢◌, ◌≤◌, ◌⊎◌}
-pub use Rattle.atomic_programs.specs.Prog.{Broke, Did, Do, Ended, OfNext, OperationResult, Prog, Ran, Ret, StillWaits, Stops, Waits, WentOn, advance, asks, bind, did_in, marked, moved_in, once, plain, unmarked, went}
+pub use Rattle.atomic_programs.specs.Prog.{Broke, ExecResult, Do, Ended, OfNext, OperationResult, Prog, Ran, Ret, StillWaits, Stops, Waits, WentOn, advance, asks, bind, exec_result_in, marked, moved_in, once, plain, unmarked, went}
 pub use Rattle.atomic_programs.specs.Logic.{Fine, Goes, Good, Grown, Halts, Laws, Machine, OpWithAnswer, P, PlacesOne, Safe, Wp, oldest_first, onto, own, placed_with}
-pub use Rattle.atomic_programs.specs.Calls.{AllHonest, Began, Begins, Begun, Came, DidEnd, DidRun, DidStop, DidWait, Ends, Event, FinishedCall, HonestStep, IsBeginning, IsHonest, Lawful, Made, Outcome, PlacedStep, Refused, Refuses, Right, Run, Sound, Start, Started, State, Step, Theory, WasIdle, WasStopped, all_asked, all_told, asked, begun, busy_in, changed, fresh, hart_of, is_some, makes, moved, next, outcomes, placed, run, start_of, start_run, step_prog, step_run, step_unless, told, tried, unchanged, with_answer}
+pub use Rattle.atomic_programs.specs.Calls.{AllHonest, Began, Begins, Begun, EventOutcome, DidEnd, DidRun, DidStop, DidWait, Ends, Event, FinishedCall, HonestStep, IsBeginning, IsHonest, Lawful, Made, Outcome, PlacedStep, Refused, Refuses, Right, Run, Sound, Start, Started, State, Step, Theory, WasIdle, WasStopped, all_asked, all_told, asked, begun, busy_in, changed, fresh, hart_of, is_some, makes, moved, next, outcomes, placed, run, start_of, start_run, step_prog, step_run, step_unless, told, tried, unchanged, with_answer}
 pub use Rattle.atomic_programs.specs.Explained.{Chain, Holds, In, IsBlocked, IsExplained, IsOfCall, IsRising, Leads, Steady, is_quiet, of_hart, steps_of}
 pub use Rattle.std.proofs.lemmas.Bool.{eq-eqb, eqb-false, eqb-true, ltb-true, ne_eqb}
-pub use Rattle.atomic_programs.specs.Joined.{ActOf, AtEnd, Atomic, Below, Both, Handlers, Handover, Lasts, Lower, LowerLaws, both, holding, joined, lowered, placed_at, ran_to}
+pub use Rattle.atomic_programs.specs.Joined.{ActOf, AtEnd, Atomic, Below, Both, Handlers, Handover, Lasts, LowerLayer, LowerLaws, both, holding, joined, lowered, placed_at, ran_to}
 pub use Rattle.atomic_programs.specs.Plain.{Code, HartMade, IsCode, MayOf, Plain, PlainHonest, PlainHonestStep, PlainMade, SoundPlain, UnmarkedProgram, all_by_kind, began_in, by_kind, erase, hart_begun, hart_moved, hart_prog, hart_start, hart_step, hart_tried, plain_begun, plain_makes, plain_moved, plain_outcomes, plain_prog, plain_run, plain_start, plain_step, plain_tried, plain_unless, prog_of, put_back}
 pub use Rattle.atomic_programs.specs.Operations.{Core, IsCore, IsRun, bare, bare_calls, operations, operations_of}
 pub use Rattle.atomic_programs.specs.Whole.{Dinode, Exit, Keeps, Labels, if_held, take_if, whole, written}
@@ -30,7 +30,7 @@ pub use Rattle.atomic_programs.specs.Toy.{Twice, answer_to, counting, lower, upp
 pub use Rattle.atomic_programs.specs.Trace.{EventReport, IsTraced, happened}
 pub use Rattle.atomic_programs.specs.Wards.{Fill, LowAnswer, Peek, Release, gifts, gifts_above, given, reserved, start, unless_ward}
 pub use Rattle.atomic_programs.specs.Within.{gifts_noted, swaps_noted}
-pub use Rattle.atomic_programs.specs.declared.cell.Kind.{Kind}
+pub use Rattle.atomic_programs.specs.declared.cell.CellKind.{CellKind}
 pub use Rattle.atomic_programs.specs.declared.machines.Stepped.{Stepped}
 pub use Rattle.atomic_programs.specs.declared.machines.Stepped.TheVariants.{Done, Stopped}
 pub use Rattle.std.proofs.lemmas.List.{set-set}

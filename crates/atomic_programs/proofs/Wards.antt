@@ -1,5 +1,5 @@
 -- What a start reserves is reserved in both worlds, and its call is a run of its operations above.
-use Rattle.atomic_programs.proofs.Vocabulary.{◌≡◌, ◌≢◌, ◌<◌, ◌+◌, ◌⊎◌, inl, inr, ℕ, Bool, true, false, Option, Some, None, List, [], ◌∷◌, refl, sym, ◌∙◌, ap, subst, arith, nat_eq, eqb-false, eq-eqb, ne_eqb, Ret, once, unmarked, Stops, did_in, asks, onto, own, Machine, Fine, Wp, Safe, Laws, Began, Begins, Begun, Ends, Right, Lawful, Event, AllHonest, run, fresh, is_some, IsExplained, IsCore, operations, Both, joined, LowerLaws, holding, Below, Atomic, BeginsBoth, StartsBoth, put, if_held, given, unless_ward, reserved, start, gifts, Peek, Fill, Release, LowAnswer, gifts_above, gifts_noted}
+use Rattle.atomic_programs.proofs.Vocabulary.{◌≡◌, ◌≢◌, ◌<◌, ◌+◌, ◌⊎◌, inl, inr, ℕ, Bool, true, false, Option, Some, None, List, [], ◌∷◌, refl, sym, ◌∙◌, ap, subst, arith, nat_eq, eqb-false, eq-eqb, ne_eqb, Ret, once, unmarked, Stops, exec_result_in, asks, onto, own, Machine, Fine, Wp, Safe, Laws, Began, Begins, Begun, Ends, Right, Lawful, Event, AllHonest, run, fresh, is_some, IsExplained, IsCore, operations, Both, joined, LowerLaws, holding, Below, Atomic, BeginsBoth, StartsBoth, put, if_held, given, unless_ward, reserved, start, gifts, Peek, Fill, Release, LowAnswer, gifts_above, gifts_noted}
 use Rattle.atomic_programs.proofs.Basics.{s-op, operations_laws, s-silent, acted, s-act, operations_below, refined, put_same, put_other, same_or, put_elim, Ours, not_held, held_is, held_here, ours_is}
 use Rattle.atomic_programs.proofs.Noted.{refined_within}
 use Rattle.atomic_programs.specs.Wards.{World, Op, Give, Free, Answer, exec, Mine, machine, Refusal, unless, core, Shows, Base, low, LowOp, handler, rest}
@@ -42,13 +42,13 @@ low_laws =
     }
 
 -- a step of hart h that changes nothing but one of its wards, or that a hart becomes or was one
-record Did (h j : ℕ) (v w : World) : Type 0 where
+record WardStep (h j : ℕ) (v w : World) : Type 0 where
   here : Ours h (v.ward j) × Ours h (w.ward j)
   there : (k : ℕ) → k ≢ j → (w.ward k ≡ v.ward k) × (w.purse k ≡ v.purse k)
   -- a hart that nobody had reserved, and is other, has its purse
   lone : v.ward j ≡ None → (w.ward j ≡ None) × (w.purse j ≡ v.purse j)
 
-did_mine : (h j : ℕ) (v w : World) → Did h j v w → (g : ℕ) → g ≢ h → Mine g v w
+did_mine : (h j : ℕ) (v w : World) → WardStep h j v w → (g : ℕ) → g ≢ h → Mine g v w
 did_mine h j v w did g ne =
     record {
       wards = λ k. elim (same_or k j) [
@@ -64,7 +64,7 @@ did_mine h j v w did g ne =
 taken_not : (h j : ℕ) (v : World) {A : Type 0} → v.ward j ≡ Some h → v.ward j ≡ None → A
 taken_not h j v e n = absurd (let c : ◌≡◌ {A = Option ℕ} (Some h) None = sym e ∙ n in cc)
 
-did_fill : (h j x : ℕ) (v : World) → v.ward j ≡ Some h → Did h j v (record v { purse = put v.purse j x })
+did_fill : (h j x : ℕ) (v : World) → v.ward j ≡ Some h → WardStep h j v (record v { purse = put v.purse j x })
 did_fill h j x v e =
     record {
       here = (ours_is h (v.ward j) (inr e), ours_is h (v.ward j) (inr e));
@@ -72,7 +72,7 @@ did_fill h j x v e =
       lone = λ n. taken_not h j v e n;
     }
 
-did_free : (h j : ℕ) (v : World) → v.ward j ≡ Some h → Did h j v (record v { ward = put v.ward j None })
+did_free : (h j : ℕ) (v : World) → v.ward j ≡ Some h → WardStep h j v (record v { ward = put v.ward j None })
 did_free h j v e =
     record {
       here = (ours_is h (v.ward j) (inr e), ours_is h (put v.ward j None j) (inl (put_same v.ward j None)));
@@ -235,7 +235,7 @@ is_core =
       some = some;
     }
   where
-    goes : (h : ℕ) (x : Unit {0}) (op : Op) (m : Answer op → Option (Unit {0})) (w : World) → did_in core.of (exec h op w) ≡ core.go h x op w.purse
+    goes : (h : ℕ) (x : Unit {0}) (op : Op) (m : Answer op → Option (Unit {0})) (w : World) → exec_result_in core.of (exec h op w) ≡ core.go h x op w.purse
     goes h x (Give j) m w = refl
     goes h x (Free j) m w = refl
 

@@ -1,11 +1,12 @@
 -- What is left of a call over operations above, while one of them runs below.
 use Rattle.std.specs.Prelude.{◌≡◌, Option, Some}
-use Rattle.atomic_programs.specs.Basics.{Prog, Ret, Do, bind, plain, asks, Machine, P, ActOf, Lower, Handover, Handlers, lowered}
+use Rattle.atomic_programs.specs.Basics.{Prog, Ret, Do, bind, plain, asks, Machine, P, ActOf, LowerLayer, Handover, Handlers, lowered}
 use Rattle.atomic_programs.specs.declared.machines.Stepped.{Stepped}
 use Rattle.atomic_programs.specs.declared.machines.Stepped.TheVariants.{Waits, Ran, Done, Stopped}
 
 -- answer_to: what code hears, as each operation's answer
-module _ (U : Machine) (R : Lower U.World) (handler : Handlers U R) {Heard : Type 0} (answer_to : (op : U.Op) → Heard → U.Answer op) where
+module _ (U : Machine) (R : LowerLayer U.World) (handler : Handlers U R) {Heard : Type 0}
+    (answer_to : (op : U.Op) → Heard → U.Answer op) where
   -- the call's program below as code knows it, with this in hand
   abbrev pub below : {A : Type 0} → R.Carry → P U A → Prog R.Op R.Answer ⊥ A
   below c p = plain (lowered U R handler c p)

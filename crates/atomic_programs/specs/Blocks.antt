@@ -1,7 +1,7 @@
 -- The machine below: locks of inodes, records in memory, and buffers of blocks that hold 16 records each. An inode is unlocked
 -- with its record, which the program of the operation that took or stored it hands on.
 use Rattle.std.specs.Prelude.{◌≡◌, ◌≢◌, ◌<◌, ◌/◌, ◌%◌, ℕ, Bool, true, false, Option, Some, None, suc, List, [], ◌∷◌}
-use Rattle.atomic_programs.specs.Basics.{Prog, Ret, Do, bind, once, unmarked, Did, Waits, Ran, Stops, Act, Lower, Handover, holding, put, if_held, Dinode}
+use Rattle.atomic_programs.specs.Basics.{Prog, Ret, Do, bind, once, unmarked, ExecResult, Waits, Ran, Stops, Act, LowerLayer, Handover, holding, put, if_held, Dinode}
 use Rattle.atomic_programs.specs.Whole as above
 
 -- no other hart starts a call
@@ -50,7 +50,7 @@ pub data Outside : Type 0 where
   Passes : Outside
   Fails : Outside
 
-abbrev pub lock_if : ℕ → ℕ → World → Option ℕ → Did (Option Dinode) World
+abbrev pub lock_if : ℕ → ℕ → World → Option ℕ → ExecResult (Option Dinode) World
 lock_if h i w None = Ran (w.mem i) (record w { lock = put w.lock i (Some h) })
 lock_if h i w (Some g) = Waits
 
@@ -58,11 +58,11 @@ abbrev pub bytes_if : Bool → Block → Option Block
 bytes_if true z = Some z
 bytes_if false z = None
 
-abbrev pub get_if : ℕ → ℕ → World → Option ℕ → Did (Option Block) World
+abbrev pub get_if : ℕ → ℕ → World → Option ℕ → ExecResult (Option Block) World
 get_if h b w None = Ran (bytes_if (w.valid b) (w.cell b)) (record w { out = put w.out b (Some h) })
 get_if h b w (Some g) = Waits
 
-abbrev pub read_if : ℕ → World → Outside → Did Block World
+abbrev pub read_if : ℕ → World → Outside → ExecResult Block World
 read_if b w Passes = Ran (w.cell b) (record w { valid = put w.valid b true })
 read_if b w Fails = Stops w
 
@@ -70,7 +70,7 @@ abbrev pub put_if : ℕ → World → Option Block → World
 put_if b w None = record w { out = put w.out b None }
 put_if b w (Some z) = record w { out = put w.out b None; cell = put w.cell b z }
 
-abbrev pub exec : ℕ → Outside → (op : Op) → World → Did (Answer op) World
+abbrev pub exec : ℕ → Outside → (op : Op) → World → ExecResult (Answer op) World
 exec h x (Lock i) w = lock_if h i w (w.lock i)
 exec h x (Unlock i d) w = Ran tt (record w { lock = put w.lock i None; mem = put w.mem i (Some d) })
 exec h x (Get b) w = get_if h b w (w.out b)
@@ -151,7 +151,7 @@ pub record Base (h : ℕ) (r : World) (g : above.World) (hand : Carry) : Type 0 
   pub tied : IsTied h r g
   pub in_hand : InHand h r hand
 
-abbrev pub blocks : Lower above.World
+abbrev pub blocks : LowerLayer above.World
 blocks =
     record {
       Op = Op;

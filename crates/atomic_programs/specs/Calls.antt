@@ -1,6 +1,6 @@
 -- A machine with its calls, and what a list of events makes of them.
 use Rattle.std.specs.Prelude.{◌≡◌, ◌≢◌, ◌⊎◌, ℕ, suc, Bool, true, false, Option, Some, None, nat_eq, if◌then◌else◌, List, [], ◌∷◌, ◌++◌}
-use Rattle.atomic_programs.specs.Prog.{Prog, Ret, Do, Did, Waits, Ran, Stops, asks, OfNext}
+use Rattle.atomic_programs.specs.Prog.{Prog, Ret, Do, ExecResult, Waits, Ran, Stops, asks, OfNext}
 use Rattle.atomic_programs.specs.Logic.{Machine, P, OpWithAnswer, own, onto, oldest_first, Wp, Laws}
 
 -- what the start of a call comes to: it is refused, or begun in a world where what the call needs is reserved for it
@@ -114,26 +114,26 @@ all_asked [] = []
 all_asked (e ∷ es) = asked e ∷ all_asked es
 
 -- what an event came to
-pub data Outcome (Did Reply Refusal : Type 0) : Type 0 where
-  Started : Outcome Did Reply Refusal
-  Refused : Refusal → Outcome Did Reply Refusal
+pub data Outcome (What Reply Refusal : Type 0) : Type 0 where
+  Started : Outcome What Reply Refusal
+  Refused : Refusal → Outcome What Reply Refusal
   -- the hart has no call
-  WasIdle : Outcome Did Reply Refusal
-  DidWait : Outcome Did Reply Refusal
+  WasIdle : Outcome What Reply Refusal
+  DidWait : Outcome What Reply Refusal
   -- this was done, and the call goes on
-  DidRun : Did → Outcome Did Reply Refusal
-  DidEnd : Reply → Outcome Did Reply Refusal
+  DidRun : What → Outcome What Reply Refusal
+  DidEnd : Reply → Outcome What Reply Refusal
   -- this step stopped the world
-  DidStop : Outcome Did Reply Refusal
+  DidStop : Outcome What Reply Refusal
   -- the world had stopped before
-  WasStopped : Outcome Did Reply Refusal
+  WasStopped : Outcome What Reply Refusal
 
-abbrev pub Came : Theory → Type 0
-Came L = Outcome (OpWithAnswer L.M) L.Reply L.Refusal
+abbrev pub EventOutcome : Theory → Type 0
+EventOutcome L = Outcome (OpWithAnswer L.M) L.Reply L.Refusal
 
 -- an event's outcome, and the state after it
 pub record Made (L : Theory) : Type 0 where
-  pub came : Came L
+  pub came : EventOutcome L
   pub after : State L
 
 -- one entry of a table changed
@@ -198,7 +198,7 @@ moved L h s r did ps (Do op m k) w =
 
 -- the operation came to this
 abbrev pub tried : (L : Theory) → ℕ → State L → Run L → (op : L.M.Op) → (L.M.Answer op → List (ℕ × L.M.Step))
-    → (L.M.Answer op → P L.M L.Reply) → Did (L.M.Answer op) L.M.World → Made L
+    → (L.M.Answer op → P L.M L.Reply) → ExecResult (L.M.Answer op) L.M.World → Made L
 tried L h s r op ps k Waits = record { came = DidWait; after = unchanged L s }
 tried L h s r op ps k (Ran a w) = moved L h s r (op, a) (ps a) (k a) w
 tried L h s r op ps k (Stops w) =
@@ -270,7 +270,7 @@ AllHonest L [] s = Unit {0}
 AllHonest L (e ∷ es) s = IsHonest L e s × AllHonest L es (next L e s)
 
 -- the outcome of each event of the list
-abbrev pub outcomes : (L : Theory) → List (Event L.Call L.M.Outside) → State L → List (Came L)
+abbrev pub outcomes : (L : Theory) → List (Event L.Call L.M.Outside) → State L → List (EventOutcome L)
 outcomes L [] s = []
 outcomes L (e ∷ es) s = (makes L e s).came ∷ outcomes L es (next L e s)
 

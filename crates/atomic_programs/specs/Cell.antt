@@ -1,6 +1,6 @@
 -- An example: one number behind a lock, on a device that may fail. The number is a byte.
 use Rattle.std.specs.Prelude.{◌≡◌, ◌≢◌, ◌⊎◌, ◌<◌, ℕ, Bool, true, false, nat_eq, nat_lt, if◌then◌else◌, Option, Some, None, List, [], ◌∷◌}
-use Rattle.atomic_programs.specs.Basics.{Prog, Ret, Do, bind, once, unmarked, marked, Did, Waits, Ran, Stops, Machine, one_more_fault, Theory, Began, Refuses, Begins}
+use Rattle.atomic_programs.specs.Basics.{Prog, Ret, Do, bind, once, unmarked, marked, ExecResult, Waits, Ran, Stops, Machine, one_more_fault, Theory, Began, Refuses, Begins}
 
 -- what the code has: who has the lock, the number, on the device, and how often the device has failed
 pub record Cell : Type 0 where
@@ -20,7 +20,7 @@ Answer Fetch = ℕ
 Answer (Store n) = Unit {0}
 Answer Drop = Unit {0}
 
-abbrev pub take_if : ℕ → Cell → Option ℕ → Did (Unit {0}) Cell
+abbrev pub take_if : ℕ → Cell → Option ℕ → ExecResult (Unit {0}) Cell
 take_if h c None = Ran tt (record c { holder = Some h })
 take_if h c (Some g) = Waits
 
@@ -56,16 +56,16 @@ may h Drop c = c.holder ≡ Some h
 abbrev pub failed : Cell → ℕ → Cell
 failed c k = record c { count = k; faults = one_more_fault c.faults }
 
-abbrev pub fetch_if : Cell → Outside → Did ℕ Cell
+abbrev pub fetch_if : Cell → Outside → ExecResult ℕ Cell
 fetch_if c Passes = Ran c.count c
 fetch_if c (Fails k) = Stops (failed c k)
 
-abbrev pub store_if : ℕ → Cell → Outside → Did (Unit {0}) Cell
+abbrev pub store_if : ℕ → Cell → Outside → ExecResult (Unit {0}) Cell
 store_if n c Passes = Ran tt (record c { count = n })
 store_if n c (Fails k) = Stops (failed c k)
 
 -- what an operation makes of the cell in hart h's hand, where the device answers so
-abbrev pub exec : ℕ → Outside → (op : Op) → Cell → Did (Answer op) Cell
+abbrev pub exec : ℕ → Outside → (op : Op) → Cell → ExecResult (Answer op) Cell
 exec h x Take c = take_if h c c.holder
 exec h x Fetch c = fetch_if c x
 exec h x (Store n) c = store_if n c x
@@ -90,12 +90,12 @@ acted None t = t
 acted (Some (Swapped n old)) t = n
 acted (Some (Saw x)) t = t
 
-abbrev pub with_value : {A : Type 0} → (A → Option Step) → ℕ → Did A Cell → Did A World
+abbrev pub with_value : {A : Type 0} → (A → Option Step) → ℕ → ExecResult A Cell → ExecResult A World
 with_value m t Waits = Waits
 with_value m t (Ran a c) = Ran a (record { cell = c; value = acted (m a) t })
 with_value m t (Stops c) = Stops (record { cell = c; value = t })
 
-abbrev pub go : ℕ → Outside → (op : Op) → (Answer op → Option Step) → World → Did (Answer op) World
+abbrev pub go : ℕ → Outside → (op : Op) → (Answer op → Option Step) → World → ExecResult (Answer op) World
 go h x op m w = with_value m w.value (exec h x op w.cell)
 
 abbrev pub placed_by : ℕ → Option Step → List (ℕ × Step)

@@ -5,8 +5,8 @@ use Rattle.atomic_programs.specs.Tables.{PlaceFits, plain_at, IsKept}
 use Rattle.atomic_programs.specs.Cell as cell
 use Rattle.atomic_programs.specs.Cell.{Cell, Outside, Passes, Fails, opened, stored_and, dropped, exec, may, honest, begin_if, swaps}
 use Rattle.atomic_programs.specs.declared.machines.Stepped.{Stepped}
-use Rattle.atomic_programs.specs.declared.cell.Kind.{Kind}
-use Rattle.atomic_programs.specs.declared.cell.Kind.TheVariants as KindIs
+use Rattle.atomic_programs.specs.declared.cell.CellKind.{CellKind}
+use Rattle.atomic_programs.specs.declared.cell.CellKind.TheVariants as KindIs
 use Rattle.atomic_programs.specs.declared.cell.Open.{Open}
 use Rattle.atomic_programs.specs.declared.cell.Open.TheVariants as OpenAt
 use Rattle.atomic_programs.specs.declared.cell.Machine.{Machine}
@@ -21,11 +21,11 @@ use Rattle.atomic_programs.specs.declared.cell.Outcome.{Outcome}
 use Rattle.atomic_programs.specs.declared.cell.Outcome.TheVariants as OutcomeIs
 
 -- a fetch is told by its answer: of zero or of another number
-abbrev pub kind_fetched : ℕ → Kind
+abbrev pub kind_fetched : ℕ → CellKind
 kind_fetched zero = KindIs.FetchZero
 kind_fetched (suc n) = KindIs.Fetch
 
-abbrev pub kind_of : (op : cell.Op) → cell.Answer op → Kind
+abbrev pub kind_of : (op : cell.Op) → cell.Answer op → CellKind
 kind_of cell.Take a = KindIs.Take
 kind_of cell.Fetch a = kind_fetched a
 kind_of (cell.Store n) a = KindIs.Store
@@ -98,7 +98,7 @@ abbrev pub events_of : List Event → List (EventOf cell.Call (Unit {0}))
 events_of [] = []
 events_of (e ∷ es) = event_of e ∷ events_of es
 
-abbrev pub outcome_of : Outcome → OutcomeOf Kind ℕ cell.Refusal
+abbrev pub outcome_of : Outcome → OutcomeOf CellKind ℕ cell.Refusal
 outcome_of OutcomeIs.Started = WasStarted
 outcome_of (OutcomeIs.Refused why) = WasRefused (refusal_of why)
 outcome_of OutcomeIs.Idle = WasIdle
@@ -108,7 +108,7 @@ outcome_of (OutcomeIs.Done reply) = DidEnd reply
 outcome_of OutcomeIs.Stops = DidStop
 outcome_of OutcomeIs.Stopped = WasStopped
 
-abbrev pub outcomes_of : List Outcome → List (OutcomeOf Kind ℕ cell.Refusal)
+abbrev pub outcomes_of : List Outcome → List (OutcomeOf CellKind ℕ cell.Refusal)
 outcomes_of [] = []
 outcomes_of (o ∷ os) = outcome_of o ∷ outcomes_of os
 
@@ -117,7 +117,7 @@ abbrev pub code : Code swaps
 code =
     record {
       Shared = Cell;
-      Kind = Kind;
+      Kind = CellKind;
       shared = λ w. w.cell;
       kind = kind_of;
       exec = exec;

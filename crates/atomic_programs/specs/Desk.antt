@@ -1,7 +1,7 @@
 -- An example: requests that another hart serves, tokens that are handed to an idle hart, and a call after which nothing is
 -- claimed of the list of steps any more.
 use Rattle.std.specs.Prelude.{◌≡◌, ◌⊎◌, ℕ, Bool, true, false, nat_eq, Option, Some, None, List, [], ◌∷◌}
-use Rattle.atomic_programs.specs.Basics.{Prog, Ret, Do, unmarked, Did, Waits, Ran, Machine, Theory, Began, Refuses, Begins, changed}
+use Rattle.atomic_programs.specs.Basics.{Prog, Ret, Do, unmarked, ExecResult, Waits, Ran, Machine, Theory, Began, Refuses, Begins, changed}
 
 -- a hart's place at the desk: a number that it asks to be put in, or the old one, once another hart has done so
 pub data Slot : Type 0 where
@@ -46,18 +46,18 @@ abbrev pub Happens : Book → ℕ → Step → Book → Type 0
 Happens t h (Swapped n old) u = (old ≡ t.number) × (u ≡ record t { number = n })
 Happens t h (Gave j x) u = (x ≡ t.tokens h) × (u ≡ record t { tokens = changed t.tokens j x })
 
-abbrev pub serve_if : ℕ → World → Slot → Did Bool World
+abbrev pub serve_if : ℕ → World → Slot → ExecResult Bool World
 serve_if j w Empty = Ran false w
 serve_if j w (Asked n) =
     Ran true (record w { book = record { number = n; tokens = w.book.tokens }; slots = changed w.slots j (Served w.book.number) })
 serve_if j w (Served old) = Ran false w
 
-abbrev pub collect_if : ℕ → World → Slot → Did ℕ World
+abbrev pub collect_if : ℕ → World → Slot → ExecResult ℕ World
 collect_if h w Empty = Waits
 collect_if h w (Asked n) = Waits
 collect_if h w (Served old) = Ran old (record w { slots = changed w.slots h Empty })
 
-abbrev pub go : ℕ → (op : Op) → (Answer op → Option (Unit {0})) → World → Did (Answer op) World
+abbrev pub go : ℕ → (op : Op) → (Answer op → Option (Unit {0})) → World → ExecResult (Answer op) World
 go h (Ask n) m w = Ran tt (record w { slots = changed w.slots h (Asked n) })
 go h (Serve j) m w = serve_if j w (w.slots j)
 go h Collect m w = collect_if h w (w.slots h)

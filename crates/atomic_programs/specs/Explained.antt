@@ -95,7 +95,7 @@ pub record Leads (L : Theory) (h : ℕ) (s u : State L) : Type 0 where
   pub own : length (of_hart L h more) ≤ 1
 
 -- these outcomes leave all as it was
-abbrev pub is_quiet : {Did Reply Refusal : Type 0} → Outcome Did Reply Refusal → Bool
+abbrev pub is_quiet : {What Reply Refusal : Type 0} → Outcome What Reply Refusal → Bool
 is_quiet (Refused why) = true
 is_quiet WasIdle = true
 is_quiet DidWait = true

@@ -1,6 +1,6 @@
 -- A second example: a block is taken below by two puts, of the bitmap and of the block, and above in one step.
 use Rattle.std.specs.Prelude.{◌≡◌, ◌≢◌, ◌<◌, ℕ, suc, zero, Bool, true, false, if◌then◌else◌, Option, Some, None, []}
-use Rattle.atomic_programs.specs.Basics.{Prog, Ret, Do, once, unmarked, Did, Waits, Ran, Machine, Theory, Begins, Core, all_of, operations_of, Act, Lower, Handover, holding, Both, lowered_calls, Part, code_part, Code, put, if_held}
+use Rattle.atomic_programs.specs.Basics.{Prog, Ret, Do, once, unmarked, ExecResult, Waits, Ran, Machine, Theory, Begins, Core, all_of, operations_of, Act, LowerLayer, Handover, holding, Both, lowered_calls, Part, code_part, Code, put, if_held}
 
 -- above: locks of inodes, and blocks with the inode that has each
 pub record Above : Type 0 where
@@ -33,7 +33,7 @@ honest h (Hold i) w x = Unit {0}
 honest h (Grab i) w x = Picks w x
 honest h (Drop i) w x = Unit {0}
 
-abbrev pub hold_if : ℕ → ℕ → Above → Option ℕ → Did (Unit {0}) Above
+abbrev pub hold_if : ℕ → ℕ → Above → Option ℕ → ExecResult (Unit {0}) Above
 hold_if h i w None = Ran tt (record w { lock = put w.lock i (Some h) })
 hold_if h i w (Some g) = Waits
 
@@ -41,7 +41,7 @@ abbrev pub grabbed : ℕ → Above → Option ℕ → Above
 grabbed i w None = w
 grabbed i w (Some c) = record w { owner = put w.owner c (Some i); bytes = put w.bytes c 0 }
 
-abbrev pub exec_above : ℕ → Option ℕ → (op : Op) → Above → Did (Answer op) Above
+abbrev pub exec_above : ℕ → Option ℕ → (op : Op) → Above → ExecResult (Answer op) Above
 exec_above h x (Hold i) w = hold_if h i w (w.lock i)
 exec_above h x (Grab i) w = Ran x (grabbed i w x)
 exec_above h x (Drop i) w = Ran tt (record w { lock = put w.lock i None })
@@ -121,11 +121,11 @@ LowAnswer GetBits = ℕ → Bool
 LowAnswer (PutBits p) = Unit {0}
 LowAnswer (Zero c) = Unit {0}
 
-abbrev pub lock_if : ℕ → ℕ → World → Option ℕ → Did (Unit {0}) World
+abbrev pub lock_if : ℕ → ℕ → World → Option ℕ → ExecResult (Unit {0}) World
 lock_if h i w None = Ran tt (record w { lock = put w.lock i (Some h) })
 lock_if h i w (Some g) = Waits
 
-abbrev pub bits_if : ℕ → World → Option ℕ → Did (ℕ → Bool) World
+abbrev pub bits_if : ℕ → World → Option ℕ → ExecResult (ℕ → Bool) World
 bits_if h w None = Ran w.bits (record w { bits_out = Some h })
 bits_if h w (Some g) = Waits
 
@@ -133,7 +133,7 @@ abbrev pub put_bits : World → Option (ℕ × ℕ) → World
 put_bits w None = record w { bits_out = None }
 put_bits w (Some p) = record w { bits_out = None; bits = put w.bits p.0 true; owner = put w.owner p.0 (Some p.1) }
 
-abbrev pub exec : ℕ → Unit {0} → (op : LowOp) → World → Did (LowAnswer op) World
+abbrev pub exec : ℕ → Unit {0} → (op : LowOp) → World → ExecResult (LowAnswer op) World
 exec h x (Lock i) w = lock_if h i w (w.lock i)
 exec h x (Unlock i) w = Ran tt (record w { lock = put w.lock i None })
 exec h x GetBits w = bits_if h w w.bits_out
@@ -186,7 +186,7 @@ pub record Base (h : ℕ) (r : World) (g : Above) : Type 0 where
   pub free : r.bits_out ≢ Some h
   pub tied : (c : ℕ) → holder r c ≡ Some h → TiedAt h c r g
 
-abbrev pub low : Lower Above
+abbrev pub low : LowerLayer Above
 low = record {
   Op = LowOp;
   Answer = LowAnswer;
@@ -247,11 +247,11 @@ pub record SharedState : Type 0 where
 abbrev pub shared_of : World → SharedState
 shared_of w = record { lock = w.lock; bits = w.bits; bits_out = w.bits_out; block = w.block }
 
-abbrev pub lock_in : ℕ → ℕ → SharedState → Option ℕ → Did (Unit {0}) SharedState
+abbrev pub lock_in : ℕ → ℕ → SharedState → Option ℕ → ExecResult (Unit {0}) SharedState
 lock_in h i s None = Ran tt (record s { lock = put s.lock i (Some h) })
 lock_in h i s (Some g) = Waits
 
-abbrev pub bits_in : ℕ → SharedState → Option ℕ → Did (ℕ → Bool) SharedState
+abbrev pub bits_in : ℕ → SharedState → Option ℕ → ExecResult (ℕ → Bool) SharedState
 bits_in h s None = Ran s.bits (record s { bits_out = Some h })
 bits_in h s (Some g) = Waits
 
@@ -259,7 +259,7 @@ abbrev pub put_in : SharedState → Option (ℕ × ℕ) → SharedState
 put_in s None = record s { bits_out = None }
 put_in s (Some p) = record s { bits_out = None; bits = put s.bits p.0 true }
 
-abbrev pub exec_code : ℕ → Unit {0} → (op : LowOp) → SharedState → Did (LowAnswer op) SharedState
+abbrev pub exec_code : ℕ → Unit {0} → (op : LowOp) → SharedState → ExecResult (LowAnswer op) SharedState
 exec_code h x (Lock i) s = lock_in h i s (s.lock i)
 exec_code h x (Unlock i) s = Ran tt (record s { lock = put s.lock i None })
 exec_code h x GetBits s = bits_in h s s.bits_out

@@ -1,7 +1,7 @@
 -- Two machines as one: the operations of the machine below run, and beside its world stands, for the proof alone, the world
 -- of the machine above, which goes on where an operation is marked to act.
 use Rattle.std.specs.Prelude.{ℕ, suc, Option, Some, None, List, []}
-use Rattle.atomic_programs.specs.Prog.{Prog, Ret, Do, bind, once, Did, Waits, Ran, Stops}
+use Rattle.atomic_programs.specs.Prog.{Prog, Ret, Do, bind, once, ExecResult, Waits, Ran, Stops}
 use Rattle.atomic_programs.specs.Logic.{Machine, P, onto, placed_with, Grown, Wp}
 
 -- the mark below: this operation above acts now, at this answer from outside, with its own mark
@@ -14,14 +14,14 @@ abbrev pub ActOf : Machine → Type 0
 ActOf U = Act U.Op U.Answer U.Mark U.Outside
 
 -- The machine below, under a world above of this type. It knows nothing of steps, marks and trees.
-pub record Lower (Above : Type 0) : Type 1 where
+pub record LowerLayer (Above : Type 0) : Type 1 where
   pub Op : Type 0
   pub Answer : Op → Type 0
   pub World : Type 0
   pub Outside : Type 0
   pub Honest : ℕ → Op → World → Outside → Type 0
   pub May : ℕ → Op → World → Type 0
-  pub exec : ℕ → Outside → (op : Op) → World → Did (Answer op) World
+  pub exec : ℕ → Outside → (op : Op) → World → ExecResult (Answer op) World
   pub MayWait : ℕ → Op → World → Type 0
   -- its own invariant, and what it says of the world above, between any two events
   pub Shows : World → Above → Type 0
@@ -44,12 +44,12 @@ pub record Both (R S : Type 0) : Type 0 where
   pub seen : S
 
 -- where an operation led, and what it placed
-abbrev pub ran_to : {A S : Type 0} → S → Did A S → S
+abbrev pub ran_to : {A S : Type 0} → S → ExecResult A S → S
 ran_to g Waits = g
 ran_to g (Ran b u) = u
 ran_to g (Stops u) = g
 
-abbrev pub placed_at : {A S E : Type 0} → (A → List E) → Did A S → List E
+abbrev pub placed_at : {A S E : Type 0} → (A → List E) → ExecResult A S → List E
 placed_at f Waits = []
 placed_at f (Ran b u) = f b
 placed_at f (Stops u) = []
@@ -64,14 +64,14 @@ abbrev pub act_places : (U : Machine) → ℕ → Option (ActOf U) → U.World �
 act_places U h None g = []
 act_places U h (Some t) g = placed_at (placed_with U h t.op t.mark g) (U.go h t.outside t.op t.mark g)
 
-abbrev pub both : (U : Machine) → {A R : Type 0} → ℕ → (A → Option (ActOf U)) → U.World → Did A R → Did A (Both R U.World)
+abbrev pub both : (U : Machine) → {A R : Type 0} → ℕ → (A → Option (ActOf U)) → U.World → ExecResult A R → ExecResult A (Both R U.World)
 both U h m g Waits = Waits
 both U h m g (Ran a r) = Ran a (record { real = r; seen = seen_after U h (m a) g })
 both U h m g (Stops r) = Stops (record { real = r; seen = g })
 
 -- its steps, and what explains it, are those of the machine above; what it asks, waits for and is answered from outside is
 -- of the machine below
-abbrev pub joined : (U : Machine) → Lower U.World → Machine
+abbrev pub joined : (U : Machine) → LowerLayer U.World → Machine
 joined U R =
     record {
       Op = R.Op;
@@ -97,7 +97,7 @@ joined U R =
     }
 
 -- the laws that a machine below shows once
-pub record LowerLaws (U : Machine) (R : Lower U.World) : Type 0 where
+pub record LowerLaws (U : Machine) (R : LowerLayer U.World) : Type 0 where
   pub same : (h : ℕ) (w : R.World) → R.Same h w w
   pub trans : (h : ℕ) (u v w : R.World) → R.Same h u v → R.Same h v w → R.Same h u w
   pub kept : (h : ℕ) (g u : U.World) (xs : List U.Step) → U.Others h g xs u → R.Kept h g u
@@ -115,21 +115,21 @@ abbrev pub holding : {Op : Type 0} {Answer : Op → Type 0} {M A C : Type 0} →
 holding c p = bind p (λ a. Ret (record { answer = a; carry = c }))
 
 -- each operation above as a program below, for a hart with this in hand
-abbrev pub Handlers : (U : Machine) → Lower U.World → Type 0
+abbrev pub Handlers : (U : Machine) → LowerLayer U.World → Type 0
 Handlers U R = R.Carry → (op : U.Op) → (U.Answer op → Option U.Mark) → Prog R.Op R.Answer (ActOf U) (Handover (U.Answer op) R.Carry)
 
 -- each operation's program hands on to the next one's what is in hand
-abbrev pub lowered : (U : Machine) (R : Lower U.World) → Handlers U R → {A : Type 0} → R.Carry → P U A → Prog R.Op R.Answer (ActOf U) A
+abbrev pub lowered : (U : Machine) (R : LowerLayer U.World) → Handlers U R → {A : Type 0} → R.Carry → P U A → Prog R.Op R.Answer (ActOf U) A
 lowered U R handler c (Ret a) = Ret a
 lowered U R handler c (Do op m k) = bind (handler c op m) (λ r. lowered U R handler r.carry (k r.answer))
 
 -- C holds above, and the hart has below what it has between two operations, with what the program hands on
-abbrev pub Below : (U : Machine) (R : Lower U.World) → {A : Type 0} → ℕ → (A → List U.Step → U.World → Type 0) → Handover A R.Carry
+abbrev pub Below : (U : Machine) (R : LowerLayer U.World) → {A : Type 0} → ℕ → (A → List U.Step → U.World → Type 0) → Handover A R.Carry
     → List U.Step → Both R.World U.World → Type 0
 Below U R h C r es w = C r.answer es w.seen × R.Base h w.real w.seen r.carry
 
 -- the same at the end of a whole program, whatever it leaves in hand, in a world above that holds
-abbrev pub AtEnd : (U : Machine) (R : Lower U.World) → {A : Type 0} → ℕ → (A → List U.Step → U.World → Type 0) → A → List U.Step
+abbrev pub AtEnd : (U : Machine) (R : LowerLayer U.World) → {A : Type 0} → ℕ → (A → List U.Step → U.World → Type 0) → A → List U.Step
     → Both R.World U.World → Type 0
 AtEnd U R h C a es w = C a es w.seen × U.Inv w.seen × ((c : R.Carry) × R.Base h w.real w.seen c)
 
@@ -142,7 +142,7 @@ Lasts L {A} h B C =
 -- An operation's program below acts at one moment: whatever the operation alone is shown to do above, its program does
 -- below, though others step before and after that moment, and in as many steps as it counts for. It does so whatever the
 -- hart has in hand, and what it hands on is again what Base is of.
-abbrev pub Atomic : (U : Machine) (R : Lower U.World) → Handlers U R → ℕ → (op : U.Op) → (U.Answer op → Option U.Mark) → Type 1
+abbrev pub Atomic : (U : Machine) (R : LowerLayer U.World) → Handlers U R → ℕ → (op : U.Op) → (U.Answer op → Option U.Mark) → Type 1
 Atomic U R handler h op m =
     (c : R.Carry) (B : List U.Step → Type 0) (C : U.Answer op → List U.Step → U.World → Type 0) (es : List U.Step)
     (w : Both R.World U.World)

@@ -1,6 +1,6 @@
 -- A logic for programs that harts run at once: what a hart owns stays while the others step.
 use Rattle.std.specs.Prelude.{◌≡◌, ◌≢◌, ◌⊎◌, ℕ, ◌+◌, ◌<◌, ◌≤◌, Option, nat_eq, if◌then◌else◌, List, [], ◌∷◌, ◌++◌, length}
-use Rattle.atomic_programs.specs.Prog.{Prog, Ret, Do, Did, Waits, Ran, Stops}
+use Rattle.atomic_programs.specs.Prog.{Prog, Ret, Do, ExecResult, Waits, Ran, Stops}
 
 -- What a project's machine is: its operations, its world, the sequential object, and the rules between harts.
 pub record Machine : Type 1 where
@@ -21,7 +21,7 @@ pub record Machine : Type 1 where
   -- what an operation asks of the world in this hart's hand: it is never made where this does not hold
   pub May : ℕ → Op → World → Type 0
   -- what the operation makes of the world in this hart's hand, at this answer
-  pub go : ℕ → Outside → (op : Op) → (Answer op → Option Mark) → World → Did (Answer op) World
+  pub go : ℕ → Outside → (op : Op) → (Answer op → Option Mark) → World → ExecResult (Answer op) World
   -- the steps that are placed where it runs with this answer and this mark, each with its hart; an operation may place
   -- steps of other harts' calls
   pub places : ℕ → (op : Op) → Answer op → Option Mark → World → List (ℕ × Step)
@@ -97,7 +97,7 @@ pub record Halts (L : Machine) (h : ℕ) (v w : L.World) : Type 0 where
   pub clean : L.Clean w → L.Clean v
 
 abbrev pub Good : (L : Machine) (A : Type 0) → ℕ → (A → List (ℕ × L.Step)) → ℕ → ℕ → (List L.Step → Type 0) → List L.Step → L.World → Type 0
-    → Did A L.World → (ℕ → A → L.World → Type 0) → Type 0
+    → ExecResult A L.World → (ℕ → A → L.World → Type 0) → Type 0
 Good L A h ps more n B es v wait Waits Next = wait
 Good L A h ps more n B es v wait (Ran a w) Next = Fine L h (ps a) more n B es v w (λ l. Next l a w)
 Good L A h ps more n B es v wait (Stops w) Next = Halts L h v w

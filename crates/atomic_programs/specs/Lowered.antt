@@ -1,12 +1,12 @@
 -- Calls over a machine above, run below.
 use Rattle.std.specs.Prelude.{◌≡◌, ◌≢◌, ◌⊎◌, ℕ, Bool, true, false, Option}
-use Rattle.atomic_programs.specs.Prog.{Did, did_in}
+use Rattle.atomic_programs.specs.Prog.{ExecResult, exec_result_in}
 use Rattle.atomic_programs.specs.Calls.{Theory, Began, Refuses, Begins}
 use Rattle.atomic_programs.specs.Plain.{Code, began_in}
-use Rattle.atomic_programs.specs.Joined.{Lower, Both, joined, Handlers, lowered, Atomic}
+use Rattle.atomic_programs.specs.Joined.{LowerLayer, Both, joined, Handlers, lowered, Atomic}
 
 -- A start below: it decides, on what the code has, whether the call is begun, and may reserve something for it.
-abbrev pub Starts : (T : Theory) → Lower T.M.World → Type 0
+abbrev pub Starts : (T : Theory) → LowerLayer T.M.World → Type 0
 Starts T R = ℕ → T.Call → (ℕ → Bool) → R.World → Began T.Refusal R.World
 
 -- the world after a start
@@ -19,7 +19,7 @@ abbrev pub began_both : {Refusal S G : Type 0} → G → Began Refusal S → Beg
 began_both g (Refuses why) = Refuses why
 began_both g (Begins r) = Begins (record { real = r; seen = g })
 
-abbrev pub lowered_calls : (T : Theory) (R : Lower T.M.World) → Handlers T.M R → Starts T R → Theory
+abbrev pub lowered_calls : (T : Theory) (R : LowerLayer T.M.World) → Handlers T.M R → Starts T R → Theory
 lowered_calls T R handler begin =
     record {
       M = joined T.M R;
@@ -34,7 +34,7 @@ lowered_calls T R handler begin =
     }
 
 -- A start that made s of r below begins above too, where it made u of g: what it reserves, it reserves in both.
-pub record BeginsBoth (T : Theory) (R : Lower T.M.World) (h : ℕ) (call : T.Call) (busy : ℕ → Bool) (r s : R.World)
+pub record BeginsBoth (T : Theory) (R : LowerLayer T.M.World) (h : ℕ) (call : T.Call) (busy : ℕ → Bool) (r s : R.World)
     (g : T.M.World) : Type 0 where
   pub above : T.M.World
   pub begins : T.start h call busy g ≡ Begins above
@@ -46,42 +46,42 @@ pub record BeginsBoth (T : Theory) (R : Lower T.M.World) (h : ℕ) (call : T.Cal
   pub rests : (other : ℕ) → busy other ≡ false → R.Base other s above R.none
 
 -- what a project shows of the starts below
-abbrev pub StartsBoth : (T : Theory) (R : Lower T.M.World) → Starts T R → Type 0
+abbrev pub StartsBoth : (T : Theory) (R : LowerLayer T.M.World) → Starts T R → Type 0
 StartsBoth T R begin =
     (h : ℕ) (call : T.Call) (busy : ℕ → Bool) (r s : R.World) (g : T.M.World) → R.Shows r g ⊎ R.Halted r g → T.M.Inv g
     → ((other : ℕ) → busy other ≡ false → R.Base other r g R.none × T.M.Idle other g) → busy h ≡ false
     → begin h call busy r ≡ Begins s → BeginsBoth T R h call busy r s g
 
 -- in some world, whichever harts have calls, a start by this one begins its call
-abbrev pub CanBegin : (T : Theory) (R : Lower T.M.World) → Starts T R → ℕ → Type 0
+abbrev pub CanBegin : (T : Theory) (R : LowerLayer T.M.World) → Starts T R → ℕ → Type 0
 CanBegin T R begin h = (call : T.Call) × (busy : ℕ → Bool) × (r : R.World) × (s : R.World) × (begin h call busy r ≡ Begins s)
 
 -- the program of each operation, of each hart that can have a call, acts at one moment
-abbrev pub AllAtomic : (T : Theory) (R : Lower T.M.World) → Handlers T.M R → Starts T R → Type 1
+abbrev pub AllAtomic : (T : Theory) (R : LowerLayer T.M.World) → Handlers T.M R → Starts T R → Type 1
 AllAtomic T R handler begin =
     (h : ℕ) → CanBegin T R begin h → (op : T.M.Op) (m : T.M.Answer op → Option T.M.Mark) → Atomic T.M R handler h op m
 
 -- What the code has of the world below, where that has parts for the proof alone besides; and what operations and starts make
 -- of it.
-pub record Part (T : Theory) (R : Lower T.M.World) : Type 1 where
+pub record Part (T : Theory) (R : LowerLayer T.M.World) : Type 1 where
   pub Shared : Type 0
   pub of : R.World → Shared
-  pub exec : ℕ → R.Outside → (op : R.Op) → Shared → Did (R.Answer op) Shared
+  pub exec : ℕ → R.Outside → (op : R.Op) → Shared → ExecResult (R.Answer op) Shared
   pub may : ℕ → R.Op → Shared → Type 0
   pub honest : ℕ → R.Op → Shared → R.Outside → Type 0
   pub begin : ℕ → T.Call → (ℕ → Bool) → Shared → Began T.Refusal Shared
 
 -- what the other parts are changes nothing of it
-pub record IsPart (T : Theory) (R : Lower T.M.World) (begin : Starts T R) (part : Part T R) : Type 0 where
-  pub goes : (h : ℕ) (x : R.Outside) (op : R.Op) (w : R.World) → part.exec h x op (part.of w) ≡ did_in part.of (R.exec h x op w)
+pub record IsPart (T : Theory) (R : LowerLayer T.M.World) (begin : Starts T R) (part : Part T R) : Type 0 where
+  pub goes : (h : ℕ) (x : R.Outside) (op : R.Op) (w : R.World) → part.exec h x op (part.of w) ≡ exec_result_in part.of (R.exec h x op w)
   pub may : (h : ℕ) (op : R.Op) (w : R.World) → R.May h op w → part.may h op (part.of w)
   pub honest : (h : ℕ) (op : R.Op) (w : R.World) (x : R.Outside) → part.honest h op (part.of w) x → R.Honest h op w x
   pub starts : (h : ℕ) (call : T.Call) (busy : ℕ → Bool) (w : R.World)
       → part.begin h call busy (part.of w) ≡ began_in part.of (begin h call busy w)
 
 -- the code of the lowered calls; the kind of a step is told by the operation below, with its answer
-abbrev pub code_part : (T : Theory) (R : Lower T.M.World) (handler : Handlers T.M R) (begin : Starts T R) (part : Part T R) (Kind : Type 0)
-    → ((op : R.Op) → R.Answer op → Kind) → Code (lowered_calls T R handler begin)
+abbrev pub code_part : (T : Theory) (R : LowerLayer T.M.World) (handler : Handlers T.M R) (begin : Starts T R) (part : Part T R)
+    (Kind : Type 0) → ((op : R.Op) → R.Answer op → Kind) → Code (lowered_calls T R handler begin)
 code_part T R handler begin part Kind kind =
     record {
       Shared = part.Shared;
@@ -95,9 +95,9 @@ code_part T R handler begin part Kind kind =
     }
 
 -- the world below alone, all of it
-abbrev pub all_below : (T : Theory) (R : Lower T.M.World) → Starts T R → Part T R
+abbrev pub all_below : (T : Theory) (R : LowerLayer T.M.World) → Starts T R → Part T R
 all_below T R begin = record { Shared = R.World; of = λ w. w; exec = R.exec; may = R.May; honest = R.Honest; begin = begin }
 
-abbrev pub code_below : (T : Theory) (R : Lower T.M.World) (handler : Handlers T.M R) (begin : Starts T R) (Kind : Type 0)
+abbrev pub code_below : (T : Theory) (R : LowerLayer T.M.World) (handler : Handlers T.M R) (begin : Starts T R) (Kind : Type 0)
     → ((op : R.Op) → R.Answer op → Kind) → Code (lowered_calls T R handler begin)
 code_below T R handler begin Kind kind = code_part T R handler begin (all_below T R begin) Kind kind

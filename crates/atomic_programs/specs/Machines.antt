@@ -1,10 +1,10 @@
 -- Machines in code: each value stands for the program that is left, without marks.
 use Rattle.std.specs.Prelude.{◌≡◌, ℕ, Option, Some, None, List, get_or}
-use Rattle.atomic_programs.specs.Prog.{Prog, Ret, Did, Waits as ItWaits, Ran as ItRan, Stops, OperationResult, StillWaits, WentOn, Broke}
+use Rattle.atomic_programs.specs.Prog.{Prog, Ret, ExecResult, Waits as ItWaits, Ran as ItRan, Stops, OperationResult, StillWaits, WentOn, Broke}
 use Rattle.atomic_programs.specs.declared.machines.Stepped.{Stepped}
 use Rattle.atomic_programs.specs.declared.machines.Stepped.TheVariants.{Waits, Ran, Done, Stopped}
-use Rattle.atomic_programs.specs.declared.machines.Came.{Came}
-use Rattle.atomic_programs.specs.declared.machines.Came.TheVariants as came
+use Rattle.atomic_programs.specs.declared.machines.SteppedInPlace.{SteppedInPlace}
+use Rattle.atomic_programs.specs.declared.machines.SteppedInPlace.TheVariants as came
 
 -- where a step of a machine leads, as a program; its result stands for what the program returns
 abbrev pub moved_to : {M R K A S Op : Type 0} {Answer : Op → Type 0} → (M → Prog Op Answer ⊥ A) → (R → A) → Stepped M R K → S
@@ -22,11 +22,11 @@ Still program (Done a kind) self old new = Unit {0}
 Still program (Stopped m) self old new = program m ≡ program self
 
 -- the machine that is left, or its result
-abbrev pub Left : {M R K : Type 0} → (M → Type 0) → (R → Type 0) → Stepped M R K → Type 0
-Left Fits Ends (Waits m) = Fits m
-Left Fits Ends (Ran m kind) = Fits m
-Left Fits Ends (Done a kind) = Ends a
-Left Fits Ends (Stopped m) = Fits m
+abbrev pub RestOrResult : {M R K : Type 0} → (M → Type 0) → (R → Type 0) → Stepped M R K → Type 0
+RestOrResult Fits Ends (Waits m) = Fits m
+RestOrResult Fits Ends (Ran m kind) = Fits m
+RestOrResult Fits Ends (Done a kind) = Ends a
+RestOrResult Fits Ends (Stopped m) = Fits m
 
 -- what the outside answered: this where the step stopped the world, and that elsewhere
 abbrev pub answered : {M R K X : Type 0} → X → X → Stepped M R K → X
@@ -38,14 +38,14 @@ answered broke passed (Stopped m) = broke
 -- ---- in its place
 
 -- a step that left this of a machine in its place, as one that hands it on
-abbrev pub stepped_at : {M R K : Type 0} → M → Came R K → Stepped M R K
+abbrev pub stepped_at : {M R K : Type 0} → M → SteppedInPlace R K → Stepped M R K
 stepped_at m came.Waits = Waits m
 stepped_at m (came.Ran kind) = Ran m kind
 stepped_at m (came.Done a kind) = Done a kind
 stepped_at m came.Stopped = Stopped m
 
 -- this is so where the machine is done
-abbrev pub OnDone : {R K : Type 0} → Came R K → Type 0 → Type 0
+abbrev pub OnDone : {R K : Type 0} → SteppedInPlace R K → Type 0 → Type 0
 OnDone came.Waits P = Unit {0}
 OnDone (came.Ran kind) P = Unit {0}
 OnDone (came.Done a kind) P = P
@@ -54,12 +54,12 @@ OnDone came.Stopped P = Unit {0}
 -- ---- operations and tables
 
 -- a call of an operation, by its Option: None where it waits
-abbrev pub or_waits : {A S : Type 0} → Option A → S → Did A S
+abbrev pub or_waits : {A S : Type 0} → Option A → S → ExecResult A S
 or_waits None s = ItWaits
 or_waits (Some a) s = ItRan a s
 
 -- the same, where None says that it stopped the world
-abbrev pub or_stops : {A S : Type 0} → Option A → S → Did A S
+abbrev pub or_stops : {A S : Type 0} → Option A → S → ExecResult A S
 or_stops None s = Stops s
 or_stops (Some a) s = ItRan a s
 

@@ -1,7 +1,7 @@
 -- A theory whose operations tell at which answers they are marked: so code knows of a program, once its marks are left out, where they
 -- were.
 use Rattle.std.specs.Prelude.{Bool, is_some}
-use Rattle.atomic_programs.specs.Basics.{Prog, Ret, Do, Machine, Handlers, Lower, Theory, Code}
+use Rattle.atomic_programs.specs.Basics.{Prog, Ret, Do, Machine, Handlers, LowerLayer, Theory, Code}
 
 abbrev pub with_marks : Machine → Machine
 with_marks M =
@@ -67,7 +67,7 @@ keeping_code L C =
 
 -- ---- of the lowered calls: at which step below an operation above acts
 
-abbrev pub lower_with_marks : {S : Type 0} → Lower S → Lower S
+abbrev pub lower_with_marks : {S : Type 0} → LowerLayer S → LowerLayer S
 lower_with_marks R =
     record {
       Op = (op : R.Op) × (R.Answer op → Bool);
@@ -87,5 +87,5 @@ lower_with_marks R =
       Base = R.Base;
     }
 
-abbrev pub handlers_with_marks : (U : Machine) (R : Lower U.World) → Handlers U R → Handlers U (lower_with_marks R)
+abbrev pub handlers_with_marks : (U : Machine) (R : LowerLayer U.World) → Handlers U R → Handlers U (lower_with_marks R)
 handlers_with_marks U R handler c op m = carrying (handler c op m)

@@ -1,6 +1,6 @@
 -- Layers, event by event: the operations below as they run, and among them those above as they act.
 use Rattle.std.specs.Prelude.{◌≡◌, ◌⊎◌, ℕ, List, [], ◌∷◌}
-use Rattle.atomic_programs.specs.Basics.{Ret, Do, Machine, P, OpWithAnswer, Theory, PlacedStep, Event, AllHonest, outcomes, run, fresh, Lower, joined, Handlers, Starts, lowered_calls, Core, operations, operations_of}
+use Rattle.atomic_programs.specs.Basics.{Ret, Do, Machine, P, OpWithAnswer, Theory, PlacedStep, Event, AllHonest, outcomes, run, fresh, LowerLayer, joined, Handlers, Starts, lowered_calls, Core, operations, operations_of}
 use Rattle.atomic_programs.specs.Explained.{history}
 
 -- An operation ran, with its answer; or a step was placed.
@@ -70,7 +70,7 @@ Within L entry (Do op m k) (e ∷ es) Then =
 -- other, a whole run of the operation's program below, and within it the operation with its answer, once. By that answer the
 -- program above goes on; the one that the program below ends with isn't compared. What it ends with in hand is what the next
 -- operation's program has in hand: c, for the first one.
-abbrev pub IsWhole : (U : Machine) (K : Core U) (R : Lower U.World) → Handlers U R → {A : Type 0} → R.Carry → P U A
+abbrev pub IsWhole : (U : Machine) (K : Core U) (R : LowerLayer U.World) → Handlers U R → {A : Type 0} → R.Carry → P U A
     → Notes (joined (operations U K) R) → A → Type 0
 IsWhole U K R handler c (Ret a) [] r = a ≡ r
 IsWhole U K R handler c (Ret a) (e ∷ es) r = ⊥
@@ -82,7 +82,7 @@ abbrev pub with_notes : (L : Theory) → (L.Call → Notes L.M → L.Reply → T
 with_notes L Written = record L { M = noted L.M; Written = Written }
 
 -- the lowered calls, each explained by the operations below that it ran, and those above within them
-abbrev pub noted_calls : (T : Theory) (K : Core T.M) (R : Lower T.M.World) → Handlers T.M R → Starts T R → Theory
+abbrev pub noted_calls : (T : Theory) (K : Core T.M) (R : LowerLayer T.M.World) → Handlers T.M R → Starts T R → Theory
 noted_calls T K R handler begin =
     with_notes (lowered_calls (operations_of T K) R handler begin) (λ call es r. IsWhole T.M K R handler R.none (T.program call) es r)
 

@@ -1,6 +1,6 @@
 -- A machine whose steps are its own operations, each with its answer: what is explained by them is a run of the machine itself.
 use Rattle.std.specs.Prelude.{◌≡◌, ℕ, Bool, Option, List, [], ◌∷◌}
-use Rattle.atomic_programs.specs.Prog.{Ret, Do, Did, Ran, Stops, did_in}
+use Rattle.atomic_programs.specs.Prog.{Ret, Do, ExecResult, Ran, Stops, exec_result_in}
 use Rattle.atomic_programs.specs.Logic.{Machine, P, OpWithAnswer}
 use Rattle.atomic_programs.specs.Calls.{Theory, Begins}
 
@@ -11,10 +11,10 @@ pub record Core (L : Machine) : Type 1 where
   pub of : L.World → World
   pub May : ℕ → L.Op → World → Type 0
   pub Honest : ℕ → L.Op → World → L.Outside → Type 0
-  pub go : ℕ → L.Outside → (op : L.Op) → World → Did (L.Answer op) World
+  pub go : ℕ → L.Outside → (op : L.Op) → World → ExecResult (L.Answer op) World
 
 -- all of the world, where no start reserves anything and no mark changes it
-abbrev pub all_of : (L : Machine) → (ℕ → L.Outside → (op : L.Op) → L.World → Did (L.Answer op) L.World) → Core L
+abbrev pub all_of : (L : Machine) → (ℕ → L.Outside → (op : L.Op) → L.World → ExecResult (L.Answer op) L.World) → Core L
 all_of L exec = record { World = L.World; of = λ w. w; May = L.May; Honest = L.Honest; go = exec }
 
 -- what a theory shows of a core
@@ -22,7 +22,7 @@ pub record IsCore (T : Theory) (K : Core T.M) : Type 0 where
   pub may : (h : ℕ) (op : T.M.Op) (w : T.M.World) → T.M.May h op w → K.May h op (K.of w)
   pub honest : (h : ℕ) (op : T.M.Op) (w : T.M.World) (x : T.M.Outside) → T.M.Honest h op w x → K.Honest h op (K.of w) x
   pub goes : (h : ℕ) (x : T.M.Outside) (op : T.M.Op) (m : T.M.Answer op → Option T.M.Mark) (w : T.M.World)
-      → did_in K.of (T.M.go h x op m w) ≡ K.go h x op (K.of w)
+      → exec_result_in K.of (T.M.go h x op m w) ≡ K.go h x op (K.of w)
   -- an operation that stops the world leaves the core as it was
   pub stops : (h : ℕ) (x : T.M.Outside) (op : T.M.Op) (t u : K.World) → K.go h x op t ≡ Stops u → u ≡ t
   -- and so does a start

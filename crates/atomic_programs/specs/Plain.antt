@@ -1,7 +1,7 @@
 -- All harts' programs over the state that the code has, without what the proof keeps beside them.
 use Rattle.std.specs.Prelude.{◌≡◌, ℕ, Bool, true, false, Option, Some, None, List, [], ◌∷◌}
-use Rattle.atomic_programs.specs.Prog.{Prog, Ret, Do, plain, Did, Waits, Ran, Stops, did_in, asks, OfNext}
-use Rattle.atomic_programs.specs.Calls.{Theory, Began, Refuses, Begins, Run, State, Sound, Event, Start, Step, Outcome, Started, Refused, WasIdle, DidWait, DidRun, DidEnd, DidStop, WasStopped, Came, changed, is_some}
+use Rattle.atomic_programs.specs.Prog.{Prog, Ret, Do, plain, ExecResult, Waits, Ran, Stops, exec_result_in, asks, OfNext}
+use Rattle.atomic_programs.specs.Calls.{Theory, Began, Refuses, Begins, Run, State, Sound, Event, Start, Step, Outcome, Started, Refused, WasIdle, DidWait, DidRun, DidEnd, DidStop, WasStopped, EventOutcome, changed, is_some}
 
 -- a call's program as code knows it: without marks
 abbrev pub UnmarkedProgram : Theory → Type 0
@@ -14,7 +14,7 @@ pub record Code (L : Theory) : Type 1 where
   pub Kind : Type 0
   pub shared : L.M.World → Shared
   pub kind : (op : L.M.Op) → L.M.Answer op → Kind
-  pub exec : ℕ → L.M.Outside → (op : L.M.Op) → Shared → Did (L.M.Answer op) Shared
+  pub exec : ℕ → L.M.Outside → (op : L.M.Op) → Shared → ExecResult (L.M.Answer op) Shared
   -- what the code asks where it makes the operation, and what it says of the answer from outside
   pub may : ℕ → L.M.Op → Shared → Type 0
   pub honest : ℕ → L.M.Op → Shared → L.M.Outside → Type 0
@@ -27,7 +27,7 @@ began_in f (Begins v) = Begins (f v)
 -- the theory makes of the world what the code makes of its state; marks change nothing of it
 pub record IsCode (L : Theory) (C : Code L) : Type 0 where
   pub goes : (h : ℕ) (x : L.M.Outside) (op : L.M.Op) (m : L.M.Answer op → Option L.M.Mark) (w : L.M.World)
-      → C.exec h x op (C.shared w) ≡ did_in C.shared (L.M.go h x op m w)
+      → C.exec h x op (C.shared w) ≡ exec_result_in C.shared (L.M.go h x op m w)
   pub may : (h : ℕ) (op : L.M.Op) (w : L.M.World) → L.M.May h op w → C.may h op (C.shared w)
   pub honest : (h : ℕ) (op : L.M.Op) (w : L.M.World) (x : L.M.Outside) → C.honest h op (C.shared w) x → L.M.Honest h op w x
   pub starts : (h : ℕ) (call : L.Call) (busy : ℕ → Bool) (w : L.M.World)
@@ -44,7 +44,7 @@ pub record PlainMade (L : Theory) (C : Code L) : Type 0 where
 
 module _ (L : Theory) (C : Code L) where
   -- the outcome, with the operation's kind
-  abbrev pub by_kind : Came L → Outcome C.Kind L.Reply L.Refusal
+  abbrev pub by_kind : EventOutcome L → Outcome C.Kind L.Reply L.Refusal
   by_kind Started = Started
   by_kind (Refused why) = Refused why
   by_kind WasIdle = WasIdle
@@ -60,7 +60,7 @@ module _ (L : Theory) (C : Code L) where
   plain_moved h s kind (Do op m k) t =
       record { came = DidRun kind; after = record { shared = t; stopped = s.stopped; running = changed s.running h (Some (Do op m k)) } }
 
-  abbrev pub plain_tried : ℕ → Plain L C → (op : L.M.Op) → (L.M.Answer op → UnmarkedProgram L) → Did (L.M.Answer op) C.Shared
+  abbrev pub plain_tried : ℕ → Plain L C → (op : L.M.Op) → (L.M.Answer op → UnmarkedProgram L) → ExecResult (L.M.Answer op) C.Shared
       → PlainMade L C
   plain_tried h s op k Waits = record { came = DidWait; after = s }
   plain_tried h s op k (Ran a t) = plain_moved h s (C.kind op a) (k a) t
@@ -108,7 +108,7 @@ module _ (L : Theory) (C : Code L) where
   plain_outcomes [] s = []
   plain_outcomes (e ∷ es) s = (plain_makes e s).came ∷ plain_outcomes es (plain_makes e s).after
 
-  abbrev pub all_by_kind : List (Came L) → List (Outcome C.Kind L.Reply L.Refusal)
+  abbrev pub all_by_kind : List (EventOutcome L) → List (Outcome C.Kind L.Reply L.Refusal)
   all_by_kind [] = []
   all_by_kind (c ∷ cs) = by_kind c ∷ all_by_kind cs
 
@@ -152,8 +152,8 @@ module _ (L : Theory) (C : Code L) where
   hart_moved b kind (Ret reply) t = record { came = DidEnd reply; left = None; shared = t; stopped = b }
   hart_moved b kind (Do op m k) t = record { came = DidRun kind; left = Some (Do op m k); shared = t; stopped = b }
 
-  abbrev pub hart_tried : UnmarkedProgram L → C.Shared → (op : L.M.Op) → (L.M.Answer op → UnmarkedProgram L) → Did (L.M.Answer op) C.Shared
-      → HartMade
+  abbrev pub hart_tried : UnmarkedProgram L → C.Shared → (op : L.M.Op) → (L.M.Answer op → UnmarkedProgram L)
+      → ExecResult (L.M.Answer op) C.Shared → HartMade
   hart_tried p t op k Waits = record { came = DidWait; left = Some p; shared = t; stopped = false }
   hart_tried p t op k (Ran a u) = hart_moved false (C.kind op a) (k a) u
   hart_tried p t op k (Stops u) = record { came = DidStop; left = Some p; shared = u; stopped = true }

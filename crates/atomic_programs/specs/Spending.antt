@@ -1,6 +1,6 @@
 -- Programs with a budget: what their operations spend, and a layer below that keeps account of it.
 use Rattle.std.specs.Prelude.{◌≡◌, ℕ, suc, List, Option}
-use Rattle.atomic_programs.specs.Basics.{Ret, Do, Ran, once, Machine, P, Wp, Lower, Both, joined, Handlers, Below, Lasts}
+use Rattle.atomic_programs.specs.Basics.{Ret, Do, Ran, once, Machine, P, Wp, LowerLayer, Both, joined, Handlers, Below, Lasts}
 
 -- how much has been spent after an operation, and how much may be
 pub record Budget (U : Machine) : Type 1 where
@@ -16,8 +16,8 @@ Affords U b s (Do op m k) = b.Allowed (b.after op s) × ((a : U.Answer op) → A
 -- An operation's program below acts at one moment, as Atomic says, where the operation may be paid for; and then no more is spent. Has:
 -- the hart has spent no
 -- more than this below.
-abbrev pub AtomicWithin : (U : Machine) (R : Lower U.World) → Handlers U R → (b : Budget U) → (R.World → b.Spent → Type 0) → ℕ → (op : U.Op)
-    → (U.Answer op → Option U.Mark) → Type 1
+abbrev pub AtomicWithin : (U : Machine) (R : LowerLayer U.World) → Handlers U R → (b : Budget U) → (R.World → b.Spent → Type 0) → ℕ
+    → (op : U.Op) → (U.Answer op → Option U.Mark) → Type 1
 AtomicWithin U R handler b Has h op m =
     (c : R.Carry) (s : b.Spent) (B : List U.Step → Type 0) (C : U.Answer op → List U.Step → U.World → Type 0) (es : List U.Step)
     (w : Both R.World U.World)

@@ -1,6 +1,6 @@
 -- A toy: above, an operation that raises a number by two; below, it is two steps. A call raises it so many times.
 use Rattle.std.specs.Prelude.{ℕ, zero, suc, ◌+◌, [], Some}
-use Rattle.atomic_programs.specs.Basics.{Prog, Ret, Do, Did, Ran, unmarked, Machine, P, Handlers, Handover, Lower}
+use Rattle.atomic_programs.specs.Basics.{Prog, Ret, Do, ExecResult, Ran, unmarked, Machine, P, Handlers, Handover, LowerLayer}
 use Rattle.atomic_programs.specs.Below as layers
 use Rattle.atomic_programs.specs.declared.toy.Count.{Count}
 use Rattle.atomic_programs.specs.declared.toy.Part.{Part}
@@ -40,7 +40,7 @@ upper =
       Clean = λ w. Unit {0};
     }
 
-abbrev pub lower : Lower ℕ
+abbrev pub lower : LowerLayer ℕ
 lower =
     record {
       Op = Below;
@@ -100,7 +100,7 @@ turned (turn.Ends n) = Ret n
 abbrev pub kind : (op : Below) → ℕ → Unit {0}
 kind op x = tt
 
-abbrev pub exec : (op : Below) → ℕ → Did ℕ ℕ
+abbrev pub exec : (op : Below) → ℕ → ExecResult ℕ ℕ
 exec op w = Ran (w + 1) (w + 1)
 
 abbrev pub itself : ℕ → ℕ

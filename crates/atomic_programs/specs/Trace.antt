@@ -1,13 +1,13 @@
 -- What the events of a list came to, and what a state says of them.
 use Rattle.std.specs.Prelude.{◌≡◌, ℕ, Some, List, [], ◌∷◌}
-use Rattle.atomic_programs.specs.Basics.{Theory, Run, FinishedCall, State, Event, Start, Step, Came, Started, DidEnd, makes, next}
+use Rattle.atomic_programs.specs.Basics.{Theory, Run, FinishedCall, State, Event, Start, Step, EventOutcome, Started, DidEnd, makes, next}
 use Rattle.atomic_programs.specs.Explained.{In}
 
 -- an event with its number and its outcome
 pub record EventReport (L : Theory) : Type 0 where
   pub number : ℕ
   pub event : Event L.Call L.M.Outside
-  pub came : Came L
+  pub came : EventOutcome L
 
 -- all of a list, the oldest first
 abbrev pub happened : (L : Theory) → List (Event L.Call L.M.Outside) → State L → List (EventReport L)

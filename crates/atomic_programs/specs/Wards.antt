@@ -1,7 +1,7 @@
 -- An example of a start that reserves an idle hart for its call: what is in a hart's purse is handed to another hart, below in
 -- two steps. The call has no history; it is explained by its operations.
 use Rattle.std.specs.Prelude.{◌≡◌, ◌≢◌, ℕ, Bool, true, false, nat_eq, Option, Some, None, []}
-use Rattle.atomic_programs.specs.Basics.{Prog, Do, once, unmarked, Did, Ran, Machine, Theory, Began, Refuses, Begins, Core, operations_of, Act, Lower, Handover, holding, Both, lowered_calls, put, if_held}
+use Rattle.atomic_programs.specs.Basics.{Prog, Do, once, unmarked, ExecResult, Ran, Machine, Theory, Began, Refuses, Begins, Core, operations_of, Act, LowerLayer, Handover, holding, Both, lowered_calls, put, if_held}
 
 -- each hart's purse, and the hart for whose call it is reserved
 pub record World : Type 0 where
@@ -25,7 +25,7 @@ May h (Free j) w = w.ward j ≡ Some h
 abbrev pub given : ℕ → ℕ → (ℕ → ℕ) → ℕ → ℕ
 given h j purse = put purse j (purse h)
 
-abbrev pub exec : ℕ → (op : Op) → World → Did (Answer op) World
+abbrev pub exec : ℕ → (op : Op) → World → ExecResult (Answer op) World
 exec h (Give j) w = Ran tt (record w { purse = given h j w.purse })
 exec h (Free j) w = Ran tt (record w { ward = put w.ward j None })
 
@@ -109,7 +109,7 @@ core =
       go = λ h x op p. move h op p;
     }
   where
-    move : ℕ → (op : Op) → (ℕ → ℕ) → Did (Answer op) (ℕ → ℕ)
+    move : ℕ → (op : Op) → (ℕ → ℕ) → ExecResult (Answer op) (ℕ → ℕ)
     move h (Give j) p = Ran tt (given h j p)
     move h (Free j) p = Ran tt p
 
@@ -129,7 +129,7 @@ low_may h Peek w = w.ward h ≡ None
 low_may h (Fill j x) w = w.ward j ≡ Some h
 low_may h (Release j) w = w.ward j ≡ Some h
 
-abbrev pub low_exec : ℕ → Unit {0} → (op : LowOp) → World → Did (LowAnswer op) World
+abbrev pub low_exec : ℕ → Unit {0} → (op : LowOp) → World → ExecResult (LowAnswer op) World
 low_exec h x Peek w = Ran (w.purse h) w
 low_exec h x (Fill j y) w = Ran tt (record w { purse = put w.purse j y })
 low_exec h x (Release j) w = Ran tt (record w { ward = put w.ward j None })
@@ -143,7 +143,7 @@ pub record Shows (r g : World) : Type 0 where
 abbrev pub Base : ℕ → World → World → Type 0
 Base h r g = (j : ℕ) → r.ward j ≡ Some h → (g.ward j ≡ Some h) × (g.purse j ≡ r.purse j)
 
-abbrev pub low : Lower World
+abbrev pub low : LowerLayer World
 low =
     record {
       Op = LowOp;

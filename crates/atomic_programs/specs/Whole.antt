@@ -1,6 +1,6 @@
 -- The machine above: whole inodes, each behind its lock.
 use Rattle.std.specs.Prelude.{◌≡◌, ◌≢◌, ℕ, Bool, true, false, nat_eq, if◌then◌else◌, Option, Some, None, suc, List, [], ◌∷◌, length}
-use Rattle.atomic_programs.specs.Prog.{Did, Waits, Ran}
+use Rattle.atomic_programs.specs.Prog.{ExecResult, Waits, Ran}
 use Rattle.atomic_programs.specs.Logic.{Machine}
 
 -- one entry of a table changed
@@ -57,11 +57,11 @@ May h Exit w = w.txn h ≡ true
 May h (Look i k) w = w.lock i ≡ Some h
 May h (Write i k z zs) w = (w.lock i ≡ Some h) × (w.txn h ≡ true)
 
-abbrev pub take_if : ℕ → ℕ → World → Option ℕ → Did Dinode World
+abbrev pub take_if : ℕ → ℕ → World → Option ℕ → ExecResult Dinode World
 take_if h i w None = Ran (w.dino i) (record w { lock = put w.lock i (Some h) })
 take_if h i w (Some g) = Waits
 
-abbrev pub exec : ℕ → (op : Op) → World → Did (Answer op) World
+abbrev pub exec : ℕ → (op : Op) → World → ExecResult (Answer op) World
 exec h (Take i) w = take_if h i w (w.lock i)
 exec h (Store i d) w = Ran tt (record w { dino = put w.dino i d })
 exec h (Give i) w = Ran tt (record w { lock = put w.lock i None })

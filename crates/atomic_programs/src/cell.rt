@@ -4,7 +4,7 @@ ghost use Rattle.std.specs.Prelude.{◌≡◌, ℕ, ◌<◌, ◌⊎◌, ◌∷�
 ghost use Rattle.atomic_programs.specs.Prog.{plain, advance, asks, OfNext, Ran as ItRan};
 ghost use Rattle.atomic_programs.specs.Calls.{State, fresh, with_answer, Start as StartOf, Step as StepOf};
 ghost use Rattle.atomic_programs.specs.Plain.{plain_makes, erase, Plain, PlainHonest, PlainHonestStep, MayOf, hart_start, hart_step};
-ghost use Rattle.atomic_programs.specs.Machines.{moved_to, Still, Left, program_at, or_waits, or_stops};
+ghost use Rattle.atomic_programs.specs.Machines.{moved_to, Still, RestOrResult, program_at, or_waits, or_stops};
 ghost use Rattle.atomic_programs.specs.Cell as cell;
 ghost use Rattle.atomic_programs.specs.Cell.{Cell, Passes, LeavesOne, exec, may, honest, swaps, rest, Take as TakeOp, Fetch as FetchOp, Store as StoreOp, Drop as DropOp};
 ghost use Rattle.atomic_programs.specs.CellCode.{kind_of, open_of, machine_of, OpenFits, MachineFits, HartFits, said_in, said_by, said, call_of, event_of, events_of, outcome_of, outcomes_of, code, plain_of};
@@ -125,7 +125,7 @@ impl<D: Device> Register<D> {
 
 /// The kinds of operations with their answers.
 #[derive(Clone, Copy)]
-pub enum Kind {
+pub enum CellKind {
     Take,
     Fetch,
     /// A fetch that answers zero.
@@ -134,15 +134,15 @@ pub enum Kind {
     Drop,
 }
 
-impl Kind {
+impl CellKind {
     /// Of a fetch that answers this number.
-    pub fn of_fetch(number: u8) -> Kind
+    pub fn of_fetch(number: u8) -> CellKind
         ensures { result ≡ kind_of FetchOp number }
     {
         if number == 0 {
-            Kind::FetchZero
+            CellKind::FetchZero
         } else {
-            Kind::Fetch
+            CellKind::Fetch
         }
     }
 }
@@ -159,23 +159,23 @@ impl Open {
         self,
         hart: u8,
         register: &mut Register<D>,
-    ) -> Stepped<Open, (u8, Key), Kind>
+    ) -> Stepped<Open, (u8, Key), CellKind>
         requires may { OfNext (may hart) (asks (open_of self)) register.old }
         requires fits { OpenFits hart self }
         ensures moves { advance kind_of (exec hart (said_in result register.new)) (open_of self) register.old
             ≡ moved_to open_of (λ r. r.0) result register.new }
         ensures honest { OfNext (λ op c. honest hart op c (said_in result register.new)) (asks (open_of self)) register.old }
-        ensures fits { Left (OpenFits hart) (λ r. r.1 ≡ hart) result }
+        ensures fits { RestOrResult (OpenFits hart) (λ r. r.1 ≡ hart) result }
         ensures still { Still open_of result self register.old register.new }
     {
         match self {
             Open::Take => match register.take(hart) {
                 None => Stepped::Waits(Open::Take),
-                Some(key) => Stepped::Ran(Open::Fetch { key }, Kind::Take),
+                Some(key) => Stepped::Ran(Open::Fetch { key }, CellKind::Take),
             },
             Open::Fetch { key } => match register.fetch(&key) {
                 None => Stepped::Stopped(Open::Fetch { key }),
-                Some(number) => Stepped::Done((number, key), Kind::of_fetch(number)),
+                Some(number) => Stepped::Done((number, key), CellKind::of_fetch(number)),
             },
         }
     }
@@ -234,13 +234,17 @@ impl Machine {
     }
 
     /// One operation.
-    pub fn step<D: Device>(self, hart: u8, register: &mut Register<D>) -> Stepped<Machine, u8, Kind>
+    pub fn step<D: Device>(
+        self,
+        hart: u8,
+        register: &mut Register<D>,
+    ) -> Stepped<Machine, u8, CellKind>
         requires may { OfNext (may hart) (asks (machine_of self)) register.old }
         requires fits { MachineFits hart self }
         ensures moves { advance kind_of (exec hart (said_in result register.new)) (machine_of self) register.old
             ≡ moved_to machine_of (λ x. x) result register.new }
         ensures honest { OfNext (λ op c. honest hart op c (said_in result register.new)) (asks (machine_of self)) register.old }
-        ensures fits { Left (MachineFits hart) (λ r. Unit {0}) result }
+        ensures fits { RestOrResult (MachineFits hart) (λ r. Unit {0}) result }
         ensures still { Still machine_of result self register.old register.new }
     {
         match self {
@@ -255,7 +259,7 @@ impl Machine {
             },
             Machine::Store { number, old, key } => match register.store(&key, number) {
                 None => Stepped::Stopped(Machine::Store { number, old, key }),
-                Some(()) => Stepped::Ran(Machine::Drop { old, key }, Kind::Store),
+                Some(()) => Stepped::Ran(Machine::Drop { old, key }, CellKind::Store),
             },
             Machine::LookOpen { open } => match open.step(hart, register) {
                 Stepped::Waits(open) => Stepped::Waits(Machine::LookOpen { open }),
@@ -268,7 +272,7 @@ impl Machine {
             },
             Machine::Drop { old, key } => {
                 register.release(key);
-                Stepped::Done(old, Kind::Drop)
+                Stepped::Done(old, CellKind::Drop)
             }
         }
     }
@@ -307,7 +311,7 @@ pub enum Outcome {
     /// The hart has no call.
     Idle,
     Waits,
-    Ran(Kind),
+    Ran(CellKind),
     Done(u8),
     /// This operation stopped the world.
     Stops,
@@ -603,7 +607,7 @@ mod tests {
         let came = ran(&rt, rt.alloc(), &mut world, &events);
         assert!(rt; came.len() == 6);
         assert!(rt; matches!(came[3], Outcome::Waits));
-        assert!(rt; matches!(came[5], Outcome::Ran(Kind::Store)));
+        assert!(rt; matches!(came[5], Outcome::Ran(CellKind::Store)));
         assert!(rt;
             matches!(
                 world.start(8, Call::Look),
@@ -620,8 +624,8 @@ mod tests {
         assert!(rt; matches!(world.step(1), Outcome::Waits));
         assert!(rt; matches!(world.step(0), Outcome::Done(5)));
         assert!(rt; matches!(world.step(0), Outcome::Idle));
-        assert!(rt; matches!(world.step(1), Outcome::Ran(Kind::Take)));
-        assert!(rt; matches!(world.step(1), Outcome::Ran(Kind::Fetch)));
+        assert!(rt; matches!(world.step(1), Outcome::Ran(CellKind::Take)));
+        assert!(rt; matches!(world.step(1), Outcome::Ran(CellKind::Fetch)));
         assert!(rt; matches!(world.step(1), Outcome::Done(7)));
         let came = ran(
             &rt,

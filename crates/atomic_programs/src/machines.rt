@@ -19,7 +19,7 @@ pub enum Stepped<M, R, K> {
 
 /// What a step of a machine in its place comes to. What is left of the machine stands there, so that a machine within others isn't moved.
 #[derive(Drop)]
-pub enum Came<R, K> {
+pub enum SteppedInPlace<R, K> {
     /// It waits, and nothing has changed.
     Waits,
     /// One operation ran, of this kind.

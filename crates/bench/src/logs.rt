@@ -10,7 +10,7 @@ use crate::workload::WorkloadError;
 use block_device::{BLOCK_LEN, Device, MemoryDisk};
 use buffer_cache::{BUFFERS_OF_A_HART, Buffers, Cache, Got};
 use fs_layout::Super;
-use group_log::{Left, Log, Phase, Progress, Txn};
+use group_log::{AfterLeave, Log, Phase, Progress, Txn};
 use image_tree::{find_layout, recover};
 use mkfs::make;
 use std::alloc::Global;
@@ -108,7 +108,7 @@ fn transact(log: Log<MemoryDisk>, byte: u8, times: u32) -> Result<Log<MemoryDisk
         txn.retire(&ended);
         return Err(WorkloadError::Wrong);
     }
-    if log.leave(txn) == Left::Commits && commit(&mut log) {
+    if log.leave(txn) == AfterLeave::Commits && commit(&mut log) {
         return Ok(log);
     }
     let _ = log.retire();

@@ -1,5 +1,5 @@
 -- The programs, whatever their operations answer.
-use Rattle.bitmap_alloc.proofs.Vocabulary.{◌≡◌, ◌+◌, ℕ, List, [], ◌∷◌, Bool, true, false, not, Option, Some, None, refl, unwrap_or, bit_of, Do, bind, unmarked, Get, Read, Put, P, fetch, read_unless, first_clear_below, marked_by, without_bit, zeros, give_zeros, zero_block, zero_found, take_first, clear_bit, Oracle, outcome, recorded, fetched, Takes, TakesTheFirst, FreesByTheBitmap}
+use Rattle.bitmap_alloc.proofs.Vocabulary.{◌≡◌, ◌+◌, ℕ, List, [], ◌∷◌, Bool, true, false, not, Option, Some, None, refl, unwrap_or, bit_of, Do, bind, unmarked, Get, Read, Put, P, fetch, read_unless, first_clear_below, marked_by, without_bit, zeros, give_zeros, zero_block, zero_found, take_first, clear_bit, Oracle, outcome, recorded, fetched, TakesFirstClear, TakesTheFirst, FreesByTheBitmap}
 use Rattle.bitmap_alloc.proofs.First.{FirstIs, first_is}
 
 -- a fetch records nothing, and goes on with the bytes that were fetched
@@ -24,19 +24,19 @@ is_clear true e = cc
 is_clear false e = refl
 
 first_then : (answer : Oracle) (m at size : ℕ) (bitmap : List ℕ)
-    → let p : P (Option ℕ) = take_first at size bitmap in Takes at size bitmap (recorded answer m p) (outcome answer m p)
+    → let p : P (Option ℕ) = take_first at size bitmap in TakesFirstClear at size bitmap (recorded answer m p) (outcome answer m p)
 unfolding first_clear_below
 first_then answer m at size bitmap = go (first_clear_below size bitmap) (first_is (λ b. not (bit_of bitmap b)) size)
   where
     go : (o : Option ℕ) → FirstIs (λ b. not (bit_of bitmap b)) size o
-        → let p : P (Option ℕ) = Do (Put at (marked_by bitmap o)) unmarked (λ _. zero_found o) in Takes at size bitmap (recorded answer m p) (outcome answer m p)
+        → let p : P (Option ℕ) = Do (Put at (marked_by bitmap o)) unmarked (λ _. zero_found o) in TakesFirstClear at size bitmap (recorded answer m p) (outcome answer m p)
     go None f = (λ k h. is_set (bit_of bitmap k) (f k h), refl)
     go (Some b) f =
         let z = zeros_then answer (m + 1) b in
         rw z.1 (f.0, is_clear (bit_of bitmap b) f.1, λ k h. is_set (bit_of bitmap k) (f.2 k h), rw z.0 refl)
 
 pub takes_first : TakesTheFirst
-takes_first answer at size = fetch_then answer 0 at (take_first at size) (Takes at size (fetched answer 0 at)) (λ m. first_then answer m at size (fetched answer 0 at))
+takes_first answer at size = fetch_then answer 0 at (take_first at size) (TakesFirstClear at size (fetched answer 0 at)) (λ m. first_then answer m at size (fetched answer 0 at))
 
 pub frees_bitmap : FreesByTheBitmap
 frees_bitmap answer at b = fetch_then answer 0 at (clear_bit at b) (λ changes a. changes ≡ (at, without_bit b (fetched answer 0 at)) ∷ []) (λ m. refl)

@@ -6,7 +6,7 @@ unfoldable pub use Rattle.bitmap_alloc.specs.Bytes.{with_bit, without_bit, zeros
 pub use Rattle.bitmap_alloc.specs.First.{else_this, first_below}
 unfoldable pub use Rattle.bitmap_alloc.specs.First.{first_clear_below}
 pub use Rattle.bitmap_alloc.specs.FreeingBlocks.{free_left}
-pub use Rattle.bitmap_alloc.specs.Laws.{ClearsOneBit, FreesByTheBitmap, Oracle, SetsOneBit, Takes, TakesTheFirst, fetched, outcome, recorded}
+pub use Rattle.bitmap_alloc.specs.Laws.{ClearsOneBit, FreesByTheBitmap, Oracle, SetsOneBit, TakesFirstClear, TakesTheFirst, fetched, outcome, recorded}
 pub use Rattle.bitmap_alloc.specs.Programs.{clear_bit, give_zeros, take_first, zero_block, zero_found}
 pub use Rattle.bitmap_alloc.specs.Taking.{take_left}
 pub use Rattle.bitmap_alloc.specs.declared.free_block.FreeBlock.{FreeBlock}

@@ -29,15 +29,15 @@ fetched answer n b = unwrap_or (answer n (Get b)) (answer (n + 1) (Read b))
 
 -- No bit below the size is clear and nothing is recorded; or the first clear bit is found, and recorded are the bitmap with it set, and
 -- the block with zeros.
-abbrev pub Takes : (at size : ℕ) → List ℕ → List (ℕ × List ℕ) → Option ℕ → Type 0
-Takes at size bitmap changes None = ((k : ℕ) → k < size → bit_of bitmap k ≡ true) × (changes ≡ [])
-Takes at size bitmap changes (Some b) = (b < size) × (bit_of bitmap b ≡ false) × ((k : ℕ) → k < b → bit_of bitmap k ≡ true)
+abbrev pub TakesFirstClear : (at size : ℕ) → List ℕ → List (ℕ × List ℕ) → Option ℕ → Type 0
+TakesFirstClear at size bitmap changes None = ((k : ℕ) → k < size → bit_of bitmap k ≡ true) × (changes ≡ [])
+TakesFirstClear at size bitmap changes (Some b) = (b < size) × (bit_of bitmap b ≡ false) × ((k : ℕ) → k < b → bit_of bitmap k ≡ true)
     × (changes ≡ (at, with_bit b bitmap) ∷ (b, zeros) ∷ [])
 
 -- so a block is taken
 abbrev pub TakesTheFirst : Type 0
 TakesTheFirst = (answer : Oracle) (at size : ℕ)
-    → Takes at size (fetched answer 0 at) (recorded answer 0 (take_block at size)) (outcome answer 0 (take_block at size))
+    → TakesFirstClear at size (fetched answer 0 at) (recorded answer 0 (take_block at size)) (outcome answer 0 (take_block at size))
 
 -- a block is given back by the bitmap alone
 abbrev pub FreesByTheBitmap : Type 0

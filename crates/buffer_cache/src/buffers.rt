@@ -18,7 +18,7 @@ use crate::chains::Chains;
 use crate::got::Got;
 use crate::limits::BUFFERS;
 use crate::order::Order;
-use crate::seat::Seat;
+use crate::seat::BufferSeat;
 use block_device::{Device, Fault};
 use sleep_lock::{Guard, RetiredSlots, Slots};
 use std::alloc::{AllocError, Global};
@@ -29,7 +29,7 @@ use std::marker::Model;
 #[derive(Drop)]
 pub struct Buffers {
     // Each in the place of its number, where it stays.
-    seats: Vec<Seat>,
+    seats: Vec<BufferSeat>,
     // Their numbers, in order of giving back.
     order: Order,
     // Their numbers, by their blocks.
@@ -180,12 +180,12 @@ impl Buffers {
     }
 }
 
-fn new_seats(alloc: Global) -> Result<Vec<Seat>, AllocError>
+fn new_seats(alloc: Global) -> Result<Vec<BufferSeat>, AllocError>
     ensures { IfOk result (λ seats. seats.items ≡ unused_from 0 buffer_count) }
 {
     let mut seats = Vec::with_capacity(alloc, BUFFERS)?;
     for number in 0..BUFFERS {
-        seats.push(Seat::new(number as u32))?;
+        seats.push(BufferSeat::new(number as u32))?;
     }
     Ok(seats)
 }
@@ -200,20 +200,20 @@ fn new_slots(alloc: Global) -> Result<Slots<Buffer>, AllocError>
     Slots::new(alloc, buffers)
 }
 
-fn count_held(seats: &[Seat], hart: u8) -> usize
+fn count_held(seats: &[BufferSeat], hart: u8) -> usize
     ensures { result ≡ count_by (is_held_by hart) seats.now }
 {
     seats.iter().filter(|seat| seat.is_held_by(hart)).count()
 }
 
-fn count_pinned(seats: &[Seat]) -> usize
+fn count_pinned(seats: &[BufferSeat]) -> usize
     ensures { result ≡ count_by is_pinned seats.now }
 {
     seats.iter().filter(|seat| seat.is_pinned()).count()
 }
 
 fn get_in(
-    seats: &mut Vec<Seat>,
+    seats: &mut Vec<BufferSeat>,
     order: &Order,
     chains: &mut Chains,
     slots: &mut Slots<Buffer>,
@@ -237,7 +237,7 @@ fn get_in(
 }
 
 // The buffer that has the block.
-fn lend(seats: &mut Vec<Seat>, slots: &mut Slots<Buffer>, i: usize, hart: u8, b: u32) -> Got
+fn lend(seats: &mut Vec<BufferSeat>, slots: &mut Slots<Buffer>, i: usize, hart: u8, b: u32) -> Got
     requires place { position (has_block b) seats.old.items ≡ Some i }
     requires seated { IsSeated slots.old seats.old.items }
     ensures gives { (seats.new.items, result) ≡ get_of hart b seats.old.items }
@@ -255,7 +255,7 @@ fn lend(seats: &mut Vec<Seat>, slots: &mut Slots<Buffer>, i: usize, hart: u8, b:
 }
 
 // A free buffer, for a block that none has.
-fn renew(seats: &mut Vec<Seat>, slots: &mut Slots<Buffer>, i: usize, hart: u8, b: u32) -> Got
+fn renew(seats: &mut Vec<BufferSeat>, slots: &mut Slots<Buffer>, i: usize, hart: u8, b: u32) -> Got
     requires place { i < length seats.old.items }
     requires free { IsTrue (is_free (numbered seats.old.items i)) }
     requires seated { IsSeated slots.old seats.old.items }
@@ -275,7 +275,7 @@ fn renew(seats: &mut Vec<Seat>, slots: &mut Slots<Buffer>, i: usize, hart: u8, b
 }
 
 fn fill_in<D: Device>(
-    seats: &mut Vec<Seat>,
+    seats: &mut Vec<BufferSeat>,
     chains: &Chains,
     device: &mut D,
     guard: &mut Guard<Buffer>,
@@ -306,7 +306,7 @@ fn fill_in<D: Device>(
     Ok(())
 }
 
-fn keep_in(seats: &mut Vec<Seat>, chains: &Chains, guard: &Guard<Buffer>)
+fn keep_in(seats: &mut Vec<BufferSeat>, chains: &Chains, guard: &Guard<Buffer>)
     requires held { IsSome (seat_of guard.now.value.block seats.old.items) }
     requires valid { IsSome guard.now.value.content }
     requires chained { IsChained seats.old.items chains.now }
@@ -320,7 +320,7 @@ fn keep_in(seats: &mut Vec<Seat>, chains: &Chains, guard: &Guard<Buffer>)
     seat.keep(buffer.bytes());
 }
 
-fn pin_in(seats: &mut Vec<Seat>, chains: &Chains, b: u32, pinned: bool)
+fn pin_in(seats: &mut Vec<BufferSeat>, chains: &Chains, b: u32, pinned: bool)
     requires there { IsSome (seat_of b seats.old.items) }
     requires chained { IsChained seats.old.items chains.now }
     requires once { count_of (has_block b) seats.old.items ≤ 1 }
@@ -331,7 +331,7 @@ fn pin_in(seats: &mut Vec<Seat>, chains: &Chains, b: u32, pinned: bool)
     seat.set_pinned(pinned);
 }
 
-fn give_back(seats: &mut Vec<Seat>, order: &mut Order, i: u32)
+fn give_back(seats: &mut Vec<BufferSeat>, order: &mut Order, i: u32)
     requires place { i < length seats.old.items }
     requires ordered { IsOrdered seats.old.items order.old }
     ensures seats { seats.new.items ≡ slice_set seats.old.items i (without_holder (numbered seats.old.items i)) }

@@ -8,7 +8,7 @@ ghost use Rattle.buffer_cache.specs.Seats.{has_block, unused_from};
 
 use crate::limits::BUFFERS;
 use crate::links::{link_all, link_behind, unlink};
-use crate::seat::Seat;
+use crate::seat::BufferSeat;
 use std::marker::Model;
 
 // A block's buffer is in the chain of the block's number modulo this.
@@ -55,7 +55,7 @@ impl Chains {
     }
 
     /// The buffer that has a block.
-    pub fn find(&self, seats: &[Seat], b: u32) -> Option<usize>
+    pub fn find(&self, seats: &[BufferSeat], b: u32) -> Option<usize>
         requires chained { IsChained seats.now self.now }
         requires once { count_of (has_block b) seats.now ≤ 1 }
         ensures { result ≡ position (has_block b) seats.now }

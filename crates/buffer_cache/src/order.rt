@@ -7,7 +7,7 @@ ghost use Rattle.buffer_cache.specs.Seats.{is_free};
 
 use crate::limits::BUFFERS;
 use crate::links::{link_all, link_behind, unlink};
-use crate::seat::Seat;
+use crate::seat::BufferSeat;
 use std::marker::Model;
 
 // One more stands for the ends of the order: behind it is the oldest, and before it the youngest.
@@ -47,7 +47,7 @@ impl Order {
     }
 
     /// The least recently given back buffer that is neither out nor pinned.
-    pub fn first_free(&self, seats: &[Seat]) -> Option<usize>
+    pub fn first_free(&self, seats: &[BufferSeat]) -> Option<usize>
         requires ordered { IsOrdered seats.now self.now }
         ensures { result ≡ find (λ n. is_free (numbered seats.now n)) self.now }
     {

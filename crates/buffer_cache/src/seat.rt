@@ -9,7 +9,7 @@ use std::snapshot::Snapshot;
 /// What the cache keeps of a buffer. The bytes are those of the last fill or record, as clauses see them: they take no memory, since
 /// the buffer in the slot has them, and while it is out no code reads what it had.
 #[derive(Drop)]
-pub(crate) struct Seat {
+pub(crate) struct BufferSeat {
     number: u32,
     // Of no meaning before the first use. Who looks for a block reads one number of most seats.
     block: u32,
@@ -20,7 +20,7 @@ pub(crate) struct Seat {
     bytes: Snapshot<[u8; BLOCK_LEN]>,
 }
 
-impl Model for Seat {
+impl Model for BufferSeat {
     ghost use Rattle.buffer_cache.specs.Seats.{SeatState};
     ghost use Rattle.buffer_cache.specs.Buffers.{block_of, content_of};
 
@@ -35,11 +35,11 @@ impl Model for Seat {
     } };
 }
 
-impl Seat {
-    pub fn new(number: u32) -> Seat
+impl BufferSeat {
+    pub fn new(number: u32) -> BufferSeat
         ensures { result ≡ unused number }
     {
-        Seat {
+        BufferSeat {
             number,
             block: 0,
             used: false,

@@ -1,5 +1,5 @@
 -- Programs below do beside the children as they do without: who has a lender stays the child of that one's call.
-use Rattle.calls_on_blocks.proofs.Vocabulary.{ℕ, List, [], ◌∷◌, Option, suc, Super, Ret, Do, Did, Waits, Ran, Stops, did_in, PartOf as P, onto, Goes, placed_with, Good, Wp, LowerLaws, ActOf, Both, both, Handlers, Below, Budget, AtomicWithin, machine, Blocks, exec_blocks, below, World, Reserves, layer}
+use Rattle.calls_on_blocks.proofs.Vocabulary.{ℕ, List, [], ◌∷◌, Option, suc, Super, Ret, Do, ExecResult, Waits, Ran, Stops, exec_result_in, PartOf as P, onto, Goes, placed_with, Good, Wp, LowerLaws, ActOf, Both, both, Handlers, Below, Budget, AtomicWithin, machine, Blocks, exec_blocks, below, World, Reserves, layer}
 use Rattle.atomic_programs.specs.Joined.{joined}
 use Rattle.inode_machine.specs.World as above
 use Rattle.calls_on_blocks.proofs.Lenders.{acts_reserve}
@@ -12,11 +12,11 @@ module _ (sizes : Super) where
   goes_on t [] u g = g
   goes_on t (p ∷ ps) u g = (g.0, g.1, goes_on g.0 ps u g.2)
 
-  good_on : {A : Type 0} (h : ℕ) (m : A → Option (ActOf machine)) (ps : A → List (ℕ × machine.Step)) (n : ℕ) (B : List machine.Step → Type 0) (es : List machine.Step) (v : Both World above.World) (wait : Type 0) (d : Did A Blocks)
+  good_on : {A : Type 0} (h : ℕ) (m : A → Option (ActOf machine)) (ps : A → List (ℕ × machine.Step)) (n : ℕ) (B : List machine.Step → Type 0) (es : List machine.Step) (v : Both World above.World) (wait : Type 0) (d : ExecResult A Blocks)
       (M : ℕ → A → Both Blocks above.World → Type 0) (N : ℕ → A → Both World above.World → Type 0) → Reserves v.real.children v.seen
       → ((l : ℕ) (a : A) (w : Both World above.World) → M l a (alone w) → N l a w)
       → Good (joined machine (below sizes)) A h ps 0 n B es (alone v) wait (both machine h m v.seen d) M
-      → Good (joined machine (layer sizes)) A h ps 0 n B es v wait (both machine h m v.seen (did_in (λ r. record (v.real) { blocks = r }) d)) N
+      → Good (joined machine (layer sizes)) A h ps 0 n B es v wait (both machine h m v.seen (exec_result_in (λ r. record (v.real) { blocks = r }) d)) N
   good_on h m ps n B es v wait Waits M N r f g = g
   good_on h m ps n B es v wait (Ran a u) M N r f g = record {
     inv = ((g.inv.0, acts_reserve v.real.children h (m a) v.seen r), g.inv.1);

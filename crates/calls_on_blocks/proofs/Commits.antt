@@ -1,6 +1,6 @@
 -- Whose commit is under way, event by event.
-use Rattle.calls_on_blocks.proofs.Vocabulary.{◌≡◌, ◌⊎◌, inl, inr, ℕ, Bool, true, false, List, Option, Some, None, length, refl, sym, ap, ◌∙◌, slice_set, Super, Reply, Call, put, Left, Free, Commits, Marks, Phase, Open, Staging, Installing, Halted, joined, is_settled, group_in, next_phase, phase_at_leave, left_at, open_of, Ret, Do, Did, Waits, Ran, Stops, did_in, asks, OfNext, PartOf as P, Theory, Began, Refuses, Begins, Event, Start, Step, Run, State as StateOf, busy_in, begun, hart_of, moved, next, start_run, step_prog, step_run, step_unless, tried, Sound, ActOf, Both, both, began_to, may_make, sound_keeps, begun_both, Outside, Passes, Fails, commit_if, is_open, written, Op, Answer, JoinToWrite, Get, Read, Put, Commit, Lock, LockFile, LockOpen, Unlock, Up, Claim, Down, CheckFile, TakePlace, TakeDescriptor, Double, Close, AnswerIt, exec, in_log, May, IsWholeLog, seats_after, turn_is_out, machine, commits_after, World, shared_of, served_calls, child_of, begins, block_calls, marks_by, marks_asked, marks_unless, marks_next, log_at}
-use Rattle.fs_machine.specs.Steps.{State, Join, Leave, Settle, Give}
+use Rattle.calls_on_blocks.proofs.Vocabulary.{◌≡◌, ◌⊎◌, inl, inr, ℕ, Bool, true, false, List, Option, Some, None, length, refl, sym, ap, ◌∙◌, slice_set, Super, Reply, Call, put, AfterLeave, Free, Commits, Marks, Phase, Open, Staging, Installing, Halted, joined, is_settled, group_in, next_phase, phase_at_leave, left_at, open_of, Ret, Do, ExecResult, Waits, Ran, Stops, exec_result_in, asks, OfNext, PartOf as P, Theory, Began, Refuses, Begins, Event, Start, Step, Run, State as StateOf, busy_in, begun, hart_of, moved, next, start_run, step_prog, step_run, step_unless, tried, Sound, ActOf, Both, both, began_to, may_make, sound_keeps, begun_both, Outside, Passes, Fails, commit_if, is_open, written, Op, Answer, JoinToWrite, Get, Read, Put, Commit, Lock, LockFile, LockOpen, Unlock, Up, Claim, Down, CheckFile, TakePlace, TakeDescriptor, Double, Close, AnswerIt, exec, in_log, May, IsWholeLog, seats_after, turn_is_out, machine, commits_after, World, shared_of, served_calls, child_of, begins, block_calls, marks_by, marks_asked, marks_unless, marks_next, log_at}
+use Rattle.fs_machine.specs.Steps.{State, Join, Leave, SetDirectory, GiveDescriptor}
 use Rattle.inode_machine.specs.World as above
 use Rattle.inodes_on_blocks.specs.Below as below
 use Rattle.calls_on_blocks.proofs.Lawful.{lawful}
@@ -17,7 +17,7 @@ settled_open Halted e = absurd (let x : false ≡ true = e in cc)
 
 module _ (n h : ℕ) (s : State) (was : Option ℕ) (m : Marks) where
   -- It begins no commit, and the one that was under way is so still, or has ended; or it begins one, where none waited for its head.
-  abbrev pub CommitsBy : (op : Op) → Did (Answer op) State → Type 0
+  abbrev pub CommitsBy : (op : Op) → ExecResult (Answer op) State → Type 0
   CommitsBy op Waits = (marks_by n s.log op Waits m).begun ≡ m.begun
   CommitsBy op (Ran a t) =
       (((marks_by n s.log op (Ran a t) m).begun ≡ m.begun) × ((commits_after h op a was ≡ was) ⊎ (is_settled t.log.phase ≡ true)))
@@ -25,12 +25,12 @@ module _ (n h : ℕ) (s : State) (was : Option ℕ) (m : Marks) where
   CommitsBy op (Stops t) = (marks_by n s.log op (Stops t) m).begun ≡ m.begun
 
   -- of most operations
-  none_begins : (op : Op) → ((d : Did (Answer op) State) → marks_by n s.log op d m ≡ m) → ((a : Answer op) → commits_after h op a was ≡ was) → (d : Did (Answer op) State) → CommitsBy op d
+  none_begins : (op : Op) → ((d : ExecResult (Answer op) State) → marks_by n s.log op d m ≡ m) → ((a : Answer op) → commits_after h op a was ≡ was) → (d : ExecResult (Answer op) State) → CommitsBy op d
   none_begins op marks same Waits = ap (λ (z : Marks). z.begun) (marks Waits)
   none_begins op marks same (Ran a t) = inl (ap (λ (z : Marks). z.begun) (marks (Ran a t)), inl (same a))
   none_begins op marks same (Stops t) = ap (λ (z : Marks). z.begun) (marks (Stops t))
 
-  left_commits : (answer : Left) (t : State) → s.log.phase ≡ Open → CommitsBy Leave (Ran answer t)
+  left_commits : (answer : AfterLeave) (t : State) → s.log.phase ≡ Open → CommitsBy Leave (Ran answer t)
   left_commits Free t opens = inl (refl, inl refl)
   left_commits Commits t opens = inr (refl, ap is_settled opens)
 
@@ -71,7 +71,7 @@ op_commits n h s was m whole x (Lock k) may = none_begins n h s was m (Lock k) (
 op_commits n h s was m whole x (LockFile w fd) may = none_begins n h s was m (LockFile w fd) (λ d. refl) (λ a. refl) (exec h x (LockFile w fd) s)
 op_commits n h s was m whole x (LockOpen fd) may = none_begins n h s was m (LockOpen fd) (λ d. refl) (λ a. refl) (exec h x (LockOpen fd) s)
 op_commits n h s was m whole x (Unlock v moved) may = none_begins n h s was m (Unlock v moved) (λ d. refl) (λ a. refl) (exec h x (Unlock v moved) s)
-op_commits n h s was m whole x (Settle v) may = none_begins n h s was m (Settle v) (λ d. refl) (λ a. refl) (exec h x (Settle v) s)
+op_commits n h s was m whole x (SetDirectory v) may = none_begins n h s was m (SetDirectory v) (λ d. refl) (λ a. refl) (exec h x (SetDirectory v) s)
 op_commits n h s was m whole x (Up whom) may = none_begins n h s was m (Up whom) (λ d. refl) (λ a. refl) (exec h x (Up whom) s)
 op_commits n h s was m whole x (Claim b candidates) may = none_begins n h s was m (Claim b candidates) (λ d. refl) (λ a. refl) (exec h x (Claim b candidates) s)
 op_commits n h s was m whole x (Down drop) may = none_begins n h s was m (Down drop) (λ d. refl) (λ a. refl) (exec h x (Down drop) s)
@@ -80,7 +80,7 @@ op_commits n h s was m whole x TakePlace may = none_begins n h s was m TakePlace
 op_commits n h s was m whole x (TakeDescriptor k file) may = none_begins n h s was m (TakeDescriptor k file) (λ d. refl) (λ a. refl) (exec h x (TakeDescriptor k file) s)
 op_commits n h s was m whole x (Double fd) may = none_begins n h s was m (Double fd) (λ d. refl) (λ a. refl) (exec h x (Double fd) s)
 op_commits n h s was m whole x (Close fd) may = none_begins n h s was m (Close fd) (λ d. refl) (λ a. refl) (exec h x (Close fd) s)
-op_commits n h s was m whole x (Give child from) may = none_begins n h s was m (Give child from) (λ d. refl) (λ a. refl) (exec h x (Give child from) s)
+op_commits n h s was m whole x (GiveDescriptor child from) may = none_begins n h s was m (GiveDescriptor child from) (λ d. refl) (λ a. refl) (exec h x (GiveDescriptor child from) s)
 op_commits n h s was m whole x AnswerIt may = none_begins n h s was m AnswerIt (λ d. refl) (λ a. refl) (exec h x AnswerIt s)
 
 -- ---- an event
@@ -103,8 +103,8 @@ module _ (sizes : Super) where
       → EventCommits h s (step_prog T h x s r (Do op mark k)).after m (marks_asked sizes s.now h x s.world.real.blocks.state (Do op mark k) m)
   op_event h x s r op mark k m whole may = by (exec h x op s.world.real.blocks.state) (op_commits s.now h s.world.real.blocks.state (commits_of s) m whole x op may)
     where
-      by : (d : Did (Answer op) State) → CommitsBy s.now h s.world.real.blocks.state (commits_of s) m op d
-          → EventCommits h s (tried T h s r op (λ a. T.M.places h op a (mark a) s.world) k (both machine h mark s.world.seen (did_in (λ v. record (s.world.real) { blocks = v }) (below.came_to h op s.world.real.blocks d)))).after m
+      by : (d : ExecResult (Answer op) State) → CommitsBy s.now h s.world.real.blocks.state (commits_of s) m op d
+          → EventCommits h s (tried T h s r op (λ a. T.M.places h op a (mark a) s.world) k (both machine h mark s.world.seen (exec_result_in (λ v. record (s.world.real) { blocks = v }) (below.came_to h op s.world.real.blocks d)))).after m
           (marks_by s.now (log_at sizes s) op d m)
       by Waits c = inl (c, inl refl)
       by (Ran a t) c =

@@ -1,5 +1,5 @@
 -- What each event makes of the log and of the marks.
-use Rattle.calls_on_blocks.proofs.Vocabulary.{◌≡◌, ◌⊎◌, inl, inr, ℕ, suc, ◌+◌, Bool, true, false, List, Option, Some, None, length, refl, sym, subst, ap, ◌∙◌, arith, Super, Reply, Call, put, Progress, Left, Marks, is_running, IsCommitMove, begins_at, after_leave, after_write, never, Ret, Do, Did, Waits, Ran, Stops, did_in, asks, OfNext, PartOf as P, Theory, Began, Refuses, Begins, Event, Start, Step, Run, State, HonestStep, IsHonest, busy_in, begun, moved, next, start_run, step_prog, step_run, step_unless, tried, Sound, Both, both, seen_after, ActOf, may_make, sound_keeps, LogPart, Outside, IsWholeLog, After, keeps_whole, machine, World, shared_of, served_calls, child_of, begins, block_calls, began_to, begun_both, marks_by, marks_asked, marks_unless, marks_next, marks_told, at_point, log_at as log_of}
+use Rattle.calls_on_blocks.proofs.Vocabulary.{◌≡◌, ◌⊎◌, inl, inr, ℕ, suc, ◌+◌, Bool, true, false, List, Option, Some, None, length, refl, sym, subst, ap, ◌∙◌, arith, Super, Reply, Call, put, Progress, AfterLeave, Marks, is_running, IsCommitMove, begins_at, after_leave, after_write, never, Ret, Do, ExecResult, Waits, Ran, Stops, exec_result_in, asks, OfNext, PartOf as P, Theory, Began, Refuses, Begins, Event, Start, Step, Run, State, HonestStep, IsHonest, busy_in, begun, moved, next, start_run, step_prog, step_run, step_unless, tried, Sound, Both, both, seen_after, ActOf, may_make, sound_keeps, LogPart, Outside, IsWholeLog, After, keeps_whole, machine, World, shared_of, served_calls, child_of, begins, block_calls, began_to, begun_both, marks_by, marks_asked, marks_unless, marks_next, marks_told, at_point, log_at as log_of}
 use Rattle.fs_machine.specs.Steps as steps
 use Rattle.inode_machine.specs.World as above
 use Rattle.inodes_on_blocks.specs.Below as below
@@ -22,7 +22,7 @@ module _ (sizes : Super) where
     pub told : marks_told (s.now + 1) (log_at s).phase (at_point (log_at s)) (log_at t).phase m ≡ m'
     pub goes :
         (Moved false false (log_at s) (log_at t) × (m' ≡ m))
-        ⊎ (((r : Left) × Moved (begins_at r) false (log_at s) (log_at t) × (is_running (log_at s).phase ≡ true) × (m' ≡ after_leave s.now r m) × (t.stopped ≡ false))
+        ⊎ (((r : AfterLeave) × Moved (begins_at r) false (log_at s) (log_at t) × (is_running (log_at s).phase ≡ true) × (m' ≡ after_leave s.now r m) × (t.stopped ≡ false))
         ⊎ ((r : Progress) × IsCommitMove itself r (log_in (log_at s)) (log_in (log_at t)) × (is_running (log_at s).phase ≡ true) × (m' ≡ after_write (at_point (log_at s)) r m)))
 
   nothing_goes : (s t : State T) (m : Marks) → IsWholeLog (log_at s) → log_at t ≡ log_at s → EventGoes s t m m
@@ -38,7 +38,7 @@ module _ (sizes : Super) where
 
   -- ---- an operation
 
-  goes_to : (h : ℕ) (s t : State T) (m m' : Marks) (whole : IsWholeLog (log_at s)) (A : Type 0) (d : Did A steps.State) → log_at t ≡ (came_to s.world.real.blocks.state d).log → IsWholeLog (came_to s.world.real.blocks.state d).log
+  goes_to : (h : ℕ) (s t : State T) (m m' : Marks) (whole : IsWholeLog (log_at s)) (A : Type 0) (d : ExecResult A steps.State) → log_at t ≡ (came_to s.world.real.blocks.state d).log → IsWholeLog (came_to s.world.real.blocks.state d).log
       → (is_ran d ≡ true → t.stopped ≡ false) → Goes s.now h s.world.real.blocks.state m whole d m' → EventGoes s t m m'
   goes_to h s t m m' whole A d same after going g = record {
     whole = subst (λ (l : LogPart). IsWholeLog l) (sym same) after;
@@ -78,8 +78,8 @@ module _ (sizes : Super) where
       m' : Marks
       m' = marks_by s.now (log_at s) op (steps.exec h x op s.world.real.blocks.state) m
 
-      by : (d : Did (steps.Answer op) steps.State) → After (λ (t : steps.State). IsWholeLog t.log) d → Goes s.now h s.world.real.blocks.state m whole d m'
-          → EventGoes s (tried T h s r op (λ a. T.M.places h op a (mark a) s.world) k (both machine h mark s.world.seen (did_in (λ v. record (s.world.real) { blocks = v }) (below.came_to h op s.world.real.blocks d)))).after m m'
+      by : (d : ExecResult (steps.Answer op) steps.State) → After (λ (t : steps.State). IsWholeLog t.log) d → Goes s.now h s.world.real.blocks.state m whole d m'
+          → EventGoes s (tried T h s r op (λ a. T.M.places h op a (mark a) s.world) k (both machine h mark s.world.seen (exec_result_in (λ v. record (s.world.real) { blocks = v }) (below.came_to h op s.world.real.blocks d)))).after m m'
       by Waits after g = goes_to h s _ m m' whole (steps.Answer op) Waits refl whole (λ e. runs) g
       by (Ran a t) after g =
           let w = both_at h op mark s.world a t in
@@ -144,7 +144,7 @@ module _ (sizes : Super) where
   moved_now h s r did ps (Ret reply) w = add_one s.now
   moved_now h s r did ps (Do op m k) w = add_one s.now
 
-  tried_now : (h : ℕ) (s : State T) (r : Run T) (op : steps.Op) (ps : steps.Answer op → List (ℕ × T.M.Step)) (k : steps.Answer op → P T.M Reply) (d : Did (steps.Answer op) (Both World above.World)) → (tried T h s r op ps k d).after.now ≡ s.now + 1
+  tried_now : (h : ℕ) (s : State T) (r : Run T) (op : steps.Op) (ps : steps.Answer op → List (ℕ × T.M.Step)) (k : steps.Answer op → P T.M Reply) (d : ExecResult (steps.Answer op) (Both World above.World)) → (tried T h s r op ps k d).after.now ≡ s.now + 1
   tried_now h s r op ps k Waits = add_one s.now
   tried_now h s r op ps k (Ran a w) = moved_now h s r (op, a) (ps a) (k a) w
   tried_now h s r op ps k (Stops w) = add_one s.now

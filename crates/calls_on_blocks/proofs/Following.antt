@@ -1,5 +1,5 @@
 -- What recovery would make of the disk, event by event, beside any book that is kept of the events.
-use Rattle.calls_on_blocks.proofs.Vocabulary.{◌≡◌, inl, inr, ℕ, ◌+◌, ◌≤◌, Bool, true, false, List, [], ◌∷◌, ◌++◌, Some, None, length, refl, sym, subst, ◌∙◌, arith, AllByRecursion, Super, Call, Placed, Progress, WaitsFor as Waits, Wrote, Ended, Failed, Left, Free, Commits, Marks, AgreeOutside, joined, seen_of, IsKept, after_leave, after_write, kept_plain, kept_leave, kept_write, Theory, Event, State, IsHonest, next, Sound, sound_run, Outside, IsWholeLog, block_calls, marks_next, at_point, log_at}
+use Rattle.calls_on_blocks.proofs.Vocabulary.{◌≡◌, inl, inr, ℕ, ◌+◌, ◌≤◌, Bool, true, false, List, [], ◌∷◌, ◌++◌, Some, None, length, refl, sym, subst, ◌∙◌, arith, AllByRecursion, Super, Call, Placed, Progress, WaitsFor as Waits, Wrote, Ended, Failed, AfterLeave, Free, Commits, Marks, AgreeOutside, joined, seen_of, IsKept, after_leave, after_write, kept_plain, kept_leave, kept_write, Theory, Event, State, IsHonest, next, Sound, sound_run, Outside, IsWholeLog, block_calls, marks_next, at_point, log_at}
 use Rattle.group_log.specs.CrashLaw.{Blocks}
 use Rattle.calls_on_blocks.proofs.Moves.{itself, log_in}
 use Rattle.calls_on_blocks.proofs.Events.{EventGoes, event_goes}
@@ -24,7 +24,7 @@ module _ (sizes : Super) (n : ℕ) (Image : List Placed → Blocks → Type 0)
   T = block_calls sizes
 
   -- a later moment
-  none_left : (k : ℕ) (r : Left) (m : Marks) → m.doubt ≡ None → (after_leave k r m).doubt ≡ None
+  none_left : (k : ℕ) (r : AfterLeave) (m : Marks) → m.doubt ≡ None → (after_leave k r m).doubt ≡ None
   none_left k Free m none = none
   none_left k Commits m none = none
 

@@ -1,5 +1,5 @@
 -- Runs on a mounted disk as one list of tree steps.
-use Rattle.calls_on_blocks.proofs.Vocabulary.{◌≡◌, ◌⊎◌, inl, ◌<◌, ℕ, Bool, List, [], ◌∷◌, Option, Some, None, refl, ◌∙◌, ap, subst, Super, sizes_of, Call, none-some, Tree, put, hart_count, tree_in, settled_well, MoveStep, Did, Waits, Ran, Stops, placed_with, Began, Refuses, Begins, Event, ActOf, Both, act_places, placed_at, began_to, begun_both, Outside, stage_of, go, IsMoving, RunsFrom, machine, Refusal, places_one, moves_history, moves_alone, start_is, ShowsItsTree, first_world, mounts_show_their_trees, block_moves, first, RunsOn, MountsHaveOneHistory, OneHartHasOneHistory, World, shared_of, serves, served_calls, child_of, begins as begins_below, block_calls}
+use Rattle.calls_on_blocks.proofs.Vocabulary.{◌≡◌, ◌⊎◌, inl, ◌<◌, ℕ, Bool, List, [], ◌∷◌, Option, Some, None, refl, ◌∙◌, ap, subst, Super, sizes_of, Call, none-some, Tree, put, hart_count, tree_in, settled_well, MoveStep, ExecResult, Waits, Ran, Stops, placed_with, Began, Refuses, Begins, Event, ActOf, Both, act_places, placed_at, began_to, begun_both, Outside, stage_of, go, IsMoving, RunsFrom, machine, Refusal, places_one, moves_history, moves_alone, start_is, ShowsItsTree, first_world, mounts_show_their_trees, block_moves, first, RunsOn, MountsHaveOneHistory, OneHartHasOneHistory, World, shared_of, serves, served_calls, child_of, begins as begins_below, block_calls}
 use Rattle.tree_laws.specs.WellFormed.{IsWellFormed}
 use Rattle.inode_machine.specs.World as above
 use Rattle.calls_on_blocks.proofs.Lawful.{lawful}
@@ -10,7 +10,7 @@ places_any : (h : ℕ) (m : Option (ActOf machine)) (w : above.World) → (act_p
 places_any h None w = inl refl
 places_any h (Some t) w = by (go h t.outside t.op t.mark w)
   where
-    by : (d : Did (above.Answer t.op) above.World) → (placed_at (placed_with machine h t.op t.mark w) d ≡ []) ⊎ ((e : MoveStep) × (placed_at (placed_with machine h t.op t.mark w) d ≡ (h, e) ∷ []))
+    by : (d : ExecResult (above.Answer t.op) above.World) → (placed_at (placed_with machine h t.op t.mark w) d ≡ []) ⊎ ((e : MoveStep) × (placed_at (placed_with machine h t.op t.mark w) d ≡ (h, e) ∷ []))
     by Waits = inl refl
     by (Ran b u) = places_one h t.op b (t.mark b) w
     by (Stops u) = inl refl

@@ -1,5 +1,5 @@
 -- The calls that are served are right below.
-use Rattle.calls_on_blocks.proofs.Vocabulary.{◌≡◌, ◌<◌, ℕ, Bool, true, false, not, nat_lt, List, length, if◌then◌else◌, Option, Some, None, refl, ◌∙◌, subst, arith, [], Super, Descriptors, Call, creates, elements, put, hart_count, and_true, Do, Did, Waits, Ran, Stops, did_in, unmarked, Began, Begun, Ends, Lawful, Safe, IsCode, began_in, Both, Uses, AllLift, IsStarted, IsPart, lift_within, lifted_lawful, is_code_part, Kind, Face, LockResult, NotLocked, LocksIt, Leave, unspent, dups, dup_on, close_on, stat_on, stat_reply, read_on, read_reply, refused_read, is_nothing, open_new, open_old, open_program, own_step, say, full, done, limit, program, Idle, Inv, machine, asked_limit, Refusal, TooLong, asks_wrong, is_covered, transactions_are_small, IsRight, laws, lawful_that, descriptors_right, right, chdir_begins, chdir_ok, create_ok, inherit_right, link_begins, link_ok, mkdir_begins, mkdir_ok, AllNames, both_paths, path_names, open_ok, open_begins, start_is, unlink_begins, unlink_ok, Blocks, came_to, log_of, nothing, HasInodes, HasSpent, Shows, recorded_blocks, affords, none_spent, handlers, SharedState, World, layer, shared_of, is_served, serves, served_calls, child_of, start_refusal, begun_by, if_hart, begins, block_calls, shared_part, block_code}
+use Rattle.calls_on_blocks.proofs.Vocabulary.{◌≡◌, ◌<◌, ℕ, Bool, true, false, not, nat_lt, List, length, if◌then◌else◌, Option, Some, None, refl, ◌∙◌, subst, arith, [], Super, Descriptors, Call, creates, elements, put, hart_count, and_true, Do, ExecResult, Waits, Ran, Stops, exec_result_in, unmarked, Began, Begun, Ends, Lawful, Safe, IsCode, began_in, Both, Uses, AllLift, IsStarted, IsPart, lift_within, lifted_lawful, is_code_part, Kind, Face, LockResult, NotLocked, LocksIt, Leave, unspent, dups, dup_on, close_on, stat_on, stat_reply, read_on, read_reply, refused_read, is_nothing, open_new, open_old, open_program, own_step, say, full, done, limit, program, Idle, Inv, machine, asked_limit, Refusal, TooLong, asks_wrong, is_covered, transactions_are_small, IsRight, laws, lawful_that, descriptors_right, right, chdir_begins, chdir_ok, create_ok, inherit_right, link_begins, link_ok, mkdir_begins, mkdir_ok, AllNames, both_paths, path_names, open_ok, open_begins, start_is, unlink_begins, unlink_ok, Blocks, came_to, log_of, nothing, HasInodes, HasSpent, Shows, recorded_blocks, affords, none_spent, handlers, SharedState, World, layer, shared_of, is_served, serves, served_calls, child_of, start_refusal, begun_by, if_hart, begins, block_calls, shared_part, block_code}
 use Rattle.plain_tree.specs.declared.answer.Answer.TheVariants as answers
 use Rattle.plain_tree.specs.declared.call.Call.TheVariants as calls
 use Rattle.plain_tree.specs.declared.step.Action.TheVariants as actions
@@ -134,7 +134,7 @@ is_part sizes = record {
   starts = λ h call busy w. starts w (put w.children h (child_of call)) (nat_lt h hart_count) (start_refusal h call busy (shared_of w));
 }
   where
-    goes : (h : ℕ) (op : steps.Op) (w : World) (d : Did (steps.Answer op) steps.State) → did_in (λ (t : steps.State). record (shared_of w) { state = t }) d ≡ did_in shared_of (did_in (λ (v : Blocks). record w { blocks = v }) (came_to h op w.blocks d))
+    goes : (h : ℕ) (op : steps.Op) (w : World) (d : ExecResult (steps.Answer op) steps.State) → exec_result_in (λ (t : steps.State). record (shared_of w) { state = t }) d ≡ exec_result_in shared_of (exec_result_in (λ (v : Blocks). record w { blocks = v }) (came_to h op w.blocks d))
     goes h op w Waits = refl
     goes h op w (Ran a s) = refl
     goes h op w (Stops s) = refl

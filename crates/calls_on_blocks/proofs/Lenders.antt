@@ -1,5 +1,5 @@
 -- No operation gives a hart a lender: a start alone does.
-use Rattle.calls_on_blocks.proofs.Vocabulary.{◌≡◌, ℕ, ◌+◌, Bool, true, false, ◌==◌, nat_lt, List, [], Option, Some, None, refl, sym, ◌∙◌, if◌then◌else◌, take, none-some, Cause, has_room, node_or, write_kind, OpenFile, Name, put, Did, Waits, Ran, Stops, ActOf, ran_to, seen_after, IfRan, slot_at, entry_of, double_at, double_if, close_at, close_if, lock_if, lock_at, stat_at, unlocked, start_if, start_number, has_place, referenced, place_count, claim_if, claimed, up_if, is_last, walk_down_if, down_if, slot_if, first_from, file_count, is_empty_slot, install_if, read_refused, write_refused, write_if, write_at, changed_record, with_bytes, read_at, with_offset, join_at, enter_if, is_full_directory, next_used, lend_if, lend_last, with_lent, Sort, with_mark, machine, Desk, Entry, Take, Give, UpStart, WalkDown, Forget, Store, Fill, Enter, Clear, Empty, Slot, Install, StatFile, ReadFile, JoinFile, WriteFile, Shut, Settle, Lend, LendDirectory, Release, Join, Leave, Say, Room, RoomFor, Picks, put_elim, part_same, marked_same, Reserves}
+use Rattle.calls_on_blocks.proofs.Vocabulary.{◌≡◌, ℕ, ◌+◌, Bool, true, false, ◌==◌, nat_lt, List, [], Option, Some, None, refl, sym, ◌∙◌, if◌then◌else◌, take, none-some, Cause, has_room, node_or, write_kind, OpenFile, Name, put, ExecResult, Waits, Ran, Stops, ActOf, ran_to, seen_after, IfRan, slot_at, entry_of, double_at, double_if, close_at, close_if, lock_if, lock_at, stat_at, unlocked, start_if, start_number, has_place, referenced, place_count, claim_if, claimed, up_if, is_last, walk_down_if, down_if, slot_if, first_from, file_count, is_empty_slot, install_if, read_refused, write_refused, write_if, write_at, changed_record, with_bytes, read_at, with_offset, join_at, enter_if, is_full_directory, next_used, lend_if, lend_last, with_lent, InodeType, with_mark, machine, Desk, Entry, Take, UnlockInode, UpStart, WalkDown, Forget, Store, Fill, Enter, Clear, Empty, Slot, Install, StatFile, ReadFile, JoinFile, WriteFile, Shut, SetDirectory, Lend, LendDirectory, Release, Join, Leave, Say, Room, RoomFor, Picks, put_elim, part_same, marked_same, Reserves}
 use Rattle.inode_machine.specs.Exec.{exec}
 use Rattle.inode_machine.specs.World as above
 use Rattle.inode_machine.specs.World.Op.{Up, Down, Free, Claim, LockFile, CheckFile, LockOpen, Double}
@@ -52,12 +52,12 @@ module _ (h : ℕ) (x : above.Outside) (v : above.World) where
   lowered_none n true = λ g c e. e
   lowered_none n false = λ g c e. e
 
-  claimed_none : (sort : Sort) (x : above.Outside) → IfRan (NoNew v) (claim_if h sort v x)
-  claimed_none sort Room = λ g c e. e
-  claimed_none sort (RoomFor k) = λ g c e. e
-  claimed_none sort (Picks n) = by (nat_lt (referenced v) place_count)
+  claimed_none : (inode_type : InodeType) (x : above.Outside) → IfRan (NoNew v) (claim_if h inode_type v x)
+  claimed_none inode_type Room = λ g c e. e
+  claimed_none inode_type (RoomFor k) = λ g c e. e
+  claimed_none inode_type (Picks n) = by (nat_lt (referenced v) place_count)
     where
-      by : (b : Bool) → IfRan (NoNew v) (if b then Ran (above.New n) (claimed h sort v n) else Ran above.NoPlace v)
+      by : (b : Bool) → IfRan (NoNew v) (if b then Ran (above.New n) (claimed h inode_type v n) else Ran above.NoPlace v)
       by true = λ g c e. e
       by false = λ g c e. e
 
@@ -76,10 +76,10 @@ module _ (h : ℕ) (x : above.Outside) (v : above.World) where
   placed_none None = λ g c e. e
   placed_none (Some s) = put_none v.desks h _ refl
 
-  installed_none : (f : OpenFile) (sort : Sort) (o : Option ℕ) (b : Bool) → IfRan (NoNew v) (install_if h v f sort o b)
-  installed_none f sort None b = λ g c e. e
-  installed_none f sort (Some s) true = put_none v.desks h _ refl
-  installed_none f sort (Some s) false = put_none v.desks h _ refl
+  installed_none : (f : OpenFile) (inode_type : InodeType) (o : Option ℕ) (b : Bool) → IfRan (NoNew v) (install_if h v f inode_type o b)
+  installed_none f inode_type None b = λ g c e. e
+  installed_none f inode_type (Some s) true = put_none v.desks h _ refl
+  installed_none f inode_type (Some s) false = put_none v.desks h _ refl
 
   stat_none : (e : Option Entry) → IfRan (NoNew v) (stat_at h v e)
   stat_none None = λ g c e. e
@@ -149,21 +149,21 @@ module _ (h : ℕ) (x : above.Outside) (v : above.World) where
 
 gives_none : (h : ℕ) (op : above.Op) (x : above.Outside) (v : above.World) → IfRan (NoNew v) (exec h x op v)
 gives_none h (Take n looking) x v = lock_none h n _ v _ (v.lock n) (λ g c e. e)
-gives_none h (Give n) x v = unlocked_none n v (v.alone n)
+gives_none h (UnlockInode n) x v = unlocked_none n v (v.alone n)
 gives_none h (UpStart absolute) x v = started_none h x v (start_number (v.desks h) absolute) (has_place v (start_number (v.desks h) absolute))
 gives_none h (Up n) x v = raised_none h x v n (has_place v n)
 gives_none h (WalkDown n) x v = walked_none h x v n (is_last v n)
 gives_none h (Down n) x v = lowered_none h x v n (is_last v n)
 gives_none h (Free n) x v = λ g c e. e
 gives_none h (Forget n) x v = λ g c e. e
-gives_none h (Claim sort) x v = claimed_none h x v sort x
+gives_none h (Claim inode_type) x v = claimed_none h x v inode_type x
 gives_none h (Store n count) x v = λ g c e. e
 gives_none h (Fill n d) x v = filled_none h x v n d x
 gives_none h (Enter d e n) x v = entered_none h x v d e n x (is_full_directory (v.disk d))
 gives_none h (Clear d e) x v = λ g c e. e
 gives_none h (Empty n) x v = λ g c e. e
 gives_none h Slot x v = placed_none h x v (first_from file_count 0 (is_empty_slot v))
-gives_none h (Install f sort) x v = installed_none h x v f sort (v.desks h).hand (has_room (v.desks h).fds)
+gives_none h (Install f inode_type) x v = installed_none h x v f inode_type (v.desks h).hand (has_room (v.desks h).fds)
 gives_none h (StatFile fd) x v = stat_none h x v (entry_of v h fd)
 gives_none h (LockFile fd) x v = locked_none h x v (entry_of v h fd) (read_refused (entry_of v h fd))
 gives_none h (ReadFile fd n offset count) x v = read_none h x v n count (slot_at v h fd) (entry_of v h fd)
@@ -173,7 +173,7 @@ gives_none h (LockOpen fd n) x v = lock_none h n _ v _ (v.lock n) (λ g c e. e)
 gives_none h (WriteFile fd n offset bytes) x v = wrote_none h x v n bytes (slot_at v h fd) (entry_of v h fd) x
 gives_none h (Double fd) x v = doubled_none h x v (slot_at v h fd) (entry_of v h fd)
 gives_none h (Shut fd) x v = shut_none h x v fd (slot_at v h fd) (entry_of v h fd)
-gives_none h (Settle n) x v = settled_none h x v n (v.alone n)
+gives_none h (SetDirectory n) x v = settled_none h x v n (v.alone n)
 gives_none h (Lend child from) x v = lent_none h x v child (next_used from (v.desks h).fds)
 gives_none h (LendDirectory child) x v = lent_none h x v child None
 gives_none h (Release child) x v = released_none h x v child
@@ -186,7 +186,7 @@ pub acts_reserve : (children : ℕ → Option ℕ) (h : ℕ) (t : Option (ActOf 
 acts_reserve children h None w r = r
 acts_reserve children h (Some t) w r = by (exec h t.outside t.op w) (gives_none h t.op t.outside w)
   where
-    by : (d : Did (above.Answer t.op) above.World) → IfRan (NoNew w) d → Reserves children (ran_to w (with_mark h t.mark d))
+    by : (d : ExecResult (above.Answer t.op) above.World) → IfRan (NoNew w) d → Reserves children (ran_to w (with_mark h t.mark d))
     by Waits none = r
     by (Ran a u) none = λ g c lt e. r g c lt (none g c (sym ((marked_same h (t.mark a) u).desks g).lender ∙ e))
     by (Stops u) none = r

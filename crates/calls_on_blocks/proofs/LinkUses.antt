@@ -1,5 +1,5 @@
 -- The operations of link: each acts at one moment below.
-use Rattle.calls_on_blocks.proofs.Vocabulary.{◌<◌, ℕ, ◌+◌, ◌-◌, Bool, true, false, if◌then◌else◌, List, [], ◌∷◌, Option, Some, None, Super, Cause, NoEntry, Exists, IsDirectory, Directory, Reply, Name, elements, hart_count, Begin, unmarked, Uses, Face, face_or, AtNothing, AtName, is_directory_sort, is_live_face, lower, named_on, enters, link_found, link_in, link_name, bump_refused, bumps_if, link_raise, link_at, link_program, own_step, looks_where, is_there, failed, full, done, drop, give_up, tail, stopped, machine}
+use Rattle.calls_on_blocks.proofs.Vocabulary.{◌<◌, ℕ, ◌+◌, ◌-◌, Bool, true, false, if◌then◌else◌, List, [], ◌∷◌, Option, Some, None, Super, Cause, NoEntry, Exists, IsDirectory, Directory, Reply, Name, elements, hart_count, Begin, unmarked, Uses, Face, face_or, AtNothing, AtName, is_directory_type, is_live_face, lower, named_on, enters, link_found, link_in, link_name, bump_refused, bumps_if, link_raise, link_at, link_program, own_step, looks_where, is_there, failed, full, done, drop, give_up, tail, stopped, machine}
 use Rattle.plain_tree.specs.declared.answer.Full.TheVariants.{Blocks}
 use Rattle.plain_tree.specs.declared.call.Call.TheVariants as calls
 use Rattle.plain_tree.specs.declared.step.Action.TheVariants as actions
@@ -50,7 +50,7 @@ module _ (sizes : Super) (h : ℕ) (lt : h < hart_count) (old new : List ℕ) wh
   raise_uses n ns f None = (ops.stores sizes h lt n (f.count + 1) (λ _. own_step actions.Bump), λ _. name_uses n ns (elements new))
 
   at_uses : (n : ℕ) (ns : List ℕ) → Uses machine (Within sizes h) (link_at old new n ns)
-  at_uses n ns = (ops.takes sizes h lt n AtNothing (λ a. bumps_if (face_or a.face)), λ a. by (face_or a.face) (is_directory_sort (face_or a.face).sort))
+  at_uses n ns = (ops.takes sizes h lt n AtNothing (λ a. bumps_if (face_or a.face)), λ a. by (face_or a.face) (is_directory_type (face_or a.face).inode_type))
     where
       by : (f : Face) (b : Bool) → Uses machine (Within sizes h) (if b then give_up n (tail ns (failed (calls.Link old new) IsDirectory)) else link_raise old new n ns f (bump_refused f))
       by f true = refused_uses sizes h lt n ns (failed (calls.Link old new) IsDirectory)

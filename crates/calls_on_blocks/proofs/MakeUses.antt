@@ -1,5 +1,5 @@
 -- The operations of open with CREATE and of mkdir: each acts at one moment below.
-use Rattle.calls_on_blocks.proofs.Vocabulary.{◌<◌, ℕ, ◌+◌, ◌==◌, Bool, true, false, if◌then◌else◌, List, [], ◌∷◌, Option, Some, None, Super, Cause, NoEntry, Descriptors, Directory, DiskInodes, MemInodes, OpenFiles, Reply, Name, elements, hart_count, Begin, Do, unmarked, Uses, OfDirectory, OfFile, Sort, Face, face_or, AtNothing, AtName, is_live_face, in_parent, is_refused, mkdir_in, mkdir_on, mkdir_other, mkdir_program, mkdir_refused, mkdir_with, name_directory, create_found, create_in, entered_file, file_for, installs, installed_on, make_on, make_other, make_with, mends_unless_new, open_at, open_end, open_made, open_new, truncates, unmake, P, mends_if_full, looks_where, is_there, failed, full, done, give_up, tail, stopped, machine, Orphans, Enter, Forget, Install, HasInodes}
+use Rattle.calls_on_blocks.proofs.Vocabulary.{◌<◌, ℕ, ◌+◌, ◌==◌, Bool, true, false, if◌then◌else◌, List, [], ◌∷◌, Option, Some, None, Super, Cause, NoEntry, Descriptors, Directory, DiskInodes, MemInodes, OpenFiles, Reply, Name, elements, hart_count, Begin, Do, unmarked, Uses, OfDirectory, OfFile, InodeType, Face, face_or, AtNothing, AtName, is_live_face, in_parent, is_refused, mkdir_in, mkdir_on, mkdir_other, mkdir_program, mkdir_refused, mkdir_with, name_directory, create_found, create_in, entered_file, file_for, installs, installed_on, make_on, make_other, make_with, mends_unless_new, open_at, open_end, open_made, open_new, truncates, unmake, P, mends_if_full, looks_where, is_there, failed, full, done, give_up, tail, stopped, machine, Orphans, Enter, Forget, Install, HasInodes}
 use Rattle.plain_tree.specs.declared.answer.Full.TheVariants.{Blocks}
 use Rattle.plain_tree.specs.declared.call.Call.TheVariants as calls
 use Rattle.plain_tree.specs.declared.step.Action.TheVariants as actions
@@ -25,24 +25,24 @@ module _ (sizes : Super) (h : ℕ) (lt : h < hart_count) (inodes : HasInodes siz
   -- ---- open
 
   module _ (path : List ℕ) (flags : ℕ) where
-    made_uses : (n : ℕ) (sort : Sort) (ns : List ℕ) → Uses machine (Within sizes h) (open_made path flags n sort ns)
-    made_uses n sort ns = (ops.places_taken sizes h lt mends_if_full, λ there. by there)
+    made_uses : (n : ℕ) (inode_type : InodeType) (ns : List ℕ) → Uses machine (Within sizes h) (open_made path flags n inode_type ns)
+    made_uses n inode_type ns = (ops.places_taken sizes h lt mends_if_full, λ there. by there)
       where
         installed : (fd : Option ℕ) → Uses machine (Within sizes h) (installed_on path flags n ns (open_end path flags n ns) fd)
         installed None = refused_uses sizes h lt n ns (full (calls.Open path flags) Descriptors)
         installed (Some fd) = end_uses sizes h lt path flags n ns fd
 
-        by : (there : Bool) → Uses machine (Within sizes h) (if there then Do (Install (file_for n flags) sort) (installs (truncates flags)) (installed_on path flags n ns (open_end path flags n ns)) else give_up n (tail ns (full (calls.Open path flags) OpenFiles)))
-        by true = (ops.installs sizes h lt (file_for n flags) sort (installs (truncates flags)), λ fd. installed fd)
+        by : (there : Bool) → Uses machine (Within sizes h) (if there then Do (Install (file_for n flags) inode_type) (installs (truncates flags)) (installed_on path flags n ns (open_end path flags n ns)) else give_up n (tail ns (full (calls.Open path flags) OpenFiles)))
+        by true = (ops.installs sizes h lt (file_for n flags) inode_type (installs (truncates flags)), λ fd. installed fd)
         by false = refused_uses sizes h lt n ns (full (calls.Open path flags) OpenFiles)
 
-    named_uses : (n : ℕ) (sort : Sort) (d : ℕ) (ns : List ℕ) (a : above.EntryResult) → Uses machine (Within sizes h) (make_on path flags n sort d ns a)
-    named_uses n sort d ns above.InPlace = give_up_uses sizes h lt d (open_made path flags n sort ns) (made_uses n sort ns)
-    named_uses n sort d ns above.NoBlock = unmake_uses n d ns (full (calls.Open path flags) Blocks)
-    named_uses n sort d ns above.NoSlot = unmake_uses n d ns (full (calls.Open path flags) Directory)
+    named_uses : (n : ℕ) (inode_type : InodeType) (d : ℕ) (ns : List ℕ) (a : above.EntryResult) → Uses machine (Within sizes h) (make_on path flags n inode_type d ns a)
+    named_uses n inode_type d ns above.InPlace = give_up_uses sizes h lt d (open_made path flags n inode_type ns) (made_uses n inode_type ns)
+    named_uses n inode_type d ns above.NoBlock = unmake_uses n d ns (full (calls.Open path flags) Blocks)
+    named_uses n inode_type d ns above.NoSlot = unmake_uses n d ns (full (calls.Open path flags) Directory)
 
     file_uses : (d : ℕ) (e : Name) (ns : List ℕ) (n : ℕ) → Uses machine (Within sizes h) (make_other path flags d e ns n)
-    file_uses d e ns n = (ops.takes sizes h lt n AtNothing unmarked, λ a. (ops.stores sizes h lt n 1 unmarked, λ _. (ops.enters sizes h lt d e n (entered_file n), λ r. named_uses n (face_or a.face).sort d ns r)))
+    file_uses d e ns n = (ops.takes sizes h lt n AtNothing unmarked, λ a. (ops.stores sizes h lt n 1 unmarked, λ _. (ops.enters sizes h lt d e n (entered_file n), λ r. named_uses n (face_or a.face).inode_type d ns r)))
 
     file_with_uses : (d : ℕ) (e : Name) (ns : List ℕ) (a : above.ClaimResult) → Uses machine (Within sizes h) (make_with path flags d e ns a)
     file_with_uses d e ns above.NoInode = refused_uses sizes h lt d ns (full (calls.Open path flags) DiskInodes)

@@ -1,10 +1,10 @@
 -- What each operation makes of the log, as far as a stop is concerned.
-use Rattle.calls_on_blocks.proofs.Vocabulary.{◌≡◌, ◌≢◌, ◌⊎◌, inl, inr, ℕ, ◌+◌, ◌==◌, Bool, true, false, List, [], ◌∷◌, Option, Some, None, length, length-set, refl, sym, ap, ◌∙◌, if◌then◌else◌, slice_set, block_at, recovered, IsOutsideLog, SeatState, seen_in, with_seat, with_content, get_of, Got, Progress, Wrote, Ended, Failed, Left, Free, Commits, Marks, Phase, Open, Staging, Installing, Halted, joined, is_under_way, is_settled, is_running, IsMove, IsCommitMove, begins_at, is_point, write_to, write_of, next_phase, group_in, phase_at_leave, LogState, limit_of, after_leave, after_write, turn_is_out, seats_after, seats_at_fault, join_waits, left_at, done_recovered, failed_recovered, never, leave_facts, open_move, leave_move, commit_move, open_of, Did, Waits, Ran, Stops, Refused, TablesState, file_named, refusal_of, lock_inode, lock_file, settle_inode, up_inode, first_free, take_place, open_file, double_descriptor, shut_descriptor, give_next, LogPart, Outside, Passes, Fails, join_if, got_by, read_block, put_block, commit_if, written, is_open, LeavesIt, LeavesOne, Op, JoinToWrite, Get, Read, Put, Commit, Lock, LockFile, LockOpen, Unlock, Up, Claim, Down, CheckFile, TakePlace, TakeDescriptor, Double, Close, AnswerIt as Reply, exec, in_log, in_tables, joins, join_unless, lock_open, claims, claim_first, up_whom, drop_which, May, Honest, MayPut, IsWholeLog, After, put_shows, shows_its_puts, marks_by, marks_told, at_point, progress_of}
+use Rattle.calls_on_blocks.proofs.Vocabulary.{◌≡◌, ◌≢◌, ◌⊎◌, inl, inr, ℕ, ◌+◌, ◌==◌, Bool, true, false, List, [], ◌∷◌, Option, Some, None, length, length-set, refl, sym, ap, ◌∙◌, if◌then◌else◌, slice_set, block_at, recovered, IsOutsideLog, SeatState, seen_in, with_seat, with_content, get_of, Got, Progress, Wrote, Ended, Failed, AfterLeave, Free, Commits, Marks, Phase, Open, Staging, Installing, Halted, joined, is_under_way, is_settled, is_running, IsMove, IsCommitMove, begins_at, is_point, write_to, write_of, next_phase, group_in, phase_at_leave, LogState, limit_of, after_leave, after_write, turn_is_out, seats_after, seats_at_fault, join_waits, left_at, done_recovered, failed_recovered, never, leave_facts, open_move, leave_move, commit_move, open_of, ExecResult, Waits, Ran, Stops, Refused, TablesState, file_named, refusal_of, lock_inode, lock_file, settle_inode, up_inode, first_free, take_place, open_file, double_descriptor, shut_descriptor, give_next, LogPart, Outside, Passes, Fails, join_if, got_by, read_block, put_block, commit_if, written, is_open, LeavesIt, LeavesOne, Op, JoinToWrite, Get, Read, Put, Commit, Lock, LockFile, LockOpen, Unlock, Up, Claim, Down, CheckFile, TakePlace, TakeDescriptor, Double, Close, AnswerIt as Reply, exec, in_log, in_tables, joins, join_unless, lock_open, claims, claim_first, up_whom, drop_which, May, Honest, MayPut, IsWholeLog, After, put_shows, shows_its_puts, marks_by, marks_told, at_point, progress_of}
 use Rattle.buffer_cache.specs.declared.got.Got.TheVariants as got
 use Rattle.fs_machine.specs.declared.files.OpenFile.{OpenFile}
 use Rattle.fs_machine.specs.declared.files.Want.TheVariants as want
 use Rattle.fs_machine.specs.LogPart.{failed}
-use Rattle.fs_machine.specs.Steps.{State, Join, Leave, Settle, Give}
+use Rattle.fs_machine.specs.Steps.{State, Join, Leave, SetDirectory, GiveDescriptor}
 use Rattle.fs_machine.specs.Shown.{seen_of, seen_after}
 
 -- ---- the log's words, of its part
@@ -49,7 +49,7 @@ told_wrote n len Halted m begun = absurd (begun.1 refl)
 -- ---- operations
 
 -- the state after an operation, also where it waited
-abbrev pub came_to : {A : Type 0} → State → Did A State → State
+abbrev pub came_to : {A : Type 0} → State → ExecResult A State → State
 came_to s Waits = s
 came_to s (Ran a t) = t
 came_to s (Stops t) = t
@@ -74,7 +74,7 @@ pub same_move : (l : LogPart) → Moved false false l l
 same_move l = unseen l l refl refl refl (λ b out. refl)
 
 -- whether an operation ran
-abbrev pub is_ran : {A S : Type 0} → Did A S → Bool
+abbrev pub is_ran : {A S : Type 0} → ExecResult A S → Bool
 is_ran Waits = false
 is_ran (Ran a t) = true
 is_ran (Stops t) = false
@@ -84,23 +84,23 @@ module _ (n h : ℕ) (s : State) (m : Marks) (whole : IsWholeLog s.log) where
   l = s.log
 
   -- the marks are what the log's phases tell
-  abbrev pub IsTold : {A : Type 0} → Did A State → Marks → Type 0
+  abbrev pub IsTold : {A : Type 0} → ExecResult A State → Marks → Type 0
   IsTold d m' = marks_told (n + 1) l.phase (at_point l) (came_to s d).log.phase m ≡ m'
 
   -- What an event does to the log and to the marks, at an operation that came to d: it is neither a leave nor a write of a commit; a leave, which
   -- ran; or a write of a commit. The disk has as many blocks.
-  abbrev pub Goes : {A : Type 0} → Did A State → Marks → Type 0
+  abbrev pub Goes : {A : Type 0} → ExecResult A State → Marks → Type 0
   Goes d m' =
       (length (came_to s d).log.contents ≡ length l.contents)
       × IsTold d m'
       × ((Moved false false l (came_to s d).log × (m' ≡ m))
-      ⊎ (((r : Left) × Moved (begins_at r) false l (came_to s d).log × (is_running l.phase ≡ true) × (m' ≡ after_leave n r m) × (is_ran d ≡ true))
+      ⊎ (((r : AfterLeave) × Moved (begins_at r) false l (came_to s d).log × (is_running l.phase ≡ true) × (m' ≡ after_leave n r m) × (is_ran d ≡ true))
       ⊎ ((r : Progress) × IsCommitMove itself r (log_in l) (log_in (came_to s d).log) × (is_running l.phase ≡ true) × (m' ≡ after_write (at_point l) r m))))
 
   still : marks_told (n + 1) l.phase (at_point l) l.phase m ≡ m
   still = told_same (n + 1) (length l.group) l.phase m
 
-  tables_go : {A : Type 0} (d : Did A TablesState) → Goes (in_tables s d) m
+  tables_go : {A : Type 0} (d : ExecResult A TablesState) → Goes (in_tables s d) m
   tables_go Waits = (refl, still, inl (same_move l, refl))
   tables_go (Ran a t) = (refl, still, inl (same_move l, refl))
   tables_go (Stops t) = (refl, still, inl (same_move l, refl))
@@ -125,7 +125,7 @@ module _ (n h : ℕ) (s : State) (m : Marks) (whole : IsWholeLog s.log) where
   abbrev left_log : LogPart
   left_log = record l { members = slice_set l.members h None; phase = phase_at_leave (joined (slice_set l.members h None)) l.group }
 
-  abbrev left_as : Left
+  abbrev left_as : AfterLeave
   left_as = left_at (joined (slice_set l.members h None)) l.group
 
   leave_goes : l.phase ≡ Open → Goes (Ran left_as (record s { log = left_log })) (after_leave n left_as m)
@@ -150,7 +150,7 @@ module _ (n h : ℕ) (s : State) (m : Marks) (whole : IsWholeLog s.log) where
       let opens : l.phase ≡ Open = open_of l.phase l.members h whole.log.quiet may.2.2 may.2.1 in
       open_move itself (log_in l) (log_in (put_block h b (Some bytes) l)) refl refl opens opens
 
-  claims_go : (d : Did (Option ℕ) TablesState) → Goes (claims (in_tables s d)) m
+  claims_go : (d : ExecResult (Option ℕ) TablesState) → Goes (claims (in_tables s d)) m
   claims_go Waits = (refl, still, inl (same_move l, refl))
   claims_go (Ran None t) = (refl, still, inl (same_move l, refl))
   claims_go (Ran (Some n) t) = (refl, still, inl (same_move l, refl))
@@ -234,7 +234,7 @@ op_by n h s m whole x (Lock k) may honest see = tables_go n h s m whole (lock_in
 op_by n h s m whole x (LockFile w fd) may honest see = tables_go n h s m whole (lock_file h w fd s.tables)
 op_by n h s m whole x (LockOpen fd) may honest see = tables_go n h s m whole (lock_open h s.tables (file_named h fd s.tables))
 op_by n h s m whole x (Unlock v moved) may honest see = (refl, still n h s m whole, inl (same_move s.log, refl))
-op_by n h s m whole x (Settle v) may honest see = tables_go n h s m whole (settle_inode h v s.tables)
+op_by n h s m whole x (SetDirectory v) may honest see = tables_go n h s m whole (settle_inode h v s.tables)
 op_by n h s m whole x (Up whom) may honest see = tables_go n h s m whole (up_whom h whom s.tables)
 op_by n h s m whole x (Claim b candidates) may honest see = claim_goes n h s m whole b may (first_free s.tables.entries candidates)
 op_by n h s m whole x (Down drop) may honest see = tables_go n h s m whole (drop_which h drop s.tables)
@@ -243,7 +243,7 @@ op_by n h s m whole x TakePlace may honest see = tables_go n h s m whole (take_p
 op_by n h s m whole x (TakeDescriptor k file) may honest see = tables_go n h s m whole (open_file h k file s.tables)
 op_by n h s m whole x (Double fd) may honest see = tables_go n h s m whole (double_descriptor h fd s.tables)
 op_by n h s m whole x (Close fd) may honest see = tables_go n h s m whole (shut_descriptor h fd s.tables)
-op_by n h s m whole x (Give child from) may honest see = tables_go n h s m whole (give_next h child from s.tables)
+op_by n h s m whole x (GiveDescriptor child from) may honest see = tables_go n h s m whole (give_next h child from s.tables)
 op_by n h s m whole x Reply may honest see = (refl, still n h s m whole, inl (same_move s.log, refl))
 
 pub op_goes : (n h : ℕ) (s : State) (m : Marks) (whole : IsWholeLog s.log) (x : Outside) (op : Op) → May h op s → Honest h op s x → Goes n h s m whole (exec h x op s) (marks_by n s.log op (exec h x op s) m)

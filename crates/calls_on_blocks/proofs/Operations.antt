@@ -1,5 +1,5 @@
 -- The operations on whole inodes act at one moment below, within what their call's transactions may record.
-use Rattle.calls_on_blocks.proofs.Vocabulary.{◌≡◌, ◌<◌, ℕ, List, length, Bool, true, Option, Super, IsBytes, Cause, OpenFile, Name, hart_count, AtomicWithin, Stage, MoveStep as Step, Takes, Face, Query, Sight, Sort, places, machine, JoinResult, LoanResult, LockResult, WriteResult as Wrote, Take, Give, UpStart, WalkDown, Forget, Store, Fill, Enter, Clear, Empty, Slot, Install, StatFile, ReadFile, JoinFile, WriteFile, Shut, Settle, Lend, LendDirectory, Release, Join, Leave, Say, laws, ActsOnceAt, Labels, Keeps, HasInodes, IsMade, HasSpent, recorded_blocks, ActsWithin, ProgramsSpend, Spends, up_acts, up_start_acts, walk_down_acts, down_acts, forget_acts, join_file_acts, join_acts, leave_acts, lend_acts, lend_directory_acts, release_acts, claim_within, enter_within, fill_within, file_acts, open_acts, read_acts, slot_acts, install_acts, double_acts, close_acts, check_acts, say_acts, programs_spend, stat_acts, give_acts, settle_acts, take_acts, acts_within, store_within, clear_within, empty_within, free_within, write_within, handlers, layer}
+use Rattle.calls_on_blocks.proofs.Vocabulary.{◌≡◌, ◌<◌, ℕ, List, length, Bool, true, Option, Super, IsBytes, Cause, OpenFile, Name, hart_count, AtomicWithin, Stage, MoveStep as Step, PlaysStep, Face, Query, Sight, InodeType, places, machine, JoinResult, LoanResult, LockResult, WriteResult as Wrote, Take, UnlockInode, UpStart, WalkDown, Forget, Store, Fill, Enter, Clear, Empty, Slot, Install, StatFile, ReadFile, JoinFile, WriteFile, Shut, SetDirectory, Lend, LendDirectory, Release, Join, Leave, Say, laws, ActsOnceAt, Labels, Keeps, HasInodes, IsMade, HasSpent, recorded_blocks, ActsWithin, ProgramsSpend, Spends, up_acts, up_start_acts, walk_down_acts, down_acts, forget_acts, join_file_acts, join_acts, leave_acts, lend_acts, lend_directory_acts, release_acts, claim_within, enter_within, fill_within, file_acts, open_acts, read_acts, slot_acts, install_acts, double_acts, close_acts, check_acts, say_acts, programs_spend, stat_acts, give_acts, settle_acts, take_acts, acts_within, store_within, clear_within, empty_within, free_within, write_within, handlers, layer}
 use Rattle.inode_machine.specs.Rules as rules
 use Rattle.inode_machine.specs.World as above
 use Rattle.inode_machine.specs.World.Op.{Up, Down, Free, Claim, LockFile, LockOpen, CheckFile, Double}
@@ -14,7 +14,7 @@ history =
       Tree = Stage;
       places = places;
       tree = above.stage_of;
-      Takes = Takes;
+      Takes = PlaysStep;
       Others = rules.Others;
       Clean = λ w. w.clean ≡ true;
     }
@@ -45,8 +45,8 @@ module _ (sizes : Super) (h : ℕ) where
     pub takes : (n : ℕ) (looking : Query) (m : Sight → Option above.Mark) → Within (Take n looking) m
     takes n looking m = acting (Take n looking) m (spend.take n looking) (take_acts history laws keeps h lt sizes n looking m)
 
-    pub gives : (n : ℕ) (m : Unit {0} → Option above.Mark) → Within (Give n) m
-    gives n m = acting (Give n) m (spend.give n) (give_acts history laws keeps h lt n m sizes)
+    pub gives : (n : ℕ) (m : Unit {0} → Option above.Mark) → Within (UnlockInode n) m
+    gives n m = acting (UnlockInode n) m (spend.give n) (give_acts history laws keeps h lt n m sizes)
 
     pub starts : (absolute : Bool) (m : Option ℕ → Option above.Mark) → Within (UpStart absolute) m
     starts absolute m = acting (UpStart absolute) m (spend.up_start absolute) (up_start_acts history laws keeps h lt absolute m sizes)
@@ -68,8 +68,8 @@ module _ (sizes : Super) (h : ℕ) where
     pub frees : (n : ℕ) (m : Unit {0} → Option above.Mark) → Within (Free n) m
     frees n m = recorded (Free n) m (free_within sizes history laws keeps h lt n m)
 
-    pub claims : HasInodes sizes → (sort : Sort) → IsMade sort → (m : above.ClaimResult → Option above.Mark) → Within (Claim sort) m
-    claims inodes sort made m = recorded (Claim sort) m (claim_within sizes history laws keeps h lt sort made inodes m)
+    pub claims : HasInodes sizes → (inode_type : InodeType) → IsMade inode_type → (m : above.ClaimResult → Option above.Mark) → Within (Claim inode_type) m
+    claims inodes inode_type made m = recorded (Claim inode_type) m (claim_within sizes history laws keeps h lt inode_type made inodes m)
 
     pub stores : (n count : ℕ) (m : Unit {0} → Option above.Mark) → Within (Store n count) m
     stores n count m = recorded (Store n count) m (store_within sizes history laws keeps h lt n count m)
@@ -91,8 +91,8 @@ module _ (sizes : Super) (h : ℕ) where
     pub places_taken : (m : Bool → Option above.Mark) → Within Slot m
     places_taken m = acting Slot m spend.slot (slot_acts history laws keeps h lt m sizes)
 
-    pub installs : (f : OpenFile) (sort : Sort) (m : Option ℕ → Option above.Mark) → Within (Install f sort) m
-    installs f sort m = acting (Install f sort) m (spend.install f sort) (install_acts history laws keeps h lt f sort m sizes)
+    pub installs : (f : OpenFile) (inode_type : InodeType) (m : Option ℕ → Option above.Mark) → Within (Install f inode_type) m
+    installs f inode_type m = acting (Install f inode_type) m (spend.install f inode_type) (install_acts history laws keeps h lt f inode_type m sizes)
 
     pub doubles : (fd : ℕ) (m : Option (Option ℕ) → Option above.Mark) → Within (Double fd) m
     doubles fd m = acting (Double fd) m (spend.double fd) (double_acts history laws keeps h lt fd m sizes)
@@ -123,8 +123,8 @@ module _ (sizes : Super) (h : ℕ) where
 
     -- the hart itself
 
-    pub settles : (n : ℕ) (m : ℕ → Option above.Mark) → Within (Settle n) m
-    settles n m = acting (Settle n) m (spend.settle n) (settle_acts history laws keeps h lt n m sizes)
+    pub settles : (n : ℕ) (m : ℕ → Option above.Mark) → Within (SetDirectory n) m
+    settles n m = acting (SetDirectory n) m (spend.settle n) (settle_acts history laws keeps h lt n m sizes)
 
     pub joins : (m : Unit {0} → Option above.Mark) → Within Join m
     joins m = acting Join m spend.join (join_acts history laws keeps h lt m sizes)

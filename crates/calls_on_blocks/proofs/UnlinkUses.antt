@@ -1,5 +1,5 @@
 -- The operations of unlink: each acts at one moment below.
-use Rattle.calls_on_blocks.proofs.Vocabulary.{◌<◌, ℕ, ◌-◌, ◌==◌, ◌||◌, Bool, true, false, not, if◌then◌else◌, List, [], ◌∷◌, Option, Some, None, Super, NoEntry, NotEmpty, DotName, MemInodes, Reply, Name, elements, same_name, dot, dotdot, hart_count, Begin, Look, Do, unmarked, Uses, Face, face_or, AtNothing, AtName, AtEntries, is_directory_sort, is_live_face, always, clear_name, in_parent, is_missing, or_missing, unlink_child, unlink_dots, unlink_found, unlink_in, unlink_named, unlink_other, unlink_program, P, mends_if_full, looks_if, looks_where, failed, full, done, give_up, tail, stopped, machine, Store}
+use Rattle.calls_on_blocks.proofs.Vocabulary.{◌<◌, ℕ, ◌-◌, ◌==◌, ◌||◌, Bool, true, false, not, if◌then◌else◌, List, [], ◌∷◌, Option, Some, None, Super, NoEntry, NotEmpty, DotName, MemInodes, Reply, Name, elements, same_name, dot, dotdot, hart_count, Begin, Look, Do, unmarked, Uses, Face, face_or, AtNothing, AtName, AtEntries, is_directory_type, is_live_face, always, clear_name, in_parent, is_missing, or_missing, unlink_child, unlink_dots, unlink_found, unlink_in, unlink_named, unlink_other, unlink_program, P, mends_if_full, looks_if, looks_where, failed, full, done, give_up, tail, stopped, machine, Store}
 use Rattle.plain_tree.specs.declared.call.Call.TheVariants as calls
 use Rattle.plain_tree.specs.declared.step.Action.TheVariants as actions
 use Rattle.inode_machine.specs.Parts.{makes}
@@ -13,7 +13,7 @@ module _ (sizes : Super) (h : ℕ) (lt : h < hart_count) (path : List ℕ) where
   both_uses n d ns r = give_up_uses sizes h lt n (give_up d (tail ns r)) (refused_uses sizes h lt d ns r)
 
   clear_uses : (d : ℕ) (e : Name) (ns : List ℕ) (f : Face) (n : ℕ) (g : Face) → Uses machine (Within sizes h) (clear_name path d e ns f n g)
-  clear_uses d e ns f n g = (ops.clears sizes h lt d e (λ _. makes (Look 0)), λ _. by (is_directory_sort g.sort))
+  clear_uses d e ns f n g = (ops.clears sizes h lt d e (λ _. makes (Look 0)), λ _. by (is_directory_type g.inode_type))
     where
       child : P Reply
       child = Do (Store n (g.count - 1)) unmarked (λ _. give_up n (tail ns (done (calls.Unlink path))))

@@ -1,5 +1,5 @@
 -- The states after each event, and what their marks leave whole.
-use Rattle.calls_on_blocks.proofs.Vocabulary.{◌≡◌, ◌≢◌, ◌⊎◌, inl, inr, ℕ, zero, suc, ◌+◌, ◌-◌, ◌≤◌, ◌<◌, Bool, true, false, List, [], ◌∷◌, ◌++◌, Option, Some, None, length, get_or, take, refl, sym, subst, ap, ◌∙◌, arith, add-one, take_more, take_all, get_or_from_slice_get, slice_get_within, Super, sizes_of, Reply, Call, Progress, WaitsFor, Wrote, Ended, Failed, Left, Free, Commits, Marks, Phase, Open, Staging, Installing, Halted, joined, begins_at, is_running, is_settled, LogState, no_marks, after_leave, after_write, Does, IsMarked, IsMarkedRun, cuts_have_replies, Ret, Do, Did, Waits, Ran, Stops, OpWithAnswer, PartOf as P, Theory, Event, Step, Run, State, DidEnd, IsHonest, AllHonest, all_told, hart_of, makes, moved, next, run, step_prog, step_run, step_unless, tried, Sound, Some-inj, changed_same, inv_of, sound_keeps, run-append, sound_run, steady, Outside, Passes, IsWholeLog, mounts_show_their_trees, block_calls, at_point, log_at, marks_after, marks_next, AreEventsOn, marks_at, BeganCommit, CutsHaveReplies, MarksPartNone, HasReplied, state_up_to}
+use Rattle.calls_on_blocks.proofs.Vocabulary.{◌≡◌, ◌≢◌, ◌⊎◌, inl, inr, ℕ, zero, suc, ◌+◌, ◌-◌, ◌≤◌, ◌<◌, Bool, true, false, List, [], ◌∷◌, ◌++◌, Option, Some, None, length, get_or, take, refl, sym, subst, ap, ◌∙◌, arith, add-one, take_more, take_all, get_or_from_slice_get, slice_get_within, Super, sizes_of, Reply, Call, Progress, WaitsFor, Wrote, Ended, Failed, AfterLeave, Free, Commits, Marks, Phase, Open, Staging, Installing, Halted, joined, begins_at, is_running, is_settled, LogState, no_marks, after_leave, after_write, Does, IsMarked, IsMarkedRun, cuts_have_replies, Ret, Do, ExecResult, Waits, Ran, Stops, OpWithAnswer, PartOf as P, Theory, Event, Step, Run, State, DidEnd, IsHonest, AllHonest, all_told, hart_of, makes, moved, next, run, step_prog, step_run, step_unless, tried, Sound, Some-inj, changed_same, inv_of, sound_keeps, run-append, sound_run, steady, Outside, Passes, IsWholeLog, mounts_show_their_trees, block_calls, at_point, log_at, marks_after, marks_next, AreEventsOn, marks_at, BeganCommit, CutsHaveReplies, MarksPartNone, HasReplied, state_up_to}
 use Rattle.calls_on_blocks.proofs.Lawful.{lawful}
 use Rattle.calls_on_blocks.proofs.Commits.{EventCommits, commits_of, event_commits}
 use Rattle.calls_on_blocks.proofs.Events.{EventGoes, event_goes, next_now}
@@ -24,7 +24,7 @@ running (Staging i) runs = refl
 running (Installing i) runs = refl
 running Halted runs = absurd (runs refl)
 
-left_low : (n : ℕ) (r : Left) (m : Marks) → m.begun ≤ n → (after_leave n r m).begun ≤ n + 1
+left_low : (n : ℕ) (r : AfterLeave) (m : Marks) → m.begun ≤ n → (after_leave n r m).begun ≤ n + 1
 left_low n Free m low = omega (arith, low)
 left_low n Commits m low = omega arith
 
@@ -43,7 +43,7 @@ module _ (L : Theory) (h : ℕ) (s : State L) (reply : L.Reply) where
   over_moved r did ps (Ret a) w runs e = (changed_same (all_told L ps s.running) h None h refl, runs)
   over_moved r did ps (Do op m k) w runs e = absurd cc
 
-  over_tried : (r : Run L) (op : L.M.Op) (ps : L.M.Answer op → List (ℕ × L.M.Step)) (k : L.M.Answer op → P L.M L.Reply) (d : Did (L.M.Answer op) L.M.World) → s.stopped ≡ false → (tried L h s r op ps k d).came ≡ DidEnd reply → IsOver (tried L h s r op ps k d).after
+  over_tried : (r : Run L) (op : L.M.Op) (ps : L.M.Answer op → List (ℕ × L.M.Step)) (k : L.M.Answer op → P L.M L.Reply) (d : ExecResult (L.M.Answer op) L.M.World) → s.stopped ≡ false → (tried L h s r op ps k d).came ≡ DidEnd reply → IsOver (tried L h s r op ps k d).after
   over_tried r op ps k Waits runs e = absurd cc
   over_tried r op ps k (Ran a w) runs e = over_moved r (op, a) (ps a) (k a) w runs e
   over_tried r op ps k (Stops w) runs e = absurd cc
@@ -146,7 +146,7 @@ module _ (sizes : Super) (events : List (Event Call Outside)) (start : State (bl
     pub cut : IsQuiet m.cut
     pub doubt : (k : ℕ) → m.doubt ≡ Some k → IsQuiet k
 
-  quiet_left : (n : ℕ) (r : Left) (m : Marks) → (begins_at r ≡ true → IsQuiet (n + 1)) → AreQuiet m → AreQuiet (after_leave n r m)
+  quiet_left : (n : ℕ) (r : AfterLeave) (m : Marks) → (begins_at r ≡ true → IsQuiet (n + 1)) → AreQuiet m → AreQuiet (after_leave n r m)
   quiet_left n Free m alone q = q
   quiet_left n Commits m alone q = record { begun = alone refl; cut = q.cut; doubt = q.doubt }
 

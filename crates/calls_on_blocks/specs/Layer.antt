@@ -1,6 +1,6 @@
 -- The machine below as a layer under the calls: beside the blocks stands whom each hart's call reserves.
 use Rattle.std.specs.Prelude.{◌≡◌, ◌<◌, ℕ, Option, Some}
-use Rattle.calls_on_blocks.specs.Vocabulary.{Super, hart_count, Did, did_in, Lower, Outside, Op, Answer, Blocks, exec_blocks, below}
+use Rattle.calls_on_blocks.specs.Vocabulary.{Super, hart_count, ExecResult, exec_result_in, LowerLayer, Outside, Op, Answer, Blocks, exec_blocks, below}
 use Rattle.fs_machine.specs.Steps as steps
 use Rattle.inode_machine.specs.World as above
 
@@ -18,17 +18,17 @@ abbrev pub shared_of : World → SharedState
 shared_of w = record { state = w.blocks.state; children = w.children }
 
 -- an operation leaves the children as they are
-abbrev pub exec_shared : ℕ → Outside → (op : Op) → SharedState → Did (Answer op) SharedState
-exec_shared h x op s = did_in (λ t. record s { state = t }) (steps.exec h x op s.state)
+abbrev pub exec_shared : ℕ → Outside → (op : Op) → SharedState → ExecResult (Answer op) SharedState
+exec_shared h x op s = exec_result_in (λ t. record s { state = t }) (steps.exec h x op s.state)
 
-abbrev pub exec : ℕ → Outside → (op : Op) → World → Did (Answer op) World
-exec h x op w = did_in (λ v. record w { blocks = v }) (exec_blocks h x op w.blocks)
+abbrev pub exec : ℕ → Outside → (op : Op) → World → ExecResult (Answer op) World
+exec h x op w = exec_result_in (λ v. record w { blocks = v }) (exec_blocks h x op w.blocks)
 
 -- a hart that gets another one's descriptors is that one's child
 abbrev pub Reserves : (ℕ → Option ℕ) → above.World → Type 0
 Reserves children w = (g c : ℕ) → g < hart_count → (w.desks g).lender ≡ Some c → children c ≡ Some g
 
-abbrev pub layer : Super → Lower above.World
+abbrev pub layer : Super → LowerLayer above.World
 layer sizes =
     let R = below sizes in
     record {

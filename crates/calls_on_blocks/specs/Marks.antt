@@ -1,6 +1,6 @@
 -- The marks that a run on the blocks keeps beside its log: counts of its events.
 use Rattle.std.specs.Prelude.{ℕ, ◌+◌, Bool, true, false, if◌then◌else◌, List, [], ◌∷◌, length, Option, Some, None}
-use Rattle.calls_on_blocks.specs.Vocabulary.{Super, Reply, Call, Progress, Wrote, Ended, Failed, Marks, Phase, Open, Staging, Installing, Halted, is_point, after_leave, after_write, Did, Ran, Stops, Ret, Do, P, Theory, Event, Start, Step, Run, State as StateOf, next, LogPart, Outside, is_open, Op, Answer, Leave, Commit, exec}
+use Rattle.calls_on_blocks.specs.Vocabulary.{Super, Reply, Call, Progress, Wrote, Ended, Failed, Marks, Phase, Open, Staging, Installing, Halted, is_point, after_leave, after_write, ExecResult, Ran, Stops, Ret, Do, P, Theory, Event, Start, Step, Run, State as StateOf, next, LogPart, Outside, is_open, Op, Answer, Leave, Commit, exec}
 use Rattle.fs_machine.specs.Steps.{State}
 use Rattle.calls_on_blocks.specs.Theory.{block_calls}
 
@@ -14,7 +14,7 @@ abbrev pub at_point : LogPart → Bool
 at_point l = is_point (length l.group) l.phase
 
 -- after event n, in which an operation came to this, over this log
-abbrev pub marks_by : ℕ → LogPart → (op : Op) → Did (Answer op) State → Marks → Marks
+abbrev pub marks_by : ℕ → LogPart → (op : Op) → ExecResult (Answer op) State → Marks → Marks
 marks_by n l Leave (Ran left s) m = after_leave n left m
 marks_by n l Commit (Ran ended s) m = after_write (at_point l) (progress_of ended) m
 marks_by n l Commit (Stops s) m = after_write (at_point l) Failed m

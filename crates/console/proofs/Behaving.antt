@@ -1,5 +1,5 @@
 -- One behaviour after another.
-use Rattle.console.proofs.Vocabulary.{◌≡◌, ℕ, List, [], ◌∷◌, ◌++◌, Bool, true, false, Option, Result, Ok, Err, refl, ap, sym, ◌∙◌, subst, OnOk, Appends, ConsoleFault, Behaviour, gives, in_case, followed_by, takes_memory, prints, IfTold, IsWritten, Told, Runs, NotesOf, all_noted, noted, EventOfCall, appends_nothing, appends_both}
+use Rattle.console.proofs.Vocabulary.{◌≡◌, ℕ, List, [], ◌∷◌, ◌++◌, Bool, true, false, Option, Result, Ok, Err, refl, ap, sym, ◌∙◌, subst, OnOk, Appends, ConsoleFault, Behaviour, gives, in_case, followed_by, takes_memory, prints, IfTold, IsWritten, IsPrintedAndNoted, Runs, NotesOf, all_noted, noted, EventOfCall, appends_nothing, appends_both}
 use Rattle.console.specs.declared.fault.ConsoleFault.TheVariants as faults
 
 noted_both : (n : NotesOf) (xs ys : List EventOfCall) → all_noted n (xs ++ ys) ≡ all_noted (all_noted n xs) ys
@@ -7,13 +7,13 @@ unfolding all_noted
 noted_both n [] ys = refl
 noted_both n (x ∷ xs) ys = noted_both (noted n x) xs ys
 
-told_both : (out mid end : Option (List ℕ)) (n m l : NotesOf) (xs ys : List EventOfCall) (front back : List ℕ) → Told out n xs front mid m → Told mid m ys back end l → Told out n (xs ++ ys) (front ++ back) end l
+told_both : (out mid end : Option (List ℕ)) (n m l : NotesOf) (xs ys : List EventOfCall) (front back : List ℕ) → IsPrintedAndNoted out n xs front mid m → IsPrintedAndNoted mid m ys back end l → IsPrintedAndNoted out n (xs ++ ys) (front ++ back) end l
 told_both out mid end n m l xs ys front back first second = record {
   printed = appends_both out mid end front back first.printed second.printed;
   noted = second.noted ∙ ap (λ k. all_noted k ys) first.noted ∙ sym (noted_both n xs ys);
 }
 
-pub told_nothing : (out : Option (List ℕ)) (n : NotesOf) → Told out n [] [] out n
+pub told_nothing : (out : Option (List ℕ)) (n : NotesOf) → IsPrintedAndNoted out n [] [] out n
 unfolding all_noted
 told_nothing out n = record { printed = appends_nothing out; noted = refl }
 

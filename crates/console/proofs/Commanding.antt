@@ -1,5 +1,5 @@
 -- What lines do, part by part.
-use Rattle.console.proofs.Vocabulary.{◌≡◌, ℕ, zero, suc, ◌+◌, ◌<◌, ◌≤◌, List, [], ◌∷◌, length, drop, get_or, set, true, false, Option, Some, None, Result, Ok, Err, refl, ap, sym, ◌∙◌, subst, at_drop_more, at_drop_all, Appends, Event, Came, Call, Kind, Upto, End, All, ConsoleFault, Flow, What, Rests, Moves, PlanOf as Plan, Until, Verb, Doing, gives, followed_by, takes_memory, prints, IfTold, IsWritten, Told, Runs, RunOf, IsPassed, acts, acts_as, all_harts, goes_on, happens, in_steps, is_enough, joined, line, lines, settles, starts, state, tells_flow, tells_waits, to_end, turn, turns, up_to, wait_text, called, KeptRun, NotesOf, all_noted, copy_for, what_of, with_kept, with_note, with_what, Left, TakesNext, left_to, SessionOf, Happens, doing_at, hart_in, told_of, verb_of}
+use Rattle.console.proofs.Vocabulary.{◌≡◌, ℕ, zero, suc, ◌+◌, ◌<◌, ◌≤◌, List, [], ◌∷◌, length, drop, get_or, set, true, false, Option, Some, None, Result, Ok, Err, refl, ap, sym, ◌∙◌, subst, at_drop_more, at_drop_all, Appends, Event, Came, Call, Kind, Upto, End, All, ConsoleFault, Flow, What, Rests, Moves, PlanOf as Plan, Until, Verb, Doing, gives, followed_by, takes_memory, prints, IfTold, IsWritten, IsPrintedAndNoted, Runs, RunOf, IsPassed, acts, acts_as, all_harts, goes_on, happens, in_steps, is_enough, joined, line, lines, settles, starts, state, tells_flow, tells_waits, to_end, turn, turns, up_to, wait_text, called, KeptRun, NotesOf, all_noted, copy_for, what_of, with_kept, with_note, with_what, QueuedCalls, TakesNext, left_to, SessionOf, Happens, doing_at, hart_in, told_of, verb_of}
 use Rattle.hart_core.specs.declared.events.Event.TheVariants as event
 use Rattle.script.specs.Said as said
 use Rattle.script.specs.Said.{Start, Run, Step}
@@ -19,11 +19,11 @@ module _ {D : Type 0} (contents : D → List (List ℕ)) (failures : D → ℕ) 
   copied n hart (Some what) e came = ap (λ k. record (with_note n hart what (Some e) came) { kept = k }) (kept_same n.kept e came)
 
   told_and_noted : (e : Event) (verb : Verb) (came : Came) (copy : Option Event) (out end : Option (List ℕ)) (n l : NotesOf) → copy ≡ copy_for n.kept e → Appends out end (told_of (hart_in e) verb came) × (l ≡ with_what n (hart_in e) (what_of verb came) copy came)
-      → Told out n (record { event = e; verb = verb; came = came } ∷ []) (told_of (hart_in e) verb came) end l
+      → IsPrintedAndNoted out n (record { event = e; verb = verb; came = came } ∷ []) (told_of (hart_in e) verb came) end l
   unfolding all_noted
   told_and_noted e verb came copy out end n l again both = record { printed = both.0; noted = both.1 ∙ ap (λ c. with_what n (hart_in e) (what_of verb came) c came) again ∙ copied n (hart_in e) (what_of verb came) e came }
 
-  pub happened : (e : Event) (verb : Verb) (came : Came) (hart : ℕ) (copy : Option Event) (s t : SessionOf D) (left : Left) (out end : Option (List ℕ)) (n l : NotesOf) (r : Result Flow ConsoleFault) → hart ≡ hart_in e → copy ≡ copy_for n.kept e
+  pub happened : (e : Event) (verb : Verb) (came : Came) (hart : ℕ) (copy : Option Event) (s t : SessionOf D) (left : QueuedCalls) (out end : Option (List ℕ)) (n l : NotesOf) (r : Result Flow ConsoleFault) → hart ≡ hart_in e → copy ≡ copy_for n.kept e
       → Happens contents failures s (record { event = e; verb = verb; came = came }) t → IsPassed came r → IfTold r (Appends out end (told_of hart verb came)) → IfTold r (l ≡ with_what n hart (what_of verb came) copy came)
       → Runs (happens contents failures e verb) (state s left) out n r (state t left) end l
   unfolding happens
@@ -70,13 +70,13 @@ module _ {D : Type 0} (contents : D → List (List ℕ)) (failures : D → ℕ) 
       acts_so until hart (Some d) _ s t out end n l r (sym is) refl
       (in_other_case (is_enough until d) (gives Rests) (happens contents failures (event.Step hart) d.verb) s t out end n l r enough runs)
 
-  pub had_none : (until : Option Until) (hart : ℕ) (session : SessionOf D) (left after : Left) (out : Option (List ℕ)) (n : NotesOf) → None ≡ doing_at hart session.doing → TakesNext hart left None after
+  pub had_none : (until : Option Until) (hart : ℕ) (session : SessionOf D) (left after : QueuedCalls) (out : Option (List ℕ)) (n : NotesOf) → None ≡ doing_at hart session.doing → TakesNext hart left None after
       → Runs (acts contents failures until hart) (state session left) out n (Ok Rests) (state session after) out n
   had_none until hart session left after out n is takes =
       subst (λ x. Runs (acts contents failures until hart) (state session left) out n (Ok Rests) (state session x) out n) (sym takes.1)
       (acts_so until hart None [] (state session left) (state session left) out out n n (Ok Rests) (sym is) takes.0 (gives_at_once Rests (state session left) out n))
 
-  pub began_next : (until : Option Until) (hart : ℕ) (call : said.Call) (session : SessionOf D) (left after : Left) (t : RunOf D) (out end : Option (List ℕ)) (n l : NotesOf) (r : Result Flow ConsoleFault) → None ≡ doing_at hart session.doing
+  pub began_next : (until : Option Until) (hart : ℕ) (call : said.Call) (session : SessionOf D) (left after : QueuedCalls) (t : RunOf D) (out end : Option (List ℕ)) (n l : NotesOf) (r : Result Flow ConsoleFault) → None ≡ doing_at hart session.doing
       → TakesNext hart left (Some call) after → Runs (starts contents failures hart call) (state session after) out n r t end l → Runs (acts contents failures until hart) (state session left) out n r t end l
   began_next until hart call session left after t out end n l r is takes runs =
       let at : Runs (starts contents failures hart call) (state session (set left hart takes.0)) out n r t end l = subst (λ x. Runs (starts contents failures hart call) (state session x) out n r t end l) takes.2 runs in

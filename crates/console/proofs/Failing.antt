@@ -1,5 +1,5 @@
 -- The device has failed once more where an operation stops.
-use Rattle.console.proofs.Vocabulary.{◌≡◌, ℕ, ◌+◌, min, Bool, true, false, List, Option, Some, None, refl, most_faults, get_of, SeatState, Got, joined_count as joined, limit_of, turn_is_out, join_waits, SlotState, GuardState, lock_of, Did, Waits, Ran, Stops, Dinode, Inode, NewFile, OpenFile, RefusedState as Refused, Want, TablesState, file_named, place_named, place_of, Outside, Passes, Fails, got_by, join_if, read_block, commit_if, write_log, State, Op, Join, JoinToWrite, Leave, Get, Read, Put, Commit, Lock, LockFile, LockOpen, Unlock, Settle, Up, Claim, Down, CheckFile, TakePlace, TakeDescriptor, Double, Close, Give, Reply, Number, Directory, Held, Walked, Freed, exec, in_log, in_tables, joins, join_unless, lock_open, with_open, claims, claim_first}
+use Rattle.console.proofs.Vocabulary.{◌≡◌, ℕ, ◌+◌, min, Bool, true, false, List, Option, Some, None, refl, most_faults, get_of, SeatState, Got, joined_count as joined, limit_of, turn_is_out, join_waits, SlotState, GuardState, lock_of, ExecResult, Waits, Ran, Stops, Dinode, Inode, NewFile, OpenFile, RefusedState as Refused, Want, TablesState, file_named, place_named, place_of, Outside, Passes, Fails, got_by, join_if, read_block, commit_if, write_log, State, Op, Join, JoinToWrite, Leave, Get, Read, Put, Commit, Lock, LockFile, LockOpen, Unlock, SetDirectory, Up, Claim, Down, CheckFile, TakePlace, TakeDescriptor, Double, Close, GiveDescriptor, Reply, Number, Directory, Held, Walked, Freed, exec, in_log, in_tables, joins, join_unless, lock_open, with_open, claims, claim_first}
 use Rattle.buffer_cache.specs.declared.got.Got.TheVariants as got
 use Rattle.fs_machine.specs.declared.files.Want.TheVariants as want
 use Rattle.fs_machine.specs.Inodes as inodes
@@ -7,7 +7,7 @@ use Rattle.fs_machine.specs.Files as files
 
 -- ---- no step on the tables stops
 
-abbrev GoesOn : {A S : Type 0} → Did A S → Type 0
+abbrev GoesOn : {A S : Type 0} → ExecResult A S → Type 0
 GoesOn Waits = Unit {0}
 GoesOn (Ran a s) = Unit {0}
 GoesOn (Stops s) = ⊥
@@ -24,7 +24,7 @@ lock_goes : (h n : ℕ) (t : TablesState) → GoesOn (inodes.lock_inode h n t)
 unfolding inodes.lock_inode
 lock_goes h n t = lock_at_goes h t (place_of n t.entries)
 
-with_file_goes : (f : OpenFile) (d : Did (Option Dinode) TablesState) → GoesOn d → GoesOn (inodes.with_file f d)
+with_file_goes : (f : OpenFile) (d : ExecResult (Option Dinode) TablesState) → GoesOn d → GoesOn (inodes.with_file f d)
 with_file_goes f Waits goes = tt
 with_file_goes f (Ran content t) goes = tt
 with_file_goes f (Stops t) goes = goes
@@ -39,7 +39,7 @@ file_goes : (h : ℕ) (w : Want) (fd : ℕ) (t : TablesState) → GoesOn (inodes
 unfolding inodes.lock_file
 file_goes h w fd t = unless_goes h t (file_named h fd t) (inodes.refusal_of w (file_named h fd t))
 
-with_open_goes : (f : OpenFile) (d : Did (Option Dinode) TablesState) → GoesOn d → GoesOn (with_open f d)
+with_open_goes : (f : OpenFile) (d : ExecResult (Option Dinode) TablesState) → GoesOn d → GoesOn (with_open f d)
 with_open_goes f Waits goes = tt
 with_open_goes f (Ran content t) goes = tt
 with_open_goes f (Stops t) goes = goes
@@ -165,7 +165,7 @@ give_goes h child from t = give_by_goes h child t _
 -- ---- what stops is a read or a write of the device
 
 -- the count of failures has risen from n
-abbrev pub Raises : {A : Type 0} → ℕ → Did A State → Type 0
+abbrev pub Raises : {A : Type 0} → ℕ → ExecResult A State → Type 0
 Raises n Waits = Unit {0}
 Raises n (Ran a s) = Unit {0}
 Raises n (Stops s) = s.log.failures ≡ min (n + 1) most_faults
@@ -174,7 +174,7 @@ module _ (h : ℕ) (x : Outside) (s : State) where
   abbrev n : ℕ
   n = s.log.failures
 
-  tables_raise : {A : Type 0} (d : Did A TablesState) → GoesOn d → Raises n (in_tables s d)
+  tables_raise : {A : Type 0} (d : ExecResult A TablesState) → GoesOn d → Raises n (in_tables s d)
   tables_raise Waits goes = tt
   tables_raise (Ran a t) goes = tt
   tables_raise (Stops t) goes = absurd goes
@@ -209,7 +209,7 @@ module _ (h : ℕ) (x : Outside) (s : State) where
   commit_raises true = tt
   commit_raises false = write_raises x
 
-  claims_raise : (d : Did (Option ℕ) TablesState) → GoesOn d → Raises n (claims (in_tables s d))
+  claims_raise : (d : ExecResult (Option ℕ) TablesState) → GoesOn d → Raises n (claims (in_tables s d))
   claims_raise Waits goes = tt
   claims_raise (Ran None t) goes = tt
   claims_raise (Ran (Some k) t) goes = tt
@@ -232,7 +232,7 @@ module _ (h : ℕ) (x : Outside) (s : State) where
   exec_raises (LockFile w fd) = tables_raise (inodes.lock_file h w fd s.tables) (file_goes h w fd s.tables)
   exec_raises (LockOpen fd) = tables_raise (lock_open h s.tables (file_named h fd s.tables)) (open_goes h s.tables (file_named h fd s.tables))
   exec_raises (Unlock v moved) = tt
-  exec_raises (Settle v) = tables_raise (inodes.settle_inode h v s.tables) (settle_goes h v s.tables)
+  exec_raises (SetDirectory v) = tables_raise (inodes.settle_inode h v s.tables) (settle_goes h v s.tables)
   exec_raises (Up (Number k)) = tables_raise (inodes.up_inode k s.tables) (up_goes k s.tables)
   exec_raises (Up Directory) = tables_raise (inodes.up_directory h s.tables) (up_directory_goes h s.tables)
   exec_raises (Claim b candidates) = claim_raises b _
@@ -244,5 +244,5 @@ module _ (h : ℕ) (x : Outside) (s : State) where
   exec_raises (TakeDescriptor k file) = tables_raise (files.open_file h k file s.tables) (open_file_goes h k file s.tables)
   exec_raises (Double fd) = tables_raise (files.double_descriptor h fd s.tables) (double_goes h fd s.tables)
   exec_raises (Close fd) = tables_raise (files.shut_descriptor h fd s.tables) (shut_goes h fd s.tables)
-  exec_raises (Give child from) = tables_raise (files.give_next h child from s.tables) (give_goes h child from s.tables)
+  exec_raises (GiveDescriptor child from) = tables_raise (files.give_next h child from s.tables) (give_goes h child from s.tables)
   exec_raises Reply = tt

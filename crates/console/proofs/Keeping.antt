@@ -1,5 +1,5 @@
 -- What tells the history of a run in one way tells it in another, of a run that was made and kept: and so on an image.
-use Rattle.console.proofs.Vocabulary.{◌≡◌, ℕ, Bool, true, false, List, Option, Result, Ok, Err, refl, sym, subst, inl, inr, blocks_of, tree_in, TreeData, HasHistory, RunOn, StartsOn, never, found_run, Mode, ConsoleFault, IfTold, Told, History, TellsHistory, WhereSet, history_from, history_of, history_on, CourseOf, KeptRun, NotesOf, all_noted, no_notes, none_kept, run_in, PromptsReader, EndsSo, PrintsAll, RunsReader, RunsScript, EventOfCall, SessionOf}
+use Rattle.console.proofs.Vocabulary.{◌≡◌, ℕ, Bool, true, false, List, Option, Result, Ok, Err, refl, sym, subst, inl, inr, blocks_of, tree_in, TreeData, HasHistory, RunOn, StartsOn, never, found_run, Mode, ConsoleFault, IfTold, IsPrintedAndNoted, History, TellsHistory, WhereSet, history_from, history_of, history_on, CourseOf, KeptRun, NotesOf, all_noted, no_notes, none_kept, run_in, PromptsReader, EndsSo, PrintsAll, RunsReader, RunsScript, EventOfCall, SessionOf}
 use Rattle.console.specs.declared.fault.ConsoleFault.TheVariants as faults
 use Rattle.console.proofs.Chaining.{Chain, lines_chain, prompts_all_chain}
 use Rattle.console.proofs.Noting.{IsKept, events_kept, kept_first, kept_history}
@@ -38,7 +38,7 @@ module _ {D : Type 0} (contents : D → List (List ℕ)) (failures : D → ℕ) 
       subst (λ (n : NotesOf). IsRunTo t (run_in n.kept)) (sym noted) (kept_history contents failures s.world.sizes s.world.harts _ t.world.harts all)
 
   ends_again : (xs : List EventOfCall) (text : List ℕ) (t : SessionOf D) (notes : NotesOf) (ends result : Result (Unit {0}) ConsoleFault) (out between out' : Option (List ℕ)) → Chain contents failures s xs t
-      → IfTold ends (Told out (no_notes mode) xs text between notes) → EndsSo mode one notes ends between result out' → EndsSo mode other notes ends between result out'
+      → IfTold ends (IsPrintedAndNoted out (no_notes mode) xs text between notes) → EndsSo mode one notes ends between result out' → EndsSo mode other notes ends between result out'
   ends_again xs text t notes (Ok u) result out between out' chain told printed = printed_again t notes between result out' (made_so xs t notes told.noted chain) printed
   ends_again xs text t notes (Err (faults.Stopped stop)) result out between out' chain told printed =
       (printed.0, printed_again t notes between printed.0 out' (made_so xs t notes told.noted chain) printed.1, printed.2)

@@ -1,5 +1,5 @@
 -- What notes keep of events is a run of them: a step without a call, which isn't noted, changes nothing.
-use Rattle.console.proofs.Vocabulary.{◌≡◌, ℕ, Bool, true, false, List, [], ◌∷◌, ◌++◌, Option, Some, None, refl, sym, ◌∙◌, ap, subst, Super, Call, Ret, Do, Did, Waits, Ran, Stops, Theory, Began, Refuses, Begins, EventOf, Start, Step, OutcomeOf, Started, Refused, WasIdle, DidWait, DidRun, DidEnd, DidStop, WasStopped, with_answer, Code, Plain, PlainMade, UnmarkedProgram, plain_makes, plain_start, plain_begun, plain_step, plain_unless, plain_prog, plain_tried, plain_moved, Outside, block_calls, block_code, Event, Came, event_of, came_of, said_of, HartsOf, shared_of, HasHistory, Answers, Makes, calls_of, history_more, no_history, KeptRun, NotesOf, all_noted, none_kept, noted, run_in, what_of, with_kept, with_what, SessionOf, EventOfCall, Happens, hart_in}
+use Rattle.console.proofs.Vocabulary.{◌≡◌, ℕ, Bool, true, false, List, [], ◌∷◌, ◌++◌, Option, Some, None, refl, sym, ◌∙◌, ap, subst, Super, Call, Ret, Do, ExecResult, Waits, Ran, Stops, Theory, Began, Refuses, Begins, EventOf, Start, Step, OutcomeOf, Started, Refused, WasIdle, DidWait, DidRun, DidEnd, DidStop, WasStopped, with_answer, Code, Plain, PlainMade, UnmarkedProgram, plain_makes, plain_start, plain_begun, plain_step, plain_unless, plain_prog, plain_tried, plain_moved, Outside, block_calls, block_code, Event, Came, event_of, came_of, said_of, HartsOf, shared_of, HasHistory, Answers, Makes, calls_of, history_more, no_history, KeptRun, NotesOf, all_noted, none_kept, noted, run_in, what_of, with_kept, with_what, SessionOf, EventOfCall, Happens, hart_in}
 use Rattle.hart_core.specs.declared.events.Came.TheVariants as came
 use Rattle.hart_core.specs.declared.outcome.Outcome.TheVariants as outcome
 use Rattle.console.proofs.Chaining.{Chain}
@@ -24,7 +24,7 @@ module _ (L : Theory) (C : Code L) where
   moved_idles h p kind (Ret reply) t = tt
   moved_idles h p kind (Do op m k) t = tt
 
-  tried_idles : (h : ℕ) (p : Plain L C) (op : L.M.Op) (k : L.M.Answer op → UnmarkedProgram L) (d : Did (L.M.Answer op) C.Shared) → Idles p (plain_tried L C h p op k d)
+  tried_idles : (h : ℕ) (p : Plain L C) (op : L.M.Op) (k : L.M.Answer op → UnmarkedProgram L) (d : ExecResult (L.M.Answer op) C.Shared) → Idles p (plain_tried L C h p op k d)
   tried_idles h p op k Waits = tt
   tried_idles h p op k (Ran a t) = moved_idles h p (C.kind op a) (k a) t
   tried_idles h p op k (Stops t) = tt

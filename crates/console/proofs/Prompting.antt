@@ -1,5 +1,5 @@
 -- Lines that were typed on a file system that is mounted.
-use Rattle.console.proofs.Vocabulary.{◌≡◌, ℕ, ◌+◌, ◌<◌, ◌≤◌, List, ◌∷◌, length, drop, get_or, Option, Result, ap, sym, ◌∙◌, subst, inl, at_drop_all, at_drop_more, Appends, Mode, appends_nothing, appends_both, Doing, ConsoleFault, state, History, NotesOf, no_notes, PromptsAll, PromptsReader, calls_text, doing_text, Left, none_left, EndsSo, SessionOf, doing_at}
+use Rattle.console.proofs.Vocabulary.{◌≡◌, ℕ, ◌+◌, ◌<◌, ◌≤◌, List, ◌∷◌, length, drop, get_or, Option, Result, ap, sym, ◌∙◌, subst, inl, at_drop_all, at_drop_more, Appends, Mode, appends_nothing, appends_both, Doing, ConsoleFault, state, History, NotesOf, no_notes, PromptsAll, PromptsReader, calls_text, doing_text, QueuedCalls, none_left, EndsSo, SessionOf, doing_at}
 
 -- ---- calls under way
 
@@ -17,7 +17,7 @@ calls_end known harts doing i le = subst (λ hs. Appends known known (calls_text
 -- ---- all lines, and what stands behind them
 
 module _ {D : Type 0} (contents : D → List (List ℕ)) (failures : D → ℕ) (help : List ℕ) where
-  pub lines_answered : (mode : Mode) (history : History) (s t : SessionOf D) (typed : Option (List ℕ)) (queues left : Left) (ends result : Result (Unit {0}) ConsoleFault) (out between out' : Option (List ℕ)) (first notes : NotesOf) → queues ≡ none_left → first ≡ no_notes mode
+  pub lines_answered : (mode : Mode) (history : History) (s t : SessionOf D) (typed : Option (List ℕ)) (queues left : QueuedCalls) (ends result : Result (Unit {0}) ConsoleFault) (out between out' : Option (List ℕ)) (first notes : NotesOf) → queues ≡ none_left → first ≡ no_notes mode
       → PromptsAll contents failures help 1 typed (state s queues) out first ends (state t left) between notes → EndsSo mode history notes ends between result out' → PromptsReader contents failures help mode history s typed result t out out'
   lines_answered mode history s t typed queues left ends result out between out' first notes none is answers end =
       inl (record {

@@ -1,5 +1,5 @@
 -- Queues of calls.
-use Rattle.console.proofs.Vocabulary.{◌≡◌, ℕ, ◌+◌, ◌-◌, ◌<◌, ◌≤◌, List, [], ◌∷◌, ◌++◌, length, drop, get_or, set, map, Option, Some, None, Result, Ok, Err, ap, sym, ◌∙◌, arith, length-drop, option_map, option_to_list, at_drop_all, at_drop_more, drop-map, map-append, map-set, get_or-map, get_or_past, nil_from_length, length-map, map-set_same, ScriptLine, line_said, numbered, Memory, FailsTo, Left, TakesNext, left_to, or_line, queued, started_in, with_last, with_start}
+use Rattle.console.proofs.Vocabulary.{◌≡◌, ℕ, ◌+◌, ◌-◌, ◌<◌, ◌≤◌, List, [], ◌∷◌, ◌++◌, length, drop, get_or, set, map, Option, Some, None, Result, Ok, Err, ap, sym, ◌∙◌, arith, length-drop, option_map, option_to_list, at_drop_all, at_drop_more, drop-map, map-append, map-set, get_or-map, get_or_past, nil_from_length, length-map, map-set_same, ScriptLine, line_said, numbered, Memory, FailsTo, QueuedCalls, TakesNext, left_to, or_line, queued, started_in, with_last, with_start}
 use Rattle.script.specs.Said as said
 
 -- nothing is there where the first was sought in vain
@@ -36,14 +36,14 @@ module _ {X T : Type 0} (says : X → said.Call) (items : T → List X) (queues 
 -- ---- lines that are queued
 
 -- line i of the lines, the first of those that are left
-one_line : (left : Left) (lines : List ScriptLine) (i : ℕ) (line : ScriptLine) → i < length lines → line ≡ get_or lines i line
+one_line : (left : QueuedCalls) (lines : List ScriptLine) (i : ℕ) (line : ScriptLine) → i < length lines → line ≡ get_or lines i line
     → queued left (map numbered (drop i lines)) ≡ or_line line.number (λ more. queued more (map numbered (drop (i + 1) lines))) (with_start left (started_in (line_said line.command)))
 unfolding queued
 one_line left lines i line lt is =
     at_drop_more (λ ls. queued left (map numbered ls)) lines i line lt
     ∙ ap (λ x. or_line x.number (λ more. queued more (map numbered (drop (i + 1) lines))) (with_start left (started_in (line_said x.command)))) (sym is)
 
-pub one_queued : (left after : Left) (lines : List ScriptLine) (i j : ℕ) (line : ScriptLine) (hart : ℕ) (call : said.Call) → i < length lines → line ≡ get_or lines i line → j ≡ i + 1
+pub one_queued : (left after : QueuedCalls) (lines : List ScriptLine) (i j : ℕ) (line : ScriptLine) (hart : ℕ) (call : said.Call) → i < length lines → line ≡ get_or lines i line → j ≡ i + 1
     → Some (hart, call) ≡ started_in (line_said line.command) → after ≡ with_last hart call left → queued after (map numbered (drop j lines)) ≡ queued left (map numbered (drop i lines))
 one_queued left after lines i j line hart call lt is next says new =
     ap (λ k. queued after (map numbered (drop k lines))) next
@@ -51,11 +51,11 @@ one_queued left after lines i j line hart call lt is next says new =
     ∙ ap (λ o. or_line line.number (λ more. queued more (map numbered (drop (i + 1) lines))) (with_start left o)) says
     ∙ sym (one_line left lines i line lt is)
 
-pub not_queued : (left : Left) (lines : List ScriptLine) (i : ℕ) (line : ScriptLine) → i < length lines → line ≡ get_or lines i line → None ≡ started_in (line_said line.command) → queued left (map numbered (drop i lines)) ≡ Err line.number
+pub not_queued : (left : QueuedCalls) (lines : List ScriptLine) (i : ℕ) (line : ScriptLine) → i < length lines → line ≡ get_or lines i line → None ≡ started_in (line_said line.command) → queued left (map numbered (drop i lines)) ≡ Err line.number
 not_queued left lines i line lt is says =
     one_line left lines i line lt is ∙ ap (λ o. or_line line.number (λ more. queued more (map numbered (drop (i + 1) lines))) (with_start left o)) (sym says)
 
-pub all_queued : (left : Left) (lines : List ScriptLine) (i : ℕ) → length lines ≤ i → queued left (map numbered (drop i lines)) ≡ Ok left
+pub all_queued : (left : QueuedCalls) (lines : List ScriptLine) (i : ℕ) → length lines ≤ i → queued left (map numbered (drop i lines)) ≡ Ok left
 unfolding queued
 all_queued left lines i le = at_drop_all (λ ls. queued left (map numbered ls)) lines i le
 

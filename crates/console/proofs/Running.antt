@@ -1,5 +1,5 @@
 -- A script that was run, and why it had no end.
-use Rattle.console.proofs.Vocabulary.{◌≡◌, ℕ, ◌<◌, min, arith, List, [], length, take, Option, Some, None, option_map, Result, Ok, Err, refl, ap, sym, ◌∙◌, subst, inl, inr, take_all, length-take, IfSome, Stop, ConsoleFault, Mode, Runs, lines, state, History, CourseOf, FailsTo, IsMemory, script_course, NotesOf, no_notes, Left, EndsOn, EndsSo, FailsUnread, PrintsAll, RunsCourse, RunsReader, RunsScript, or_stopped, SessionOf}
+use Rattle.console.proofs.Vocabulary.{◌≡◌, ℕ, ◌<◌, min, arith, List, [], length, take, Option, Some, None, option_map, Result, Ok, Err, refl, ap, sym, ◌∙◌, subst, inl, inr, take_all, length-take, IfSome, Stop, ConsoleFault, Mode, Runs, lines, state, History, CourseOf, FailsTo, IsMemory, script_course, NotesOf, no_notes, QueuedCalls, EndsOn, EndsSo, FailsUnread, PrintsAll, RunsCourse, RunsReader, RunsScript, or_stopped, SessionOf}
 use Rattle.console.specs.declared.fault.ConsoleFault.TheVariants as faults
 
 any_text : (script : Option (List ℕ)) → (text : List ℕ) × IfSome script (λ bytes. text ≡ bytes)
@@ -33,7 +33,7 @@ module _ {D : Type 0} (contents : D → List (List ℕ)) (failures : D → ℕ) 
 
   -- ---- a course
 
-  pub course_run : (mode : Mode) (history : History) (course : CourseOf) (s t : SessionOf D) (queues left : Left) (ends result : Result (Unit {0}) ConsoleFault) (out between out' : Option (List ℕ)) (first notes : NotesOf) → queues ≡ course.left → first ≡ no_notes mode
+  pub course_run : (mode : Mode) (history : History) (course : CourseOf) (s t : SessionOf D) (queues left : QueuedCalls) (ends result : Result (Unit {0}) ConsoleFault) (out between out' : Option (List ℕ)) (first notes : NotesOf) → queues ≡ course.left → first ≡ no_notes mode
       → Runs (lines contents failures course.lines) (state s queues) out first ends (state t left) between notes → EndsSo mode history notes ends between result out' → RunsCourse contents failures mode history s course result t out out'
   course_run mode history course s t queues left ends result out between out' first notes same is runs end =
       inl (record {

@@ -1,5 +1,5 @@
 -- Over a device that never fails no event is a stop.
-use Rattle.console.proofs.Vocabulary.{◌≡◌, ℕ, ◌+◌, min, arith, Bool, true, false, List, Option, Some, None, Err, subst, most_faults, Super, Call, Stop, Ret, Do, Did, Waits, Ran, Stops, did_in, EventOf as Event, Start, Step, Began, Refuses, Begins, OutcomeOf as Outcome, Started, Refused, WasIdle, DidWait, DidRun, DidEnd, DidStop, WasStopped, Plain, PlainMade, UnmarkedProgram, plain_makes, plain_start, plain_begun, plain_step, plain_unless, plain_prog, plain_tried, plain_moved, Kind, Outside, State, Op, Answer, exec, kind_of, Refusal, SharedState, exec_shared, block_calls, block_code, Came, came_of, calls_of, flow_of, SessionOf, EventOfCall, Happens}
+use Rattle.console.proofs.Vocabulary.{◌≡◌, ℕ, ◌+◌, min, arith, Bool, true, false, List, Option, Some, None, Err, subst, most_faults, Super, Call, Stop, Ret, Do, ExecResult, Waits, Ran, Stops, exec_result_in, EventOf as Event, Start, Step, Began, Refuses, Begins, OutcomeOf as Outcome, Started, Refused, WasIdle, DidWait, DidRun, DidEnd, DidStop, WasStopped, Plain, PlainMade, UnmarkedProgram, plain_makes, plain_start, plain_begun, plain_step, plain_unless, plain_prog, plain_tried, plain_moved, Kind, Outside, State, Op, Answer, exec, kind_of, Refusal, SharedState, exec_shared, block_calls, block_code, Came, came_of, calls_of, flow_of, SessionOf, EventOfCall, Happens}
 use Rattle.plain_tree.specs.declared.answer.Reply.{Reply}
 use Rattle.hart_core.specs.declared.events.Came.TheVariants as came
 use Rattle.hart_core.specs.declared.outcome.Outcome.TheVariants as outcome
@@ -10,12 +10,12 @@ use Rattle.console.proofs.Failing.{Raises, exec_raises}
 -- ---- an event
 
 -- the device has failed once more where an operation stops
-abbrev RaisesShared : {A : Type 0} → ℕ → Did A SharedState → Type 0
+abbrev RaisesShared : {A : Type 0} → ℕ → ExecResult A SharedState → Type 0
 RaisesShared n Waits = Unit {0}
 RaisesShared n (Ran a s) = Unit {0}
 RaisesShared n (Stops s) = s.state.log.failures ≡ min (n + 1) most_faults
 
-shared_raises : {A : Type 0} (n : ℕ) (s : SharedState) (d : Did A State) → Raises n d → RaisesShared n (did_in (λ t. record s { state = t }) d)
+shared_raises : {A : Type 0} (n : ℕ) (s : SharedState) (d : ExecResult A State) → Raises n d → RaisesShared n (exec_result_in (λ t. record s { state = t }) d)
 shared_raises n s Waits raises = tt
 shared_raises n s (Ran a t) raises = tt
 shared_raises n s (Stops t) raises = raises
@@ -42,7 +42,7 @@ module _ (sizes : Super) where
   moved_calm h p kind (Ret reply) t is = is
   moved_calm h p kind (Do op m k) t is = is
 
-  tried_calm : (h : ℕ) (p : Harts) (op : Op) (k : Answer op → UnmarkedProgram (block_calls sizes)) (d : Did (Answer op) SharedState) → RaisesShared p.shared.state.log.failures d → p.stopped ≡ false
+  tried_calm : (h : ℕ) (p : Harts) (op : Op) (k : Answer op → UnmarkedProgram (block_calls sizes)) (d : ExecResult (Answer op) SharedState) → RaisesShared p.shared.state.log.failures d → p.stopped ≡ false
       → Calm p (plain_tried (block_calls sizes) (block_code sizes) h p op k d)
   tried_calm h p op k Waits raises is = is
   tried_calm h p op k (Ran a t) raises is = moved_calm h p (kind_of op a) (k a) t is

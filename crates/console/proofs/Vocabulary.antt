@@ -1,7 +1,7 @@
 -- What this crate's proofs speak of: its own definitions, and what the crates below and the library call things.
-pub use Rattle.hart_core.proofs.Vocabulary.{Answers, Began, Begins, Bool, Code, Did, DidEnd, DidRun, DidStop, DidWait, Do, EventOf, Explains, HartsOf, HasHistory, IsPlaced, IsSettled, IsWellFormed, List, Makes, None, Op, Option, OutcomeOf, Outside, Passes, Plain, PlainMade, Ran, Refusal, Refused, Refuses, Ret, SharedState, Some, Start, Started, Step, Stops, Theory, TreeData, Waits, WasIdle, WasStopped, [], ap, arith, block_calls, block_code, buffer_count, calls_of, came_of, did_in, eqb-true, event_of, false, fault_count_of, file_named, get_or, get_or_past, hart_count, inl, inr, joined as joined_count, length, length-append, length-map, length-take, map, map-append, min, nil_from_length, plain_begun, plain_makes, plain_moved, plain_prog, plain_start, plain_step, plain_tried, plain_unless, refl, replicate, set, shared_of, subst, suc, sym, take, trace_in, tree_in, true, with_answer, zero, ℕ, ◌*◌, ◌++◌, ◌+◌, ◌-◌, ◌<◌, ◌∙◌, ◌∷◌, ◌≡◌, ◌≤◌}
+pub use Rattle.hart_core.proofs.Vocabulary.{Answers, Began, Begins, Bool, Code, ExecResult, DidEnd, DidRun, DidStop, DidWait, Do, EventOf, Explains, HartsOf, HasHistory, IsPlaced, IsSettled, IsWellFormed, List, Makes, None, Op, Option, OutcomeOf, Outside, Passes, Plain, PlainMade, Ran, Refusal, Refused, Refuses, Ret, SharedState, Some, Start, Started, Step, Stops, Theory, TreeData, Waits, WasIdle, WasStopped, [], ap, arith, block_calls, block_code, buffer_count, calls_of, came_of, exec_result_in, eqb-true, event_of, false, fault_count_of, file_named, get_or, get_or_past, hart_count, inl, inr, joined as joined_count, length, length-append, length-map, length-take, map, map-append, min, nil_from_length, plain_begun, plain_makes, plain_moved, plain_prog, plain_start, plain_step, plain_tried, plain_unless, refl, replicate, set, shared_of, subst, suc, sym, take, trace_in, tree_in, true, with_answer, zero, ℕ, ◌*◌, ◌++◌, ◌+◌, ◌-◌, ◌<◌, ◌∙◌, ◌∷◌, ◌≡◌, ◌≤◌}
 unfoldable pub use Rattle.hart_core.proofs.Vocabulary.{sizes_of, unused_from}
-pub use Rattle.fs_machine.proofs.Vocabulary.{CheckFile, Claim, Close, Commit, Directory, Double, Down, Err, Fails, Freed, Get, Give, GuardState, Held, IfSome, Join, JoinToWrite, Leave, Lock, LockFile, LockOpen, Number, Ok, OnOk, Put, Read, Reply, Result, SeatState, Settle, SlotState, State, TablesState, TakeDescriptor, TakePlace, Unlock, Up, Walked, claim_first, claims, commit_if, cond, got_by, in_log, in_tables, join_if, join_unless, join_waits, joins, kind_of, limit_of, lock_open, place_named, place_of, read_block, turn_is_out, with_open, write_log}
+pub use Rattle.fs_machine.proofs.Vocabulary.{CheckFile, Claim, Close, Commit, Directory, Double, Down, Err, Fails, Freed, Get, GiveDescriptor, GuardState, Held, IfSome, Join, JoinToWrite, Leave, Lock, LockFile, LockOpen, Number, Ok, OnOk, Put, Read, Reply, Result, SeatState, SetDirectory, SlotState, State, TablesState, TakeDescriptor, TakePlace, Unlock, Up, Walked, claim_first, claims, commit_if, cond, got_by, in_log, in_tables, join_if, join_unless, join_waits, joins, kind_of, limit_of, lock_open, place_named, place_of, read_block, turn_is_out, with_open, write_log}
 unfoldable pub use Rattle.fs_machine.proofs.Vocabulary.{exec, get_of, lock_of}
 pub use Rattle.console.specs.Vocabulary.{Appends, Asked, ExplainRefused, ExplainsRun, Global, Help, IsRefusedFor, IsRefusedSo, Mode, Nothing, Quit, Run, StartsOn, Stop, asked_in, entry_line, line_said, numbered, said_of}
 unfoldable pub use Rattle.console.specs.Vocabulary.{blocks_of, typed_lines}
@@ -15,14 +15,14 @@ pub use Rattle.console.specs.declared.fault.ConsoleFault.{ConsoleFault}
 pub use Rattle.console.specs.Sessions.{EventOfCall, Happens, SessionOf, doing_at, done_after, hart_in}
 pub use Rattle.console.specs.Notes.{KeptRun, NotesOf, copy_for, no_notes, none_kept, noted, run_in, what_of, with_kept, with_note, with_what}
 unfoldable pub use Rattle.console.specs.Notes.{all_noted}
-pub use Rattle.console.specs.Behaviours.{Behaviour, GoesOn, IfTold, IsOrMemory, IsWritten, Runs, Told, in_case}
+pub use Rattle.console.specs.Behaviours.{Behaviour, GoesOn, IfTold, IsOrMemory, IsWritten, Runs, IsPrintedAndNoted, in_case}
 unfoldable pub use Rattle.console.specs.Behaviours.{followed_by, gives, prints, takes_memory}
 pub use Rattle.console.specs.Histories.{HasLine, History, IsUntold, TellsHistory, TellsWhy, WhereSet, history_from, history_of, history_on, why_line}
 unfoldable pub use Rattle.console.specs.Histories.{entries_text}
 pub use Rattle.console.specs.declared.doing.Doing.{Doing}
 pub use Rattle.console.specs.Commands.{IsPassed, RunOf, acts_as, all_harts, flow_of, goes_on, in_steps, is_enough, joined, starts, state, tells_flow, to_end, up_to, wait_text}
 unfoldable pub use Rattle.console.specs.Commands.{acts, happens, line, lines, settles, tells_waits, turn, turns}
-pub use Rattle.console.specs.Queues.{Left, TakesNext, left_to, none_left, or_line, started_in, with_last, with_start}
+pub use Rattle.console.specs.Queues.{QueuedCalls, TakesNext, left_to, none_left, or_line, started_in, with_last, with_start}
 unfoldable pub use Rattle.console.specs.Queues.{queued}
 pub use Rattle.console.specs.Runs.{EndsOn, EndsSo, FailsUnread, PrintsAll, RunsCourse, RunsReader, RunsScript, or_stopped}
 pub use Rattle.console.specs.declared.verb.Verb.{Verb}

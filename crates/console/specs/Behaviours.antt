@@ -74,7 +74,7 @@ IfTold (Err (faults.Image f)) P = Unit {0}
 IfTold (Err (faults.Read e)) P = Unit {0}
 IfTold (Err (faults.Line n why)) P = Unit {0}
 
-pub record Told (out : Option (List ℕ)) (notes : NotesOf) (events : List EventOfCall) (text : List ℕ) (out' : Option (List ℕ))
+pub record IsPrintedAndNoted (out : Option (List ℕ)) (notes : NotesOf) (events : List EventOfCall) (text : List ℕ) (out' : Option (List ℕ))
     (notes' : NotesOf) : Type 0 where
   pub printed : Appends out out' text
   pub noted : notes' ≡ all_noted notes events
@@ -84,4 +84,4 @@ pub record Runs {S A : Type 0} (behaviour : Behaviour S A) (s : S) (out : Option
   pub events : List EventOfCall
   pub text : List ℕ
   pub does : behaviour s events text result t
-  pub told : IfTold result (Told out notes events text out' notes')
+  pub told : IfTold result (IsPrintedAndNoted out notes events text out' notes')

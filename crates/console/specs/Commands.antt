@@ -15,7 +15,7 @@ use Rattle.console.specs.declared.plan.Until.{Until}
 use Rattle.console.specs.declared.verb.Verb.{Verb}
 use Rattle.console.specs.declared.doing.Doing.{Doing}
 use Rattle.console.specs.Behaviours.{Behaviour, gives, in_case, followed_by, takes_memory, prints}
-use Rattle.console.specs.Basics.{called, Left, left_to, SessionOf, EventOfCall, Happens, count_of, doing_at, verb_of}
+use Rattle.console.specs.Basics.{called, QueuedCalls, left_to, SessionOf, EventOfCall, Happens, count_of, doing_at, verb_of}
 use Rattle.console.specs.Told.{told}
 
 -- ---- one event
@@ -46,9 +46,9 @@ IsPassed came (Err (faults.Line n why)) = ⊥
 -- the file system, and the calls that are still to be started
 pub record RunOf (D : Type 0) : Type 0 where
   pub session : SessionOf D
-  pub left : Left
+  pub left : QueuedCalls
 
-abbrev pub state : {D : Type 0} → SessionOf D → Left → RunOf D
+abbrev pub state : {D : Type 0} → SessionOf D → QueuedCalls → RunOf D
 state session left = record { session = session; left = left }
 
 -- the turn moved where anything in it did, and else waited where anything did

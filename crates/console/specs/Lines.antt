@@ -7,7 +7,7 @@ use Rattle.script.specs.Said.{Line, NumberedLine, Open, Read, Write, Fill, Link,
 use Rattle.console.specs.declared.fault.ConsoleFault.{ConsoleFault}
 use Rattle.console.specs.declared.fault.ConsoleFault.TheVariants as faults
 use Rattle.console.specs.declared.lines.Course.{Course}
-use Rattle.console.specs.Queues.{Left, none_left, queued}
+use Rattle.console.specs.Queues.{QueuedCalls, none_left, queued}
 
 -- ---- the call that a line says; a read is handed zeros to fill, a fill writes the letter x
 
@@ -33,11 +33,11 @@ called (Inherit child) = calls.Inherit child
 
 -- the calls that are queued at first, and the lines that are run then
 pub record CourseOf : Type 0 where
-  pub left : Left
+  pub left : QueuedCalls
   pub lines : List Line
 
 -- in the schedule round all calls are queued, and then the harts take turns
-abbrev pub all_turns : Result Left ℕ → Result CourseOf ℕ
+abbrev pub all_turns : Result QueuedCalls ℕ → Result CourseOf ℕ
 all_turns (Ok left) = Ok (record { left = left; lines = All ∷ [] })
 all_turns (Err n) = Err n
 
@@ -77,7 +77,7 @@ abbrev pub FailsTo : {A : Type 0} → ConsoleFault → Result A ℕ → Type 0
 FailsTo fault (Ok a) = IsMemory fault
 FailsTo fault (Err n) = TellsLine n fault
 
-abbrev pub GivesQueues : Result Left ConsoleFault → Result Left ℕ → Type 0
+abbrev pub GivesQueues : Result QueuedCalls ConsoleFault → Result QueuedCalls ℕ → Type 0
 GivesQueues (Ok left) wanted = wanted ≡ Ok left
 GivesQueues (Err fault) wanted = FailsTo fault wanted
 

@@ -7,7 +7,7 @@ use Rattle.console.specs.declared.fault.ConsoleFault.TheVariants as faults
 use Rattle.console.specs.Behaviours.{Behaviour, DoesNothing, Runs, followed_by, gives, in_case, prints, takes_memory}
 use Rattle.console.specs.Commands.{RunOf, all_harts, line, state}
 use Rattle.console.specs.Histories.{History, history_of}
-use Rattle.console.specs.Basics.{bytes_for, NotesOf, no_notes, Left, none_left, SessionOf, doing_at, is_joined, locks_of, word_of}
+use Rattle.console.specs.Basics.{bytes_for, NotesOf, no_notes, QueuedCalls, none_left, SessionOf, doing_at, is_joined, locks_of, word_of}
 use Rattle.console.specs.Runs.{EndsSo, RunsNone}
 use Rattle.console.specs.Scripts.{HandsOut, TakesNoImage}
 
@@ -159,7 +159,7 @@ module _ {D : Type 0} (contents : D → List (List ℕ)) (failures : D → ℕ) 
   -- the lines are answered, and then the last events are told, and the history
   pub record PromptsLines (mode : Mode) (history : History) (s : SessionOf D) (typed : Option (List ℕ))
       (result : Result (Unit {0}) ConsoleFault) (t : SessionOf D) (out out' : Option (List ℕ)) : Type 0 where
-    pub left : Left
+    pub left : QueuedCalls
     pub ends : Result (Unit {0}) ConsoleFault
     pub between : Option (List ℕ)
     pub notes : NotesOf

@@ -7,7 +7,7 @@ use Rattle.console.specs.Behaviours.{Runs}
 use Rattle.console.specs.Commands.{lines, state}
 use Rattle.console.specs.Events.{last_of, timeline_of}
 use Rattle.console.specs.Histories.{History, TellsHistory, WhereSet}
-use Rattle.console.specs.Basics.{CourseOf, TellsLine, script_course, NotesOf, no_notes, run_in, Left, SessionOf}
+use Rattle.console.specs.Basics.{CourseOf, TellsLine, script_course, NotesOf, no_notes, run_in, QueuedCalls, SessionOf}
 
 -- ---- after the lines
 
@@ -79,7 +79,7 @@ module _ {D : Type 0} (contents : D → List (List ℕ)) (failures : D → ℕ) 
   -- the lines are run, and then the last events are told, and the history
   pub record RunsLines (mode : Mode) (history : History) (s : SessionOf D) (course : CourseOf) (result : Result (Unit {0}) ConsoleFault)
       (t : SessionOf D) (out out' : Option (List ℕ)) : Type 0 where
-    pub left : Left
+    pub left : QueuedCalls
     pub ends : Result (Unit {0}) ConsoleFault
     pub between : Option (List ℕ)
     pub notes : NotesOf

@@ -4,7 +4,7 @@ ghost use Rattle.console.specs.Vocabulary.{Appends, call_said, line_said};
 ghost use Rattle.console.specs.Behaviours.{IsWritten, Runs};
 ghost use Rattle.console.specs.Commands.{acts, happens, line, lines, settles, starts, state, tells_waits, turn, turns, wait_text};
 ghost use Rattle.console.specs.Notes.{NotesOf, copy_for};
-ghost use Rattle.console.specs.Queues.{Left};
+ghost use Rattle.console.specs.Queues.{QueuedCalls};
 ghost use Rattle.console.specs.Sessions.{doing_at};
 
 use crate::fault::ConsoleFault;
@@ -29,7 +29,7 @@ pub const ALL_HARTS: [u8; 8] = [0, 1, 2, 3, 4, 5, 6, 7];
 /// What stands beside a file system while a script is run: the calls that harts are still to start, what is noted, and who keeps a tree
 /// beside the run, where that is kept.
 #[derive(Drop)]
-pub struct Desk {
+pub struct ScriptState {
     pub queues: Queues,
     pub notes: Notes,
     pub keeper: Keeper,
@@ -51,7 +51,7 @@ fn hear<D: Device>(
 // Makes an event, tells and notes it. The copy is the event again, where events are kept.
 fn happen<D: Device, W: Write>(
     session: &mut Session<D>,
-    desk: &mut Desk,
+    desk: &mut ScriptState,
     out: &mut W,
     verb: Verb,
     event: Event,
@@ -71,7 +71,7 @@ fn happen<D: Device, W: Write>(
 fn start<D: Device, W: Write>(
     alloc: Global,
     session: &mut Session<D>,
-    desk: &mut Desk,
+    desk: &mut ScriptState,
     out: &mut W,
     hart: u8,
     call: CallLine,
@@ -90,7 +90,7 @@ fn start<D: Device, W: Write>(
 fn act<D: Device, W: Write>(
     alloc: Global,
     session: &mut Session<D>,
-    desk: &mut Desk,
+    desk: &mut ScriptState,
     out: &mut W,
     until: Option<Until>,
     hart: u8,
@@ -118,7 +118,7 @@ fn act<D: Device, W: Write>(
 fn turn<D: Device, W: Write>(
     alloc: Global,
     session: &mut Session<D>,
-    desk: &mut Desk,
+    desk: &mut ScriptState,
     out: &mut W,
     until: Option<Until>,
     harts: &[u8],
@@ -137,7 +137,7 @@ fn turn<D: Device, W: Write>(
 fn turns<D: Device, W: Write>(
     alloc: Global,
     session: &mut Session<D>,
-    desk: &mut Desk,
+    desk: &mut ScriptState,
     out: &mut W,
     plan: &Plan,
     harts: &[u8],
@@ -161,7 +161,7 @@ fn tell_waits<D: Device, W: Write>(
     out: &mut W,
     harts: &[u8],
 ) -> Result<(), ConsoleFault>
-    ensures { (left : Left) (notes : NotesOf)
+    ensures { (left : QueuedCalls) (notes : NotesOf)
         → Runs (tells_waits D.contents D.failures harts.now) (state session.now left) (W.contents out.old) notes result
         (state session.now left) (W.contents out.new) notes }
 {
@@ -190,7 +190,7 @@ fn tell_wait<D: Device, W: Write>(
 fn settle<D: Device, W: Write>(
     alloc: Global,
     session: &mut Session<D>,
-    desk: &mut Desk,
+    desk: &mut ScriptState,
     out: &mut W,
     plan: &Plan,
     harts: &[u8],
@@ -210,7 +210,7 @@ fn settle<D: Device, W: Write>(
 pub fn run_line<D: Device, W: Write>(
     alloc: Global,
     session: &mut Session<D>,
-    desk: &mut Desk,
+    desk: &mut ScriptState,
     out: &mut W,
     command: Command,
 ) -> Result<(), ConsoleFault>
@@ -249,7 +249,7 @@ pub fn run_line<D: Device, W: Write>(
 pub fn run_lines<D: Device, W: Write>(
     alloc: Global,
     session: &mut Session<D>,
-    desk: &mut Desk,
+    desk: &mut ScriptState,
     out: &mut W,
     commands: Vec<ScriptLine>,
 ) -> Result<(), ConsoleFault>

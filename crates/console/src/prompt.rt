@@ -8,7 +8,7 @@ ghost use Rattle.console.specs.Images.{disk_for};
 ghost use Rattle.console.specs.Prompts.{PromptsAll, PromptsImage, PromptsLine, PromptsReader, ReadsLine, TellsBad, answers, bad_text, does, mark, state_text};
 ghost use Rattle.console.specs.Runs.{FailsUnread};
 
-use crate::commands::{ALL_HARTS, Desk, run_line};
+use crate::commands::{ALL_HARTS, ScriptState, run_line};
 use crate::fault::ConsoleFault;
 use crate::mount::{Mounted, mount_disk};
 use crate::queues::Queues;
@@ -115,7 +115,7 @@ fn write_bad<W: Write>(out: &mut W, number: u64, why: &str) -> Result<(), Consol
 fn do_asked<D: Device, W: Write>(
     alloc: Global,
     session: &mut Session<D>,
-    desk: &mut Desk,
+    desk: &mut ScriptState,
     out: &mut W,
     help: &str,
     asked: Asked,
@@ -145,7 +145,7 @@ fn do_asked<D: Device, W: Write>(
 fn answer<D: Device, W: Write>(
     alloc: Global,
     session: &mut Session<D>,
-    desk: &mut Desk,
+    desk: &mut ScriptState,
     out: &mut W,
     help: &str,
     number: u64,
@@ -168,7 +168,7 @@ fn answer<D: Device, W: Write>(
 fn prompt_line<D: Device, R: BufRead, W: Write>(
     alloc: Global,
     session: &mut Session<D>,
-    desk: &mut Desk,
+    desk: &mut ScriptState,
     typed: &mut R,
     line: &mut Vec<u8>,
     out: &mut W,
@@ -191,7 +191,7 @@ fn prompt_line<D: Device, R: BufRead, W: Write>(
 fn prompt_all<D: Device, R: BufRead, W: Write>(
     alloc: Global,
     session: &mut Session<D>,
-    desk: &mut Desk,
+    desk: &mut ScriptState,
     typed: &mut R,
     out: &mut W,
     help: &str,

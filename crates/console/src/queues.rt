@@ -18,9 +18,9 @@ pub struct Queues {
 impl Model for Queues {
     ghost use Rattle.std.specs.Prelude.{◌≡◌, length, map};
     ghost use Rattle.script.specs.Said.{call_said};
-    ghost use Rattle.console.specs.Queues.{Left};
+    ghost use Rattle.console.specs.Queues.{QueuedCalls};
 
-    ghost Value = { Left };
+    ghost Value = { QueuedCalls };
 
     ghost view = { λ q. map (λ calls. map call_said calls.items) q.calls };
 

@@ -9,7 +9,7 @@ ghost use Rattle.console.specs.Notes.{no_notes};
 ghost use Rattle.console.specs.Runs.{EndsSo, FailsUnread, PrintsAll, RunsCourse, RunsReader, RunsScript, TellsWanted, end_text};
 ghost use Rattle.console.specs.Scripts.{RunsImage, Tells};
 
-use crate::commands::{Desk, run_lines};
+use crate::commands::{ScriptState, run_lines};
 use crate::events::{write_last, write_timeline};
 use crate::fault::{ConsoleFault, Unread};
 use crate::history::{write_history, write_history_on};
@@ -183,7 +183,12 @@ fn run_course<D: Device, W: Write>(
 }
 
 /// A desk with these calls to be started, on which nothing is noted. The keeper begins with this tree.
-pub fn desk_of(alloc: Global, mode: Mode, base: &Tree, queues: Queues) -> Result<Desk, ConsoleFault>
+pub fn desk_of(
+    alloc: Global,
+    mode: Mode,
+    base: &Tree,
+    queues: Queues,
+) -> Result<ScriptState, ConsoleFault>
     ensures desk { IfOk result (λ desk. (desk.queues ≡ queues) × (desk.notes ≡ no_notes mode)) }
     ensures memory { IfErr result (λ fault. fault ≡ Memory) }
 {
@@ -191,7 +196,7 @@ pub fn desk_of(alloc: Global, mode: Mode, base: &Tree, queues: Queues) -> Result
     let Ok(keeper) = Keeper::new(alloc, base) else {
         return Err(ConsoleFault::Memory);
     };
-    Ok(Desk {
+    Ok(ScriptState {
         queues,
         notes,
         keeper,
@@ -204,7 +209,7 @@ pub fn finish<W: Write>(
     out: &mut W,
     mode: Mode,
     base: &Tree,
-    desk: Desk,
+    desk: ScriptState,
     ended: Result<(), ConsoleFault>,
 ) -> Result<(), ConsoleFault>
     ensures { EndsSo mode (history_from base.now) desk.notes ended (W.contents out.old) result (W.contents out.new) }
@@ -224,11 +229,11 @@ fn write_rest<W: Write>(
     out: &mut W,
     mode: Mode,
     base: &Tree,
-    desk: Desk,
+    desk: ScriptState,
 ) -> Result<(), ConsoleFault>
     ensures { PrintsAll mode (history_from base.now) desk.notes (W.contents out.old) result (W.contents out.new) }
 {
-    let Desk {
+    let ScriptState {
         queues: _queues,
         notes,
         keeper,

@@ -1,6 +1,6 @@
 -- A descriptor's inode locked, and loaded.
 use Rattle.std.specs.Prelude.{◌≡◌, ◌-◌, ◌<◌, ◌^◌, ℕ, Option, Some, None}
-use Rattle.file_table.specs.Vocabulary.{Dinode, Ret, Do, bind, unmarked, LockedState, Refuses, Locks, OpenFile, Want, P, inode_block, load_unless, HandState as Hand, SeatState as Seat, Op, inode_at, number_in, record_in, IsLoadedAt, load_left, load_asked, IsLoading}
+use Rattle.file_table.specs.Vocabulary.{Dinode, Ret, Do, bind, unmarked, LockedState, Refuses, Locks, OpenFile, Want, P, inode_block, load_unless, HandState as Hand, InodePlace, Op, inode_at, number_in, record_in, IsLoadedAt, load_left, load_asked, IsLoading}
 use Rattle.fs_machine.specs.Steps as steps
 use Rattle.fs_machine.specs.declared.op.Op.TheVariants as ops
 use Rattle.file_table.specs.declared.lock_file.HeldFile.{HeldFile}
@@ -47,7 +47,7 @@ abbrev pub file_asked : LockFile → Op
 file_asked (file.Lock k inodestart w fd) = ops.LockFile k w fd
 file_asked (file.Loading f m) = load_asked m
 
-abbrev pub file_seat : LockFile → Seat
+abbrev pub file_seat : LockFile → InodePlace
 file_seat (file.Lock k inodestart w fd) = k
 file_seat (file.Loading f m) = f.seat
 
@@ -81,7 +81,7 @@ abbrev pub open_asked : LockOpen → Op
 open_asked (opened.Lock k inodestart fd) = ops.LockOpen k fd
 open_asked (opened.Loading f m) = load_asked m
 
-abbrev pub open_seat : LockOpen → Seat
+abbrev pub open_seat : LockOpen → InodePlace
 open_seat (opened.Lock k inodestart fd) = k
 open_seat (opened.Loading f m) = f.seat
 

@@ -10,5 +10,5 @@ pub use Rattle.inode_table.specs.Loading.{load_asked, load_left}
 pub use Rattle.inode_table.specs.Programs.{inode_block, load_unless}
 pub use Rattle.fs_layout.specs.declared.inode.Dinode.{Dinode}
 pub use Rattle.fs_machine.specs.declared.hand.Hand.{Hand as HandState}
-pub use Rattle.fs_machine.specs.declared.hand.Seat.{Seat as SeatState}
+pub use Rattle.fs_machine.specs.declared.hand.InodePlace.{InodePlace}
 pub use Rattle.fs_machine.specs.declared.op.Op.{Op}

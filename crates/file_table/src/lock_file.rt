@@ -1,15 +1,15 @@
 //! A descriptor's inode locked, and loaded, where it may be had.
 ghost use Rattle.std.specs.Prelude.{◌≡◌, None, IfSome, IfNone};
-ghost use Rattle.file_table.specs.Vocabulary.{LockedState, inode_at, IsAfter, answer_in, Goes, left_after, bare, HandState, SeatState, beside_lock};
+ghost use Rattle.file_table.specs.Vocabulary.{LockedState, inode_at, IsAfter, answer_in, Goes, left_after, bare, HandState, InodePlace, beside_lock};
 ghost use Rattle.file_table.specs.LockingFiles.{lock_file_loaded, file_left, file_value, file_asked, file_seat, FileEnds, FileReady, HasInodeBlocks};
 
-use fs_machine::{Answer, Hand, Op, OpenFile, Part, Refused, Routine, Seat, Want};
+use fs_machine::{Answer, Hand, InodePlace, Op, OpenFile, Part, Refused, Routine, Want};
 use inode_table::{LoadInode, load_held};
 
 /// An open file, and where its inode's lock is.
 #[derive(Clone, Copy, Drop)]
 pub struct HeldFile {
-    pub seat: Seat,
+    pub seat: InodePlace,
     pub file: OpenFile,
 }
 
@@ -24,14 +24,14 @@ pub enum FileLocked {
 #[derive(Clone, Copy, Drop)]
 pub enum LockFile {
     /// The lock is taken, on a disk whose inode blocks begin there.
-    Lock(Seat, u32, Want, u32),
+    Lock(InodePlace, u32, Want, u32),
     /// The inode is loaded.
     Loading(HeldFile, LoadInode),
 }
 
 impl LockFile {
     /// What descriptor `fd` names, on a disk whose inode blocks begin at block `inodestart`.
-    pub fn new(inodestart: u32, seat: Seat, want: Want, fd: u32) -> LockFile
+    pub fn new(inodestart: u32, seat: InodePlace, want: Want, fd: u32) -> LockFile
         requires { HasInodeBlocks inodestart }
         ensures program { (h : HandState) → file_left result h ≡ lock_file_loaded inodestart want fd }
         ensures ready { (h : HandState) → inode_at seat h ≡ None → h.first ≡ None → FileReady result h }
@@ -54,7 +54,7 @@ impl Routine for LockFile {
 
     ghost Ready = { FileReady };
 
-    ghost About = { SeatState };
+    ghost About = { InodePlace };
 
     ghost about = { file_seat };
 

@@ -1,24 +1,24 @@
 //! The inode of an open file locked, and loaded.
 ghost use Rattle.std.specs.Prelude.{◌≡◌, None, Option, IfSome, IfNone};
-ghost use Rattle.file_table.specs.Vocabulary.{Dinode as DinodeState, OpenFile as OpenFileState, inode_at, IsAfter, answer_in, Goes, left_after, bare, HandState, SeatState, beside_lock};
+ghost use Rattle.file_table.specs.Vocabulary.{Dinode as DinodeState, OpenFile as OpenFileState, inode_at, IsAfter, answer_in, Goes, left_after, bare, HandState, InodePlace, beside_lock};
 ghost use Rattle.file_table.specs.LockingFiles.{lock_open_loaded, open_left, open_value, open_asked, open_seat, HasFile, HasInodeBlocks, OpenReady};
 
 use crate::lock_file::HeldFile;
-use fs_machine::{Answer, Hand, Op, Part, Routine, Seat};
+use fs_machine::{Answer, Hand, InodePlace, Op, Part, Routine};
 use inode_table::{LoadInode, load_held};
 
 /// Takes the lock of what a descriptor names that is known to be open, and loads the inode where it isn't.
 #[derive(Clone, Copy, Drop)]
 pub enum LockOpen {
     /// The lock is taken, on a disk whose inode blocks begin there.
-    Lock(Seat, u32, u32),
+    Lock(InodePlace, u32, u32),
     /// The inode is loaded.
     Loading(HeldFile, LoadInode),
 }
 
 impl LockOpen {
     /// What descriptor `fd` names, on a disk whose inode blocks begin at block `inodestart`.
-    pub fn new(inodestart: u32, seat: Seat, fd: u32) -> LockOpen
+    pub fn new(inodestart: u32, seat: InodePlace, fd: u32) -> LockOpen
         requires { HasInodeBlocks inodestart }
         ensures program { (h : HandState) → open_left result h ≡ lock_open_loaded inodestart fd }
         ensures ready { (h : HandState) → inode_at seat h ≡ None → h.first ≡ None → OpenReady result h }
@@ -41,7 +41,7 @@ impl Routine for LockOpen {
 
     ghost Ready = { OpenReady };
 
-    ghost About = { SeatState };
+    ghost About = { InodePlace };
 
     ghost about = { open_seat };
 

@@ -1,5 +1,5 @@
 -- What is in hand goes with the state after each operation.
-use Rattle.fs_machine.proofs.Vocabulary.{◌≡◌, ◌≢◌, ℕ, List, [], Option, Some, None, IfSome, refl, sym, ap, ◌∙◌, subst, ◌⊎◌, inl, inr, ⊎_elim, GuardState, BufferState, Inode, State, LeavesAll, LeavesAllBut, HasNone, IsLocked, IsOwn, IsOwnInode, IsTied, LeavesTied, bytes_of, Hand, Place, First, Second, Seat, One, Two, AreOwn, HandFits, buffer_at, with_buffer, inode_at, with_aside, with_inode, reference_at, with_listed, with_reference, with_seated, with_txn, block_at, bytes_at, inode_in, no_inode, number_at, with_bytes, content_at, option_map, option_map_or, unwrap_or, MatchOption, IsSome, SeatState, seat_of, IsHeld, IsGuardOf}
+use Rattle.fs_machine.proofs.Vocabulary.{◌≡◌, ◌≢◌, ℕ, List, [], Option, Some, None, IfSome, refl, sym, ap, ◌∙◌, subst, ◌⊎◌, inl, inr, ⊎_elim, GuardState, BufferState, Inode, State, LeavesAll, LeavesAllBut, HasNone, IsLocked, IsOwn, IsOwnInode, IsTied, LeavesTied, bytes_of, Hand, Place, First, Second, InodePlace, One, Two, AreOwn, HandFits, buffer_at, with_buffer, inode_at, with_aside, with_inode, reference_at, with_listed, with_reference, with_seated, with_txn, block_at, bytes_at, inode_in, no_inode, number_at, with_bytes, content_at, option_map, option_map_or, unwrap_or, MatchOption, IsSome, SeatState, seat_of, IsHeld, IsGuardOf}
 use Rattle.fs_machine.specs.Hands.{with_content}
 
 -- ---- places in general
@@ -91,7 +91,7 @@ places First Second = inr (λ e. absurd (cc e))
 places Second First = inr (λ e. absurd (cc e))
 places Second Second = inl refl
 
-pub seats : Decided Seat
+pub seats : Decided InodePlace
 seats One One = inl refl
 seats One Two = inr (λ e. absurd (cc e))
 seats Two One = inr (λ e. absurd (cc e))
@@ -107,23 +107,23 @@ buffer-elsewhere First o h Second ne = refl
 buffer-elsewhere Second o h First ne = refl
 buffer-elsewhere Second o h Second ne = absurd (ne refl)
 
-pub inode-there : (p : Seat) (o : Option (GuardState Inode)) (h : Hand) → inode_at p (with_inode p o h) ≡ o
+pub inode-there : (p : InodePlace) (o : Option (GuardState Inode)) (h : Hand) → inode_at p (with_inode p o h) ≡ o
 inode-there One o h = refl
 inode-there Two o h = refl
 
-pub inode-elsewhere : (p : Seat) (o : Option (GuardState Inode)) (h : Hand) (q : Seat) → q ≢ p → inode_at q (with_inode p o h) ≡ inode_at q h
+pub inode-elsewhere : (p : InodePlace) (o : Option (GuardState Inode)) (h : Hand) (q : InodePlace) → q ≢ p → inode_at q (with_inode p o h) ≡ inode_at q h
 inode-elsewhere One o h One ne = absurd (ne refl)
 inode-elsewhere One o h Two ne = refl
 inode-elsewhere Two o h One ne = refl
 inode-elsewhere Two o h Two ne = absurd (ne refl)
 
-buffer-beside : (k : Seat) (o : Option (GuardState Inode)) (h : Hand) (q : Place) → buffer_at q (with_inode k o h) ≡ buffer_at q h
+buffer-beside : (k : InodePlace) (o : Option (GuardState Inode)) (h : Hand) (q : Place) → buffer_at q (with_inode k o h) ≡ buffer_at q h
 buffer-beside One o h First = refl
 buffer-beside One o h Second = refl
 buffer-beside Two o h First = refl
 buffer-beside Two o h Second = refl
 
-inode-beside : (p : Place) (o : Option (GuardState BufferState)) (h : Hand) (k : Seat) → inode_at k (with_buffer p o h) ≡ inode_at k h
+inode-beside : (p : Place) (o : Option (GuardState BufferState)) (h : Hand) (k : InodePlace) → inode_at k (with_buffer p o h) ≡ inode_at k h
 inode-beside First o h One = refl
 inode-beside First o h Two = refl
 inode-beside Second o h One = refl
@@ -133,7 +133,7 @@ txn-beside : (p : Place) (o : Option (GuardState BufferState)) (h : Hand) → (w
 txn-beside First o h = refl
 txn-beside Second o h = refl
 
-txn-beside_inode : (k : Seat) (o : Option (GuardState Inode)) (h : Hand) → (with_inode k o h).txn ≡ h.txn
+txn-beside_inode : (k : InodePlace) (o : Option (GuardState Inode)) (h : Hand) → (with_inode k o h).txn ≡ h.txn
 txn-beside_inode One o h = refl
 txn-beside_inode Two o h = refl
 
@@ -192,19 +192,19 @@ bytes-there p g h e = ap (λ (o : Option (GuardState BufferState)). option_map_o
 
 -- ---- inodes, references and the transaction
 
-reference-beside : (k : Seat) (r : Option ℕ) (h : Hand) (p : Place) → buffer_at p (with_reference k r h) ≡ buffer_at p h
+reference-beside : (k : InodePlace) (r : Option ℕ) (h : Hand) (p : Place) → buffer_at p (with_reference k r h) ≡ buffer_at p h
 reference-beside One r h First = refl
 reference-beside One r h Second = refl
 reference-beside Two r h First = refl
 reference-beside Two r h Second = refl
 
-reference-beside_inode : (k : Seat) (r : Option ℕ) (h : Hand) (l : Seat) → inode_at l (with_reference k r h) ≡ inode_at l h
+reference-beside_inode : (k : InodePlace) (r : Option ℕ) (h : Hand) (l : InodePlace) → inode_at l (with_reference k r h) ≡ inode_at l h
 reference-beside_inode One r h One = refl
 reference-beside_inode One r h Two = refl
 reference-beside_inode Two r h One = refl
 reference-beside_inode Two r h Two = refl
 
-reference-beside_txn : (k : Seat) (r : Option ℕ) (h : Hand) → (with_reference k r h).txn ≡ h.txn
+reference-beside_txn : (k : InodePlace) (r : Option ℕ) (h : Hand) → (with_reference k r h).txn ≡ h.txn
 reference-beside_txn One r h = refl
 reference-beside_txn Two r h = refl
 
@@ -216,7 +216,7 @@ buffer-beside_listed : (ns : List ℕ) (h : Hand) (p : Place) → buffer_at p (w
 buffer-beside_listed ns h First = refl
 buffer-beside_listed ns h Second = refl
 
-inode-beside_listed : (ns : List ℕ) (h : Hand) (k : Seat) → inode_at k (with_listed ns h) ≡ inode_at k h
+inode-beside_listed : (ns : List ℕ) (h : Hand) (k : InodePlace) → inode_at k (with_listed ns h) ≡ inode_at k h
 inode-beside_listed ns h One = refl
 inode-beside_listed ns h Two = refl
 
@@ -224,16 +224,16 @@ buffer-beside_aside : (r : Option ℕ) (h : Hand) (p : Place) → buffer_at p (w
 buffer-beside_aside r h First = refl
 buffer-beside_aside r h Second = refl
 
-inode-beside_aside : (r : Option ℕ) (h : Hand) (k : Seat) → inode_at k (with_aside r h) ≡ inode_at k h
+inode-beside_aside : (r : Option ℕ) (h : Hand) (k : InodePlace) → inode_at k (with_aside r h) ≡ inode_at k h
 inode-beside_aside r h One = refl
 inode-beside_aside r h Two = refl
 
-inode-beside_txn : (t : Option ℕ) (h : Hand) (k : Seat) → inode_at k (with_txn t h) ≡ inode_at k h
+inode-beside_txn : (t : Option ℕ) (h : Hand) (k : InodePlace) → inode_at k (with_txn t h) ≡ inode_at k h
 inode-beside_txn t h One = refl
 inode-beside_txn t h Two = refl
 
 module _ (hart : ℕ) (s : State) (h : Hand) (f : HandFits hart s h) where
-  pub refers : (k : Seat) (r : Option ℕ) → HandFits hart s (with_reference k r h)
+  pub refers : (k : InodePlace) (r : Option ℕ) → HandFits hart s (with_reference k r h)
   refers k r = record {
     txn = subst (λ t. IfSome t (λ k. k ≡ hart)) (sym (reference-beside_txn k r h)) f.txn;
     buffers = stay (λ v. v.block) (IsOwn hart) (λ q. buffer_at q h) (λ q. buffer_at q (with_reference k r h)) s s f.buffers (reference-beside k r h) (λ _ _ own. own);
@@ -262,7 +262,7 @@ module _ (hart : ℕ) (s : State) (h : Hand) (f : HandFits hart s h) where
   }
 
 -- what is aside comes to a seat
-pub seats-aside : (hart : ℕ) (s : State) (h : Hand) → HandFits hart s h → (k : Seat) → HandFits hart s (with_seated k h)
+pub seats-aside : (hart : ℕ) (s : State) (h : Hand) → HandFits hart s h → (k : InodePlace) → HandFits hart s (with_seated k h)
 seats-aside hart s h f k = refers hart s (with_aside None h) (puts-aside hart s h f None) k h.aside
 
 module _ (hart : ℕ) (old new : State) (h : Hand) (f : HandFits hart old h) where
@@ -273,7 +273,7 @@ module _ (hart : ℕ) (old new : State) (h : Hand) (f : HandFits hart old h) whe
   pub tables-stay : new.log ≡ old.log → LeavesAll (IsOwnInode hart) old new → HandFits hart new h
   tables-stay log rest = hand-stays hart old new h f (same-buffers hart old new h f log) rest
 
-  module _ (k : Seat) (o : Option (GuardState Inode)) (log : new.log ≡ old.log) where
+  module _ (k : InodePlace) (o : Option (GuardState Inode)) (log : new.log ≡ old.log) where
     with-new-inode : AreOwn (λ q. inode_at q (with_inode k o h)) (λ v. v.number) (IsOwnInode hart) new → HandFits hart new (with_inode k o h)
     with-new-inode inodes = record {
       txn = subst (λ t. IfSome t (λ k. k ≡ hart)) (sym (txn-beside_inode k o h)) f.txn;
@@ -281,19 +281,19 @@ module _ (hart : ℕ) (old new : State) (h : Hand) (f : HandFits hart old h) whe
       inodes = inodes;
     }
 
-  pub inode-taken : (k : Seat) (g : GuardState Inode) → new.log ≡ old.log → IsOwnInode hart g.value.number g new → LeavesAll (IsOwnInode hart) old new → HasNone g.value.number (IsOwnInode hart) old → HandFits hart new (with_inode k (Some g) h)
+  pub inode-taken : (k : InodePlace) (g : GuardState Inode) → new.log ≡ old.log → IsOwnInode hart g.value.number g new → LeavesAll (IsOwnInode hart) old new → HasNone g.value.number (IsOwnInode hart) old → HandFits hart new (with_inode k (Some g) h)
   inode-taken k g log own rest none =
       with-new-inode k (Some g) log
       (took (λ v. v.number) (IsOwnInode hart) seats k (λ q. inode_at q h) (λ q. inode_at q (with_inode k (Some g) h)) old new f.inodes (inode-elsewhere k (Some g) h) g (inode-there k (Some g) h) own rest none)
 
-  pub inode-given : (k : Seat) (g : GuardState Inode) → new.log ≡ old.log → inode_at k h ≡ Some g → LeavesAllBut g.value.number (IsOwnInode hart) old new → HandFits hart new (with_inode k None h)
+  pub inode-given : (k : InodePlace) (g : GuardState Inode) → new.log ≡ old.log → inode_at k h ≡ Some g → LeavesAllBut g.value.number (IsOwnInode hart) old new → HandFits hart new (with_inode k None h)
   inode-given k g log was rest =
       with-new-inode k None log
       (gave (λ v. v.number) (IsOwnInode hart) seats k (λ q. inode_at q h) (λ q. inode_at q (with_inode k None h)) old new f.inodes (inode-elsewhere k None h) g was rest (inode-there k None h))
 
 -- ---- what was taken from a place and put back there
 
-pub reference-back : (k : Seat) (n : ℕ) (h : Hand) → reference_at k h ≡ Some n → with_reference k (Some n) (with_reference k None h) ≡ h
+pub reference-back : (k : InodePlace) (n : ℕ) (h : Hand) → reference_at k h ≡ Some n → with_reference k (Some n) (with_reference k None h) ≡ h
 reference-back One n h e = ap (λ (o : Option ℕ). record h { to_one = o }) (sym e)
 reference-back Two n h e = ap (λ (o : Option ℕ). record h { to_two = o }) (sym e)
 
@@ -305,28 +305,28 @@ pub buffer-again : (p : Place) (o u : Option (GuardState BufferState)) (h : Hand
 buffer-again First o u h = refl
 buffer-again Second o u h = refl
 
-pub inode-in : (k : Seat) (g : GuardState Inode) (h : Hand) → inode_at k h ≡ Some g → inode_in k h ≡ g.value
+pub inode-in : (k : InodePlace) (g : GuardState Inode) (h : Hand) → inode_at k h ≡ Some g → inode_in k h ≡ g.value
 inode-in k g h e = ap (λ (o : Option (GuardState Inode)). option_map_or (λ (g : GuardState Inode). g.value) o no_inode) e
 
-pub number-there : (k : Seat) (n : ℕ) (h : Hand) → reference_at k h ≡ Some n → number_at k h ≡ n
+pub number-there : (k : InodePlace) (n : ℕ) (h : Hand) → reference_at k h ≡ Some n → number_at k h ≡ n
 number-there k n h e = ap (λ (o : Option ℕ). unwrap_or o 0) e
 
-pub reference-there : (k : Seat) (r : Option ℕ) (h : Hand) → reference_at k (with_reference k r h) ≡ r
+pub reference-there : (k : InodePlace) (r : Option ℕ) (h : Hand) → reference_at k (with_reference k r h) ≡ r
 reference-there One r h = refl
 reference-there Two r h = refl
 
-pub reference-none : (k : Seat) (h : Hand) → reference_at k h ≡ None → h ≡ with_reference k None h
+pub reference-none : (k : InodePlace) (h : Hand) → reference_at k h ≡ None → h ≡ with_reference k None h
 reference-none One h e = ap (λ (o : Option ℕ). record h { to_one = o }) e
 reference-none Two h e = ap (λ (o : Option ℕ). record h { to_two = o }) e
 
 pub aside-none : (h : Hand) → h.aside ≡ None → h ≡ with_aside None h
 aside-none h e = ap (λ (o : Option ℕ). record h { aside = o }) e
 
-pub seated-again : (k : Seat) (r : Option ℕ) (h : Hand) → with_seated k (with_reference k r h) ≡ with_seated k h
+pub seated-again : (k : InodePlace) (r : Option ℕ) (h : Hand) → with_seated k (with_reference k r h) ≡ with_seated k h
 seated-again One r h = refl
 seated-again Two r h = refl
 
-pub seated-beside : (k : Seat) (h : Hand) → (with_seated k h).listed ≡ h.listed
+pub seated-beside : (k : InodePlace) (h : Hand) → (with_seated k h).listed ≡ h.listed
 seated-beside One h = refl
 seated-beside Two h = refl
 
@@ -366,7 +366,7 @@ others-keep hart g old new h ne leaves f = record {
       (λ k b own. record { hand = own.hand; number = own.number; locked = leaves.inodes b (λ e. ne (sym own.hand ∙ e)) own.locked });
 }
 
-pub reference-again : (k : Seat) (r q : Option ℕ) (h : Hand) → with_reference k r (with_reference k q h) ≡ with_reference k r h
+pub reference-again : (k : InodePlace) (r q : Option ℕ) (h : Hand) → with_reference k r (with_reference k q h) ≡ with_reference k r h
 reference-again One r q h = refl
 reference-again Two r q h = refl
 

@@ -1,5 +1,5 @@
 -- How a program goes on, by what is in hand.
-use Rattle.fs_machine.proofs.Vocabulary.{◌≡◌, ℕ, List, Option, refl, sym, subst, ap, ◌∙◌, None, BufferState, Bool, true, false, Some, Place, Seat, One, Two, First, Second, GuardState, Inode, Ret, bind, P, Hand, block_at, bytes_at, inode_in, reference_at, with_buffer, with_inode, with_reference, IsClaimed, Is, Goes, Fetch, Fetched, fetch_left, fetch_block, fetched_bytes, FetchEnds}
+use Rattle.fs_machine.proofs.Vocabulary.{◌≡◌, ℕ, List, Option, refl, sym, subst, ap, ◌∙◌, None, BufferState, Bool, true, false, Some, Place, InodePlace, One, Two, First, Second, GuardState, Inode, Ret, bind, P, Hand, block_at, bytes_at, inode_in, reference_at, with_buffer, with_inode, with_reference, IsClaimed, Is, Goes, Fetch, Fetched, fetch_left, fetch_block, fetched_bytes, FetchEnds}
 use Rattle.fs_machine.specs.Steps as steps
 use Rattle.fs_machine.proofs.Going.{goes_bind, block_of}
 
@@ -14,13 +14,13 @@ second-kept First h k is e = ap (λ (h : Hand). h.second) e
 second-kept Second h k is e = absurd (cc is)
 
 -- what is in hand beside a buffer's place
-pub inode-beside : (p : Place) (k : Seat) (o : Option (GuardState BufferState)) (h : Hand) → inode_in k (with_buffer p o h) ≡ inode_in k h
+pub inode-beside : (p : Place) (k : InodePlace) (o : Option (GuardState BufferState)) (h : Hand) → inode_in k (with_buffer p o h) ≡ inode_in k h
 inode-beside First One o h = refl
 inode-beside First Two o h = refl
 inode-beside Second One o h = refl
 inode-beside Second Two o h = refl
 
-pub inode-kept : (p : Place) (k : Seat) (h g : Hand) → with_buffer p None h ≡ with_buffer p None g → inode_in k h ≡ inode_in k g
+pub inode-kept : (p : Place) (k : InodePlace) (h g : Hand) → with_buffer p None h ≡ with_buffer p None g → inode_in k h ≡ inode_in k g
 inode-kept p k h g e = sym (inode-beside p k None h) ∙ ap (inode_in k) e ∙ inode-beside p k None g
 
 -- a program that goes on does so within another, whose rest is the same by what stays in hand
@@ -31,18 +31,18 @@ pub goes_to : {A : Type 0} (p q r : P A) (answer : (o : steps.Op) → steps.Answ
 goes_to {A = A} p q r answer goes e = subst (λ (q : P A). Goes p answer q) e goes
 
 -- an inode that was locked
-pub inode-there : (k : Seat) (g : GuardState Inode) (h : Hand) → inode_in k (with_inode k (Some g) h) ≡ g.value
+pub inode-there : (k : InodePlace) (g : GuardState Inode) (h : Hand) → inode_in k (with_inode k (Some g) h) ≡ g.value
 inode-there One g h = refl
 inode-there Two g h = refl
 
-pub first-beside : (k : Seat) (o : Option ℕ) (h : Hand) → (with_reference k o h).first ≡ h.first
+pub first-beside : (k : InodePlace) (o : Option ℕ) (h : Hand) → (with_reference k o h).first ≡ h.first
 first-beside One o h = refl
 first-beside Two o h = refl
 
-pub reference-beside : (k : Seat) (h : Hand) → reference_at k (with_buffer First None h) ≡ reference_at k h
+pub reference-beside : (k : InodePlace) (h : Hand) → reference_at k (with_buffer First None h) ≡ reference_at k h
 reference-beside One h = refl
 reference-beside Two h = refl
 
-pub no-place : (k : Seat) (b : Bool) (before h : Hand) → IsClaimed First k (Is b) before h → (b ≡ true) × (h ≡ before)
+pub no-place : (k : InodePlace) (b : Bool) (before h : Hand) → IsClaimed First k (Is b) before h → (b ≡ true) × (h ≡ before)
 no-place k true before h same = (refl, same)
 no-place k false before h same = absurd same

@@ -1,13 +1,13 @@
 -- Each operation keeps the log whole.
-use Rattle.fs_machine.proofs.Vocabulary.{◌≡◌, ℕ, Bool, true, false, List, Option, Some, None, length, refl, sym, subst, IsOutsideLog, get_of, SeatState, holder_of, kept, Got, joined, limit_of, turn_is_out, join_waits, IsWhole, LeadsToWhole, Open, Halted, calls_keep_whole, Did, Waits, Ran, Stops, OpenFile, Refused, TablesState, file_named, refusal_of, lock_inode, lock_file, settle_inode, up_inode, first_free, take_place, open_file, double_descriptor, shut_descriptor, give_next, Outside, Passes, Fails, join_if, got_by, read_block, put_block, commit_if, written, LeavesIt, LeavesOne, State, Join, JoinToWrite, Leave, Get, Read, Put, Commit, Lock, LockFile, LockOpen, Unlock, Settle, Up, Claim, Down, CheckFile, TakePlace, TakeDescriptor, Double, Close, Give, Reply, exec, in_log, in_tables, joins, join_unless, lock_open, claims, claim_first, up_whom, drop_which, May, Honest, MayPut, MayJoin, IsWholeLog, After, KeepsWhole}
+use Rattle.fs_machine.proofs.Vocabulary.{◌≡◌, ℕ, Bool, true, false, List, Option, Some, None, length, refl, sym, subst, IsOutsideLog, get_of, SeatState, holder_of, kept, Got, joined, limit_of, turn_is_out, join_waits, IsWhole, LeadsToWhole, Open, Halted, calls_keep_whole, ExecResult, Waits, Ran, Stops, OpenFile, Refused, TablesState, file_named, refusal_of, lock_inode, lock_file, settle_inode, up_inode, first_free, take_place, open_file, double_descriptor, shut_descriptor, give_next, Outside, Passes, Fails, join_if, got_by, read_block, put_block, commit_if, written, LeavesIt, LeavesOne, State, Join, JoinToWrite, Leave, Get, Read, Put, Commit, Lock, LockFile, LockOpen, Unlock, SetDirectory, Up, Claim, Down, CheckFile, TakePlace, TakeDescriptor, Double, Close, GiveDescriptor, Reply, exec, in_log, in_tables, joins, join_unless, lock_open, claims, claim_first, up_whom, drop_which, May, Honest, MayPut, MayJoin, IsWholeLog, After, KeepsWhole}
 use Rattle.buffer_cache.specs.declared.got.Got.TheVariants as got
 use Rattle.fs_machine.specs.declared.files.Want.TheVariants as want
 
-abbrev Kept : {A : Type 0} → Did A State → Type 0
+abbrev Kept : {A : Type 0} → ExecResult A State → Type 0
 Kept d = After (λ (t : State). IsWholeLog t.log) d
 
 -- a step on the tables alone
-tables_keep : {A : Type 0} (s : State) → IsWholeLog s.log → (d : Did A TablesState) → Kept (in_tables s d)
+tables_keep : {A : Type 0} (s : State) → IsWholeLog s.log → (d : ExecResult A TablesState) → Kept (in_tables s d)
 tables_keep s whole Waits = tt
 tables_keep s whole (Ran a t) = whole
 tables_keep s whole (Stops t) = whole
@@ -38,7 +38,7 @@ module _ (h : ℕ) (s : State) (whole : IsWholeLog s.log) where
   put_keeps b None may = leads.release b may.1
   put_keeps b (Some bytes) may = leads.put h h b bytes may.0 may.2.0 may.2.1 may.2.2 may.2.3 may.2.4
 
-  claims_keeps : (d : Did (Option ℕ) TablesState) → Kept (claims (in_tables s d))
+  claims_keeps : (d : ExecResult (Option ℕ) TablesState) → Kept (claims (in_tables s d))
   claims_keeps Waits = tt
   claims_keeps (Ran None t) = whole
   claims_keeps (Ran (Some n) t) = whole
@@ -70,7 +70,7 @@ keeps_whole h x (Lock n) s whole may honest = tables_keep s whole (lock_inode h 
 keeps_whole h x (LockFile w fd) s whole may honest = tables_keep s whole (lock_file h w fd s.tables)
 keeps_whole h x (LockOpen fd) s whole may honest = tables_keep s whole (lock_open h s.tables (file_named h fd s.tables))
 keeps_whole h x (Unlock v moved) s whole may honest = whole
-keeps_whole h x (Settle v) s whole may honest = tables_keep s whole (settle_inode h v s.tables)
+keeps_whole h x (SetDirectory v) s whole may honest = tables_keep s whole (settle_inode h v s.tables)
 keeps_whole h x (Up whom) s whole may honest = tables_keep s whole (up_whom h whom s.tables)
 keeps_whole h x (Claim b candidates) s whole may honest = claim_keeps h s whole b may (first_free s.tables.entries candidates)
 keeps_whole h x (Down drop) s whole may honest = tables_keep s whole (drop_which h drop s.tables)
@@ -79,5 +79,5 @@ keeps_whole h x TakePlace s whole may honest = tables_keep s whole (take_place h
 keeps_whole h x (TakeDescriptor n file) s whole may honest = tables_keep s whole (open_file h n file s.tables)
 keeps_whole h x (Double fd) s whole may honest = tables_keep s whole (double_descriptor h fd s.tables)
 keeps_whole h x (Close fd) s whole may honest = tables_keep s whole (shut_descriptor h fd s.tables)
-keeps_whole h x (Give child from) s whole may honest = tables_keep s whole (give_next h child from s.tables)
+keeps_whole h x (GiveDescriptor child from) s whole may honest = tables_keep s whole (give_next h child from s.tables)
 keeps_whole h x Reply s whole may honest = whole

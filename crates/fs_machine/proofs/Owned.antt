@@ -1,5 +1,5 @@
 -- No operation of a hart changes what is another's of the log.
-use Rattle.fs_machine.proofs.Vocabulary.{◌≡◌, ◌≢◌, inl, inr, ℕ, zero, suc, Bool, true, false, List, [], ◌∷◌, Option, Some, None, length, refl, sym, subst, ap, ◌∙◌, if◌then◌else◌, slice_get, slice_set, slice_get-set_other, get_of, SeatState, holder_of, with_seat, with_content, Got, has, joined, next_phase, group_in, phase_at_leave, limit_of, turn_is_out, seats_after, seats_at_fault, Halted, join_waits, pick, Did, Waits, Ran, Stops, OpenFile, Refused, TablesState, file_named, refusal_of, lock_inode, lock_file, settle_inode, up_inode, first_free, take_place, open_file, double_descriptor, shut_descriptor, give_next, LogPart, Outside, Passes, Fails, with_seats, join_if, got_by, read_block, put_block, commit_if, write_log, written, failed, LeavesOne, LeavesIt, State, Join, JoinToWrite, Leave, Get, Read, Put, Commit, Lock, LockFile, LockOpen, Unlock, Settle, Up, Claim, Down, CheckFile, TakePlace, TakeDescriptor, Double, Close, Give, Reply, exec, in_log, in_tables, joins, join_unless, lock_open, claims, claim_first, up_whom, drop_which, May, Honest, IsWholeLog, After, own_of, LeavesOwn}
+use Rattle.fs_machine.proofs.Vocabulary.{◌≡◌, ◌≢◌, inl, inr, ℕ, zero, suc, Bool, true, false, List, [], ◌∷◌, Option, Some, None, length, refl, sym, subst, ap, ◌∙◌, if◌then◌else◌, slice_get, slice_set, slice_get-set_other, get_of, SeatState, holder_of, with_seat, with_content, Got, has, joined, next_phase, group_in, phase_at_leave, limit_of, turn_is_out, seats_after, seats_at_fault, Halted, join_waits, pick, ExecResult, Waits, Ran, Stops, OpenFile, Refused, TablesState, file_named, refusal_of, lock_inode, lock_file, settle_inode, up_inode, first_free, take_place, open_file, double_descriptor, shut_descriptor, give_next, LogPart, Outside, Passes, Fails, with_seats, join_if, got_by, read_block, put_block, commit_if, write_log, written, failed, LeavesOne, LeavesIt, State, Join, JoinToWrite, Leave, Get, Read, Put, Commit, Lock, LockFile, LockOpen, Unlock, SetDirectory, Up, Claim, Down, CheckFile, TakePlace, TakeDescriptor, Double, Close, GiveDescriptor, Reply, exec, in_log, in_tables, joins, join_unless, lock_open, claims, claim_first, up_whom, drop_which, May, Honest, IsWholeLog, After, own_of, LeavesOwn}
 use Rattle.std.proofs.lemmas.List.{length-set}
 use Rattle.block_device.specs.Blocks.{block_at}
 use Rattle.buffer_cache.specs.declared.got.Got.TheVariants as got
@@ -24,11 +24,11 @@ module _ (h g : ℕ) (s : State) (ne : g ≢ h) (whole : IsWholeLog s.log) where
   abbrev l : LogPart
   l = s.log
 
-  abbrev Same : {A : Type 0} → Did A State → Type 0
+  abbrev Same : {A : Type 0} → ExecResult A State → Type 0
   Same d = After (λ (t : State). own_of g t.log ≡ own_of g l) d
 
   -- a step on the tables alone
-  tables_own : {A : Type 0} (d : Did A TablesState) → Same (in_tables s d)
+  tables_own : {A : Type 0} (d : ExecResult A TablesState) → Same (in_tables s d)
   tables_own Waits = tt
   tables_own (Ran a t) = refl
   tables_own (Stops t) = refl
@@ -66,7 +66,7 @@ module _ (h g : ℕ) (s : State) (ne : g ≢ h) (whole : IsWholeLog s.log) where
       (pick (has l.group b) (λ t. slice_get (if t then l.members else one_more l.members h) g ≡ slice_get l.members g) (λ _. refl) (λ _. one_more_other l.members h g ne))
       (same_put g b bytes l.seats (whole.cache.once b) (not_mine_held h g b l.seats ne out)) refl refl
 
-  claims_own : (d : Did (Option ℕ) TablesState) → Same (claims (in_tables s d))
+  claims_own : (d : ExecResult (Option ℕ) TablesState) → Same (claims (in_tables s d))
   claims_own Waits = tt
   claims_own (Ran None t) = refl
   claims_own (Ran (Some n) t) = refl
@@ -112,7 +112,7 @@ leaves_own h g x (Lock n) s ne whole may honest = tables_own h g s ne whole (loc
 leaves_own h g x (LockFile w fd) s ne whole may honest = tables_own h g s ne whole (lock_file h w fd s.tables)
 leaves_own h g x (LockOpen fd) s ne whole may honest = tables_own h g s ne whole (lock_open h s.tables (file_named h fd s.tables))
 leaves_own h g x (Unlock v moved) s ne whole may honest = refl
-leaves_own h g x (Settle v) s ne whole may honest = tables_own h g s ne whole (settle_inode h v s.tables)
+leaves_own h g x (SetDirectory v) s ne whole may honest = tables_own h g s ne whole (settle_inode h v s.tables)
 leaves_own h g x (Up whom) s ne whole may honest = tables_own h g s ne whole (up_whom h whom s.tables)
 leaves_own h g x (Claim b candidates) s ne whole may honest = claim_owns h g s ne whole b may.0 (first_free s.tables.entries candidates)
 leaves_own h g x (Down drop) s ne whole may honest = tables_own h g s ne whole (drop_which h drop s.tables)
@@ -121,5 +121,5 @@ leaves_own h g x TakePlace s ne whole may honest = tables_own h g s ne whole (ta
 leaves_own h g x (TakeDescriptor n file) s ne whole may honest = tables_own h g s ne whole (open_file h n file s.tables)
 leaves_own h g x (Double fd) s ne whole may honest = tables_own h g s ne whole (double_descriptor h fd s.tables)
 leaves_own h g x (Close fd) s ne whole may honest = tables_own h g s ne whole (shut_descriptor h fd s.tables)
-leaves_own h g x (Give child from) s ne whole may honest = tables_own h g s ne whole (give_next h child from s.tables)
+leaves_own h g x (GiveDescriptor child from) s ne whole may honest = tables_own h g s ne whole (give_next h child from s.tables)
 leaves_own h g x Reply s ne whole may honest = refl

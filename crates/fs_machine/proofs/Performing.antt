@@ -1,6 +1,6 @@
 -- What an operation says, by what its function of the core says.
 use Rattle.fs_machine.proofs.Vocabulary.{◌≡◌, ℕ, List, refl, sym, subst, inl, Waits as ItWaits, Core, Passes, state_of, exec, Honest, Hand, Op, Answer, HandFits, op_in, Performs}
-use Rattle.fs_machine.specs.declared.op.Did.TheVariants.{Waits}
+use Rattle.fs_machine.specs.declared.op.Performed.TheVariants.{Waits}
 
 module _ {D : Type 0} (contents : D → List (List ℕ)) (failures : D → ℕ) (Called : D → D → Type 0) where
   -- one that waits

@@ -1,5 +1,5 @@
 -- What each call of the log makes is what its operation makes.
-use Rattle.fs_machine.proofs.Vocabulary.{◌≡◌, ◌≢◌, ℕ, Bool, true, false, List, [], Option, Some, None, Result, Ok, Err, length, refl, sym, subst, ap, ◌∙◌, ◌↔◌, ◌⊎◌, slice_set, IsTrue, IsNone, IsSome, IfSome, OnOk, OnErr, unwrap_or, faults_after, GuardState, BufferState, get_of, IfHeld, IsHeld, seen, with_seat, with_content, with_pin, given_back, Got, Left, Phase, Open, Staging, Installing, Halted, Progress, joined, with_block, members_with, write_to, write_of, next_phase, group_in, phase_at_leave, LogState, limit_of, turn_is_out, seats_after, seats_at_fault, join_waits, left_at, progress_at, faults_at, IfMade, IfFailed, waits_same, Ran, Stops, TablesState, Core, part_of, Passes, Fails, join_if, got_by, with_seats, commit_if, is_open, join_log, leave_log, get_block, read_block, put_block, commit_log, LeavesIt, LeavesOne, written, IsOutsideLog, bytes_of, IsOwn, joined_as, got_as, IfGotNone, read_as, committed_as, said_read, said_written}
+use Rattle.fs_machine.proofs.Vocabulary.{◌≡◌, ◌≢◌, ℕ, Bool, true, false, List, [], Option, Some, None, Result, Ok, Err, length, refl, sym, subst, ap, ◌∙◌, ◌↔◌, ◌⊎◌, slice_set, IsTrue, IsNone, IsSome, IfSome, OnOk, OnErr, unwrap_or, faults_after, GuardState, BufferState, get_of, IfHeld, IsHeld, seen, with_seat, with_content, with_pin, given_back, Got, AfterLeave, Phase, Open, Staging, Installing, Halted, Progress, joined, with_block, members_with, write_to, write_of, next_phase, group_in, phase_at_leave, LogState, limit_of, turn_is_out, seats_after, seats_at_fault, join_waits, left_at, progress_at, faults_at, IfMade, IfFailed, waits_same, Ran, Stops, TablesState, Core, part_of, Passes, Fails, join_if, got_by, with_seats, commit_if, is_open, join_log, leave_log, get_block, read_block, put_block, commit_log, LeavesIt, LeavesOne, written, IsOutsideLog, bytes_of, IsOwn, joined_as, got_as, IfGotNone, read_as, committed_as, said_read, said_written}
 use Rattle.block_device.specs.Blocks.{block_at}
 use Rattle.buffer_cache.specs.declared.got.Got.TheVariants as got
 use Rattle.group_log.specs.declared.commit.Progress.TheVariants as progress
@@ -15,7 +15,7 @@ module _ {D : Type 0} (c : D → List (List ℕ)) (f : D → ℕ) (h : ℕ) (old
   join_ran None w joins = ap (join_if h (part_of c f old)) (w.0 refl)
   join_ran (Some t) w joins = ap (join_if h (part_of c f old)) (untrue _ w.1) ∙ ap (λ l. Ran tt (part_of c f l)) (sym joins.1)
 
-  pub leave_ran : (txn : ℕ) (r : Left) → txn ≡ h
+  pub leave_ran : (txn : ℕ) (r : AfterLeave) → txn ≡ h
       → new ≡ record old { members = slice_set old.members txn None; phase = phase_at_leave (joined (slice_set old.members txn None)) old.group }
       → r ≡ left_at (joined (slice_set old.members txn None)) old.group
       → leave_log h (part_of c f old) ≡ Ran r (part_of c f new)

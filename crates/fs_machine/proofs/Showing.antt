@@ -1,5 +1,5 @@
 -- What each operation makes of the blocks as they are seen.
-use Rattle.fs_machine.proofs.Vocabulary.{◌≡◌, ◌≢◌, inl, inr, ℕ, ◌<◌, ◌≤◌, ◌==◌, Bool, true, false, List, Option, Some, None, length, refl, sym, subst, ap, ◌∙◌, if◌then◌else◌, IsSome, is_some, IsOutsideLog, count_of, get_of, hart_count, SeatState, seat_of, holder_of, is_held_by, kept, seen_in, with_seat, with_pin, IsHeld, Got, sound_pin, GetLaws, get_laws, fill_laws, back_laws, change_laws, pin_keeps, pin_seen, joined, has, HasRoom, IsMember, IsSoundLog, limit_of, turn_is_out, join_waits, Phase, Open, Halted, room_to_pin, pinned_by_pin, open_of, under_way, Stands, write_stands, fault_stands, after_stands, guard_in, seat_in, kept_in, Did, Waits, Ran, Stops, OpenFile, Refused, TablesState, file_named, refusal_of, lock_inode, lock_file, settle_inode, up_inode, first_free, take_place, open_file, double_descriptor, shut_descriptor, give_next, LogPart, Outside, Passes, Fails, join_if, got_by, read_block, put_block, commit_if, written, LeavesIt, LeavesOne, State, Join, JoinToWrite, Leave, Get, Read, Put, Commit, Lock, LockFile, LockOpen, Unlock, Settle, Up, Claim, Down, CheckFile, TakePlace, TakeDescriptor, Double, Close, Give, Reply, exec, in_log, in_tables, joins, join_unless, lock_open, claims, claim_first, up_whom, drop_which, May, Honest, MayPut, seen_of, seen_with, ShowsItsPuts, IsWholeLog, After}
+use Rattle.fs_machine.proofs.Vocabulary.{◌≡◌, ◌≢◌, inl, inr, ℕ, ◌<◌, ◌≤◌, ◌==◌, Bool, true, false, List, Option, Some, None, length, refl, sym, subst, ap, ◌∙◌, if◌then◌else◌, IsSome, is_some, IsOutsideLog, count_of, get_of, hart_count, SeatState, seat_of, holder_of, is_held_by, kept, seen_in, with_seat, with_pin, IsHeld, Got, sound_pin, GetLaws, get_laws, fill_laws, back_laws, change_laws, pin_keeps, pin_seen, joined, has, HasRoom, IsMember, IsSoundLog, limit_of, turn_is_out, join_waits, Phase, Open, Halted, room_to_pin, pinned_by_pin, open_of, under_way, Stands, write_stands, fault_stands, after_stands, guard_in, seat_in, kept_in, ExecResult, Waits, Ran, Stops, OpenFile, Refused, TablesState, file_named, refusal_of, lock_inode, lock_file, settle_inode, up_inode, first_free, take_place, open_file, double_descriptor, shut_descriptor, give_next, LogPart, Outside, Passes, Fails, join_if, got_by, read_block, put_block, commit_if, written, LeavesIt, LeavesOne, State, Join, JoinToWrite, Leave, Get, Read, Put, Commit, Lock, LockFile, LockOpen, Unlock, SetDirectory, Up, Claim, Down, CheckFile, TakePlace, TakeDescriptor, Double, Close, GiveDescriptor, Reply, exec, in_log, in_tables, joins, join_unless, lock_open, claims, claim_first, up_whom, drop_which, May, Honest, MayPut, seen_of, seen_with, ShowsItsPuts, IsWholeLog, After}
 use Rattle.buffer_cache.specs.declared.got.Got.TheVariants as got
 use Rattle.fs_machine.specs.declared.files.Want.TheVariants as want
 
@@ -7,10 +7,10 @@ module _ (h : ℕ) (s : State) (whole : IsWholeLog s.log) where
   abbrev l : LogPart
   l = s.log
 
-  abbrev Still : {A : Type 0} → Did A State → Type 0
+  abbrev Still : {A : Type 0} → ExecResult A State → Type 0
   Still d = After (λ (t : State). (k : ℕ) → IsOutsideLog l.sizes k → seen_of t.log k ≡ seen_of l k) d
 
-  tables_show : {A : Type 0} (d : Did A TablesState) → Still (in_tables s d)
+  tables_show : {A : Type 0} (d : ExecResult A TablesState) → Still (in_tables s d)
   tables_show Waits = tt
   tables_show (Ran a t) = λ k out. refl
   tables_show (Stops t) = λ k out. refl
@@ -60,7 +60,7 @@ module _ (h : ℕ) (s : State) (whole : IsWholeLog s.log) where
   put_shows b None may k = (back_laws l.contents l.seats b whole.cache).seen k
   put_shows b (Some bytes) may k = recorded_shows b bytes may.0 may.2.0 may.2.1 may.2.2 may.2.4 k
 
-  claims_show : (d : Did (Option ℕ) TablesState) → Still (claims (in_tables s d))
+  claims_show : (d : ExecResult (Option ℕ) TablesState) → Still (claims (in_tables s d))
   claims_show Waits = tt
   claims_show (Ran None t) = λ k out. refl
   claims_show (Ran (Some n) t) = λ k out. refl
@@ -96,7 +96,7 @@ shows_its_puts h x (Lock n) s whole may honest = tables_show h s whole (lock_ino
 shows_its_puts h x (LockFile w fd) s whole may honest = tables_show h s whole (lock_file h w fd s.tables)
 shows_its_puts h x (LockOpen fd) s whole may honest = tables_show h s whole (lock_open h s.tables (file_named h fd s.tables))
 shows_its_puts h x (Unlock v moved) s whole may honest = λ k out. refl
-shows_its_puts h x (Settle v) s whole may honest = tables_show h s whole (settle_inode h v s.tables)
+shows_its_puts h x (SetDirectory v) s whole may honest = tables_show h s whole (settle_inode h v s.tables)
 shows_its_puts h x (Up whom) s whole may honest = tables_show h s whole (up_whom h whom s.tables)
 shows_its_puts h x (Claim b candidates) s whole may honest = claim_shows h s whole b (first_free s.tables.entries candidates)
 shows_its_puts h x (Down drop) s whole may honest = tables_show h s whole (drop_which h drop s.tables)
@@ -105,5 +105,5 @@ shows_its_puts h x TakePlace s whole may honest = tables_show h s whole (take_pl
 shows_its_puts h x (TakeDescriptor n file) s whole may honest = tables_show h s whole (open_file h n file s.tables)
 shows_its_puts h x (Double fd) s whole may honest = tables_show h s whole (double_descriptor h fd s.tables)
 shows_its_puts h x (Close fd) s whole may honest = tables_show h s whole (shut_descriptor h fd s.tables)
-shows_its_puts h x (Give child from) s whole may honest = tables_show h s whole (give_next h child from s.tables)
+shows_its_puts h x (GiveDescriptor child from) s whole may honest = tables_show h s whole (give_next h child from s.tables)
 shows_its_puts h x Reply s whole may honest = λ k out. refl

@@ -1,7 +1,7 @@
 -- A step of a control: its program's next operation.
-use Rattle.fs_machine.proofs.Vocabulary.{◌≡◌, ℕ, Option, Some, None, refl, sym, ap, ◌∙◌, subst, option_map, Ret, Do, asks, advance, OfNext, WentOn, StillWaits, Broke, Waits, Ran, Stops, GuardState, Inode, Kind, Outside, State, exec, kind_of, P, IsOwn, IsLocked, IsOut, IfSome, slice_get, First, Second, Hand, Place, Seat, One, Two, Op, Record, UnlockMoving, UpAside, UpDirectory, DownWalked, LockListed, DownFreed, GiveTo, Answer, HandFits, buffer_at, with_buffer, inode_at, op_in, Prepared, IsAfter, Goes, bare, without_record}
+use Rattle.fs_machine.proofs.Vocabulary.{◌≡◌, ℕ, Option, Some, None, refl, sym, ap, ◌∙◌, subst, option_map, Ret, Do, asks, advance, OfNext, WentOn, StillWaits, Broke, Waits, Ran, Stops, GuardState, Inode, Kind, Outside, State, exec, kind_of, P, IsOwn, IsLocked, IsOut, IfSome, slice_get, First, Second, Hand, Place, InodePlace, One, Two, Op, Record, UnlockMoving, UpAside, UpDirectory, DownWalked, LockListed, DownFreed, GiveTo, Answer, HandFits, buffer_at, with_buffer, inode_at, op_in, Prepared, IsAfter, Goes, bare, without_record}
 use Rattle.fs_machine.specs.Steps as steps
-use Rattle.fs_machine.specs.declared.op.Op.TheVariants.{Join, JoinToWrite, Leave, Commit, Get, Read, Give, Lock, LockFile, LockOpen, Unlock, Settle, Up, Down, CheckFile, TakePlace, TakeDescriptor, Double, Close, Claim, Reply}
+use Rattle.fs_machine.specs.declared.op.Op.TheVariants.{Join, JoinToWrite, Leave, Commit, Get, Read, Give, Lock, LockFile, LockOpen, Unlock, SetDirectory, Up, Down, CheckFile, TakePlace, TakeDescriptor, Double, Close, Claim, Reply}
 use Rattle.fs_machine.specs.Hands.{with_content}
 use Rattle.fs_machine.proofs.Fits.{buffer-again, stay}
 
@@ -53,7 +53,7 @@ after-prepared (JoinToWrite fd) before h k' a same after = subst (λ (b : Hand).
 after-prepared (LockFile k w fd) before h k' a same after = subst (λ (b : Hand). IsAfter (LockFile k w fd) b a k') same after
 after-prepared (LockOpen k fd) before h k' a same after = subst (λ (b : Hand). IsAfter (LockOpen k fd) b a k') same after
 after-prepared (UnlockMoving k fd offset) before h k' a same after = subst (λ (b : Hand). IsAfter (UnlockMoving k fd offset) b a k') same after
-after-prepared (Settle k) before h k' a same after = subst (λ (b : Hand). IsAfter (Settle k) b a k') same after
+after-prepared (SetDirectory k) before h k' a same after = subst (λ (b : Hand). IsAfter (SetDirectory k) b a k') same after
 after-prepared (UpDirectory k) before h k' a same after = subst (λ (b : Hand). IsAfter (UpDirectory k) b a k') same after
 after-prepared (DownWalked k) before h k' a same after = subst (λ (b : Hand). IsAfter (DownWalked k) b a k') same after
 after-prepared (LockListed k) before h k' a same after = subst (λ (b : Hand). IsAfter (LockListed k) b a k') same after
@@ -86,7 +86,7 @@ prepared-waits (JoinToWrite fd) hart x s before h same did = same
 prepared-waits (LockFile k w fd) hart x s before h same did = same
 prepared-waits (LockOpen k fd) hart x s before h same did = same
 prepared-waits (UnlockMoving k fd offset) hart x s before h same did = same
-prepared-waits (Settle k) hart x s before h same did = same
+prepared-waits (SetDirectory k) hart x s before h same did = same
 prepared-waits (UpDirectory k) hart x s before h same did = same
 prepared-waits (DownWalked k) hart x s before h same did = same
 prepared-waits (LockListed k) hart x s before h same did = same
@@ -118,7 +118,7 @@ prepared-stops (JoinToWrite fd) hart x s t before h same did = same
 prepared-stops (LockFile k w fd) hart x s t before h same did = same
 prepared-stops (LockOpen k fd) hart x s t before h same did = same
 prepared-stops (UnlockMoving k fd offset) hart x s t before h same did = same
-prepared-stops (Settle k) hart x s t before h same did = same
+prepared-stops (SetDirectory k) hart x s t before h same did = same
 prepared-stops (UpDirectory k) hart x s t before h same did = same
 prepared-stops (DownWalked k) hart x s t before h same did = same
 prepared-stops (LockListed k) hart x s t before h same did = same
@@ -143,7 +143,7 @@ stripped : (g : GuardState Inode) (o : Option (GuardState Inode)) → option_map
 stripped g None e = absurd (cc e)
 stripped g (Some f) e = (let same : without_record f ≡ without_record g = cc e in record { guard = f; there = refl; same = sym same })
 
-bare-inode : (k : Seat) (h : Hand) → inode_at k (bare h) ≡ option_map without_record (inode_at k h)
+bare-inode : (k : InodePlace) (h : Hand) → inode_at k (bare h) ≡ option_map without_record (inode_at k h)
 bare-inode One h = refl
 bare-inode Two h = refl
 
@@ -172,7 +172,7 @@ bare-fits hart s old new e f = record {
   };
 }
   where
-    was : (k : Seat) (g : GuardState Inode) → inode_at k new ≡ Some g → Stripped g (inode_at k old)
+    was : (k : InodePlace) (g : GuardState Inode) → inode_at k new ≡ Some g → Stripped g (inode_at k old)
     was k g is = stripped g (inode_at k old) (sym (bare-inode k old) ∙ sym (ap (inode_at k) e) ∙ bare-inode k new ∙ ap (option_map without_record) is)
 
     renewed : (g j : GuardState Inode) (s : State) → without_record g ≡ without_record j → IsLocked j s.tables → IsLocked g s.tables

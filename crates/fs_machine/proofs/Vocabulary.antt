@@ -3,13 +3,13 @@ pub use Rattle.group_log.proofs.Vocabulary.{Bool, BufferState, Err, GetLaws, Gua
 unfoldable pub use Rattle.group_log.proofs.Vocabulary.{get_of}
 pub use Rattle.buffer_cache.proofs.Vocabulary.{IfHeld, IfSome, OnErr, OnOk, SlotState, filled, get_or_from_slice_get, is_count_by, is_out, length-set, lock_at as lock_row_at, none-some, position, position_or_len, row_of, same_Some, set_same, slice_get-set_other, slice_get-set_same, slice_get_within, ◌↔◌}
 unfoldable pub use Rattle.buffer_cache.proofs.Vocabulary.{IsOut, lock_of, unlocked}
-pub use Rattle.fs_machine.specs.Vocabulary.{Did, Dinode, Do, OfNext, Ran, Ret, Stops, Waits, advance, asks, did_in, hart_count, list_any, once, option_map_or, taken, turn_is_out, unmarked}
+pub use Rattle.fs_machine.specs.Vocabulary.{ExecResult, Dinode, Do, OfNext, Ran, Ret, Stops, Waits, advance, asks, exec_result_in, hart_count, list_any, once, option_map_or, taken, turn_is_out, unmarked}
 pub use Rattle.sleep_lock.proofs.Vocabulary.{emptied, guard_of}
 unfoldable pub use Rattle.sleep_lock.proofs.Vocabulary.{IsNumbered}
 pub use Rattle.atomic_programs.proofs.Vocabulary.{Broke, StillWaits, WentOn, bind, set-set}
 pub use Rattle.fs_machine.specs.Tables.{TablesState, file_in, file_named, holder_at, holder_in, holder_of as lock_holder, is_file_of, is_for, is_unused, one_less, one_more, open_at, place_named, place_of, references_at, references_in, references_of}
 pub use Rattle.fs_machine.specs.declared.entries.Inode.{Inode}
-pub use Rattle.fs_machine.specs.Steps.{CheckFile, Claim, Close, Commit, Directory, Double, Down, Drop, Freed, Get, Give, Held, Join, JoinToWrite, Leave, Lock, LockFile, LockOpen, Number, Put, Read, RefusesJoin, Reply, Settle, State, TakeDescriptor, TakePlace, Unlock, Up, Walked, Whom, claim_first, claims, drop_which, in_log, in_tables, join_unless, joins, kind_of, lock_open, state_of, up_whom, with_open}
+pub use Rattle.fs_machine.specs.Steps.{CheckFile, Claim, Close, Commit, Directory, Double, Down, Drop, Freed, Get, GiveDescriptor, Held, Join, JoinToWrite, Leave, Lock, LockFile, LockOpen, Number, Put, Read, RefusesJoin, Reply, SetDirectory, State, TakeDescriptor, TakePlace, Unlock, Up, Walked, Whom, claim_first, claims, drop_which, in_log, in_tables, join_unless, joins, kind_of, lock_open, state_of, up_whom, with_open}
 unfoldable pub use Rattle.fs_machine.specs.Steps.{exec}
 pub use Rattle.fs_machine.specs.declared.entries.Entry.{Entry}
 pub use Rattle.fs_machine.specs.declared.hand.Hand.{Hand}
@@ -34,12 +34,12 @@ pub use Rattle.fs_machine.specs.Hands.{AreOwn, HandFits, block_at, buffer_at, by
 pub use Rattle.fs_machine.specs.Tied.{IsOwn, IsOwnInode, IsTied, LeavesTied, bytes_of}
 pub use Rattle.fs_machine.specs.Whole.{After, IsWholeLog, KeepsWhole}
 pub use Rattle.fs_machine.specs.declared.hand.Place.TheVariants.{First, Second}
-pub use Rattle.fs_machine.specs.declared.hand.Seat.{Seat}
-pub use Rattle.fs_machine.specs.declared.hand.Seat.TheVariants.{One, Two}
+pub use Rattle.fs_machine.specs.declared.hand.InodePlace.{InodePlace}
+pub use Rattle.fs_machine.specs.declared.hand.InodePlace.TheVariants.{One, Two}
 pub use Rattle.fs_machine.specs.declared.shared.Core.{Core}
 pub use Rattle.group_log.proofs.Seats.{first_passes, others_given_back, pick, seat_changed, seat_given_back, seat_of_others}
 pub use Rattle.std.proofs.lemmas.Option.{slice_get-get_or}
-pub use Rattle.fs_machine.specs.Did.{IfGotNone, committed_as, got_as, joined_as, read_as, said_read, said_written}
+pub use Rattle.fs_machine.specs.Performed.{IfGotNone, committed_as, got_as, joined_as, read_as, said_read, said_written}
 pub use Rattle.fs_machine.specs.Fetching.{FetchEnds, fetch_block, fetch_left, fetched_bytes}
 pub use Rattle.fs_machine.specs.Ops.{IsAfter, IsClaimed, Prepared, content_at, left_by, op_in, yes_in}
 unfoldable pub use Rattle.fs_machine.specs.Ops.{answer_in}
@@ -77,6 +77,6 @@ pub use Rattle.std.proofs.Common.{IfNone, IsTrue, find, ⊎_elim}
 pub use Rattle.std.specs.Prelude.{IsNone, count_by}
 pub use Rattle.buffer_cache.specs.declared.got.Got.{Got}
 pub use Rattle.group_log.specs.declared.commit.Progress.{Progress}
-pub use Rattle.group_log.specs.declared.log.Left.{Left}
+pub use Rattle.group_log.specs.declared.log.AfterLeave.{AfterLeave}
 pub use Rattle.group_log.specs.declared.phase.Phase.{Phase}
 pub use Rattle.group_log.specs.declared.phase.Phase.TheVariants.{Halted, Installing, Open, Staging}

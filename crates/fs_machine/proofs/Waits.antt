@@ -1,5 +1,5 @@
 -- Where an operation waits, it may.
-use Rattle.fs_machine.proofs.Vocabulary.{◌≡◌, ◌≢◌, ◌+◌, ◌<◌, ◌≤◌, ◌==◌, ℕ, zero, suc, Bool, true, false, List, [], ◌∷◌, Option, Some, None, length, refl, sym, subst, ap, ◌∙◌, arith, MatchOption, IsSome, cond, count_by, slice_get, nat_tests, is_count_by, SlotState, GuardState, guard_of, lock_of, get_of, SeatState, holder_of, Got, get_laws, joined, pick, limit_of, turn_is_out, join_waits, Did, Waits, Ran, Stops, did_in, Dinode, Entry, Inode, FilePlace, Free, Taken, NewFile, OpenFile, Refused, Want, IsSoundInodes, InsideFits, TablesState, is_unused, place_of, place_named, references_of, references_in, file_named, file_in, open_at, is_file_of, lock_holder, refusal_of, lock_inode, lock_at, lock_file, lock_unless, with_file, settle_inode, up_inode, up_by, up_new, up_directory, drop_inode, drop_at, drop_dying, dying, drop_walked, walked_at, walked_dying, drop_freed, freed_at as uncounted_freed, first_free, take_place, take_at, open_file, open_in, open_by, double_descriptor, double_at, double_to, shut_descriptor, shut_at, freed_if, give_next, give_by, give_at, given_directory, is_free, hand_of, descriptors_of, first_empty, next_full, LogPart, Outside, Passes, Fails, join_if, got_by as block_got, read_block, commit_if, write_log, State, Join, JoinToWrite, Leave, Get, Read, Put, Commit, Lock, LockFile, LockOpen, Unlock, Settle, Up, Claim, Down, CheckFile, TakePlace, TakeDescriptor, Double, Close, Give, Reply, Whom, Number, Directory, Drop, Held, Walked, Freed, exec, in_log, in_tables, joins, join_unless, with_open, lock_open, claims, claim_first, up_whom, drop_which, May, MayLockFile, MayLockOpen, MayWait, IsElsewhere, JoinWaits, IsCounted, WaitsWhereItMay}
+use Rattle.fs_machine.proofs.Vocabulary.{◌≡◌, ◌≢◌, ◌+◌, ◌<◌, ◌≤◌, ◌==◌, ℕ, zero, suc, Bool, true, false, List, [], ◌∷◌, Option, Some, None, length, refl, sym, subst, ap, ◌∙◌, arith, MatchOption, IsSome, cond, count_by, slice_get, nat_tests, is_count_by, SlotState, GuardState, guard_of, lock_of, get_of, SeatState, holder_of, Got, get_laws, joined, pick, limit_of, turn_is_out, join_waits, ExecResult, Waits, Ran, Stops, exec_result_in, Dinode, Entry, Inode, FilePlace, Free, Taken, NewFile, OpenFile, Refused, Want, IsSoundInodes, InsideFits, TablesState, is_unused, place_of, place_named, references_of, references_in, file_named, file_in, open_at, is_file_of, lock_holder, refusal_of, lock_inode, lock_at, lock_file, lock_unless, with_file, settle_inode, up_inode, up_by, up_new, up_directory, drop_inode, drop_at, drop_dying, dying, drop_walked, walked_at, walked_dying, drop_freed, freed_at as uncounted_freed, first_free, take_place, take_at, open_file, open_in, open_by, double_descriptor, double_at, double_to, shut_descriptor, shut_at, freed_if, give_next, give_by, give_at, given_directory, is_free, hand_of, descriptors_of, first_empty, next_full, LogPart, Outside, Passes, Fails, join_if, got_by as block_got, read_block, commit_if, write_log, State, Join, JoinToWrite, Leave, Get, Read, Put, Commit, Lock, LockFile, LockOpen, Unlock, SetDirectory, Up, Claim, Down, CheckFile, TakePlace, TakeDescriptor, Double, Close, GiveDescriptor, Reply, Whom, Number, Directory, Drop, Held, Walked, Freed, exec, in_log, in_tables, joins, join_unless, with_open, lock_open, claims, claim_first, up_whom, drop_which, May, MayLockFile, MayLockOpen, MayWait, IsElsewhere, JoinWaits, IsCounted, WaitsWhereItMay}
 use Rattle.std.specs.Prelude.{position}
 use Rattle.buffer_cache.specs.declared.got.Got.TheVariants as got
 use Rattle.fs_machine.specs.declared.files.FilePlace.TheVariants.{Open}
@@ -14,12 +14,12 @@ elsewhere h None some ne = absurd (cc some)
 elsewhere h (Some g) some ne = (g, λ e. ne (ap (λ n. Some n) e), refl)
 
 -- a part's operation waits where the whole's does
-within_waits : {A S T : Type 0} (into : S → T) (d : Did A S) → did_in into d ≡ Waits → d ≡ Waits
+within_waits : {A S T : Type 0} (into : S → T) (d : ExecResult A S) → exec_result_in into d ≡ Waits → d ≡ Waits
 within_waits into Waits e = refl
 within_waits into (Ran a s) e = absurd (cc e)
 within_waits into (Stops s) e = absurd (cc e)
 
-abbrev Never : {A : Type 0} → Did A TablesState → Type 0
+abbrev Never : {A : Type 0} → ExecResult A TablesState → Type 0
 Never d = d ≡ Waits → ⊥
 
 -- ---- what never waits
@@ -209,7 +209,7 @@ file_counted h fd t f all_counted is = at (place_named h fd t) is
         let all = all_counted f.number in
         omega (arith, one, all)
 
-open_waits : (f : OpenFile) (d : Did (Option Dinode) TablesState) → with_open f d ≡ Waits → d ≡ Waits
+open_waits : (f : OpenFile) (d : ExecResult (Option Dinode) TablesState) → with_open f d ≡ Waits → d ≡ Waits
 open_waits f Waits e = refl
 open_waits f (Ran a t) e = absurd (cc e)
 open_waits f (Stops t) e = absurd (cc e)
@@ -222,7 +222,7 @@ opens_wait h fd t sound counted may e = at (file_named h fd t) refl may e
     at None is ne z = ne
     at (Some f) is ne z = elsewhere h (lock_holder f.number t) (lock_is_out h f.number t sound (file_counted h fd t f counted is) (open_waits f (lock_inode h f.number t) z)) ne.1
 
-with_waits : (f : OpenFile) (d : Did (Option Dinode) TablesState) → with_file f d ≡ Waits → d ≡ Waits
+with_waits : (f : OpenFile) (d : ExecResult (Option Dinode) TablesState) → with_file f d ≡ Waits → d ≡ Waits
 with_waits f Waits e = refl
 with_waits f (Ran a t) e = absurd (cc e)
 with_waits f (Stops t) e = absurd (cc e)
@@ -246,7 +246,7 @@ join_waits_for : (h : ℕ) (l : LogPart) (b : Bool) → join_if h l b ≡ Waits 
 join_waits_for h l true e = refl
 join_waits_for h l false e = absurd (cc e)
 
-joins_waits : (f : OpenFile) (d : Did (Unit {0}) State) → joins f d ≡ Waits → d ≡ Waits
+joins_waits : (f : OpenFile) (d : ExecResult (Unit {0}) State) → joins f d ≡ Waits → d ≡ Waits
 joins_waits f Waits e = refl
 joins_waits f (Ran a s) e = absurd (cc e)
 joins_waits f (Stops s) e = absurd (cc e)
@@ -277,7 +277,7 @@ commit_waits_for : (x : Outside) (l : LogPart) (b : Bool) → commit_if x l b �
 commit_waits_for x l true e = refl
 commit_waits_for x l false e = absurd (write_never x l e)
 
-claims_never : (d : Did (Option ℕ) State) → claims d ≡ Waits → d ≡ Waits
+claims_never : (d : ExecResult (Option ℕ) State) → claims d ≡ Waits → d ≡ Waits
 claims_never Waits e = refl
 claims_never (Ran None s) e = absurd (cc e)
 claims_never (Ran (Some n) s) e = absurd (cc e)
@@ -288,10 +288,10 @@ claim_never h b s None e = cc e
 claim_never h b s (Some n) e = up_never n s.tables (within_waits (λ t. record s { tables = t }) (up_inode n s.tables) (claims_never (in_tables s (up_inode n s.tables)) e))
 
 module _ (s : State) where
-  of_tables : {A : Type 0} (d : Did A TablesState) → in_tables s d ≡ Waits → d ≡ Waits
+  of_tables : {A : Type 0} (d : ExecResult A TablesState) → in_tables s d ≡ Waits → d ≡ Waits
   of_tables d e = within_waits (λ t. record s { tables = t }) d e
 
-  of_log : {A : Type 0} (d : Did A LogPart) → in_log s d ≡ Waits → d ≡ Waits
+  of_log : {A : Type 0} (d : ExecResult A LogPart) → in_log s d ≡ Waits → d ≡ Waits
   of_log d e = within_waits (λ l. record s { log = l }) d e
 
 pub waits_where_it_may : WaitsWhereItMay
@@ -309,7 +309,7 @@ waits_where_it_may h x (Lock n) s whole sound counted may e = elsewhere h (lock_
 waits_where_it_may h x (LockFile w fd) s whole sound counted may e = file_waits h fd w s.tables sound.inodes counted may.1 (of_tables s (lock_file h w fd s.tables) e)
 waits_where_it_may h x (LockOpen fd) s whole sound counted may e = opens_wait h fd s.tables sound.inodes counted may.1 (of_tables s (lock_open h s.tables (file_named h fd s.tables)) e)
 waits_where_it_may h x (Unlock v moved) s whole sound counted may e = cc e
-waits_where_it_may h x (Settle v) s whole sound counted may e = settle_never h v s.tables (of_tables s (settle_inode h v s.tables) e)
+waits_where_it_may h x (SetDirectory v) s whole sound counted may e = settle_never h v s.tables (of_tables s (settle_inode h v s.tables) e)
 waits_where_it_may h x (Up whom) s whole sound counted may e = up_whom_never h whom s.tables (of_tables s (up_whom h whom s.tables) e)
 waits_where_it_may h x (Claim b candidates) s whole sound counted may e = claim_never h b s (first_free s.tables.entries candidates) e
 waits_where_it_may h x (Down drop) s whole sound counted may e = drop_never h drop s.tables (of_tables s (drop_which h drop s.tables) e)
@@ -318,5 +318,5 @@ waits_where_it_may h x TakePlace s whole sound counted may e = place_never h s.t
 waits_where_it_may h x (TakeDescriptor n file) s whole sound counted may e = open_never h n file s.tables (of_tables s (open_file h n file s.tables) e)
 waits_where_it_may h x (Double fd) s whole sound counted may e = double_never h fd s.tables (of_tables s (double_descriptor h fd s.tables) e)
 waits_where_it_may h x (Close fd) s whole sound counted may e = shut_never h fd s.tables (of_tables s (shut_descriptor h fd s.tables) e)
-waits_where_it_may h x (Give child from) s whole sound counted may e = give_never h child from s.tables (of_tables s (give_next h child from s.tables) e)
+waits_where_it_may h x (GiveDescriptor child from) s whole sound counted may e = give_never h child from s.tables (of_tables s (give_next h child from s.tables) e)
 waits_where_it_may h x Reply s whole sound counted may e = cc e

@@ -1,10 +1,10 @@
 -- What a claim stands for.
-use Rattle.fs_machine.specs.Vocabulary.{GuardState, BufferState, Did, Ran}
+use Rattle.fs_machine.specs.Vocabulary.{GuardState, BufferState, ExecResult, Ran}
 use Rattle.fs_machine.specs.Steps.{ClaimResult as ClaimedState, Claims, NoPlace as HasNoPlace, NoInode as HasNoInode}
 use Rattle.fs_machine.specs.declared.inodes.Claim.{Claim}
 use Rattle.fs_machine.specs.declared.inodes.Claim.TheVariants.{Claimed, NoPlace, NoInode}
 
-abbrev pub claimed_as : {S : Type 0} → Claim → S → Did ClaimedState S
+abbrev pub claimed_as : {S : Type 0} → Claim → S → ExecResult ClaimedState S
 claimed_as (Claimed n guard) s = Ran (Claims n) s
 claimed_as (NoPlace guard) s = Ran HasNoPlace s
 claimed_as NoInode s = Ran HasNoInode s

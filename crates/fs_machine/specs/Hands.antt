@@ -7,8 +7,8 @@ use Rattle.fs_machine.specs.Tied.{IsOwn, IsOwnInode, bytes_of}
 use Rattle.fs_machine.specs.declared.hand.Hand.{Hand}
 use Rattle.fs_machine.specs.declared.hand.Place.{Place}
 use Rattle.fs_machine.specs.declared.hand.Place.TheVariants.{First, Second}
-use Rattle.fs_machine.specs.declared.hand.Seat.{Seat}
-use Rattle.fs_machine.specs.declared.hand.Seat.TheVariants.{One, Two}
+use Rattle.fs_machine.specs.declared.hand.InodePlace.{InodePlace}
+use Rattle.fs_machine.specs.declared.hand.InodePlace.TheVariants.{One, Two}
 
 -- nothing
 abbrev pub empty_hand : Hand
@@ -46,19 +46,19 @@ abbrev pub with_buffer : Place → Option (GuardState BufferState) → Hand → 
 with_buffer First o h = record h { first = o }
 with_buffer Second o h = record h { second = o }
 
-abbrev pub inode_at : Seat → Hand → Option (GuardState Inode)
+abbrev pub inode_at : InodePlace → Hand → Option (GuardState Inode)
 inode_at One h = h.one
 inode_at Two h = h.two
 
-abbrev pub with_inode : Seat → Option (GuardState Inode) → Hand → Hand
+abbrev pub with_inode : InodePlace → Option (GuardState Inode) → Hand → Hand
 with_inode One o h = record h { one = o }
 with_inode Two o h = record h { two = o }
 
-abbrev pub reference_at : Seat → Hand → Option ℕ
+abbrev pub reference_at : InodePlace → Hand → Option ℕ
 reference_at One h = h.to_one
 reference_at Two h = h.to_two
 
-abbrev pub with_reference : Seat → Option ℕ → Hand → Hand
+abbrev pub with_reference : InodePlace → Option ℕ → Hand → Hand
 with_reference One o h = record h { to_one = o }
 with_reference Two o h = record h { to_two = o }
 
@@ -67,7 +67,7 @@ abbrev pub with_aside : Option ℕ → Hand → Hand
 with_aside r h = record h { aside = r }
 
 -- it comes to a seat
-abbrev pub with_seated : Seat → Hand → Hand
+abbrev pub with_seated : InodePlace → Hand → Hand
 with_seated k h = with_reference k h.aside (with_aside None h)
 
 -- the references that wait for the call's end, and the first of them
@@ -82,7 +82,7 @@ abbrev pub first_listed : Hand → ℕ
 first_listed h = first_in h.listed
 
 -- it comes to a seat
-abbrev pub with_first : Seat → Hand → Hand
+abbrev pub with_first : InodePlace → Hand → Hand
 with_first k h = with_reference k (Some (first_listed h)) (with_listed (drop 1 h.listed) h)
 
 abbrev pub with_txn : Option ℕ → Hand → Hand
@@ -99,17 +99,17 @@ bytes_at p h = option_map_or bytes_of (buffer_at p h) []
 abbrev pub no_inode : Inode
 no_inode = record { number = 0; content = None }
 
-abbrev pub inode_in : Seat → Hand → Inode
+abbrev pub inode_in : InodePlace → Hand → Inode
 inode_in k h = option_map_or (λ (g : GuardState Inode). g.value) (inode_at k h) no_inode
 
-abbrev pub number_at : Seat → Hand → ℕ
+abbrev pub number_at : InodePlace → Hand → ℕ
 number_at k h = unwrap_or (reference_at k h) 0
 
 -- a guard with this record
 abbrev pub recorded : Dinode → GuardState Inode → GuardState Inode
 recorded d g = record g { value = record g.value { content = Some d } }
 
-abbrev pub with_record : Seat → Dinode → Hand → Hand
+abbrev pub with_record : InodePlace → Dinode → Hand → Hand
 with_record k d h = with_inode k (option_map (recorded d) (inode_at k h)) h
 
 -- a guard with these bytes

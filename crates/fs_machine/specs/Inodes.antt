@@ -1,6 +1,6 @@
 -- What a step makes of the inodes in memory.
 use Rattle.std.specs.Prelude.{ℕ, ◌==◌, if◌then◌else◌, nat_lt, ℤ, pos, negsuc, List, Bool, true, false, Option, Some, None, is_none, find, position, slice_get, slice_set}
-use Rattle.fs_machine.specs.Vocabulary.{Dinode, SlotState, GuardState, filled, taken, lock_of, Did, Waits, Ran, Stops}
+use Rattle.fs_machine.specs.Vocabulary.{Dinode, SlotState, GuardState, filled, taken, lock_of, ExecResult, Waits, Ran, Stops}
 use Rattle.fs_machine.specs.declared.entries.Inode.{Inode}
 use Rattle.fs_machine.specs.declared.entries.Entry.{Entry}
 use Rattle.fs_machine.specs.declared.files.OpenFile.{OpenFile}
@@ -16,16 +16,16 @@ use Rattle.fs_machine.specs.Tables.{TablesState, is_unused, place_of, one_more, 
 
 -- ---- locks
 
-abbrev pub got_by : TablesState → List (SlotState Inode) × Option (GuardState Inode) → Did (Option Dinode) TablesState
+abbrev pub got_by : TablesState → List (SlotState Inode) × Option (GuardState Inode) → ExecResult (Option Dinode) TablesState
 got_by t (locks, None) = Waits
 got_by t (locks, Some guard) = Ran guard.value.content (record t { locks = locks })
 
-abbrev pub lock_at : ℕ → TablesState → Option ℕ → Did (Option Dinode) TablesState
+abbrev pub lock_at : ℕ → TablesState → Option ℕ → ExecResult (Option Dinode) TablesState
 lock_at h t None = Waits
 lock_at h t (Some k) = got_by t (lock_of t.locks k h)
 
 -- the lock of a referenced inode is taken, and what is loaded of it answered; it waits where that is out
-unfoldable pub lock_inode : ℕ → ℕ → TablesState → Did (Option Dinode) TablesState
+unfoldable pub lock_inode : ℕ → ℕ → TablesState → ExecResult (Option Dinode) TablesState
 lock_inode h n t = lock_at h t (place_of n t.entries)
 
 -- what is answered of a descriptor's file
@@ -51,18 +51,18 @@ refusal_of want.Stat (Some f) = None
 refusal_of want.Read (Some f) = mode_refuses f.readable f
 refusal_of want.Write (Some f) = mode_refuses f.writable f
 
-abbrev pub with_file : OpenFile → Did (Option Dinode) TablesState → Did LockedState TablesState
+abbrev pub with_file : OpenFile → ExecResult (Option Dinode) TablesState → ExecResult LockedState TablesState
 with_file f Waits = Waits
 with_file f (Ran content t) = Ran (Locks f content) t
 with_file f (Stops t) = Stops t
 
-abbrev pub lock_unless : ℕ → TablesState → Option OpenFile → Option Refused → Did LockedState TablesState
+abbrev pub lock_unless : ℕ → TablesState → Option OpenFile → Option Refused → ExecResult LockedState TablesState
 lock_unless h t f (Some why) = Ran (Refuses why) t
 lock_unless h t None None = Waits
 lock_unless h t (Some f) None = with_file f (lock_inode h f.number t)
 
 -- the lock of the inode that a descriptor names
-unfoldable pub lock_file : ℕ → Want → ℕ → TablesState → Did LockedState TablesState
+unfoldable pub lock_file : ℕ → Want → ℕ → TablesState → ExecResult LockedState TablesState
 lock_file h w fd t = lock_unless h t (file_named h fd t) (refusal_of w (file_named h fd t))
 
 abbrev pub unlock_at : Inode → TablesState → Option ℕ → TablesState
@@ -100,16 +100,16 @@ begun_at n k t =
       locks = slice_set t.locks k (filled k (record { number = n; content = None }));
     }
 
-abbrev pub up_new : ℕ → TablesState → Option ℕ → Did (Option ℕ) TablesState
+abbrev pub up_new : ℕ → TablesState → Option ℕ → ExecResult (Option ℕ) TablesState
 up_new n t None = Ran None t
 up_new n t (Some k) = Ran (Some n) (begun_at n k t)
 
-abbrev pub up_by : ℕ → TablesState → Option ℕ → Did (Option ℕ) TablesState
+abbrev pub up_by : ℕ → TablesState → Option ℕ → ExecResult (Option ℕ) TablesState
 up_by n t None = up_new n t (position is_unused t.entries)
 up_by n t (Some k) = Ran (Some n) (counted_at k t)
 
 -- one reference more to an inode; None where each of the fifty places is referred to
-unfoldable pub up_inode : ℕ → TablesState → Did (Option ℕ) TablesState
+unfoldable pub up_inode : ℕ → TablesState → ExecResult (Option ℕ) TablesState
 up_inode n t = up_by n t (place_of n t.entries)
 
 abbrev pub directory_of : Option Desk → ℕ
@@ -117,7 +117,7 @@ directory_of None = 0
 directory_of (Some d) = d.directory
 
 -- the same, to the hart's current directory
-unfoldable pub up_directory : ℕ → TablesState → Did (Option ℕ) TablesState
+unfoldable pub up_directory : ℕ → TablesState → ExecResult (Option ℕ) TablesState
 up_directory h t = up_inode (directory_of (slice_get t.desks h)) t
 
 -- an inode that is loaded, and has no link
@@ -148,46 +148,46 @@ pub data DroppedState : Type 0 where
 abbrev pub uncounted_at : ℕ → TablesState → TablesState
 uncounted_at k t = record t { entries = change_at k one_less t.entries }
 
-abbrev pub drop_dying : ℕ → ℕ → ℕ → TablesState → Option Dinode → Did DroppedState TablesState
+abbrev pub drop_dying : ℕ → ℕ → ℕ → TablesState → Option Dinode → ExecResult DroppedState TablesState
 drop_dying h n k t None = Ran Counts (uncounted_at k t)
 drop_dying h n k t (Some d) = Ran (Dies n (Some d)) (record t { locks = change_at k (λ s. taken s h) t.locks })
 
-abbrev pub drop_at : ℕ → ℕ → TablesState → Option ℕ → Did DroppedState TablesState
+abbrev pub drop_at : ℕ → ℕ → TablesState → Option ℕ → ExecResult DroppedState TablesState
 drop_at h n t None = Ran Counts t
 drop_at h n t (Some k) = drop_dying h n k t (dying (slice_get t.entries k) (slice_get t.locks k))
 
 -- a reference is dropped; where it is the last one to a dead inode the lock is taken in its place
-unfoldable pub drop_inode : ℕ → ℕ → TablesState → Did DroppedState TablesState
+unfoldable pub drop_inode : ℕ → ℕ → TablesState → ExecResult DroppedState TablesState
 drop_inode h n t = drop_at h n t (place_of n t.entries)
 
-abbrev pub walked_dying : ℕ → TablesState → Option Dinode → Did DroppedState TablesState
+abbrev pub walked_dying : ℕ → TablesState → Option Dinode → ExecResult DroppedState TablesState
 walked_dying k t None = Ran Counts (uncounted_at k t)
 walked_dying k t (Some d) = Ran Keeps t
 
-abbrev pub walked_at : TablesState → Option ℕ → Did DroppedState TablesState
+abbrev pub walked_at : TablesState → Option ℕ → ExecResult DroppedState TablesState
 walked_at t None = Ran Counts t
 walked_at t (Some k) = walked_dying k t (dying (slice_get t.entries k) (slice_get t.locks k))
 
 -- the same within a walk: where it is the last one to a dead inode it stays in the hart's hand, who frees the inode later
-unfoldable pub drop_walked : ℕ → TablesState → Did DroppedState TablesState
+unfoldable pub drop_walked : ℕ → TablesState → ExecResult DroppedState TablesState
 drop_walked n t = walked_at t (place_of n t.entries)
 
-abbrev pub freed_at : TablesState → Option ℕ → Did DroppedState TablesState
+abbrev pub freed_at : TablesState → Option ℕ → ExecResult DroppedState TablesState
 freed_at t None = Ran Counts t
 freed_at t (Some k) = Ran Counts (uncounted_at k t)
 
 -- the reference that is left to an inode that was freed: it is counted down
-unfoldable pub drop_freed : ℕ → TablesState → Did DroppedState TablesState
+unfoldable pub drop_freed : ℕ → TablesState → ExecResult DroppedState TablesState
 drop_freed n t = freed_at t (place_of n t.entries)
 
 -- the lock is given back with this inode, which becomes the hart's current directory; the old one is answered
 abbrev pub with_directory : ℕ → Desk → Desk
 with_directory n d = record d { directory = n }
 
-abbrev pub settled : ℕ → ℕ → TablesState → Did ℕ TablesState
+abbrev pub settled : ℕ → ℕ → TablesState → ExecResult ℕ TablesState
 settled h n t = Ran (directory_of (slice_get t.desks h)) (with_desk h (with_directory n) t)
 
-unfoldable pub settle_inode : ℕ → Inode → TablesState → Did ℕ TablesState
+unfoldable pub settle_inode : ℕ → Inode → TablesState → ExecResult ℕ TablesState
 settle_inode h v t = settled h v.number (unlock_inode h v None t)
 
 -- ---- inodes to be claimed

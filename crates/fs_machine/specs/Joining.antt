@@ -1,11 +1,11 @@
 -- What a join for a descriptor stands for.
 use Rattle.std.specs.Prelude.{ℕ}
-use Rattle.fs_machine.specs.Vocabulary.{Did, Waits as ItWaits, Ran}
+use Rattle.fs_machine.specs.Vocabulary.{ExecResult, Waits as ItWaits, Ran}
 use Rattle.fs_machine.specs.Steps.{JoinResult as JoinedState, RefusesJoin, Joins}
 use Rattle.fs_machine.specs.declared.shared.JoinedToWrite.{JoinedToWrite}
 use Rattle.fs_machine.specs.declared.shared.JoinedToWrite.TheVariants.{Waits, Refused, Joined}
 
-abbrev pub joined_to_write_as : {S : Type 0} → JoinedToWrite → S → Did JoinedState S
+abbrev pub joined_to_write_as : {S : Type 0} → JoinedToWrite → S → ExecResult JoinedState S
 joined_to_write_as Waits s = ItWaits
 joined_to_write_as (Refused why) s = Ran (RefusesJoin why) s
 joined_to_write_as (Joined txn number) s = Ran (Joins number) s

@@ -4,7 +4,7 @@ pub mod Steps
 pub mod Premises
 pub mod Tied
 pub mod Stays
-pub mod Did
+pub mod Performed
 pub mod Machines
 pub mod Places
 pub mod Programs

@@ -1,18 +1,18 @@
 -- What the lock of a descriptor's inode stands for.
 use Rattle.std.specs.Prelude.{Option, Some, None}
-use Rattle.fs_machine.specs.Vocabulary.{Dinode, GuardState, Did, Waits as ItWaits, Ran}
+use Rattle.fs_machine.specs.Vocabulary.{Dinode, GuardState, ExecResult, Waits as ItWaits, Ran}
 use Rattle.fs_machine.specs.declared.entries.Inode.{Inode}
 use Rattle.fs_machine.specs.declared.files.OpenFile.{OpenFile}
 use Rattle.fs_machine.specs.Inodes.{LockedState, Refuses, Locks}
 use Rattle.fs_machine.specs.declared.inodes.LockedFile.{LockedFile}
 use Rattle.fs_machine.specs.declared.inodes.LockedFile.TheVariants.{Waits, Refused, Locked}
 
-abbrev pub file_locked_as : {S : Type 0} → LockedFile → S → Did LockedState S
+abbrev pub file_locked_as : {S : Type 0} → LockedFile → S → ExecResult LockedState S
 file_locked_as Waits s = ItWaits
 file_locked_as (Refused why) s = Ran (Refuses why) s
 file_locked_as (Locked file guard) s = Ran (Locks file guard.value.content) s
 
-abbrev pub open_locked_as : {S : Type 0} → Option (OpenFile × GuardState Inode) → S → Did (OpenFile × Option Dinode) S
+abbrev pub open_locked_as : {S : Type 0} → Option (OpenFile × GuardState Inode) → S → ExecResult (OpenFile × Option Dinode) S
 open_locked_as None s = ItWaits
 open_locked_as (Some (file, guard)) s = Ran (file, guard.value.content) s
 

@@ -1,6 +1,6 @@
 -- What the operations of code stand for, what each asks of the hand and leaves of it, and its answer.
 use Rattle.std.specs.Prelude.{◌≡◌, ◌≢◌, ◌<◌, ◌≤◌, ◌∷◌, ◌++◌, [], length, take, ◌^◌, ℕ, pos, List, Bool, true, false, Option, Some, None, IsSome, IfSome}
-use Rattle.fs_machine.specs.Vocabulary.{MatchOption, option_map_or, GuardState, BufferState, Left, Free, Commits}
+use Rattle.fs_machine.specs.Vocabulary.{MatchOption, option_map_or, GuardState, BufferState, AfterLeave, Free, Commits}
 use Rattle.fs_machine.specs.Limits.{descriptor_count, listed_places}
 use Rattle.fs_machine.specs.declared.entries.Inode.{Inode}
 use Rattle.fs_machine.specs.declared.files.Refused.TheVariants as refused
@@ -17,10 +17,10 @@ use Rattle.fs_machine.specs.Steps as steps
 use Rattle.fs_machine.specs.declared.hand.Hand.{Hand}
 use Rattle.fs_machine.specs.declared.hand.Place.{Place}
 use Rattle.fs_machine.specs.declared.hand.Place.TheVariants.{First}
-use Rattle.fs_machine.specs.declared.hand.Seat.{Seat}
-use Rattle.fs_machine.specs.declared.hand.Seat.TheVariants.{One}
+use Rattle.fs_machine.specs.declared.hand.InodePlace.{InodePlace}
+use Rattle.fs_machine.specs.declared.hand.InodePlace.TheVariants.{One}
 use Rattle.fs_machine.specs.declared.op.Op.{Op}
-use Rattle.fs_machine.specs.declared.op.Op.TheVariants.{Join, JoinToWrite, Leave, Commit, Get, Read, Give, Record, Lock, LockFile, LockOpen, Unlock, UnlockMoving, Settle, Up, UpAside, UpDirectory, Down, DownWalked, LockListed, DownFreed, CheckFile, TakePlace, TakeDescriptor, Double, Close, GiveTo, Claim, Reply}
+use Rattle.fs_machine.specs.declared.op.Op.TheVariants.{Join, JoinToWrite, Leave, Commit, Get, Read, Give, Record, Lock, LockFile, LockOpen, Unlock, UnlockMoving, SetDirectory, Up, UpAside, UpDirectory, Down, DownWalked, LockListed, DownFreed, CheckFile, TakePlace, TakeDescriptor, Double, Close, GiveTo, Claim, Reply}
 use Rattle.fs_machine.specs.declared.op.Answer.{Answer}
 use Rattle.fs_machine.specs.declared.op.Answer.TheVariants.{Nothing, Is, Refused, Number, File, Doubled, Given}
 use Rattle.fs_machine.specs.Hands.{buffer_at, with_buffer, inode_at, with_inode, reference_at, with_first, with_aside, with_listed, with_reference, with_seated, with_txn, first_listed, block_at, bytes_at, inode_in, number_at, with_bytes}
@@ -43,7 +43,7 @@ op_in h (JoinToWrite fd) = steps.JoinToWrite fd
 op_in h (LockFile k w fd) = steps.LockFile w fd
 op_in h (LockOpen k fd) = steps.LockOpen fd
 op_in h (UnlockMoving k fd offset) = steps.Unlock (inode_in k h) (Some (fd, offset))
-op_in h (Settle k) = steps.Settle (inode_in k h)
+op_in h (SetDirectory k) = steps.SetDirectory (inode_in k h)
 op_in h (UpDirectory k) = steps.Up steps.Directory
 op_in h (DownWalked k) = steps.Down (steps.Walked (number_at k h))
 op_in h (LockListed k) = steps.Lock (first_listed h)
@@ -53,7 +53,7 @@ op_in h TakePlace = steps.TakePlace
 op_in h (TakeDescriptor k file) = steps.TakeDescriptor (number_at k h) file
 op_in h (Double fd) = steps.Double fd
 op_in h (Close k fd) = steps.Close fd
-op_in h (GiveTo k child from) = steps.Give child from
+op_in h (GiveTo k child from) = steps.GiveDescriptor child from
 op_in h (Claim p k) = steps.Claim (block_at p h) (take h.count h.numbers)
 op_in h Reply = steps.Reply
 
@@ -75,7 +75,7 @@ CanDo (JoinToWrite fd) h = h.txn ≡ None
 CanDo (LockFile k w fd) h = inode_at k h ≡ None
 CanDo (LockOpen k fd) h = inode_at k h ≡ None
 CanDo (UnlockMoving k fd offset) h = IsSome (inode_at k h)
-CanDo (Settle k) h = MatchOption (inode_at k h) ⊥ (λ g. reference_at k h ≡ Some g.value.number)
+CanDo (SetDirectory k) h = MatchOption (inode_at k h) ⊥ (λ g. reference_at k h ≡ Some g.value.number)
 CanDo (UpDirectory k) h = reference_at k h ≡ None
 CanDo (DownWalked k) h = IsSome (reference_at k h) × (length h.listed < listed_places)
 CanDo (LockListed k) h = (h.listed ≢ []) × (reference_at k h ≡ None) × (inode_at k h ≡ None)
@@ -98,7 +98,7 @@ Prepared op before h = h ≡ before
 -- ---- what is in hand after it
 
 -- an inode that is to be freed is loaded
-abbrev pub IsDown : Seat → Answer → Hand → Hand → Type 0
+abbrev pub IsDown : InodePlace → Answer → Hand → Hand → Type 0
 IsDown k (Is true) before h =
     (g : GuardState Inode) × (h ≡ with_inode k (Some g) before) × (g.value.number ≡ number_at k before) × IsSome g.value.content
 IsDown k (Is false) before h = h ≡ with_reference k None before
@@ -108,38 +108,38 @@ abbrev pub IsJoined : Answer → Hand → Hand → Type 0
 IsJoined (Number n) before h = (t : ℕ) × (h ≡ with_txn (Some t) before)
 IsJoined a before h = h ≡ before
 
-abbrev pub IsLocked : Seat → Answer → Hand → Hand → Type 0
+abbrev pub IsLocked : InodePlace → Answer → Hand → Hand → Type 0
 IsLocked k (File f) before h =
     (g : GuardState Inode) × (h ≡ with_inode k (Some g) before) × (g.value.number ≡ f.number) × (f.number < 2 ^ 16)
 IsLocked k (Refused why) before h = h ≡ before
 IsLocked k a before h = ⊥
 
 -- a file that is known to be open is never refused
-abbrev pub IsOpenLocked : Seat → Answer → Hand → Hand → Type 0
+abbrev pub IsOpenLocked : InodePlace → Answer → Hand → Hand → Type 0
 IsOpenLocked k (File f) before h = IsLocked k (File f) before h
 IsOpenLocked k a before h = ⊥
 
 -- the last reference to a dead inode is listed; one that is aside comes to the seat
-abbrev pub IsKept : Seat → Answer → Hand → Hand → Type 0
+abbrev pub IsKept : InodePlace → Answer → Hand → Hand → Type 0
 IsKept k (Is true) before h = h ≡ with_listed (before.listed ++ number_at k before ∷ []) (with_seated k before)
 IsKept k a before h = h ≡ with_seated k before
 
-abbrev pub IsClaimed : Place → Seat → Answer → Hand → Hand → Type 0
+abbrev pub IsClaimed : Place → InodePlace → Answer → Hand → Hand → Type 0
 IsClaimed p k (Number n) before h = h ≡ with_reference k (Some n) before
 IsClaimed p k (Is true) before h = h ≡ before
 IsClaimed p k Nothing before h = h ≡ with_buffer p None before
 IsClaimed p k a before h = ⊥
 
-abbrev pub IsOpened : Seat → Answer → Hand → Hand → Type 0
+abbrev pub IsOpened : InodePlace → Answer → Hand → Hand → Type 0
 IsOpened k (Number fd) before h = h ≡ with_reference k None before
 IsOpened k a before h = h ≡ before
 
-abbrev pub IsHanded : Seat → Answer → Hand → Hand → Type 0
+abbrev pub IsHanded : InodePlace → Answer → Hand → Hand → Type 0
 IsHanded k (Is true) before h = (n : ℕ) × (h ≡ with_reference k (Some n) before)
 IsHanded k a before h = h ≡ before
 
 -- past the last descriptor it is the directory
-abbrev pub IsLent : Seat → ℕ → Answer → Hand → Hand → Type 0
+abbrev pub IsLent : InodePlace → ℕ → Answer → Hand → Hand → Type 0
 IsLent k from (Is true) before h = (n : ℕ) × (h ≡ with_reference k (Some n) before)
 IsLent k from (Given fd more) before h = (from < descriptor_count) × (h ≡ before)
 IsLent k from a before h = ⊥
@@ -162,7 +162,7 @@ IsAfter (JoinToWrite fd) before a h = IsJoined a before h
 IsAfter (LockFile k w fd) before a h = IsLocked k a before h
 IsAfter (LockOpen k fd) before a h = IsOpenLocked k a before h
 IsAfter (UnlockMoving k fd offset) before a h = h ≡ with_inode k None before
-IsAfter (Settle k) before a h = (n : ℕ) × (h ≡ with_reference k (Some n) (with_inode k None before))
+IsAfter (SetDirectory k) before a h = (n : ℕ) × (h ≡ with_reference k (Some n) (with_inode k None before))
 IsAfter (UpDirectory k) before a h = (r : Option ℕ) × (h ≡ with_reference k r before)
 IsAfter (DownWalked k) before a h = IsKept k a before h
 IsAfter (LockListed k) before a h =
@@ -184,13 +184,13 @@ place_of (Get p b) = p
 place_of (Read p) = p
 place_of _ = First
 
-abbrev pub seat_of : Op → Seat
+abbrev pub seat_of : Op → InodePlace
 seat_of (Lock k) = k
 seat_of (Up k n) = k
 seat_of (Down k) = k
 seat_of (LockFile k w fd) = k
 seat_of (LockOpen k fd) = k
-seat_of (Settle k) = k
+seat_of (SetDirectory k) = k
 seat_of (LockListed k) = k
 seat_of (UpDirectory k) = k
 seat_of (Close k fd) = k
@@ -206,7 +206,7 @@ abbrev pub yes_in : Answer → Bool
 yes_in (Is b) = b
 yes_in _ = false
 
-abbrev pub left_by : Bool → Left
+abbrev pub left_by : Bool → AfterLeave
 left_by true = Commits
 left_by false = Free
 
@@ -282,7 +282,7 @@ answer_in op a h (steps.Lock n) = (inode_in (seat_of op) h).content
 answer_in op a h (steps.LockFile w fd) = locked_by a (inode_in (seat_of op) h)
 answer_in op a h (steps.LockOpen fd) = (file_by a, (inode_in (seat_of op) h).content)
 answer_in op a h (steps.Unlock v moved) = tt
-answer_in op a h (steps.Settle v) = number_at (seat_of op) h
+answer_in op a h (steps.SetDirectory v) = number_at (seat_of op) h
 answer_in op a h (steps.Up whom) = referred_in op h
 answer_in op a h (steps.Claim b candidates) = claimed_by a
 answer_in op a h (steps.Down drop) = drop_by drop a (inode_in (seat_of op) h)
@@ -291,5 +291,5 @@ answer_in op a h steps.TakePlace = yes_in a
 answer_in op a h (steps.TakeDescriptor n file) = number_by a
 answer_in op a h (steps.Double fd) = doubled_by a
 answer_in op a h (steps.Close fd) = shut_by a (number_at (seat_of op) h)
-answer_in op a h (steps.Give child from) = given_by a (number_at (seat_of op) h)
+answer_in op a h (steps.GiveDescriptor child from) = given_by a (number_at (seat_of op) h)
 answer_in op a h steps.Reply = tt

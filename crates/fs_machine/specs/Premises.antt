@@ -7,7 +7,7 @@ use Rattle.fs_machine.specs.Tables.{TablesState, references_of, owed, holder_of 
 use Rattle.fs_machine.specs.Inodes.{directory_of}
 use Rattle.fs_machine.specs.Files.{hand_of, descriptors_of}
 use Rattle.fs_machine.specs.LogPart.{LogPart, Outside, written, LeavesIt, LeavesOne}
-use Rattle.fs_machine.specs.Steps.{State, Op, Join, JoinToWrite, Leave, Get, Read, Put, Commit, Lock, LockFile, LockOpen, Unlock, Settle, Up, Claim, Down, CheckFile, TakePlace, TakeDescriptor, Double, Close, Give, Reply, Whom, Number, Directory, Drop, Held, Walked, Freed}
+use Rattle.fs_machine.specs.Steps.{State, Op, Join, JoinToWrite, Leave, Get, Read, Put, Commit, Lock, LockFile, LockOpen, Unlock, SetDirectory, Up, Claim, Down, CheckFile, TakePlace, TakeDescriptor, Double, Close, GiveDescriptor, Reply, Whom, Number, Directory, Drop, Held, Walked, Freed}
 
 -- ---- what an operation asks
 
@@ -78,7 +78,7 @@ May h (Lock n) s = MayLock h n s.tables
 May h (LockFile want fd) s = (h < hart_count) × MayLockFile h (file_named h fd s.tables) s.tables
 May h (LockOpen fd) s = (h < hart_count) × MayLockOpen h (file_named h fd s.tables) s.tables
 May h (Unlock v moved) s = (lock_holder v.number s.tables ≡ Some h) × MayMove h v.number moved s.tables
-May h (Settle v) s = (h < hart_count) × (lock_holder v.number s.tables ≡ Some h) × HasReference v.number s.tables
+May h (SetDirectory v) s = (h < hart_count) × (lock_holder v.number s.tables ≡ Some h) × HasReference v.number s.tables
 May h (Up whom) s = MayUpWhom h whom s.tables
 May h (Claim b candidates) s = MayPut h b None s.log
 May h (Down drop) s = MayDown h drop s.tables
@@ -87,7 +87,7 @@ May h TakePlace s = (h < hart_count) × (hand_of (slice_get s.tables.desks h) �
 May h (TakeDescriptor n file) s = (h < hart_count) × IsSome (hand_of (slice_get s.tables.desks h)) × HasReference n s.tables
 May h (Double fd) s = h < hart_count
 May h (Close fd) s = h < hart_count
-May h (Give child from) s = MayGive h child from s.tables
+May h (GiveDescriptor child from) s = MayGive h child from s.tables
 May h Reply s = Unit {0}
 
 -- ---- what the device may answer: it fails at a read or a write alone, and leaves the blocks as before or with that write
@@ -104,7 +104,7 @@ Honest h (Lock n) s x = Unit {0}
 Honest h (LockFile want fd) s x = Unit {0}
 Honest h (LockOpen fd) s x = Unit {0}
 Honest h (Unlock v moved) s x = Unit {0}
-Honest h (Settle v) s x = Unit {0}
+Honest h (SetDirectory v) s x = Unit {0}
 Honest h (Up whom) s x = Unit {0}
 Honest h (Claim b candidates) s x = Unit {0}
 Honest h (Down drop) s x = Unit {0}
@@ -113,7 +113,7 @@ Honest h TakePlace s x = Unit {0}
 Honest h (TakeDescriptor n file) s x = Unit {0}
 Honest h (Double fd) s x = Unit {0}
 Honest h (Close fd) s x = Unit {0}
-Honest h (Give child from) s x = Unit {0}
+Honest h (GiveDescriptor child from) s x = Unit {0}
 Honest h Reply s x = Unit {0}
 
 -- ---- where it may wait: for what is in another hart's hand, for the log, and for nothing else
@@ -136,7 +136,7 @@ MayWait h (Lock n) s = IsElsewhere h (lock_holder n s.tables)
 MayWait h (LockFile want fd) s = MatchOption (file_named h fd s.tables) ⊥ (λ f. IsElsewhere h (lock_holder f.number s.tables))
 MayWait h (LockOpen fd) s = MatchOption (file_named h fd s.tables) ⊥ (λ f. IsElsewhere h (lock_holder f.number s.tables))
 MayWait h (Unlock v moved) s = ⊥
-MayWait h (Settle v) s = ⊥
+MayWait h (SetDirectory v) s = ⊥
 MayWait h (Up whom) s = ⊥
 MayWait h (Claim b candidates) s = ⊥
 MayWait h (Down drop) s = ⊥
@@ -145,5 +145,5 @@ MayWait h TakePlace s = ⊥
 MayWait h (TakeDescriptor n file) s = ⊥
 MayWait h (Double fd) s = ⊥
 MayWait h (Close fd) s = ⊥
-MayWait h (Give child from) s = ⊥
+MayWait h (GiveDescriptor child from) s = ⊥
 MayWait h Reply s = ⊥

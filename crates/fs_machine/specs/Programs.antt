@@ -1,6 +1,6 @@
 -- Programs that every layer uses. They are silent: nothing is marked in them.
 use Rattle.std.specs.Prelude.{ℕ, zero, suc, List, Bool, true, false, Option, Some, None}
-use Rattle.fs_machine.specs.Vocabulary.{Left, Free, Commits, Prog, Ret, Do, once, unmarked}
+use Rattle.fs_machine.specs.Vocabulary.{AfterLeave, Free, Commits, Prog, Ret, Do, once, unmarked}
 use Rattle.fs_machine.specs.Steps.{Op, Answer, Leave, Get, Read, Commit}
 
 -- a block's buffer is in hand, with these bytes where it is valid; else they are read
@@ -25,7 +25,7 @@ commits (suc n) = Do Commit unmarked (commit_unless (commits n))
 abbrev pub most_writes : ℕ
 most_writes = 62
 
-abbrev pub after_leave : {M : Type 0} → Left → Prog Op Answer M (Unit {0})
+abbrev pub after_leave : {M : Type 0} → AfterLeave → Prog Op Answer M (Unit {0})
 after_leave Free = Ret tt
 after_leave Commits = commits most_writes
 

@@ -2,7 +2,7 @@
 -- its inodes' locks, by IsOwnInode.
 use Rattle.std.specs.Prelude.{◌≢◌, ℕ}
 use Rattle.fs_machine.specs.Vocabulary.{GuardState, Stepped}
-use Rattle.atomic_programs.specs.Machines.{Left}
+use Rattle.atomic_programs.specs.Machines.{RestOrResult}
 use Rattle.fs_machine.specs.declared.kind.Kind.{Kind}
 use Rattle.fs_machine.specs.Steps.{State}
 
@@ -22,4 +22,4 @@ HasNone {V} n Own s = (k : ℕ) (held : GuardState V) → Own k held s → k ≢
 abbrev pub LeavesApart : {V M R : Type 0} → (ℕ → M → Type 0) → (ℕ → R → Type 0) → (ℕ → GuardState V → State → Type 0) → M → Stepped M R Kind
     → State → State → Type 0
 LeavesApart {V} IsApart EndsApart Own self result old new =
-    (k : ℕ) (held : GuardState V) → Own k held old → IsApart k self → Own k held new × Left (IsApart k) (EndsApart k) result
+    (k : ℕ) (held : GuardState V) → Own k held old → IsApart k self → Own k held new × RestOrResult (IsApart k) (EndsApart k) result

@@ -1,6 +1,6 @@
 -- The operations that calls are made of, and what each makes of the state that all harts share.
 use Rattle.std.specs.Prelude.{ℕ, List, Bool, Option, Some, None}
-use Rattle.fs_machine.specs.Vocabulary.{Dinode, Left, Did, Waits, Ran, Stops, did_in}
+use Rattle.fs_machine.specs.Vocabulary.{Dinode, AfterLeave, ExecResult, Waits, Ran, Stops, exec_result_in}
 use Rattle.fs_machine.specs.declared.entries.Inode.{Inode}
 use Rattle.fs_machine.specs.declared.files.NewFile.{NewFile}
 use Rattle.fs_machine.specs.declared.files.OpenFile.{OpenFile}
@@ -68,7 +68,7 @@ pub data Op : Type 0 where
   -- gives a lock back with this inode; and the file of this descriptor has this offset from now on
   Unlock : Inode → Option (ℕ × ℕ) → Op
   -- the same, and the inode is the hart's current directory from now on
-  Settle : Inode → Op
+  SetDirectory : Inode → Op
   -- one reference more
   Up : Whom → Op
   -- one to the first of these inodes to which none stands; where there is no such one this block's buffer is given back
@@ -86,7 +86,7 @@ pub data Op : Type 0 where
   -- a descriptor goes
   Close : ℕ → Op
   -- to this child the next descriptor from this one on; where there is none the directory
-  Give : ℕ → ℕ → Op
+  GiveDescriptor : ℕ → ℕ → Op
   -- gives the reply
   Reply : Op
 
@@ -106,7 +106,7 @@ abbrev pub Answer : Op → Type 0
 Answer Join = Unit {0}
 Answer (JoinToWrite fd) = JoinResult
 -- whether a commit begins
-Answer Leave = Left
+Answer Leave = AfterLeave
 -- the bytes where the buffer is valid
 Answer (Get b) = Option (List ℕ)
 Answer (Read b) = List ℕ
@@ -119,7 +119,7 @@ Answer (LockFile w fd) = LockedState
 Answer (LockOpen fd) = OpenFile × Option Dinode
 Answer (Unlock v moved) = Unit {0}
 -- the old directory, to which the reference is in hand now
-Answer (Settle v) = ℕ
+Answer (SetDirectory v) = ℕ
 -- the inode's number; None where each of the fifty places is referred to
 Answer (Up whom) = Option ℕ
 Answer (Claim b candidates) = ClaimResult
@@ -132,55 +132,55 @@ Answer TakePlace = Bool
 Answer (TakeDescriptor n file) = Option ℕ
 Answer (Double fd) = Doubled
 Answer (Close fd) = Shut
-Answer (Give child from) = Given
+Answer (GiveDescriptor child from) = Given
 Answer Reply = Unit {0}
 
-abbrev pub in_log : {A : Type 0} → State → Did A LogPart → Did A State
-in_log s d = did_in (λ l. record s { log = l }) d
+abbrev pub in_log : {A : Type 0} → State → ExecResult A LogPart → ExecResult A State
+in_log s d = exec_result_in (λ l. record s { log = l }) d
 
-abbrev pub in_tables : {A : Type 0} → State → Did A TablesState → Did A State
-in_tables s d = did_in (λ t. record s { tables = t }) d
+abbrev pub in_tables : {A : Type 0} → State → ExecResult A TablesState → ExecResult A State
+in_tables s d = exec_result_in (λ t. record s { tables = t }) d
 
-abbrev pub joins : OpenFile → Did (Unit {0}) State → Did JoinResult State
+abbrev pub joins : OpenFile → ExecResult (Unit {0}) State → ExecResult JoinResult State
 joins f Waits = Waits
 joins f (Ran a s) = Ran (Joins f.number) s
 joins f (Stops s) = Stops s
 
-abbrev pub join_unless : ℕ → State → Option OpenFile → Option Refused → Did JoinResult State
+abbrev pub join_unless : ℕ → State → Option OpenFile → Option Refused → ExecResult JoinResult State
 join_unless h s f (Some why) = Ran (RefusesJoin why) s
 join_unless h s None None = Waits
 join_unless h s (Some f) None = joins f (in_log s (join_log h s.log))
 
-abbrev pub with_open : OpenFile → Did (Option Dinode) TablesState → Did (OpenFile × Option Dinode) TablesState
+abbrev pub with_open : OpenFile → ExecResult (Option Dinode) TablesState → ExecResult (OpenFile × Option Dinode) TablesState
 with_open f Waits = Waits
 with_open f (Ran content t) = Ran (f, content) t
 with_open f (Stops t) = Stops t
 
-abbrev pub lock_open : ℕ → TablesState → Option OpenFile → Did (OpenFile × Option Dinode) TablesState
+abbrev pub lock_open : ℕ → TablesState → Option OpenFile → ExecResult (OpenFile × Option Dinode) TablesState
 lock_open h t None = Waits
 lock_open h t (Some f) = with_open f (lock_inode h f.number t)
 
-abbrev pub up_whom : ℕ → Whom → TablesState → Did (Option ℕ) TablesState
+abbrev pub up_whom : ℕ → Whom → TablesState → ExecResult (Option ℕ) TablesState
 up_whom h (Number n) t = up_inode n t
 up_whom h Directory t = up_directory h t
 
-abbrev pub claims : Did (Option ℕ) State → Did ClaimResult State
+abbrev pub claims : ExecResult (Option ℕ) State → ExecResult ClaimResult State
 claims Waits = Waits
 claims (Ran None s) = Ran NoPlace s
 claims (Ran (Some n) s) = Ran (Claims n) s
 claims (Stops s) = Stops s
 
-abbrev pub claim_first : ℕ → ℕ → State → Option ℕ → Did ClaimResult State
+abbrev pub claim_first : ℕ → ℕ → State → Option ℕ → ExecResult ClaimResult State
 claim_first h b s None = Ran NoInode (record s { log = put_block h b None s.log })
 claim_first h b s (Some n) = claims (in_tables s (up_inode n s.tables))
 
-abbrev pub drop_which : ℕ → Drop → TablesState → Did DroppedState TablesState
+abbrev pub drop_which : ℕ → Drop → TablesState → ExecResult DroppedState TablesState
 drop_which h (Held n) t = drop_inode h n t
 drop_which h (Walked n) t = drop_walked n t
 drop_which h (Freed n) t = drop_freed n t
 
 -- what an operation makes of the state in hart h's hand, where the device answers x
-unfoldable pub exec : ℕ → Outside → (op : Op) → State → Did (Answer op) State
+unfoldable pub exec : ℕ → Outside → (op : Op) → State → ExecResult (Answer op) State
 exec h x Join s = in_log s (join_log h s.log)
 exec h x (JoinToWrite fd) s = join_unless h s (file_named h fd s.tables) (refusal_of want.Write (file_named h fd s.tables))
 exec h x Leave s = in_log s (leave_log h s.log)
@@ -192,7 +192,7 @@ exec h x (Lock n) s = in_tables s (lock_inode h n s.tables)
 exec h x (LockFile w fd) s = in_tables s (lock_file h w fd s.tables)
 exec h x (LockOpen fd) s = in_tables s (lock_open h s.tables (file_named h fd s.tables))
 exec h x (Unlock v moved) s = Ran tt (record s { tables = unlock_inode h v moved s.tables })
-exec h x (Settle v) s = in_tables s (settle_inode h v s.tables)
+exec h x (SetDirectory v) s = in_tables s (settle_inode h v s.tables)
 exec h x (Up whom) s = in_tables s (up_whom h whom s.tables)
 exec h x (Claim b candidates) s = claim_first h b s (first_free s.tables.entries candidates)
 exec h x (Down drop) s = in_tables s (drop_which h drop s.tables)
@@ -201,7 +201,7 @@ exec h x TakePlace s = in_tables s (take_place h s.tables)
 exec h x (TakeDescriptor n file) s = in_tables s (open_file h n file s.tables)
 exec h x (Double fd) s = in_tables s (double_descriptor h fd s.tables)
 exec h x (Close fd) s = in_tables s (shut_descriptor h fd s.tables)
-exec h x (Give child from) s = in_tables s (give_next h child from s.tables)
+exec h x (GiveDescriptor child from) s = in_tables s (give_next h child from s.tables)
 exec h x Reply s = Ran tt s
 
 -- ---- of which kind an operation with its answer is
@@ -252,7 +252,7 @@ kind_of (Lock n) a = kind.Lock
 kind_of (LockFile w fd) a = kind_locked a
 kind_of (LockOpen fd) a = kind.Lock
 kind_of (Unlock v moved) a = kind.Unlock
-kind_of (Settle v) a = kind.Unlock
+kind_of (SetDirectory v) a = kind.Unlock
 kind_of (Up whom) a = kind.Up
 kind_of (Claim b candidates) a = kind_claimed a
 kind_of (Down drop) a = kind_dropped a
@@ -261,5 +261,5 @@ kind_of TakePlace a = kind.Slot
 kind_of (TakeDescriptor n file) a = kind.Slot
 kind_of (Double fd) a = kind_doubled a
 kind_of (Close fd) a = kind_shut a
-kind_of (Give child from) a = kind_given a
+kind_of (GiveDescriptor child from) a = kind_given a
 kind_of Reply a = kind.Reply

@@ -1,5 +1,5 @@
 -- What always holds of the log, and that each operation keeps it.
-use Rattle.fs_machine.specs.Vocabulary.{IsWhole, Did, Waits, Ran, Stops}
+use Rattle.fs_machine.specs.Vocabulary.{IsWhole, ExecResult, Waits, Ran, Stops}
 use Rattle.std.specs.Prelude.{ℕ}
 use Rattle.fs_machine.specs.LogPart.{LogPart, Outside}
 use Rattle.fs_machine.specs.Steps.{State, Op, exec}
@@ -10,7 +10,7 @@ abbrev pub IsWholeLog : LogPart → Type 0
 IsWholeLog l = IsWhole l.contents l.seats l.sizes l.group l.members l.phase
 
 -- the state after an operation, if it ran or stopped the world
-abbrev pub After : {A S : Type 0} → (S → Type 0) → Did A S → Type 0
+abbrev pub After : {A S : Type 0} → (S → Type 0) → ExecResult A S → Type 0
 After P Waits = Unit {0}
 After P (Ran a s) = P s
 After P (Stops s) = P s

@@ -12,9 +12,9 @@ ghost use Rattle.fs_machine.specs.declared.hand.Hand.{Hand as HandState};
 ghost use Rattle.fs_machine.specs.declared.op.Op.{Op as OpState};
 
 use crate::hand::Hand;
-use crate::op::{Answer, Did, Op};
+use crate::op::{Answer, Op, Performed};
 use crate::{Core, Kind, RetiredCore};
-use atomic_programs::machines::Came;
+use atomic_programs::machines::SteppedInPlace;
 use block_device::Device;
 use buffer_cache::HARTS;
 
@@ -162,7 +162,7 @@ pub struct Machine<C: Control> {
 
 impl<C: Control> Machine<C> {
     /// One operation.
-    pub fn step<D: Device>(&mut self, hart: u8, core: &mut Core<D>) -> Came<C::Out, Kind>
+    pub fn step<D: Device>(&mut self, hart: u8, core: &mut Core<D>) -> SteppedInPlace<C::Out, Kind>
         requires eight { hart < HARTS }
         requires may { MayNext hart (C.left self.old.control self.old.hand) (state_of D.contents D.failures core.old) }
         requires fits { HandFits hart (state_of D.contents D.failures core.old) self.old.hand }
@@ -174,11 +174,11 @@ impl<C: Control> Machine<C> {
     {
         let op = self.control.op(&mut self.hand);
         match self.hand.perform(hart, core, op, &mut self.told) {
-            Did::Waits => Came::Waits,
-            Did::Stopped => Came::Stopped,
-            Did::Ran(kind) => match self.control.next(&self.told, &mut self.hand) {
-                None => Came::Ran(kind),
-                Some(out) => Came::Done(out, kind),
+            Performed::Waits => SteppedInPlace::Waits,
+            Performed::Stopped => SteppedInPlace::Stopped,
+            Performed::Ran(kind) => match self.control.next(&self.told, &mut self.hand) {
+                None => SteppedInPlace::Ran(kind),
+                Some(out) => SteppedInPlace::Done(out, kind),
             },
         }
     }

@@ -4,7 +4,7 @@ ghost use Rattle.fs_machine.specs.Vocabulary.{Ran as ItRan};
 ghost use Rattle.fs_machine.specs.Files.{IsDirectory};
 ghost use Rattle.fs_machine.specs.Results.{opened_as};
 ghost use Rattle.fs_machine.specs.LogPart.{Outside};
-ghost use Rattle.fs_machine.specs.Steps.{state_of, exec, CheckFile, TakePlace, TakeDescriptor, Double, Close, Give, Reply};
+ghost use Rattle.fs_machine.specs.Steps.{state_of, exec, CheckFile, TakePlace, TakeDescriptor, Double, Close, GiveDescriptor, Reply};
 ghost use Rattle.fs_machine.specs.Premises.{May};
 ghost use Rattle.fs_machine.specs.Tied.{IsOwnInode, LeavesTied};
 ghost use Rattle.fs_machine.specs.Stays.{LeavesAll};
@@ -83,9 +83,9 @@ impl<D: Device> Core<D> {
     /// To the child the hart's next descriptor from this one on, and whether there are more. Where there is none the child's
     /// directory becomes the hart's, and the reference to its old one is handed out.
     pub fn give(&mut self, hart: u8, child: u8, from: u32) -> Given
-        requires may { May hart (Give child from) (state_of D.contents D.failures self.old) }
+        requires may { May hart (GiveDescriptor child from) (state_of D.contents D.failures self.old) }
         ensures ran { (x : Outside)
-            → exec hart x (Give child from) (state_of D.contents D.failures self.old)
+            → exec hart x (GiveDescriptor child from) (state_of D.contents D.failures self.old)
             ≡ ItRan result (state_of D.contents D.failures self.new) }
         ensures past { DESCRIPTORS ≤ from → IsDirectory result }
         ensures others { LeavesTied hart (state_of D.contents D.failures self.old) (state_of D.contents D.failures self.new) }

@@ -23,7 +23,7 @@ pub enum Place {
 
 /// A place for an inode: a reference to it, and its lock.
 #[derive(Clone, Copy)]
-pub enum Seat {
+pub enum InodePlace {
     One,
     Two,
 }
@@ -108,57 +108,57 @@ impl Hand {
     }
 
     /// The lock at a seat, which is empty then.
-    pub(crate) fn take_inode(&mut self, seat: Seat) -> Option<Guard<Inode>>
+    pub(crate) fn take_inode(&mut self, seat: InodePlace) -> Option<Guard<Inode>>
         ensures is { result ≡ inode_at seat self.old }
         ensures left { self.new ≡ with_inode seat None self.old }
     {
         match seat {
-            Seat::One => mem::replace(&mut self.one, None),
-            Seat::Two => mem::replace(&mut self.two, None),
+            InodePlace::One => mem::replace(&mut self.one, None),
+            InodePlace::Two => mem::replace(&mut self.two, None),
         }
     }
 
     /// A lock for a seat that is empty.
-    pub(crate) fn hold_inode(&mut self, seat: Seat, guard: Guard<Inode>)
+    pub(crate) fn hold_inode(&mut self, seat: InodePlace, guard: Guard<Inode>)
         requires { inode_at seat self.old ≡ None }
         ensures { self.new ≡ with_inode seat (Some guard) self.old }
     {
         match seat {
-            Seat::One => put(&mut self.one, guard),
-            Seat::Two => put(&mut self.two, guard),
+            InodePlace::One => put(&mut self.one, guard),
+            InodePlace::Two => put(&mut self.two, guard),
         }
     }
 
     /// The reference at a seat.
-    pub(crate) fn reference(&self, seat: Seat) -> Option<&Reference>
+    pub(crate) fn reference(&self, seat: InodePlace) -> Option<&Reference>
         ensures { MatchOption result (reference_at seat self.now ≡ None) (λ reference. reference_at seat self.now ≡ Some reference.now) }
     {
         let place = match seat {
-            Seat::One => &self.to_one,
-            Seat::Two => &self.to_two,
+            InodePlace::One => &self.to_one,
+            InodePlace::Two => &self.to_two,
         };
         place.as_ref()
     }
 
     /// The reference at a seat, which is empty then.
-    pub(crate) fn take_reference(&mut self, seat: Seat) -> Option<Reference>
+    pub(crate) fn take_reference(&mut self, seat: InodePlace) -> Option<Reference>
         ensures is { result ≡ reference_at seat self.old }
         ensures left { self.new ≡ with_reference seat None self.old }
     {
         match seat {
-            Seat::One => mem::replace(&mut self.to_one, None),
-            Seat::Two => mem::replace(&mut self.to_two, None),
+            InodePlace::One => mem::replace(&mut self.to_one, None),
+            InodePlace::Two => mem::replace(&mut self.to_two, None),
         }
     }
 
     /// A reference, or none, for a seat that is empty.
-    pub(crate) fn hold_reference(&mut self, seat: Seat, reference: Reference)
+    pub(crate) fn hold_reference(&mut self, seat: InodePlace, reference: Reference)
         requires { reference_at seat self.old ≡ None }
         ensures { self.new ≡ with_reference seat (Some reference) self.old }
     {
         match seat {
-            Seat::One => put(&mut self.to_one, reference),
-            Seat::Two => put(&mut self.to_two, reference),
+            InodePlace::One => put(&mut self.to_one, reference),
+            InodePlace::Two => put(&mut self.to_two, reference),
         }
     }
 
@@ -171,7 +171,7 @@ impl Hand {
     }
 
     /// What is aside comes to a seat that is empty.
-    pub(crate) fn seat_aside(&mut self, seat: Seat)
+    pub(crate) fn seat_aside(&mut self, seat: InodePlace)
         requires { reference_at seat self.old ≡ None }
         ensures { self.new ≡ with_seated seat self.old }
     {
@@ -182,7 +182,7 @@ impl Hand {
     }
 
     /// The first listed reference for a seat that is empty.
-    pub(crate) fn hold_first(&mut self, seat: Seat)
+    pub(crate) fn hold_first(&mut self, seat: InodePlace)
         requires listed { self.old.listed ≢ [] }
         requires empty { reference_at seat self.old ≡ None }
         ensures { self.new ≡ with_first seat self.old }
@@ -194,34 +194,34 @@ impl Hand {
     }
 
     /// Whether the inode at a seat is loaded.
-    pub fn is_loaded(&self, seat: Seat) -> bool
+    pub fn is_loaded(&self, seat: InodePlace) -> bool
         ensures { result ≡ is_some (inode_in seat self.now).content }
     {
         match seat {
-            Seat::One => is_loaded(&self.one),
-            Seat::Two => is_loaded(&self.two),
+            InodePlace::One => is_loaded(&self.one),
+            InodePlace::Two => is_loaded(&self.two),
         }
     }
 
     /// The number of the inode at a seat.
-    pub fn number(&self, seat: Seat) -> u32
+    pub fn number(&self, seat: InodePlace) -> u32
         requires { IsSome (inode_at seat self.now) }
         ensures { result ≡ (inode_in seat self.now).number }
     {
         match seat {
-            Seat::One => number_of(&self.one),
-            Seat::Two => number_of(&self.two),
+            InodePlace::One => number_of(&self.one),
+            InodePlace::Two => number_of(&self.two),
         }
     }
 
     /// The inode at a seat stands so.
-    pub fn set_record(&mut self, seat: Seat, inode: Dinode)
+    pub fn set_record(&mut self, seat: InodePlace, inode: Dinode)
         requires { IsSome (inode_at seat self.old) }
         ensures { self.new ≡ with_record seat inode self.old }
     {
         match seat {
-            Seat::One => set_record(&mut self.one, inode),
-            Seat::Two => set_record(&mut self.two, inode),
+            InodePlace::One => set_record(&mut self.one, inode),
+            InodePlace::Two => set_record(&mut self.two, inode),
         }
     }
 

@@ -4,7 +4,7 @@ ghost use Rattle.fs_machine.specs.Vocabulary.{Ran as ItRan};
 ghost use Rattle.fs_machine.specs.Inodes.{Counts};
 ghost use Rattle.fs_machine.specs.Results.{locked_as, dropped_as, kept_as, IfDying};
 ghost use Rattle.fs_machine.specs.LogPart.{Outside};
-ghost use Rattle.fs_machine.specs.Steps.{state_of, exec, Claim as ClaimOp, Lock, LockFile, LockOpen, Unlock, Settle, Up, Down, Number, Directory, Held, Walked, Freed};
+ghost use Rattle.fs_machine.specs.Steps.{state_of, exec, Claim as ClaimOp, Lock, LockFile, LockOpen, Unlock, SetDirectory, Up, Down, Number, Directory, Held, Walked, Freed};
 ghost use Rattle.fs_machine.specs.Premises.{May};
 ghost use Rattle.fs_machine.specs.Tied.{IsOwn, IsOwnInode, LeavesTied};
 ghost use Rattle.fs_machine.specs.Stays.{LeavesAll, LeavesAllBut, HasNone};
@@ -183,9 +183,9 @@ impl<D: Device> Core<D> {
     pub fn settle(&mut self, hart: u8, guard: Guard<Inode>, reference: Reference) -> Reference
         requires own { IsOwnInode hart guard.value.number guard (state_of D.contents D.failures self.old) }
         requires reference { reference ≡ guard.value.number }
-        requires may { May hart (Settle guard.value) (state_of D.contents D.failures self.old) }
+        requires may { May hart (SetDirectory guard.value) (state_of D.contents D.failures self.old) }
         ensures ran { (x : Outside)
-            → exec hart x (Settle guard.value) (state_of D.contents D.failures self.old)
+            → exec hart x (SetDirectory guard.value) (state_of D.contents D.failures self.old)
             ≡ ItRan result (state_of D.contents D.failures self.new) }
         ensures others { LeavesTied hart (state_of D.contents D.failures self.old) (state_of D.contents D.failures self.new) }
         ensures log { self.new.log ≡ self.old.log }

@@ -2,7 +2,7 @@
 ghost use Rattle.std.specs.Prelude.{◌≡◌};
 ghost use Rattle.fs_machine.specs.Ops.{yes_in};
 
-use crate::hand::{Place, Seat};
+use crate::hand::{InodePlace, Place};
 use crate::{Doubled, Kind, NewFile, OpenFile, Refused, Want};
 
 /// The next operation. What it is about lies at a place of the hand.
@@ -23,50 +23,50 @@ pub enum Op {
     /// Gives it back, recorded with the bytes that it has in hand.
     Record(Place),
     /// Takes the lock of the inode to which the reference is.
-    Lock(Seat),
+    Lock(InodePlace),
     /// Gives it back, with the inode as it is in hand.
-    Unlock(Seat),
+    Unlock(InodePlace),
     /// A reference to the inode of this number.
-    Up(Seat, u32),
+    Up(InodePlace, u32),
     /// The same where no seat is free: it is aside.
     UpAside(u32),
     /// Drops it; where it is the last one to a dead inode the inode's lock is taken in its place.
-    Down(Seat),
+    Down(InodePlace),
     /// The same where this descriptor may be written.
     JoinToWrite(u32),
     /// Takes the lock of what a descriptor names, where it may be had for this.
-    LockFile(Seat, Want, u32),
+    LockFile(InodePlace, Want, u32),
     /// That of what a descriptor names that is known to be open.
-    LockOpen(Seat, u32),
+    LockOpen(InodePlace, u32),
     /// Gives it back, and the file of this descriptor has this offset from now on.
-    UnlockMoving(Seat, u32, u32),
+    UnlockMoving(InodePlace, u32, u32),
     /// Gives it back, and the inode, to which the reference is, is the hart's current directory from now on. The reference to the old
     /// one is there then.
-    Settle(Seat),
+    SetDirectory(InodePlace),
     /// A reference to the hart's current directory.
-    UpDirectory(Seat),
+    UpDirectory(InodePlace),
     /// Drops a reference within a walk; the last one to a dead inode is listed, behind the others. A reference that is aside comes to the
     /// seat.
-    DownWalked(Seat),
+    DownWalked(InodePlace),
     /// Takes the first listed reference, and the lock of its inode.
-    LockListed(Seat),
+    LockListed(InodePlace),
     /// Drops the reference that is left to an inode that this hart has freed.
-    DownFreed(Seat),
+    DownFreed(InodePlace),
     /// Whether a descriptor may be had for this.
     CheckFile(Want, u32),
     /// Takes a place for an open file.
     TakePlace,
     /// Opens a file there; where no descriptor is free the reference stays.
-    TakeDescriptor(Seat, NewFile),
+    TakeDescriptor(InodePlace, NewFile),
     /// One descriptor more for what this one names.
     Double(u32),
     /// A descriptor goes; where it was the last one the file's reference is there then.
-    Close(Seat, u32),
+    Close(InodePlace, u32),
     /// To this child the next descriptor from this one on; where there is none the directory, and the reference to the child's old one
     /// is there then.
-    GiveTo(Seat, u8, u32),
+    GiveTo(InodePlace, u8, u32),
     /// A reference to the first of the numbers in hand to which none stands; where there is no such one the buffer is given back.
-    Claim(Place, Seat),
+    Claim(Place, InodePlace),
     /// Gives the reply.
     Reply,
 }
@@ -99,7 +99,7 @@ impl Answer {
 
 /// What an operation came to.
 #[derive(Clone, Copy)]
-pub enum Did {
+pub enum Performed {
     Waits,
     Ran(Kind),
     Stopped,

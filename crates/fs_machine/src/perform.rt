@@ -8,20 +8,20 @@ ghost use Rattle.fs_machine.specs.declared.op.Answer.{Answer as AnswerState};
 ghost use Rattle.fs_machine.specs.Ops.{op_in, left_by, CanDo, Prepared};
 ghost use Rattle.fs_machine.specs.Performs.{Performs};
 
-use crate::hand::{Hand, Place, Seat};
-use crate::op::{Answer, Did, Op};
+use crate::hand::{Hand, InodePlace, Place};
+use crate::op::{Answer, Op, Performed};
 use crate::{
     Claim, Core, Doubled, Dropped, Given, JoinedToWrite, Kind, LockedFile, NewFile, Refused, Shut,
     Want,
 };
 use block_device::{Device, Fault};
 use buffer_cache::{Got, HARTS};
-use group_log::{Left, Progress};
+use group_log::{AfterLeave, Progress};
 use std::mem;
 
 impl Hand {
     // Joins a transaction.
-    pub(crate) fn join<D: Device>(&mut self, hart: u8, core: &mut Core<D>) -> Did
+    pub(crate) fn join<D: Device>(&mut self, hart: u8, core: &mut Core<D>) -> Performed
         requires fits { HandFits hart (state_of D.contents D.failures core.old) self.old }
         requires can { CanDo Op.Join self.old }
         requires may { May hart (op_in self.old Op.Join) (state_of D.contents D.failures core.old) }
@@ -29,10 +29,10 @@ impl Hand {
             → Performs D.contents D.failures D.Called hart Op.Join self.old self.new told result core.old core.new }
     {
         match core.join(hart) {
-            None => Did::Waits,
+            None => Performed::Waits,
             Some(txn) => {
                 self.hold_txn(txn);
-                Did::Ran(Kind::Join)
+                Performed::Ran(Kind::Join)
             }
         }
     }
@@ -43,7 +43,7 @@ impl Hand {
         hart: u8,
         core: &mut Core<D>,
         told: &mut Answer,
-    ) -> Did
+    ) -> Performed
         requires fits { HandFits hart (state_of D.contents D.failures core.old) self.old }
         requires can { CanDo Op.Leave self.old }
         requires may { May hart (op_in self.old Op.Leave) (state_of D.contents D.failures core.old) }
@@ -54,7 +54,7 @@ impl Hand {
             Some(txn) => {
                 let commits = commits(core.leave(hart, txn));
                 *told = Answer::Is(commits);
-                Did::Ran(Kind::Leave)
+                Performed::Ran(Kind::Leave)
             }
         }
     }
@@ -65,22 +65,22 @@ impl Hand {
         hart: u8,
         core: &mut Core<D>,
         told: &mut Answer,
-    ) -> Did
+    ) -> Performed
         requires fits { HandFits hart (state_of D.contents D.failures core.old) self.old }
         requires may { May hart (op_in self.old Op.Commit) (state_of D.contents D.failures core.old) }
         ensures { Performs D.contents D.failures D.Called hart Op.Commit self.old self.new told.new result core.old core.new }
     {
         match core.commit(hart) {
-            Progress::Waits => Did::Waits,
+            Progress::Waits => Performed::Waits,
             Progress::Wrote => {
                 *told = Answer::Is(false);
-                Did::Ran(Kind::Commit)
+                Performed::Ran(Kind::Commit)
             }
             Progress::Ended => {
                 *told = Answer::Is(true);
-                Did::Ran(Kind::Commit)
+                Performed::Ran(Kind::Commit)
             }
-            Progress::Failed => Did::Stopped,
+            Progress::Failed => Performed::Stopped,
         }
     }
 
@@ -91,7 +91,7 @@ impl Hand {
         core: &mut Core<D>,
         place: Place,
         b: u32,
-    ) -> Did
+    ) -> Performed
         requires fits { HandFits hart (state_of D.contents D.failures core.old) self.old }
         requires can { CanDo (Op.Get place b) self.old }
         requires may { May hart (op_in self.old (Op.Get place b)) (state_of D.contents D.failures core.old) }
@@ -99,16 +99,21 @@ impl Hand {
             → Performs D.contents D.failures D.Called hart (Op.Get place b) self.old self.new told result core.old core.new }
     {
         match core.get(hart, b) {
-            Got::Waits => Did::Waits,
+            Got::Waits => Performed::Waits,
             Got::Held(guard) => {
                 self.hold_buffer(place, guard);
-                Did::Ran(Kind::Get)
+                Performed::Ran(Kind::Get)
             }
         }
     }
 
     // Reads the block into it.
-    pub(crate) fn read<D: Device>(&mut self, hart: u8, core: &mut Core<D>, place: Place) -> Did
+    pub(crate) fn read<D: Device>(
+        &mut self,
+        hart: u8,
+        core: &mut Core<D>,
+        place: Place,
+    ) -> Performed
         requires fits { HandFits hart (state_of D.contents D.failures core.old) self.old }
         requires can { CanDo (Op.Read place) self.old }
         requires may { May hart (op_in self.old (Op.Read place)) (state_of D.contents D.failures core.old) }
@@ -120,18 +125,23 @@ impl Hand {
             Some(mut guard) => match core.read(hart, &mut guard) {
                 Ok(()) => {
                     self.hold_buffer(place, guard);
-                    Did::Ran(Kind::Read)
+                    Performed::Ran(Kind::Read)
                 }
                 Err(Fault) => {
                     self.hold_buffer(place, guard);
-                    Did::Stopped
+                    Performed::Stopped
                 }
             },
         }
     }
 
     // Gives a buffer back as it was.
-    pub(crate) fn give<D: Device>(&mut self, hart: u8, core: &mut Core<D>, place: Place) -> Did
+    pub(crate) fn give<D: Device>(
+        &mut self,
+        hart: u8,
+        core: &mut Core<D>,
+        place: Place,
+    ) -> Performed
         requires fits { HandFits hart (state_of D.contents D.failures core.old) self.old }
         requires can { CanDo (Op.Give place) self.old }
         requires may { May hart (op_in self.old (Op.Give place)) (state_of D.contents D.failures core.old) }
@@ -142,13 +152,18 @@ impl Hand {
             None => unreachable!(),
             Some(guard) => {
                 core.put_back(hart, guard);
-                Did::Ran(Kind::Put)
+                Performed::Ran(Kind::Put)
             }
         }
     }
 
     // Gives it back, recorded with the bytes that were prepared in it.
-    pub(crate) fn record<D: Device>(&mut self, hart: u8, core: &mut Core<D>, place: Place) -> Did
+    pub(crate) fn record<D: Device>(
+        &mut self,
+        hart: u8,
+        core: &mut Core<D>,
+        place: Place,
+    ) -> Performed
         requires fits { (before : HandState) × HandFits hart (state_of D.contents D.failures core.old) before
             × Prepared (Op.Record place) before self.old }
         requires can { CanDo (Op.Record place) self.old }
@@ -162,14 +177,19 @@ impl Hand {
                 None => unreachable!(),
                 Some(txn) => {
                     core.put_changed(hart, txn, guard);
-                    Did::Ran(Kind::Put)
+                    Performed::Ran(Kind::Put)
                 }
             },
         }
     }
 
     // Takes the lock of the inode to which the reference is.
-    pub(crate) fn lock<D: Device>(&mut self, hart: u8, core: &mut Core<D>, seat: Seat) -> Did
+    pub(crate) fn lock<D: Device>(
+        &mut self,
+        hart: u8,
+        core: &mut Core<D>,
+        seat: InodePlace,
+    ) -> Performed
         requires fits { HandFits hart (state_of D.contents D.failures core.old) self.old }
         requires can { CanDo (Op.Lock seat) self.old }
         requires may { May hart (op_in self.old (Op.Lock seat)) (state_of D.contents D.failures core.old) }
@@ -179,17 +199,22 @@ impl Hand {
         match self.reference(seat) {
             None => unreachable!(),
             Some(reference) => match core.lock(hart, reference) {
-                None => Did::Waits,
+                None => Performed::Waits,
                 Some(guard) => {
                     self.hold_inode(seat, guard);
-                    Did::Ran(Kind::Lock)
+                    Performed::Ran(Kind::Lock)
                 }
             },
         }
     }
 
     // Gives it back, with the inode as it is in hand.
-    pub(crate) fn unlock<D: Device>(&mut self, hart: u8, core: &mut Core<D>, seat: Seat) -> Did
+    pub(crate) fn unlock<D: Device>(
+        &mut self,
+        hart: u8,
+        core: &mut Core<D>,
+        seat: InodePlace,
+    ) -> Performed
         requires fits { HandFits hart (state_of D.contents D.failures core.old) self.old }
         requires can { CanDo (Op.Unlock seat) self.old }
         requires may { May hart (op_in self.old (Op.Unlock seat)) (state_of D.contents D.failures core.old) }
@@ -200,7 +225,7 @@ impl Hand {
             None => unreachable!(),
             Some(guard) => {
                 core.unlock(hart, guard);
-                Did::Ran(Kind::Unlock)
+                Performed::Ran(Kind::Unlock)
             }
         }
     }
@@ -210,9 +235,9 @@ impl Hand {
         &mut self,
         hart: u8,
         core: &mut Core<D>,
-        seat: Seat,
+        seat: InodePlace,
         number: u32,
-    ) -> Did
+    ) -> Performed
         requires fits { HandFits hart (state_of D.contents D.failures core.old) self.old }
         requires can { CanDo (Op.Up seat number) self.old }
         requires may { May hart (op_in self.old (Op.Up seat number)) (state_of D.contents D.failures core.old) }
@@ -223,11 +248,16 @@ impl Hand {
             None => {}
             Some(reference) => self.hold_reference(seat, reference),
         }
-        Did::Ran(Kind::Up)
+        Performed::Ran(Kind::Up)
     }
 
     // The same where no seat is free.
-    pub(crate) fn up_aside<D: Device>(&mut self, hart: u8, core: &mut Core<D>, number: u32) -> Did
+    pub(crate) fn up_aside<D: Device>(
+        &mut self,
+        hart: u8,
+        core: &mut Core<D>,
+        number: u32,
+    ) -> Performed
         requires fits { HandFits hart (state_of D.contents D.failures core.old) self.old }
         requires can { CanDo (Op.UpAside number) self.old }
         requires may { May hart (op_in self.old (Op.UpAside number)) (state_of D.contents D.failures core.old) }
@@ -238,7 +268,7 @@ impl Hand {
             None => {}
             Some(reference) => self.hold_aside(reference),
         }
-        Did::Ran(Kind::Up)
+        Performed::Ran(Kind::Up)
     }
 
     // Drops it.
@@ -246,9 +276,9 @@ impl Hand {
         &mut self,
         hart: u8,
         core: &mut Core<D>,
-        seat: Seat,
+        seat: InodePlace,
         told: &mut Answer,
-    ) -> Did
+    ) -> Performed
         requires fits { HandFits hart (state_of D.contents D.failures core.old) self.old }
         requires can { CanDo (Op.Down seat) self.old }
         requires may { May hart (op_in self.old (Op.Down seat)) (state_of D.contents D.failures core.old) }
@@ -259,13 +289,13 @@ impl Hand {
             Some(reference) => match core.drop_reference(hart, reference) {
                 Dropped::Counted => {
                     *told = Answer::Is(false);
-                    Did::Ran(Kind::Down)
+                    Performed::Ran(Kind::Down)
                 }
                 Dropped::Dying(reference, guard) => {
                     self.hold_reference(seat, reference);
                     self.hold_inode(seat, guard);
                     *told = Answer::Is(true);
-                    Did::Ran(Kind::Lock)
+                    Performed::Ran(Kind::Lock)
                 }
             },
         }
@@ -278,22 +308,22 @@ impl Hand {
         core: &mut Core<D>,
         fd: u32,
         told: &mut Answer,
-    ) -> Did
+    ) -> Performed
         requires fits { HandFits hart (state_of D.contents D.failures core.old) self.old }
         requires can { CanDo (Op.JoinToWrite fd) self.old }
         requires may { May hart (op_in self.old (Op.JoinToWrite fd)) (state_of D.contents D.failures core.old) }
         ensures { Performs D.contents D.failures D.Called hart (Op.JoinToWrite fd) self.old self.new told.new result core.old core.new }
     {
         match core.join_to_write(hart, fd) {
-            JoinedToWrite::Waits => Did::Waits,
+            JoinedToWrite::Waits => Performed::Waits,
             JoinedToWrite::Refused(why) => {
                 *told = Answer::Refused(why);
-                Did::Ran(Kind::Reply)
+                Performed::Ran(Kind::Reply)
             }
             JoinedToWrite::Joined(txn, number) => {
                 self.hold_txn(txn);
                 *told = Answer::Number(number);
-                Did::Ran(Kind::Join)
+                Performed::Ran(Kind::Join)
             }
         }
     }
@@ -303,11 +333,11 @@ impl Hand {
         &mut self,
         hart: u8,
         core: &mut Core<D>,
-        seat: Seat,
+        seat: InodePlace,
         want: Want,
         fd: u32,
         told: &mut Answer,
-    ) -> Did
+    ) -> Performed
         requires fits { HandFits hart (state_of D.contents D.failures core.old) self.old }
         requires can { CanDo (Op.LockFile seat want fd) self.old }
         requires may { May hart (op_in self.old (Op.LockFile seat want fd)) (state_of D.contents D.failures core.old) }
@@ -315,15 +345,15 @@ impl Hand {
             (Op.LockFile seat want fd) self.old self.new told.new result core.old core.new }
     {
         match core.lock_file(hart, want, fd) {
-            LockedFile::Waits => Did::Waits,
+            LockedFile::Waits => Performed::Waits,
             LockedFile::Refused(why) => {
                 *told = Answer::Refused(why);
-                Did::Ran(Kind::Reply)
+                Performed::Ran(Kind::Reply)
             }
             LockedFile::Locked(file, guard) => {
                 self.hold_inode(seat, guard);
                 *told = Answer::File(file);
-                Did::Ran(Kind::Lock)
+                Performed::Ran(Kind::Lock)
             }
         }
     }
@@ -333,21 +363,21 @@ impl Hand {
         &mut self,
         hart: u8,
         core: &mut Core<D>,
-        seat: Seat,
+        seat: InodePlace,
         fd: u32,
         told: &mut Answer,
-    ) -> Did
+    ) -> Performed
         requires fits { HandFits hart (state_of D.contents D.failures core.old) self.old }
         requires can { CanDo (Op.LockOpen seat fd) self.old }
         requires may { May hart (op_in self.old (Op.LockOpen seat fd)) (state_of D.contents D.failures core.old) }
         ensures { Performs D.contents D.failures D.Called hart (Op.LockOpen seat fd) self.old self.new told.new result core.old core.new }
     {
         match core.lock_open(hart, fd) {
-            None => Did::Waits,
+            None => Performed::Waits,
             Some((file, guard)) => {
                 self.hold_inode(seat, guard);
                 *told = Answer::File(file);
-                Did::Ran(Kind::Lock)
+                Performed::Ran(Kind::Lock)
             }
         }
     }
@@ -357,10 +387,10 @@ impl Hand {
         &mut self,
         hart: u8,
         core: &mut Core<D>,
-        seat: Seat,
+        seat: InodePlace,
         fd: u32,
         offset: u32,
-    ) -> Did
+    ) -> Performed
         requires eight { hart < HARTS }
         requires fits { HandFits hart (state_of D.contents D.failures core.old) self.old }
         requires can { CanDo (Op.UnlockMoving seat fd offset) self.old }
@@ -373,18 +403,23 @@ impl Hand {
             None => unreachable!(),
             Some(guard) => {
                 core.unlock_moving(hart, guard, fd, offset);
-                Did::Ran(Kind::Unlock)
+                Performed::Ran(Kind::Unlock)
             }
         }
     }
 
     // Gives a lock back, and settles there.
-    pub(crate) fn settle<D: Device>(&mut self, hart: u8, core: &mut Core<D>, seat: Seat) -> Did
+    pub(crate) fn settle<D: Device>(
+        &mut self,
+        hart: u8,
+        core: &mut Core<D>,
+        seat: InodePlace,
+    ) -> Performed
         requires fits { HandFits hart (state_of D.contents D.failures core.old) self.old }
-        requires can { CanDo (Op.Settle seat) self.old }
-        requires may { May hart (op_in self.old (Op.Settle seat)) (state_of D.contents D.failures core.old) }
+        requires can { CanDo (Op.SetDirectory seat) self.old }
+        requires may { May hart (op_in self.old (Op.SetDirectory seat)) (state_of D.contents D.failures core.old) }
         ensures { (told : AnswerState)
-            → Performs D.contents D.failures D.Called hart (Op.Settle seat) self.old self.new told result core.old core.new }
+            → Performs D.contents D.failures D.Called hart (Op.SetDirectory seat) self.old self.new told result core.old core.new }
     {
         match self.take_inode(seat) {
             None => unreachable!(),
@@ -393,7 +428,7 @@ impl Hand {
                 Some(reference) => {
                     let old = core.settle(hart, guard, reference);
                     self.hold_reference(seat, old);
-                    Did::Ran(Kind::Unlock)
+                    Performed::Ran(Kind::Unlock)
                 }
             },
         }
@@ -404,8 +439,8 @@ impl Hand {
         &mut self,
         hart: u8,
         core: &mut Core<D>,
-        seat: Seat,
-    ) -> Did
+        seat: InodePlace,
+    ) -> Performed
         requires fits { HandFits hart (state_of D.contents D.failures core.old) self.old }
         requires can { CanDo (Op.UpDirectory seat) self.old }
         requires may { May hart (op_in self.old (Op.UpDirectory seat)) (state_of D.contents D.failures core.old) }
@@ -416,7 +451,7 @@ impl Hand {
             None => {}
             Some(reference) => self.hold_reference(seat, reference),
         }
-        Did::Ran(Kind::Up)
+        Performed::Ran(Kind::Up)
     }
 
     // Drops a reference within a walk; the one aside comes in its place.
@@ -424,9 +459,9 @@ impl Hand {
         &mut self,
         hart: u8,
         core: &mut Core<D>,
-        seat: Seat,
+        seat: InodePlace,
         told: &mut Answer,
-    ) -> Did
+    ) -> Performed
         requires fits { HandFits hart (state_of D.contents D.failures core.old) self.old }
         requires can { CanDo (Op.DownWalked seat) self.old }
         requires may { May hart (op_in self.old (Op.DownWalked seat)) (state_of D.contents D.failures core.old) }
@@ -439,12 +474,12 @@ impl Hand {
                 match core.drop_walked(hart, reference) {
                     None => {
                         *told = Answer::Is(false);
-                        Did::Ran(Kind::Down)
+                        Performed::Ran(Kind::Down)
                     }
                     Some(kept) => {
                         self.listed.push(kept);
                         *told = Answer::Is(true);
-                        Did::Ran(Kind::Down)
+                        Performed::Ran(Kind::Down)
                     }
                 }
             }
@@ -452,7 +487,12 @@ impl Hand {
     }
 
     // Takes the first listed reference, and the lock of its inode.
-    pub(crate) fn lock_listed<D: Device>(&mut self, hart: u8, core: &mut Core<D>, seat: Seat) -> Did
+    pub(crate) fn lock_listed<D: Device>(
+        &mut self,
+        hart: u8,
+        core: &mut Core<D>,
+        seat: InodePlace,
+    ) -> Performed
         requires fits { HandFits hart (state_of D.contents D.failures core.old) self.old }
         requires can { CanDo (Op.LockListed seat) self.old }
         requires may { May hart (op_in self.old (Op.LockListed seat)) (state_of D.contents D.failures core.old) }
@@ -462,18 +502,23 @@ impl Hand {
         match self.listed.first() {
             None => unreachable!(),
             Some(first) => match core.lock(hart, first) {
-                None => Did::Waits,
+                None => Performed::Waits,
                 Some(guard) => {
                     self.hold_first(seat);
                     self.hold_inode(seat, guard);
-                    Did::Ran(Kind::Lock)
+                    Performed::Ran(Kind::Lock)
                 }
             },
         }
     }
 
     // Drops the reference to a freed inode.
-    pub(crate) fn down_freed<D: Device>(&mut self, hart: u8, core: &mut Core<D>, seat: Seat) -> Did
+    pub(crate) fn down_freed<D: Device>(
+        &mut self,
+        hart: u8,
+        core: &mut Core<D>,
+        seat: InodePlace,
+    ) -> Performed
         requires fits { HandFits hart (state_of D.contents D.failures core.old) self.old }
         requires can { CanDo (Op.DownFreed seat) self.old }
         requires may { May hart (op_in self.old (Op.DownFreed seat)) (state_of D.contents D.failures core.old) }
@@ -484,7 +529,7 @@ impl Hand {
             None => unreachable!(),
             Some(reference) => {
                 core.drop_freed(hart, reference);
-                Did::Ran(Kind::Down)
+                Performed::Ran(Kind::Down)
             }
         }
     }
@@ -497,7 +542,7 @@ impl Hand {
         want: Want,
         fd: u32,
         told: &mut Answer,
-    ) -> Did
+    ) -> Performed
         requires fits { HandFits hart (state_of D.contents D.failures core.old) self.old }
         requires can { CanDo (Op.CheckFile want fd) self.old }
         requires may { May hart (op_in self.old (Op.CheckFile want fd)) (state_of D.contents D.failures core.old) }
@@ -506,11 +551,11 @@ impl Hand {
         match core.check_file(hart, want, fd) {
             None => {
                 *told = Answer::Nothing;
-                Did::Ran(Kind::Reply)
+                Performed::Ran(Kind::Reply)
             }
             Some(why) => {
                 *told = Answer::Refused(why);
-                Did::Ran(Kind::Reply)
+                Performed::Ran(Kind::Reply)
             }
         }
     }
@@ -521,7 +566,7 @@ impl Hand {
         hart: u8,
         core: &mut Core<D>,
         told: &mut Answer,
-    ) -> Did
+    ) -> Performed
         requires fits { HandFits hart (state_of D.contents D.failures core.old) self.old }
         requires can { CanDo (Op.TakePlace) self.old }
         requires may { May hart (op_in self.old (Op.TakePlace)) (state_of D.contents D.failures core.old) }
@@ -529,7 +574,7 @@ impl Hand {
     {
         let taken = core.take_place(hart);
         *told = Answer::Is(taken);
-        Did::Ran(Kind::Slot)
+        Performed::Ran(Kind::Slot)
     }
 
     // Opens a file.
@@ -537,10 +582,10 @@ impl Hand {
         &mut self,
         hart: u8,
         core: &mut Core<D>,
-        seat: Seat,
+        seat: InodePlace,
         file: NewFile,
         told: &mut Answer,
-    ) -> Did
+    ) -> Performed
         requires fits { HandFits hart (state_of D.contents D.failures core.old) self.old }
         requires can { CanDo (Op.TakeDescriptor seat file) self.old }
         requires may { May hart (op_in self.old (Op.TakeDescriptor seat file)) (state_of D.contents D.failures core.old) }
@@ -552,12 +597,12 @@ impl Hand {
             Some(reference) => match core.take_descriptor(hart, reference, file) {
                 Ok(fd) => {
                     *told = Answer::Number(fd as u32);
-                    Did::Ran(Kind::Slot)
+                    Performed::Ran(Kind::Slot)
                 }
                 Err(back) => {
                     self.hold_reference(seat, back);
                     *told = Answer::Nothing;
-                    Did::Ran(Kind::Slot)
+                    Performed::Ran(Kind::Slot)
                 }
             },
         }
@@ -570,7 +615,7 @@ impl Hand {
         core: &mut Core<D>,
         fd: u32,
         told: &mut Answer,
-    ) -> Did
+    ) -> Performed
         requires fits { HandFits hart (state_of D.contents D.failures core.old) self.old }
         requires can { CanDo (Op.Double fd) self.old }
         requires may { May hart (op_in self.old (Op.Double fd)) (state_of D.contents D.failures core.old) }
@@ -579,15 +624,15 @@ impl Hand {
         match core.double(hart, fd) {
             Doubled::BadDescriptor => {
                 *told = Answer::Doubled(Doubled::BadDescriptor);
-                Did::Ran(Kind::Reply)
+                Performed::Ran(Kind::Reply)
             }
             Doubled::Full => {
                 *told = Answer::Doubled(Doubled::Full);
-                Did::Ran(Kind::Slot)
+                Performed::Ran(Kind::Slot)
             }
             Doubled::Gave(copy) => {
                 *told = Answer::Doubled(Doubled::Gave(copy));
-                Did::Ran(Kind::Slot)
+                Performed::Ran(Kind::Slot)
             }
         }
     }
@@ -597,10 +642,10 @@ impl Hand {
         &mut self,
         hart: u8,
         core: &mut Core<D>,
-        seat: Seat,
+        seat: InodePlace,
         fd: u32,
         told: &mut Answer,
-    ) -> Did
+    ) -> Performed
         requires fits { HandFits hart (state_of D.contents D.failures core.old) self.old }
         requires can { CanDo (Op.Close seat fd) self.old }
         requires may { May hart (op_in self.old (Op.Close seat fd)) (state_of D.contents D.failures core.old) }
@@ -609,16 +654,16 @@ impl Hand {
         match core.close(hart, fd) {
             Shut::BadDescriptor => {
                 *told = Answer::Refused(Refused::BadDescriptor);
-                Did::Ran(Kind::Reply)
+                Performed::Ran(Kind::Reply)
             }
             Shut::Closed => {
                 *told = Answer::Is(false);
-                Did::Ran(Kind::Slot)
+                Performed::Ran(Kind::Slot)
             }
             Shut::Last(reference) => {
                 self.hold_reference(seat, reference);
                 *told = Answer::Is(true);
-                Did::Ran(Kind::Slot)
+                Performed::Ran(Kind::Slot)
             }
         }
     }
@@ -628,11 +673,11 @@ impl Hand {
         &mut self,
         hart: u8,
         core: &mut Core<D>,
-        seat: Seat,
+        seat: InodePlace,
         child: u8,
         from: u32,
         told: &mut Answer,
-    ) -> Did
+    ) -> Performed
         requires fits { HandFits hart (state_of D.contents D.failures core.old) self.old }
         requires can { CanDo (Op.GiveTo seat child from) self.old }
         requires may { May hart (op_in self.old (Op.GiveTo seat child from)) (state_of D.contents D.failures core.old) }
@@ -642,12 +687,12 @@ impl Hand {
         match core.give(hart, child, from) {
             Given::Descriptor(fd, more) => {
                 *told = Answer::Given(fd, more);
-                Did::Ran(Kind::Slot)
+                Performed::Ran(Kind::Slot)
             }
             Given::Directory(reference) => {
                 self.hold_reference(seat, reference);
                 *told = Answer::Is(true);
-                Did::Ran(Kind::Up)
+                Performed::Ran(Kind::Up)
             }
         }
     }
@@ -658,9 +703,9 @@ impl Hand {
         hart: u8,
         core: &mut Core<D>,
         place: Place,
-        seat: Seat,
+        seat: InodePlace,
         told: &mut Answer,
-    ) -> Did
+    ) -> Performed
         requires fits { HandFits hart (state_of D.contents D.failures core.old) self.old }
         requires can { CanDo (Op.Claim place seat) self.old }
         requires may { May hart (op_in self.old (Op.Claim place seat)) (state_of D.contents D.failures core.old) }
@@ -676,30 +721,30 @@ impl Hand {
                     self.hold_buffer(place, guard);
                     self.hold_reference(seat, reference);
                     *told = Answer::Number(number);
-                    Did::Ran(Kind::Up)
+                    Performed::Ran(Kind::Up)
                 }
                 Claim::NoPlace(guard) => {
                     self.hold_buffer(place, guard);
                     *told = Answer::Is(true);
-                    Did::Ran(Kind::Up)
+                    Performed::Ran(Kind::Up)
                 }
                 Claim::NoInode => {
                     *told = Answer::Nothing;
-                    Did::Ran(Kind::Put)
+                    Performed::Ran(Kind::Put)
                 }
             },
         }
     }
 
     // Gives the reply.
-    pub(crate) fn reply<D: Device>(&mut self, hart: u8, core: &mut Core<D>) -> Did
+    pub(crate) fn reply<D: Device>(&mut self, hart: u8, core: &mut Core<D>) -> Performed
         requires fits { HandFits hart (state_of D.contents D.failures core.old) self.old }
         requires may { May hart (op_in self.old Op.Reply) (state_of D.contents D.failures core.old) }
         ensures { (told : AnswerState)
             → Performs D.contents D.failures D.Called hart Op.Reply self.old self.new told result core.old core.new }
     {
         core.reply(hart);
-        Did::Ran(Kind::Reply)
+        Performed::Ran(Kind::Reply)
     }
 
     /// One operation. It is made of what is in hand, and leaves in hand what it gives; what the hand doesn't show of its answer is told. An
@@ -710,7 +755,7 @@ impl Hand {
         core: &mut Core<D>,
         op: Op,
         told: &mut Answer,
-    ) -> Did
+    ) -> Performed
         requires eight { hart < HARTS }
         requires fits { (before : HandState) × HandFits hart (state_of D.contents D.failures core.old) before
             × Prepared op before self.old }
@@ -735,7 +780,7 @@ impl Hand {
             Op::LockFile(seat, want, fd) => self.lock_file(hart, core, seat, want, fd, told),
             Op::LockOpen(seat, fd) => self.lock_open(hart, core, seat, fd, told),
             Op::UnlockMoving(seat, fd, offset) => self.unlock_moving(hart, core, seat, fd, offset),
-            Op::Settle(seat) => self.settle(hart, core, seat),
+            Op::SetDirectory(seat) => self.settle(hart, core, seat),
             Op::UpDirectory(seat) => self.up_directory(hart, core, seat),
             Op::DownWalked(seat) => self.down_walked(hart, core, seat, told),
             Op::LockListed(seat) => self.lock_listed(hart, core, seat),
@@ -753,11 +798,11 @@ impl Hand {
 }
 
 // Whether a commit begins.
-fn commits(left: Left) -> bool
+fn commits(left: AfterLeave) -> bool
     ensures { left ≡ left_by result }
 {
     match left {
-        Left::Free => false,
-        Left::Commits => true,
+        AfterLeave::Free => false,
+        AfterLeave::Commits => true,
     }
 }

@@ -7,12 +7,12 @@ ghost use Rattle.fs_machine.specs.Premises.{May, Honest};
 ghost use Rattle.fs_machine.specs.Tied.{IsOwn, LeavesTied, bytes_of};
 ghost use Rattle.fs_machine.specs.Stays.{LeavesAll, LeavesAllBut, HasNone};
 ghost use Rattle.fs_machine.specs.Joining.{joined_to_write_as, IfJoinWaits, IfJoined};
-ghost use Rattle.fs_machine.specs.Did.{joined_as, got_as, read_as, committed_as, said_read, said_written, IfGotNone, IfReadOk};
+ghost use Rattle.fs_machine.specs.Performed.{joined_as, got_as, read_as, committed_as, said_read, said_written, IfGotNone, IfReadOk};
 
 use crate::{Refused, Tables, Want};
 use block_device::{Device, Fault};
 use buffer_cache::{Buffer, Got};
-use group_log::{Left, Log, Progress, Txn};
+use group_log::{AfterLeave, Log, Progress, Txn};
 use sleep_lock::Guard;
 
 /// All that harts share: the log, and the tables of inodes in memory, open files and descriptors. After its parts were made
@@ -75,7 +75,7 @@ impl<D: Device> Core<D> {
 
     /// Leaves a transaction (xv6: `end_op`, without its `commit`), and says whether a commit begins.
     #[tactic(auto, unfolding(crate::specs::Premises::May, crate::specs::Premises::Honest))]
-    pub fn leave(&mut self, hart: u8, txn: Txn) -> Left
+    pub fn leave(&mut self, hart: u8, txn: Txn) -> AfterLeave
         requires own { txn ≡ hart }
         requires may { May hart LeaveOp (state_of D.contents D.failures self.old) }
         ensures ran { (x : Outside)

@@ -1,5 +1,5 @@
 -- What each call's clauses say of a stop.
-use Rattle.group_log.proofs.Vocabulary.{◌≡◌, ◌≢◌, ◌⊎◌, inl, inr, ℕ, zero, suc, ◌+◌, ◌<◌, ◌≤◌, ◌==◌, List, [], ◌∷◌, length, Bool, true, false, if◌then◌else◌, refl, sym, ◌∙◌, ap, subst, arith, add-one, eqb-true, Super, recovered, IsOutsideLog, seen, Phase, Open, Staging, Installing, Halted, Left, Free, Commits, Progress, WaitsFor as Waits, Wrote, Ended, Failed, joined, is_point, next_phase, phase_at_leave, LogState, left_at, progress_at, IfWaits, IfMade, IfFailed, StaysOrBecomes, Blocks, AgreeOutside, commit_cut, IsLoggedRun, recovered_of, seen_of, is_under_way, is_settled, is_running, IsMove, begins_at, Stands, IsCommitMove, IsRunOfLog, LogsAreLoggedRuns, LogsStopAtACut, MovesCompose}
+use Rattle.group_log.proofs.Vocabulary.{◌≡◌, ◌≢◌, ◌⊎◌, inl, inr, ℕ, zero, suc, ◌+◌, ◌<◌, ◌≤◌, ◌==◌, List, [], ◌∷◌, length, Bool, true, false, if◌then◌else◌, refl, sym, ◌∙◌, ap, subst, arith, add-one, eqb-true, Super, recovered, IsOutsideLog, seen, Phase, Open, Staging, Installing, Halted, AfterLeave, Free, Commits, Progress, WaitsFor as Waits, Wrote, Ended, Failed, joined, is_point, next_phase, phase_at_leave, LogState, left_at, progress_at, IfWaits, IfMade, IfFailed, StaysOrBecomes, Blocks, AgreeOutside, commit_cut, IsLoggedRun, recovered_of, seen_of, is_under_way, is_settled, is_running, IsMove, begins_at, Stands, IsCommitMove, IsRunOfLog, LogsAreLoggedRuns, LogsStopAtACut, MovesCompose}
 use Rattle.group_log.proofs.Basics.{pick, stops_at_a_cut}
 
 pub never : {P : Type 0} → false ≡ true → P
@@ -27,7 +27,7 @@ next_settled n (Staging i) begun now =
     (λ _ _. inl refl) (λ _ now. never now) now
 
 -- what follows a leave
-pub leave_facts : (n : ℕ) (ks : List ℕ) (r : Left) (p : Phase) → r ≡ left_at n ks → p ≡ phase_at_leave n ks
+pub leave_facts : (n : ℕ) (ks : List ℕ) (r : AfterLeave) (p : Phase) → r ≡ left_at n ks → p ≡ phase_at_leave n ks
     → ((begins_at r ≡ true) × (n ≡ 0) × (p ≡ Staging 0)) ⊎ ((begins_at r ≡ false) × (p ≡ Open))
 leave_facts n [] r p left phase = inr (ap begins_at left, phase)
 leave_facts n (b ∷ ks) r p left phase =

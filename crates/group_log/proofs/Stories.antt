@@ -1,5 +1,5 @@
 -- What each call keeps of a history.
-use Rattle.group_log.proofs.Vocabulary.{◌≡◌, ◌⊎◌, inl, inr, ℕ, ◌+◌, ◌≤◌, ◌<◌, nat_lt, Bool, true, false, cond, if◌then◌else◌, List, [], ◌∷◌, ◌++◌, Option, Some, None, refl, sym, ◌∙◌, ap, subst, arith, add-one, add-zero, zero, suc, length, AllByRecursion, lt-ltb, le-ltb, ltb-false, append-nil, filter-append, Super, Marks, Left, Free, Commits, Phase, Open, Staging, Installing, Halted, Progress, WaitsFor as Waits, Wrote, Ended, Failed, is_point, LogState, Blocks, AgreeOutside, recovered_of, seen_of, is_under_way, is_settled, is_running, IsMove, begins_at, IsCommitMove, no_marks, after_leave, after_write, before, RisesBy, IsMarked, IsKept, Span, IsApart, AreWhole, IsStory, Turns, IsSpanned}
+use Rattle.group_log.proofs.Vocabulary.{◌≡◌, ◌⊎◌, inl, inr, ℕ, ◌+◌, ◌≤◌, ◌<◌, nat_lt, Bool, true, false, cond, if◌then◌else◌, List, [], ◌∷◌, ◌++◌, Option, Some, None, refl, sym, ◌∙◌, ap, subst, arith, add-one, add-zero, zero, suc, length, AllByRecursion, lt-ltb, le-ltb, ltb-false, append-nil, filter-append, Super, Marks, AfterLeave, Free, Commits, Phase, Open, Staging, Installing, Halted, Progress, WaitsFor as Waits, Wrote, Ended, Failed, is_point, LogState, Blocks, AgreeOutside, recovered_of, seen_of, is_under_way, is_settled, is_running, IsMove, begins_at, IsCommitMove, no_marks, after_leave, after_write, before, RisesBy, IsMarked, IsKept, Span, IsApart, AreWhole, IsStory, Turns, IsSpanned}
 use Rattle.group_log.proofs.Basics.{pick}
 use Rattle.group_log.proofs.Moving.{never}
 
@@ -122,7 +122,7 @@ module _ {D E : Type 0} (contents : D → List (List ℕ)) (number : E → ℕ) 
     }
 
     -- a leave, where the entries so far make what is seen once it begins a commit
-    pub kept_leave : (r : Left) → IsMove contents (begins_at r) false l l' → m.doubt ≡ None → (begins_at r ≡ true → Image (list ++ news) (seen_of contents l'))
+    pub kept_leave : (r : AfterLeave) → IsMove contents (begins_at r) false l l' → m.doubt ≡ None → (begins_at r ≡ true → Image (list ++ news) (seen_of contents l'))
         → IsKept contents number sizes Image (n + 1) (list ++ news) l' (after_leave n r m)
     kept_leave Free move none image = kept_plain move
     kept_leave Commits move none image = begun_now move none (image refl)
@@ -239,7 +239,7 @@ module _ {D E : Type 0} (contents : D → List (List ℕ)) (number : E → ℕ) 
     doubtful = λ k is. absurd (cc (sym is ∙ ap (λ (m : Marks). m.doubt) story.unmarked));
   }
 
-  doubt_left : (i : ℕ) (r : Left) (m : Marks) → m.doubt ≡ None → (after_leave i r m).doubt ≡ None
+  doubt_left : (i : ℕ) (r : AfterLeave) (m : Marks) → m.doubt ≡ None → (after_leave i r m).doubt ≡ None
   doubt_left i Free m none = none
   doubt_left i Commits m none = none
 
@@ -287,7 +287,7 @@ module _ {D E : Type 0} (contents : D → List (List ℕ)) (number : E → ℕ) 
   all (suc i) le = subst At (add-one i) (one i (omega (arith, le)) (all i (omega (arith, le))))
 
   -- marks never fall
-  grew_left : (i : ℕ) (r : Left) (m : Marks) → m.begun ≤ i → (m.begun ≤ (after_leave i r m).begun) × (m.cut ≤ (after_leave i r m).cut)
+  grew_left : (i : ℕ) (r : AfterLeave) (m : Marks) → m.begun ≤ i → (m.begun ≤ (after_leave i r m).begun) × (m.cut ≤ (after_leave i r m).cut)
   grew_left i Free m le = (omega arith, omega arith)
   grew_left i Commits m le = (omega (arith, le), omega arith)
 
@@ -373,7 +373,7 @@ module _ {D E : Type 0} (contents : D → List (List ℕ)) (number : E → ℕ) 
         ]
       ]
     where
-      left_whole : (i : ℕ) → i < n → (r : Left) → (marks i).doubt ≡ None → AreWhole (i + 1) (marks i) (since (i + 1)) (ended (i + 1)) → (begins_at r ≡ true → (h k : ℕ) → since (i + 1) h ≡ Some k → ⊥)
+      left_whole : (i : ℕ) → i < n → (r : AfterLeave) → (marks i).doubt ≡ None → AreWhole (i + 1) (marks i) (since (i + 1)) (ended (i + 1)) → (begins_at r ≡ true → (h k : ℕ) → since (i + 1) h ≡ Some k → ⊥)
           → AreWhole (i + 1) (after_leave i r (marks i)) (since (i + 1)) (ended (i + 1))
       left_whole i lt Free none after alone = after
       left_whole i lt Commits none after alone = begins_whole (i + 1) (marks i) (since (i + 1)) (ended (i + 1)) after none (alone refl)

@@ -15,7 +15,7 @@ pub use Rattle.group_log.specs.Group.{HasRoom, IsMember, has, joined, members_wi
 pub use Rattle.group_log.specs.Turns.{seats_after, seats_at_fault}
 pub use Rattle.std.proofs.Common.{add-one, add-zero, min, slice_index, ◌||◌}
 pub use Rattle.group_log.specs.Moves.{IsCommitMove, IsMove, IsRunOfLog, LogsAreLoggedRuns, LogsStopAtACut, MovesCompose, Stands, begins_at, is_running, is_settled, is_under_way, recovered_of, seen_of}
-pub use Rattle.group_log.specs.declared.log.Left.TheVariants.{Commits, Free}
+pub use Rattle.group_log.specs.declared.log.AfterLeave.TheVariants.{Commits, Free}
 pub use Rattle.std.specs.Option.{IfSome}
 pub use Rattle.fs_layout.proofs.RecoveredDisk.{first_copy, logged-set, logged-written, recovered-copy, recovered-empty, recovered-own, sizes_of-set}
 pub use Rattle.group_log.specs.Stories.{AreWhole, CutsHaveReplies, IsApart, IsKept, IsMarked, IsMarkedRun, IsMarkedStop, IsSpanned, IsStory, MarksTellStops, NoneIsMarkedInPart, Span, Turns, after_leave, after_write, before, no_marks}
@@ -23,7 +23,7 @@ unfoldable pub use Rattle.group_log.specs.Stories.{RisesBy}
 pub use Rattle.group_log.specs.Waiting.{IfFailed, IfMade, IfWaits, StaysOrBecomes, join_waits, left_at, progress_at}
 pub use Rattle.group_log.specs.declared.commit.Progress.{Progress}
 pub use Rattle.group_log.specs.declared.commit.Progress.TheVariants.{Ended, Failed, Waits as WaitsFor, Wrote}
-pub use Rattle.group_log.specs.declared.log.Left.{Left}
+pub use Rattle.group_log.specs.declared.log.AfterLeave.{AfterLeave}
 pub use Rattle.group_log.specs.declared.marks.Marks.{Marks}
 pub use Rattle.buffer_cache.proofs.Laws.{GetLaws, back_laws, change_laws, fill_laws, get_laws, pin_keeps, pin_seen}
 pub use Rattle.buffer_cache.proofs.Sound.{seen_home, seen_past, sound_home, sound_pin, sound_uncached, sound_unpin}

@@ -3,8 +3,8 @@ use Rattle.std.specs.Prelude.{◌≡◌, ◌⊎◌, ℕ, ◌+◌, ◌<◌, List,
 use Rattle.group_log.specs.Vocabulary.{recovered, seen}
 use Rattle.group_log.specs.declared.phase.Phase.{Phase}
 use Rattle.group_log.specs.declared.phase.Phase.TheVariants.{Open, Staging, Installing, Halted}
-use Rattle.group_log.specs.declared.log.Left.{Left}
-use Rattle.group_log.specs.declared.log.Left.TheVariants.{Free, Commits}
+use Rattle.group_log.specs.declared.log.AfterLeave.{AfterLeave}
+use Rattle.group_log.specs.declared.log.AfterLeave.TheVariants.{Free, Commits}
 use Rattle.group_log.specs.declared.commit.Progress.{Progress}
 use Rattle.group_log.specs.declared.commit.Progress.TheVariants.{Waits, Wrote, Ended, Failed}
 use Rattle.group_log.specs.Group.{joined}
@@ -60,7 +60,7 @@ pub record IsMove {D : Type 0} (contents : D → List (List ℕ)) (begins stands
   pub runs : is_running new.phase ≡ true → is_running old.phase ≡ true
 
 -- of a leave
-abbrev pub begins_at : Left → Bool
+abbrev pub begins_at : AfterLeave → Bool
 begins_at Free = false
 begins_at Commits = true
 

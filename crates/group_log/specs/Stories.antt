@@ -2,8 +2,8 @@
 use Rattle.std.specs.Prelude.{◌≡◌, ◌⊎◌, ℕ, ◌+◌, ◌≤◌, ◌<◌, nat_lt, Bool, true, false, if◌then◌else◌, List, [], ◌∷◌, ◌++◌, length, filter, Option, Some, None}
 use Rattle.group_log.specs.Vocabulary.{AllByRecursion, Super}
 use Rattle.group_log.specs.declared.marks.Marks.{Marks}
-use Rattle.group_log.specs.declared.log.Left.{Left}
-use Rattle.group_log.specs.declared.log.Left.TheVariants.{Free, Commits}
+use Rattle.group_log.specs.declared.log.AfterLeave.{AfterLeave}
+use Rattle.group_log.specs.declared.log.AfterLeave.TheVariants.{Free, Commits}
 use Rattle.group_log.specs.declared.commit.Progress.{Progress}
 use Rattle.group_log.specs.declared.commit.Progress.TheVariants.{Waits, Wrote, Ended, Failed}
 use Rattle.group_log.specs.declared.phase.Phase.TheVariants.{Open}
@@ -18,7 +18,7 @@ abbrev pub no_marks : Marks
 no_marks = record { begun = 0; cut = 0; doubt = None }
 
 -- after event n, which is a leave
-abbrev pub after_leave : ℕ → Left → Marks → Marks
+abbrev pub after_leave : ℕ → AfterLeave → Marks → Marks
 after_leave n Free m = m
 after_leave n Commits m = record m { begun = n + 1 }
 
@@ -82,7 +82,7 @@ pub record AreWhole (n : ℕ) (m : Marks) (since : ℕ → Option ℕ) (ended : 
 abbrev pub Does : {D : Type 0} → (D → List (List ℕ)) → ℕ → LogState D → LogState D → Marks → Marks → Type 0
 Does contents n l l' m m' =
     (IsMove contents false false l l' × (m' ≡ m))
-    ⊎ (((r : Left) × IsMove contents (begins_at r) false l l' × (is_running l.phase ≡ true) × (is_running l'.phase ≡ true)
+    ⊎ (((r : AfterLeave) × IsMove contents (begins_at r) false l l' × (is_running l.phase ≡ true) × (is_running l'.phase ≡ true)
     × (m' ≡ after_leave n r m))
     ⊎ ((r : Progress) × IsCommitMove contents r l l' × (is_running l.phase ≡ true)
     × (m' ≡ after_write (is_point (length l.group) l.phase) r m)))

@@ -6,8 +6,8 @@ use Rattle.group_log.specs.declared.phase.Phase.{Phase}
 use Rattle.group_log.specs.declared.phase.Phase.TheVariants.{Open, Staging, Installing, Halted}
 use Rattle.group_log.specs.declared.commit.Progress.{Progress}
 use Rattle.group_log.specs.declared.commit.Progress.TheVariants.{Waits, Wrote, Ended, Failed}
-use Rattle.group_log.specs.declared.log.Left.{Left}
-use Rattle.group_log.specs.declared.log.Left.TheVariants.{Free, Commits}
+use Rattle.group_log.specs.declared.log.AfterLeave.{AfterLeave}
+use Rattle.group_log.specs.declared.log.AfterLeave.TheVariants.{Free, Commits}
 
 -- a join waits while a commit runs, where the group might outgrow the log, and for good after a fault
 abbrev pub join_waits : Phase → ℕ → ℕ → ℕ → Bool
@@ -17,7 +17,7 @@ join_waits (Installing i) recorded outstanding limit = true
 join_waits Halted recorded outstanding limit = true
 
 -- a leave that leaves so many in a transaction commits the group, if there is one
-abbrev pub left_at : ℕ → List ℕ → Left
+abbrev pub left_at : ℕ → List ℕ → AfterLeave
 left_at outstanding [] = Free
 left_at outstanding (b ∷ group) = if outstanding == 0 then Commits else Free
 

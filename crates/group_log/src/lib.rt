@@ -21,7 +21,7 @@ pub use crash::{
     calls_keep_whole, logs_stop_at_a_cut, marks_tell_stops, moves_compose, stops_at_a_cut,
 };
 pub use limits::{BLOCKS_OF_A_TRANSACTION, MOST_LOGGED};
-pub use log::{Left, Log};
+pub use log::{AfterLeave, Log};
 pub use marks::Marks;
 pub use phase::Phase;
 pub use txn::{RetiredLog, Txn};

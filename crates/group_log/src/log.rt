@@ -24,7 +24,7 @@ use std::marker::Model;
 
 /// What follows a leave.
 #[derive(Debug, Clone, Copy, PartialEq, Eq)]
-pub enum Left {
+pub enum AfterLeave {
     /// The hart goes on.
     Free,
     /// The hart has to make the commit's steps.
@@ -231,7 +231,7 @@ impl<D: Device> Log<D> {
     }
 
     /// Leaves a transaction. The last one to leave begins the commit, where something was recorded (xv6: `end_op`).
-    pub fn leave(&mut self, txn: Txn) -> Left
+    pub fn leave(&mut self, txn: Txn) -> AfterLeave
         requires member { IsMember self.old.members txn }
         requires running { self.old.phase ≢ Halted }
         ensures open { self.old.phase ≡ Open }
@@ -246,10 +246,10 @@ impl<D: Device> Log<D> {
         let hart = txn.end();
         self.members[hart as usize] = None;
         match what_follows(outstanding(&self.members), &self.group) {
-            Left::Free => Left::Free,
-            Left::Commits => {
+            AfterLeave::Free => AfterLeave::Free,
+            AfterLeave::Commits => {
                 self.phase = Phase::Staging(0);
-                Left::Commits
+                AfterLeave::Commits
             }
         }
     }
@@ -415,13 +415,13 @@ fn is_outside(sizes: &Super, b: u32) -> bool
 }
 
 // What follows a leave that leaves so many in a transaction.
-fn what_follows(outstanding: usize, group: &[u32]) -> Left
+fn what_follows(outstanding: usize, group: &[u32]) -> AfterLeave
     ensures { result ≡ left_at outstanding group.now }
 {
     if outstanding == 0 && !group.is_empty() {
-        Left::Commits
+        AfterLeave::Commits
     } else {
-        Left::Free
+        AfterLeave::Free
     }
 }
 

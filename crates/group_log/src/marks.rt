@@ -3,7 +3,7 @@ ghost use Rattle.std.specs.Prelude.{◌≡◌, ◌+◌, ◌<◌, ◌^◌, if◌t
 ghost use Rattle.group_log.specs.Stories.{after_leave, after_write};
 
 use crate::commit::Progress;
-use crate::log::Left;
+use crate::log::AfterLeave;
 
 /// Counts of the events of a machine over a log: with the last leave that began a commit; with the leave that began the
 /// commit of the last group whose head was written; and, where the write of a group's head failed, with the leave that
@@ -19,13 +19,13 @@ pub struct Marks {
 
 impl Marks {
     /// After a leave that had so many events before it.
-    pub fn after_leave(self, events: u64, left: Left) -> Marks
+    pub fn after_leave(self, events: u64, left: AfterLeave) -> Marks
         requires { events + 1 < 2 ^ 64 }
         ensures { result ≡ after_leave events left self }
     {
         match left {
-            Left::Free => self,
-            Left::Commits => Marks {
+            AfterLeave::Free => self,
+            AfterLeave::Commits => Marks {
                 begun: events + 1,
                 cut: self.cut,
                 doubt: self.doubt,

@@ -1,5 +1,5 @@
 -- Starts that were refused, as events that ask for no call: a run goes on as before without them.
-use Rattle.hart_core.proofs.Vocabulary.{◌≡◌, ◌≢◌, ℕ, Bool, true, false, Option, Some, None, List, [], ◌∷◌, if◌then◌else◌, refl, sym, ◌∙◌, ap, subst, nat_eq, eqb-true, Call, call_climbs, Shown, Begun, Replied, Other, Marks, Ret, Do, Did, Waits, Ran, Stops, PartOf as P, OpWithAnswer, own, Theory, Began, Refuses, Begins, Run, State, EventOf as Event, Start, Step, Made, Refused, WasIdle, HonestStep, IsHonest, AllHonest, changed, told, all_told, unchanged, moved, tried, step_prog, step_unless, step_run, begun, start_run, makes, next, run, noted, MoveMachine, theory_of, shown_by, climbs_at, StartsBy, Alone, shows}
+use Rattle.hart_core.proofs.Vocabulary.{◌≡◌, ◌≢◌, ℕ, Bool, true, false, Option, Some, None, List, [], ◌∷◌, if◌then◌else◌, refl, sym, ◌∙◌, ap, subst, nat_eq, eqb-true, Call, call_climbs, Shown, Begun, Replied, Other, Marks, Ret, Do, ExecResult, Waits, Ran, Stops, PartOf as P, OpWithAnswer, own, Theory, Began, Refuses, Begins, Run, State, EventOf as Event, Start, Step, Made, Refused, WasIdle, HonestStep, IsHonest, AllHonest, changed, told, all_told, unchanged, moved, tried, step_prog, step_unless, step_run, begun, start_run, makes, next, run, noted, MoveMachine, theory_of, shown_by, climbs_at, StartsBy, Alone, shows}
 use Rattle.atomic_programs.specs.Calls.{busy_in}
 use Rattle.inode_machine.specs.MoveCalls.{NoneClimbs}
 
@@ -30,7 +30,7 @@ module _ (L : Theory) (g : ℕ) (refused : (call : L.Call) (busy : ℕ → Bool)
   moved_stays h s r did ps (Ret reply) w other none = other_changed (all_told L ps s.running) g h None None other (told_none (own g ps) (s.running g) none)
   moved_stays h s r did ps (Do op m k) w other none = other_changed (all_told L ps s.running) g h _ None other (told_none (own g ps) (s.running g) none)
 
-  tried_stays : (h : ℕ) (s : State L) (r : Run L) (op : L.M.Op) (ps : L.M.Answer op → List (ℕ × L.M.Step)) (k : L.M.Answer op → P L.M L.Reply) (d : Did (L.M.Answer op) L.M.World) → g ≢ h → s.running g ≡ None → (tried L h s r op ps k d).after.running g ≡ None
+  tried_stays : (h : ℕ) (s : State L) (r : Run L) (op : L.M.Op) (ps : L.M.Answer op → List (ℕ × L.M.Step)) (k : L.M.Answer op → P L.M L.Reply) (d : ExecResult (L.M.Answer op) L.M.World) → g ≢ h → s.running g ≡ None → (tried L h s r op ps k d).after.running g ≡ None
   tried_stays h s r op ps k Waits other none = none
   tried_stays h s r op ps k (Ran a w) other none = moved_stays h s r (op, a) (ps a) (k a) w other none
   tried_stays h s r op ps k (Stops w) other none = none

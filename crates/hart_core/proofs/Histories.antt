@@ -1,5 +1,5 @@
 -- Runs: one event more; and of a mounted world, the list of tree steps that explains them.
-use Rattle.hart_core.proofs.Vocabulary.{◌≡◌, ◌⊎◌, inl, inr, ◌<◌, ◌≤◌, ◌+◌, min, ℕ, zero, Bool, true, false, nat_lt, Some, None, List, [], ◌∷◌, ◌++◌, length, suc, get_or, take, map, ◌==◌, ◌&&◌, refl, sym, ◌∙◌, ap, subst, if◌then◌else◌, arith, All, take_more, length-take, All-head, All-tail, All-cons, All-nil, Super, sizes_of, tree_in, Reply, Call, put, Trace, TracedCall, call_climbs, Shown, Explains, ends_at, no_calls, trace_from, trace_of, Begun, Replied, Other, is_nothing, TreeData, Theory, Begins, State, EventOf, Start, Step, OutcomeOf, Started, Refused, WasIdle, DidWait, DidRun, DidEnd, DidStop, WasStopped, CameOf, AllHonest, asked, all_asked, with_answer, fresh, makes, next, outcomes, run, Code, Plain, PlainMade, PlainHonest, plain_makes, plain_run, plain_outcomes, by_kind, all_by_kind, erase, erase-makes, erase-outcomes, plain_run-more, begun_both, honest_event, Kind, Outside, Passes, Both, began_to, shown_by, shows, HasOneHistory, Refusal, block_moves, first, RunsOn, World, begins, block_calls, block_code, child_of, served_calls, one_history, one_hart, is_code, begun_here, Event, Came, Outcome, event_of, came_of, HartsOf, outcome_of, Rests, events_of, outcomes_of, shown, shown_outcome, all_shown, trace_in, AllAnswer, IsHistory, HasHistory, NoneClimbs, OneHart, OneHistory, WorldOf, calls_of, Makes, Answers}
+use Rattle.hart_core.proofs.Vocabulary.{◌≡◌, ◌⊎◌, inl, inr, ◌<◌, ◌≤◌, ◌+◌, min, ℕ, zero, Bool, true, false, nat_lt, Some, None, List, [], ◌∷◌, ◌++◌, length, suc, get_or, take, map, ◌==◌, ◌&&◌, refl, sym, ◌∙◌, ap, subst, if◌then◌else◌, arith, All, take_more, length-take, All-head, All-tail, All-cons, All-nil, Super, sizes_of, tree_in, Reply, Call, put, Trace, TracedCall, call_climbs, Shown, Explains, ends_at, no_calls, trace_from, trace_of, Begun, Replied, Other, is_nothing, TreeData, Theory, Begins, State, EventOf, Start, Step, OutcomeOf, Started, Refused, WasIdle, DidWait, DidRun, DidEnd, DidStop, WasStopped, EventOutcome, AllHonest, asked, all_asked, with_answer, fresh, makes, next, outcomes, run, Code, Plain, PlainMade, PlainHonest, plain_makes, plain_run, plain_outcomes, by_kind, all_by_kind, erase, erase-makes, erase-outcomes, plain_run-more, begun_both, honest_event, Kind, Outside, Passes, Both, began_to, shown_by, shows, HasOneHistory, Refusal, block_moves, first, RunsOn, World, begins, block_calls, block_code, child_of, served_calls, one_history, one_hart, is_code, begun_here, Event, Came, Outcome, event_of, came_of, HartsOf, outcome_of, Rests, events_of, outcomes_of, shown, shown_outcome, all_shown, trace_in, AllAnswer, IsHistory, HasHistory, NoneClimbs, OneHart, OneHistory, WorldOf, calls_of, Makes, Answers}
 use Rattle.plain_tree.specs.Explains.{noted}
 use Rattle.plain_tree.specs.Widths.{hart_count}
 use Rattle.inode_machine.specs.World as above
@@ -123,7 +123,7 @@ all_same (e ∷ es) (c ∷ cs) = λ i. same_shown e c i ∷ all_same es cs i
 
 module _ (sizes : Super) where
   -- of which kind an operation was isn't shown
-  kind_start : (h : ℕ) (call : Call) (o : CameOf (block_calls sizes)) → shown_by {Outside = Outside} (Start h call) o ≡ shown_by {Outside = Unit {0}} (Start h call) (by_kind (block_calls sizes) (block_code sizes) o)
+  kind_start : (h : ℕ) (call : Call) (o : EventOutcome (block_calls sizes)) → shown_by {Outside = Outside} (Start h call) o ≡ shown_by {Outside = Unit {0}} (Start h call) (by_kind (block_calls sizes) (block_code sizes) o)
   kind_start h call Started = refl
   kind_start h call (Refused why) = refl
   kind_start h call WasIdle = refl
@@ -133,7 +133,7 @@ module _ (sizes : Super) where
   kind_start h call DidStop = refl
   kind_start h call WasStopped = refl
 
-  kind_step : (h : ℕ) (x : Outside) (o : CameOf (block_calls sizes)) → shown_by (Step h x) o ≡ shown_by {Outside = Unit {0}} (Step h tt) (by_kind (block_calls sizes) (block_code sizes) o)
+  kind_step : (h : ℕ) (x : Outside) (o : EventOutcome (block_calls sizes)) → shown_by (Step h x) o ≡ shown_by {Outside = Unit {0}} (Step h tt) (by_kind (block_calls sizes) (block_code sizes) o)
   kind_step h x Started = refl
   kind_step h x (Refused why) = refl
   kind_step h x WasIdle = refl
@@ -143,7 +143,7 @@ module _ (sizes : Super) where
   kind_step h x DidStop = refl
   kind_step h x WasStopped = refl
 
-  kind_same : (e : EventOf Call Outside) (o : CameOf (block_calls sizes)) → shown_by e o ≡ shown_by (asked e) (by_kind (block_calls sizes) (block_code sizes) o)
+  kind_same : (e : EventOf Call Outside) (o : EventOutcome (block_calls sizes)) → shown_by e o ≡ shown_by (asked e) (by_kind (block_calls sizes) (block_code sizes) o)
   kind_same (Start h call) o = kind_start h call o
   kind_same (Step h x) o = kind_step h x o
 

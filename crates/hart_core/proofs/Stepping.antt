@@ -1,6 +1,6 @@
 -- A call's step in its hart's place.
 use Rattle.hart_core.proofs.Vocabulary.{◌≡◌, ◌≢◌, ◌<◌, ◌≤◌, ℕ, zero, suc, Bool, true, false, List, [], ◌∷◌, Option, Some, None, refl, sym, ◌∙◌, ap, subst, length, get_or, set, replicate, length-set, get_or-set_same, get_or-set_other, arith, nat_eq, slice_get, eqb-true, eqb-false, get_or_past, set-set, Reply, Ret, Do, plain, Start, Step, Started, WasIdle, DidRun, PlainHonestStep, plain_makes, plain_step, hart_step, hart_moved, PlainHonest, program_at, plain_at, hart_advances, start_gives, Kind, Core, Outside, Passes, state_of, P, LeavesTied, Running, running_of, HasBegun, StepsAt, has_running, stays, HasOne, blocks, code, HartFits, AreHarts, block_calls, Call, Super}
-use Rattle.atomic_programs.specs.declared.machines.Came.TheVariants.{Ran}
+use Rattle.atomic_programs.specs.declared.machines.SteppedInPlace.TheVariants.{Ran}
 use Rattle.fs_machine.specs.Steps.{State}
 
 -- ---- marks

@@ -1,5 +1,5 @@
 -- What a stop leaves whole of a run of a mounted world: transactions, and calls that have replied.
-use Rattle.hart_core.proofs.Vocabulary.{◌≡◌, ℕ, zero, suc, ◌+◌, ◌<◌, List, [], ◌∷◌, Option, Some, take, sym, ◌∙◌, ap, subst, slice_get, Super, sizes_of, Reply, Call, Marks, joined, IsMarked, Theory, State, EventOf, Start as StartOf, Step as StepOf, OutcomeOf, Started, Refused, WasIdle, DidWait, DidRun, DidEnd, DidStop, WasStopped, CameOf, AllHonest, all_asked, fresh, makes, next, outcomes, run, Code, Plain, all_by_kind, by_kind, erase, plain_outcomes, plain_run, erase-outcomes, erase-run, Kind, Outside, Refusal, first, block_calls, block_code, is_code, AreEventsOn, marks_at, BeganCommit, HasReplied, marks_part_none, the_cuts_have_replies, Event, Came, came_of, event_of, HartsOf, Rests, AllAnswer, IsHistory, events_of, outcomes_of, IsMarkedBy, doubt_of, last_of, up_to, calls_of}
+use Rattle.hart_core.proofs.Vocabulary.{◌≡◌, ℕ, zero, suc, ◌+◌, ◌<◌, List, [], ◌∷◌, Option, Some, take, sym, ◌∙◌, ap, subst, slice_get, Super, sizes_of, Reply, Call, Marks, joined, IsMarked, Theory, State, EventOf, Start as StartOf, Step as StepOf, OutcomeOf, Started, Refused, WasIdle, DidWait, DidRun, DidEnd, DidStop, WasStopped, EventOutcome, AllHonest, all_asked, fresh, makes, next, outcomes, run, Code, Plain, all_by_kind, by_kind, erase, plain_outcomes, plain_run, erase-outcomes, erase-run, Kind, Outside, Refusal, first, block_calls, block_code, is_code, AreEventsOn, marks_at, BeganCommit, HasReplied, marks_part_none, the_cuts_have_replies, Event, Came, came_of, event_of, HartsOf, Rests, AllAnswer, IsHistory, events_of, outcomes_of, IsMarkedBy, doubt_of, last_of, up_to, calls_of}
 use Rattle.hart_core.specs.declared.events.Event.TheVariants as event
 use Rattle.hart_core.specs.declared.events.Came.TheVariants as came
 use Rattle.hart_core.specs.declared.outcome.Outcome.TheVariants as outcome
@@ -30,7 +30,7 @@ asked_step (StartOf g call ∷ es) (suc i) h is = asked_step es i h is
 asked_step (StepOf g x ∷ es) (suc i) h is = asked_step es i h is
 
 module _ (L : Theory) (C : Code L) where
-  ended : (o : CameOf L) (reply : L.Reply) → by_kind L C o ≡ DidEnd reply → o ≡ DidEnd reply
+  ended : (o : EventOutcome L) (reply : L.Reply) → by_kind L C o ≡ DidEnd reply → o ≡ DidEnd reply
   ended Started reply e = absurd cc
   ended (Refused why) reply e = absurd cc
   ended WasIdle reply e = absurd cc

@@ -1,10 +1,10 @@
 -- A step waits only where it must.
-use Rattle.hart_core.proofs.Vocabulary.{◌≡◌, ℕ, List, Option, Some, None, refl, sym, ◌∙◌, ap, subst, inl, inr, MatchOption, Super, Theory, Step, CameOf as Came, Started, Refused, WasIdle, DidWait, DidRun, DidEnd, DidStop, WasStopped, makes, Code, PlainMade, PlainHonest, by_kind, plain_makes, erase-makes, honest_event, OpenFile, file_named, holder_of, IsElsewhere, MayWait, block_calls, block_code, is_code, HartsOf, MustWait, WaitsByTheRule, IsWorld}
+use Rattle.hart_core.proofs.Vocabulary.{◌≡◌, ℕ, List, Option, Some, None, refl, sym, ◌∙◌, ap, subst, inl, inr, MatchOption, Super, Theory, Step, EventOutcome, Started, Refused, WasIdle, DidWait, DidRun, DidEnd, DidStop, WasStopped, makes, Code, PlainMade, PlainHonest, by_kind, plain_makes, erase-makes, honest_event, OpenFile, file_named, holder_of, IsElsewhere, MayWait, block_calls, block_code, is_code, HartsOf, MustWait, WaitsByTheRule, IsWorld}
 use Rattle.fs_machine.specs.Steps as steps
 use Rattle.hart_core.proofs.Keeping.{same, sound, state, told}
 
 -- who waited in the words of the code did so
-waited : (L : Theory) (C : Code L) (c : Came L) → by_kind L C c ≡ DidWait → c ≡ DidWait
+waited : (L : Theory) (C : Code L) (c : EventOutcome L) → by_kind L C c ≡ DidWait → c ≡ DidWait
 waited L C Started e = absurd (cc e)
 waited L C (Refused why) e = absurd (cc e)
 waited L C WasIdle e = absurd (cc e)

@@ -1,5 +1,5 @@
 -- The harts of a world, as programs of any calls and as those of the calls that are served.
-use Rattle.hart_core.proofs.Vocabulary.{◌≡◌, ◌<◌, ◌≤◌, ℕ, zero, suc, Bool, true, false, nat_lt, List, [], ◌∷◌, length, Option, Some, None, refl, sym, ◌∙◌, ap, subst, get_or, get_or-set_same, get_or-set_other, arith, ◌||◌, is_some, slice_get, slice_set, if◌then◌else◌, nat_tests, get_or_past, Super, Reply, Call, put, Ret, Do, OfNext, plain, asks, Did, Waits, Ran, Stops, did_in, or_else, Start, Step, OutcomeOf, Started, Refused, WasIdle, DidWait, DidRun, DidEnd, DidStop, WasStopped, Refuses, Begins, changed, is_called, Plain, PlainMade, MayOf, PlainHonestStep, PlainHonest, SoundPlain, plain_step, plain_unless, plain_prog, plain_tried, plain_moved, plain_start, plain_begun, plain_makes, program_at, sound_may, Kind, Outside, Passes, P, Op, Running, running_of, put_elim, SharedState, child_of, begun_by, if_hart, begin_in, block_calls, block_code, lawful, is_code, Outcome, StartRefused, blocks, code, MayStep, HartsOf, busy_in, children_in, outcome_of, programs_of, Makes, IsWorld, calls_of, fault_of, is_child, others_refusal, refusal_of, reason_of, IsOfBytes}
+use Rattle.hart_core.proofs.Vocabulary.{◌≡◌, ◌<◌, ◌≤◌, ℕ, zero, suc, Bool, true, false, nat_lt, List, [], ◌∷◌, length, Option, Some, None, refl, sym, ◌∙◌, ap, subst, get_or, get_or-set_same, get_or-set_other, arith, ◌||◌, is_some, slice_get, slice_set, if◌then◌else◌, nat_tests, get_or_past, Super, Reply, Call, put, Ret, Do, OfNext, plain, asks, ExecResult, Waits, Ran, Stops, exec_result_in, or_else, Start, Step, OutcomeOf, Started, Refused, WasIdle, DidWait, DidRun, DidEnd, DidStop, WasStopped, Refuses, Begins, changed, is_called, Plain, PlainMade, MayOf, PlainHonestStep, PlainHonest, SoundPlain, plain_step, plain_unless, plain_prog, plain_tried, plain_moved, plain_start, plain_begun, plain_makes, program_at, sound_may, Kind, Outside, Passes, P, Op, Running, running_of, put_elim, SharedState, child_of, begun_by, if_hart, begin_in, block_calls, block_code, lawful, is_code, Outcome, StartRefused, blocks, code, MayStep, HartsOf, busy_in, children_in, outcome_of, programs_of, Makes, IsWorld, calls_of, fault_of, is_child, others_refusal, refusal_of, reason_of, IsOfBytes}
 use Rattle.fs_machine.specs.Steps as steps
 use Rattle.fs_machine.specs.Steps.{State}
 use Rattle.inode_machine.specs.Theory as calls
@@ -38,7 +38,7 @@ module _ (sizes : Super) (children : ℕ → Option ℕ) where
   moved_as h p kind (Ret reply) t = refl
   moved_as h p kind (Do op m k) t = refl
 
-  tried_as : (h : ℕ) (p : Plain blocks code) (op : steps.Op) (k : steps.Answer op → P Reply) (d : Did (steps.Answer op) State) → plain_tried (block_calls sizes) (block_code sizes) h (as_calls p) op k (did_in with_them d) ≡ made_as (plain_tried blocks code h p op k d)
+  tried_as : (h : ℕ) (p : Plain blocks code) (op : steps.Op) (k : steps.Answer op → P Reply) (d : ExecResult (steps.Answer op) State) → plain_tried (block_calls sizes) (block_code sizes) h (as_calls p) op k (exec_result_in with_them d) ≡ made_as (plain_tried blocks code h p op k d)
   tried_as h p op k Waits = refl
   tried_as h p op k (Ran a t) = moved_as h p (steps.kind_of op a) (k a) t
   tried_as h p op k (Stops t) = refl

@@ -4,8 +4,8 @@ use Rattle.hart_core.specs.Vocabulary.{hart_count, Reply, OutcomeOf, WasIdle, Di
 use Rattle.hart_core.specs.declared.outcome.Outcome.{Outcome}
 use Rattle.hart_core.specs.declared.outcome.Outcome.TheVariants as outcome
 use Rattle.hart_core.specs.declared.outcome.Stop.TheVariants as stop
-use Rattle.hart_core.specs.declared.outcome.Told.{Told}
-use Rattle.hart_core.specs.declared.outcome.Told.TheVariants as told
+use Rattle.hart_core.specs.declared.outcome.BareOutcome.{BareOutcome}
+use Rattle.hart_core.specs.declared.outcome.BareOutcome.TheVariants as told
 use Rattle.hart_core.specs.Blocks.{blocks, code, Programs}
 
 -- what a hart's step came to, in the words of the block machine
@@ -18,7 +18,7 @@ outcome_of (outcome.Stopped stop.DeviceFault) = DidStop
 outcome_of (outcome.Stopped stop.Halted) = WasStopped
 
 -- the outcome of a step whose reply stands in a place of its own (one that is done has left one there)
-abbrev pub outcome_with : Told → Option Reply → Outcome
+abbrev pub outcome_with : BareOutcome → Option Reply → Outcome
 outcome_with told.Idle place = outcome.Idle
 outcome_with told.Waits place = outcome.Waits
 outcome_with (told.Ran kind) place = outcome.Ran kind
@@ -27,7 +27,7 @@ outcome_with told.Done None = outcome.Idle
 outcome_with (told.Stopped why) place = outcome.Stopped why
 
 -- a reply stands there just where the step is done
-abbrev pub IsTold : Told → Option Reply → Type 0
+abbrev pub IsTold : BareOutcome → Option Reply → Type 0
 IsTold told.Idle place = place ≡ None
 IsTold told.Waits place = place ≡ None
 IsTold (told.Ran kind) place = place ≡ None

@@ -13,7 +13,7 @@ ghost use Rattle.hart_core.specs.Blocks.{blocks, code};
 ghost use Rattle.hart_core.specs.Harts.{outcome_of, outcome_with, said, AreIdle, HartFits, IsTold};
 
 use crate::in_place::step;
-use crate::outcome::Told;
+use crate::outcome::BareOutcome;
 use block_device::Device;
 use buffer_cache::HARTS;
 use fs_layout::Super;
@@ -125,7 +125,7 @@ impl Calls {
         hart: u8,
         core: &mut Core<D>,
         stopped: &mut bool,
-    ) -> Told
+    ) -> BareOutcome
         requires eight { hart < HARTS }
         requires may { stopped.old ≡ false
             → MayOf blocks code hart (state_of D.contents D.failures core.old) (program_at running_of (get_or self.old hart None)) }

@@ -13,7 +13,7 @@ ghost use Rattle.inode_parts.specs.Sizes.{IsSized};
 ghost use Rattle.atomic_programs.specs.Prog.{plain};
 
 use crate::calls::Calls;
-use crate::outcome::Told;
+use crate::outcome::BareOutcome;
 use block_device::Device;
 use buffer_cache::HARTS;
 use fs_layout::Super;
@@ -132,7 +132,7 @@ impl<D: Device> Harts<D> {
     /// device's failure in this very step, or since the device has failed before. At most one call of the device is made.
     /// A reply is left in a place of its own, which is empty before.
     #[inline(always)]
-    pub fn step(&mut self, replied: &mut Option<Reply>, hart: u8) -> Told
+    pub fn step(&mut self, replied: &mut Option<Reply>, hart: u8) -> BareOutcome
         requires may { MayStep hart (programs_of D.contents D.failures self.old) }
         requires none { replied.old ≡ None }
         ensures makes { plain_makes blocks code
@@ -149,7 +149,7 @@ impl<D: Device> Harts<D> {
         // What holds of the harts is needed in both cases.
         let _ = &self.calls;
         if hart >= HARTS {
-            return Told::Idle;
+            return BareOutcome::Idle;
         }
         self.calls
             .step(replied, hart, &mut self.core, &mut self.stopped)

@@ -4,8 +4,8 @@ ghost use Rattle.hart_core.specs.Vocabulary.{PlainHonestStep, MayOf, hart_step, 
 ghost use Rattle.hart_core.specs.Blocks.{blocks, code};
 ghost use Rattle.hart_core.specs.Harts.{outcome_of, outcome_with, said, HartFits, IsTold};
 
-use crate::outcome::{Stop, Told};
-use atomic_programs::machines::Came;
+use crate::outcome::{BareOutcome, Stop};
+use atomic_programs::machines::SteppedInPlace;
 use block_device::Device;
 use buffer_cache::HARTS;
 use fs_machine::Core;
@@ -21,7 +21,7 @@ pub(crate) fn step<D: Device>(
     hart: u8,
     core: &mut Core<D>,
     stopped: &mut bool,
-) -> Told
+) -> BareOutcome
     requires eight { hart < HARTS }
     requires may { stopped.old ≡ false
         → MayOf blocks code hart (state_of D.contents D.failures core.old) (program_at running_of place.old) }
@@ -43,18 +43,18 @@ pub(crate) fn step<D: Device>(
     ensures called { CallsOnce D.Called core.old.log.cache.device core.new.log.cache.device }
 {
     if !place.is_busy() {
-        return Told::Idle;
+        return BareOutcome::Idle;
     }
     if *stopped {
-        return Told::Stopped(Stop::Halted);
+        return BareOutcome::Stopped(Stop::Halted);
     }
     match place.step(replied, hart, core) {
-        Came::Waits => Told::Waits,
-        Came::Ran(kind) => Told::Ran(kind),
-        Came::Done((), _kind) => Told::Done,
-        Came::Stopped => {
+        SteppedInPlace::Waits => BareOutcome::Waits,
+        SteppedInPlace::Ran(kind) => BareOutcome::Ran(kind),
+        SteppedInPlace::Done((), _kind) => BareOutcome::Done,
+        SteppedInPlace::Stopped => {
             *stopped = true;
-            Told::Stopped(Stop::DeviceFault)
+            BareOutcome::Stopped(Stop::DeviceFault)
         }
     }
 }

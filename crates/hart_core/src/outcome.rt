@@ -1,7 +1,7 @@
 // What a step comes to.
 ghost use Rattle.std.specs.Prelude.{◌≡◌, None};
 ghost use Rattle.hart_core.specs.Harts.{outcome_with, IsTold};
-ghost use Rattle.hart_core.specs.declared.outcome.Told.TheVariants as told;
+ghost use Rattle.hart_core.specs.declared.outcome.BareOutcome.TheVariants as told;
 
 use fs_machine::Kind;
 use plain_tree::Reply;
@@ -32,7 +32,7 @@ pub enum Outcome {
 }
 
 /// The same where a reply is left in a place of its own: so each step hands up no more than some bytes.
-pub enum Told {
+pub enum BareOutcome {
     /// The hart has no call.
     Idle,
     /// It waits, for another hart or for the log.
@@ -45,7 +45,7 @@ pub enum Told {
     Stopped(Stop),
 }
 
-impl Told {
+impl BareOutcome {
     /// The outcome, with the reply that stands in this place, which is empty again.
     #[inline(always)]
     pub fn outcome(self, replied: &mut Option<Reply>) -> Outcome
@@ -54,11 +54,11 @@ impl Told {
         ensures none { replied.new ≡ None }
     {
         match self {
-            Told::Idle => return Outcome::Idle,
-            Told::Waits => return Outcome::Waits,
-            Told::Ran(kind) => return Outcome::Ran(kind),
-            Told::Done => return done(replied),
-            Told::Stopped(why) => return Outcome::Stopped(why),
+            BareOutcome::Idle => return Outcome::Idle,
+            BareOutcome::Waits => return Outcome::Waits,
+            BareOutcome::Ran(kind) => return Outcome::Ran(kind),
+            BareOutcome::Done => return done(replied),
+            BareOutcome::Stopped(why) => return Outcome::Stopped(why),
         }
     }
 }

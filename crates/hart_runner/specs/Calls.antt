@@ -1,15 +1,15 @@
 -- What a call says.
 use Rattle.std.specs.Prelude.{ℕ, ◌≡◌, ◌+◌, ◌++◌, ◌∷◌, [], length}
-use Rattle.hart_runner.specs.Vocabulary.{Call, HandsBack, Receipt, Told}
-use Rattle.locked_world.specs.declared.locked.Told.TheVariants as told
+use Rattle.hart_runner.specs.Vocabulary.{Call, HandsBack, Receipt, LockedOutcome}
+use Rattle.locked_world.specs.declared.locked.LockedOutcome.TheVariants as told
 use Rattle.hart_runner.specs.Seats.{SeatV, BusyV, busy_of}
 use Rattle.hart_runner.specs.declared.kernel.CallFault.{CallFault}
 use Rattle.hart_runner.specs.declared.kernel.CallFault.TheVariants.{Start, Memory, Stopped}
-use Rattle.hart_runner.specs.declared.kernel.Ended.{Ended}
-use Rattle.hart_runner.specs.declared.kernel.Ended.TheVariants.{Done, Halts}
+use Rattle.hart_runner.specs.declared.kernel.CallEnd.{CallEnd}
+use Rattle.hart_runner.specs.declared.kernel.CallEnd.TheVariants.{Done, Halts}
 
 -- a hart's steps on end, at the count a before and b after
-abbrev pub CameTo : {L : _} → ℕ → ℕ → Told L → ℕ → Type 0
+abbrev pub CameTo : {L : _} → ℕ → ℕ → LockedOutcome L → ℕ → Type 0
 CameTo hart a told.Idle b = b ≡ a
 CameTo hart a told.Waits b = b ≡ a
 CameTo hart a (told.Ran kind) b = b ≡ a
@@ -17,7 +17,7 @@ CameTo hart a (told.Done r) b = (r.hart ≡ hart) × (b ≡ a + 1)
 CameTo hart a (told.Stopped why) b = b ≡ a
 
 -- a hart's steps to the end of its call, at the count a before and b after
-abbrev pub WentOn : {L : _} → ℕ → ℕ → Ended L → ℕ → Type 0
+abbrev pub WentOn : {L : _} → ℕ → ℕ → CallEnd L → ℕ → Type 0
 WentOn hart a (Done r) b = (r.hart ≡ hart) × (b ≡ a + 1)
 WentOn hart a (Halts x) b = b ≡ a
 

@@ -10,7 +10,7 @@ use crate::gate::Gate;
 use fs_machine::Kind;
 use image_tree::MountFault;
 use locked_world::{
-    Begun, Closed, Halt, Locked, NotStarted, Receipt, Share, StartRefused, Told, filled,
+    Begun, Closed, Halt, Locked, LockedOutcome, NotStarted, Receipt, Share, StartRefused, filled,
     is_handed_back,
 };
 use plain_tree::{Call, Reply};
@@ -103,7 +103,7 @@ pub struct Strange<L: Ledger> {
 
 /// How a call's steps ended.
 #[derive(Drop)]
-pub enum Ended<L: Ledger> {
+pub enum CallEnd<L: Ledger> {
     Done(Receipt<L>),
     Halts(Halt),
 }
@@ -332,7 +332,7 @@ impl<L: Ledger, G: Gate + Drop> Kernel<L, G> {
             mut tries,
         } = busy;
         match self.go(rt, &mut share, &mut tries) {
-            Ended::Halts(stop) => {
+            CallEnd::Halts(stop) => {
                 let busy = BusySeat {
                     share,
                     replies,
@@ -341,7 +341,7 @@ impl<L: Ledger, G: Gate + Drop> Kernel<L, G> {
                 };
                 Err(CallFault::Stopped(busy, stop))
             }
-            Ended::Done(receipt) => {
+            CallEnd::Done(receipt) => {
                 if receipt.place() != replies.len() as u64
                     || !is_handed_back(begun.call(), &receipt.reply().call)
                 {
@@ -369,7 +369,7 @@ impl<L: Ledger, G: Gate + Drop> Kernel<L, G> {
     }
 
     // Steps of the hart until its call is answered or stopped.
-    fn go<R: Wait>(&self, rt: &R, share: &mut Share<L>, tries: &mut u64) -> Ended<L>
+    fn go<R: Wait>(&self, rt: &R, share: &mut Share<L>, tries: &mut u64) -> CallEnd<L>
         ensures hart { share.new.hart ≡ share.old.hart }
         ensures went { WentOn share.old.hart share.old.tally.amount result share.new.tally.amount }
     {
@@ -380,16 +380,16 @@ impl<L: Ledger, G: Gate + Drop> Kernel<L, G> {
             let mut guard = self.enter(rt);
             let (told, frees) = steps(&mut guard.locked, share, most, tries);
             match told {
-                Told::Ran(kind) => self.leave(guard, frees || may_free(kind)),
-                Told::Waits => self.wait(rt, guard, frees),
-                Told::Idle => self.leave(guard, true),
-                Told::Done(receipt) => {
+                LockedOutcome::Ran(kind) => self.leave(guard, frees || may_free(kind)),
+                LockedOutcome::Waits => self.wait(rt, guard, frees),
+                LockedOutcome::Idle => self.leave(guard, true),
+                LockedOutcome::Done(receipt) => {
                     self.leave(guard, true);
-                    return Ended::Done(receipt);
+                    return CallEnd::Done(receipt);
                 }
-                Told::Stopped(stop) => {
+                LockedOutcome::Stopped(stop) => {
                     self.leave(guard, true);
-                    return Ended::Halts(stop);
+                    return CallEnd::Halts(stop);
                 }
             }
         }
@@ -434,7 +434,7 @@ fn steps<L: Ledger>(
     share: &mut Share<L>,
     most: u32,
     tries: &mut u64,
-) -> (Told<L>, bool)
+) -> (LockedOutcome<L>, bool)
     requires some { 0 < most }
     ensures hart { share.new.hart ≡ share.old.hart }
     ensures came { CameTo share.old.hart share.old.tally.amount result.0 share.new.tally.amount }
@@ -444,9 +444,9 @@ fn steps<L: Ledger>(
     for i in 0..most {
         *tries = tries.saturating_add(1);
         match locked.step(share, hart) {
-            Told::Ran(kind) => {
+            LockedOutcome::Ran(kind) => {
                 if i + 1 == most {
-                    return (Told::Ran(kind), frees);
+                    return (LockedOutcome::Ran(kind), frees);
                 }
                 frees = frees || may_free(kind);
             }

@@ -1,5 +1,5 @@
 -- An image stays well formed where a node without a name is freed.
-use Rattle.image_tree.proofs.Vocabulary.{◌≡◌, ◌≢◌, inl, inr, ℕ, zero, suc, ◌-◌, ◌/◌, ◌<◌, ◌≤◌, ◌==◌, nat_lt, ◌&&◌, not, ℤ, pos, ◌≤ℤ◌, ◌<ℤ◌, Bool, true, false, if◌then◌else◌, List, [], ◌∷◌, ◌++◌, length, get_or, slice_index_or, drop, filter, Option, Some, None, refl, sym, ◌∙◌, ap, subst, arith, Contains, All, cases_eq, cases_lt, and_parts, ltb-true, false≢true, ne_eqb, get_or_default, Super, Dinode, Dirent, dirent_len, sizes_of, IsOnce, gathered, times, inode_of, is_number, is_free, is_directory, is_live, is_node, is_live_directory, numbers_of, block_number, numbers_by, named_by, is_block, slots_of, last, slots_in, slot_numbers, number_in, up, names_of, further_names_of, proper_names_of, children_of, Reaches, IsGoodType, IsData, is_marked, IsGoodSize, AreGoodSlots, IsOneTree, IsGoodCount, HasMarks, HasGoodTypes, HasRoot, HasGoodNumbers, NamesOnce, HasGoodSizes, HasGoodSlots, HasGoodCounts, IsWellFormed, is_orphan, IsFreed, FreedNodesLeaveImages, Kind, Node, at_rest, kind_of, count_of, node_of, first_nodes, tree_in}
+use Rattle.image_tree.proofs.Vocabulary.{◌≡◌, ◌≢◌, inl, inr, ℕ, zero, suc, ◌-◌, ◌/◌, ◌<◌, ◌≤◌, ◌==◌, nat_lt, ◌&&◌, not, ℤ, pos, ◌≤ℤ◌, ◌<ℤ◌, Bool, true, false, if◌then◌else◌, List, [], ◌∷◌, ◌++◌, length, get_or, slice_index_or, drop, filter, Option, Some, None, refl, sym, ◌∙◌, ap, subst, arith, Contains, All, cases_eq, cases_lt, and_parts, ltb-true, false≢true, ne_eqb, get_or_default, Super, Dinode, Dirent, dirent_len, sizes_of, IsOnce, gathered, times, inode_of, is_number, is_free, is_directory, is_live, is_node, is_live_directory, numbers_of, block_number, numbers_by, named_by, is_block, slots_of, last, slots_in, slot_numbers, number_in, up, names_of, further_names_of, proper_names_of, children_of, Reaches, IsGoodType, IsData, is_marked, IsGoodSize, AreGoodSlots, IsOneTree, IsGoodCount, HasMarks, HasGoodTypes, HasRoot, HasGoodNumbers, NamesOnce, HasGoodSizes, HasGoodSlots, HasGoodCounts, IsWellFormed, is_orphan, IsFreed, FreedNodesLeaveImages, NodeKind, Node, at_rest, kind_of, count_of, node_of, first_nodes, tree_in}
 use Rattle.image_tree.proofs.Nodes.{node_is, directory_is}
 use Rattle.image_tree.proofs.NumberLists.{All-nil, numbers_by_free}
 use Rattle.image_tree.proofs.Contents.{pick, not_free, InRange, ranged, used_good, node_good, live_good, numbers_same, slots_same, kind_same}
@@ -20,7 +20,7 @@ no_and : (a : Bool) → (a && false) ≡ false
 no_and true = refl
 no_and false = refl
 
-abbrev a_node : Kind → Dinode → Node
+abbrev a_node : NodeKind → Dinode → Node
 a_node k x = record { count = count_of x.nlink; kind = k }
 
 kept_block : (b : ℕ) → b ≢ 0 → is_block b ≡ true
@@ -299,7 +299,7 @@ module _ (d e : List (List ℕ)) (i : ℕ) (orphan : is_orphan d i ≡ true) (f 
         ≡ (if t && is_live (inode_of d j) then Some (a_node (kind_of d (inode_of d j)) (inode_of d j)) else None))
         (λ _ is.
         ap (λ (x : Dinode). if is_live x then Some (a_node (kind_of e x) x) else None) (f.inodes j ne (node_is d j is).bound)
-        ∙ ap (λ (k : Kind). if is_live (inode_of d j) then Some (a_node k (inode_of d j)) else None) (kind_same d e f.contents (inode_of d j) (node_good d numbers_d j is)))
+        ∙ ap (λ (k : NodeKind). if is_live (inode_of d j) then Some (a_node k (inode_of d j)) else None) (kind_same d e f.contents (inode_of d j) (node_good d numbers_d j is)))
         (λ _ _. refl) refl
   ]
 

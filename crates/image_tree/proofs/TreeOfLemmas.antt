@@ -1,5 +1,5 @@
 -- The nodes that an image holds, one by one.
-use Rattle.image_tree.proofs.Vocabulary.{◌≡◌, ◌∙◌, ap, sym, refl, ℕ, ◌+◌, ◌<◌, ◌≤◌, Bool, true, false, not, List, [], ◌∷◌, ◌++◌, map, add-one, Option, Some, None, ◌&&◌, Dinode, Dirent, recovered, Slot, Kind, Directory, File, Device, Node, inode_of, is_node, is_free, is_live, is_directory, numbers_of, numbers_by, block_number, content_block, front_blocks, content_of, slots_of, slot_of, is_file, kind_of, count_of, node_of, first_nodes, Layout, IsLayout}
+use Rattle.image_tree.proofs.Vocabulary.{◌≡◌, ◌∙◌, ap, sym, refl, ℕ, ◌+◌, ◌<◌, ◌≤◌, Bool, true, false, not, List, [], ◌∷◌, ◌++◌, map, add-one, Option, Some, None, ◌&&◌, Dinode, Dirent, recovered, Slot, NodeKind, Directory, File, Device, Node, inode_of, is_node, is_free, is_live, is_directory, numbers_of, numbers_by, block_number, content_block, front_blocks, content_of, slots_of, slot_of, is_file, kind_of, count_of, node_of, first_nodes, Layout, IsLayout}
 use Rattle.image_tree.proofs.Nodes.{numbers_by_node}
 use Rattle.image_tree.proofs.EntryLemmas.{node_flag, no_node_zero}
 
@@ -56,7 +56,7 @@ no_node_dead disk i d e dead =
     let own : is_live (inode_of disk i) ≡ false = rw e at dead in
     rw (own, and_false (is_node disk i)) refl
 
-pub node_told : (disk now : List (List ℕ)) (layout : Layout) (i count : ℕ) (d : Dinode) (kind : Kind) → IsLayout disk layout → 1 ≤ i → i < layout.sizes.ninodes → d ≡ inode_of disk i
+pub node_told : (disk now : List (List ℕ)) (layout : Layout) (i count : ℕ) (d : Dinode) (kind : NodeKind) → IsLayout disk layout → 1 ≤ i → i < layout.sizes.ninodes → d ≡ inode_of disk i
     → is_free d ≡ false → is_live d ≡ true → count ≡ count_of d.nlink → kind ≡ kind_of now d → now ≡ disk
     → Some (record { count = count; kind = kind }) ≡ node_of disk i
 unfolding node_of

@@ -1,5 +1,5 @@
 -- The checks see the recovered blocks outside the log alone.
-use Rattle.image_tree.proofs.Vocabulary.{◌≡◌, ◌≢◌, inl, inr, ℕ, zero, suc, ◌+◌, ◌-◌, ◌/◌, ◌%◌, ◌<◌, ◌≤◌, ◌==◌, nat_lt, ◌&&◌, not, ℤ, pos, negsuc, ◌<ℤ◌, Bool, true, false, if◌then◌else◌, List, [], ◌∷◌, ◌++◌, length, slice_index, slice_index_or, take, drop, filter, Option, Some, None, map, refl, sym, ◌∙◌, ap, subst, arith, length-append, All, cases_eq, cases_lt, and_parts, eqb-true, ltb-true, get_or_append_left, get_or_past, Super, Dinode, Dirent, bit_of, numbers_in, dinode_at, dirent_at, inodes_per_block, dirents_per_block, dirent_len, recovered, sizes_of, IsOutsideLog, IsOnce, gathered, times, inode_of, is_number, is_free, is_directory, is_live, is_node, is_live_directory, direct, numbers_of, block_number, content_block, numbers_by, named_by, is_block, front_blocks, content_of, blocks_for, slot_at, first_slots, slots_of, slots_in, slot_numbers, number_in, up, names_of, further_names_of, proper_names_of, children_of, Reaches, IsGoodType, IsData, is_marked, IsGoodSize, AreGoodSlots, IsOneTree, IsGoodCount, HasMarks, HasGoodTypes, HasRoot, HasGoodNumbers, NamesOnce, HasGoodSizes, HasGoodSlots, HasGoodCounts, IsWellFormed, UpToLog, IsViewOf, ChecksSeeRecovered, TreesSeeRecovered, Kind, Directory, File, Device, Node, at_rest, slot_of, is_file, kind_of, count_of, node_of, first_nodes, tree_in}
+use Rattle.image_tree.proofs.Vocabulary.{◌≡◌, ◌≢◌, inl, inr, ℕ, zero, suc, ◌+◌, ◌-◌, ◌/◌, ◌%◌, ◌<◌, ◌≤◌, ◌==◌, nat_lt, ◌&&◌, not, ℤ, pos, negsuc, ◌<ℤ◌, Bool, true, false, if◌then◌else◌, List, [], ◌∷◌, ◌++◌, length, slice_index, slice_index_or, take, drop, filter, Option, Some, None, map, refl, sym, ◌∙◌, ap, subst, arith, length-append, All, cases_eq, cases_lt, and_parts, eqb-true, ltb-true, get_or_append_left, get_or_past, Super, Dinode, Dirent, bit_of, numbers_in, dinode_at, dirent_at, inodes_per_block, dirents_per_block, dirent_len, recovered, sizes_of, IsOutsideLog, IsOnce, gathered, times, inode_of, is_number, is_free, is_directory, is_live, is_node, is_live_directory, direct, numbers_of, block_number, content_block, numbers_by, named_by, is_block, front_blocks, content_of, blocks_for, slot_at, first_slots, slots_of, slots_in, slot_numbers, number_in, up, names_of, further_names_of, proper_names_of, children_of, Reaches, IsGoodType, IsData, is_marked, IsGoodSize, AreGoodSlots, IsOneTree, IsGoodCount, HasMarks, HasGoodTypes, HasRoot, HasGoodNumbers, NamesOnce, HasGoodSizes, HasGoodSlots, HasGoodCounts, IsWellFormed, UpToLog, IsViewOf, ChecksSeeRecovered, TreesSeeRecovered, NodeKind, Directory, File, Device, Node, at_rest, slot_of, is_file, kind_of, count_of, node_of, first_nodes, tree_in}
 
 pub pick : (t : Bool) (P : Bool → Type 0) → (t ≡ true → P true) → (t ≡ false → P false) → P t
 pick true P yes_ no_ = yes_ refl
@@ -41,7 +41,7 @@ ranged s i t is =
     let inner = and_parts (nat_lt 0 i) (nat_lt i s.ninodes) outer.0 in
     (record { low = (let a = ltb-true 0 i inner.0 in omega (arith, a)); high = ltb-true i s.ninodes inner.1 }, outer.1)
 
-abbrev a_node : Kind → Dinode → Node
+abbrev a_node : NodeKind → Dinode → Node
 a_node k x = record { count = count_of x.nlink; kind = k }
 
 module _ (d e : List (List ℕ)) (view : IsViewOf d e) (well : IsWellFormed d) where
@@ -259,7 +259,7 @@ module _ (d e : List (List ℕ)) (view : IsViewOf d e) (well : IsWellFormed d) w
       ≡ (if t && is_live (inode_of d i) then Some (a_node (kind_of d (inode_of d i)) (inode_of d i)) else None))
       (λ _ is.
       ap (λ (x : Dinode). if is_live x then Some (a_node (kind_of e x) x) else None) (inode_same i)
-      ∙ ap (λ (k : Kind). if is_live (inode_of d i) then Some (a_node (k) (inode_of d i)) else None) (kind_same (inode_of d i) (node_good i is)))
+      ∙ ap (λ (k : NodeKind). if is_live (inode_of d i) then Some (a_node (k) (inode_of d i)) else None) (kind_same (inode_of d i) (node_good i is)))
       (λ _ _. refl) refl
 
   nodes_same : (n : ℕ) → first_nodes e n ≡ first_nodes d n

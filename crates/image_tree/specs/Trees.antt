@@ -1,6 +1,6 @@
 -- The tree that an image holds: its live nodes; no open files, no holds, and all harts in the root.
 use Rattle.std.specs.Prelude.{ℕ, zero, suc, ◌&&◌, ℤ, pos, negsuc, Bool, List, [], ◌∷◌, ◌++◌, map, Option, Some, None, if◌then◌else◌}
-use Rattle.image_tree.specs.Vocabulary.{Dinode, Dirent, Free, Used, sizes_of, Slot, Kind, Directory, File, Device, Node, TreeData, at_rest}
+use Rattle.image_tree.specs.Vocabulary.{Dinode, Dirent, Free, Used, sizes_of, Slot, NodeKind, Directory, File, Device, Node, TreeData, at_rest}
 use Rattle.image_tree.specs.Inodes.{inode_of, is_node, is_live, is_number, is_directory, content_of, slots_of}
 
 -- a slot as the tree has it
@@ -13,7 +13,7 @@ slot_of (Some (Used number name)) = Some (record { name = name; number = number 
 abbrev pub is_file : Dinode → Bool
 is_file d = is_number 2 d.kind
 
-unfoldable pub kind_of : List (List ℕ) → Dinode → Kind
+unfoldable pub kind_of : List (List ℕ) → Dinode → NodeKind
 kind_of disk d =
     if is_directory d then Directory (map slot_of (slots_of disk d))
     else (if is_file d then File (content_of disk d) else Device d.major d.minor d.size)

@@ -16,8 +16,8 @@ pub use Rattle.fs_layout.specs.Indirect.{numbers_in}
 pub use Rattle.fs_layout.specs.declared.superblock.Super.{Super}
 pub use Rattle.plain_tree.specs.Fresh.{at_rest}
 pub use Rattle.plain_tree.specs.TreeData.{TreeData}
-pub use Rattle.plain_tree.specs.declared.node.Kind.{Kind}
-pub use Rattle.plain_tree.specs.declared.node.Kind.TheVariants.{Device, Directory, File}
+pub use Rattle.plain_tree.specs.declared.node.NodeKind.{NodeKind}
+pub use Rattle.plain_tree.specs.declared.node.NodeKind.TheVariants.{Device, Directory, File}
 pub use Rattle.plain_tree.specs.declared.node.Node.{Node}
 pub use Rattle.plain_tree.specs.declared.node.Slot.{Slot}
 pub use Rattle.std.specs.List.{AllPairs, count_by}

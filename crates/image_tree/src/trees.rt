@@ -19,7 +19,7 @@ use crate::rows::push;
 use crate::slots::load_slots;
 use block_device::Device;
 use fs_layout::{Dinode, Dirent, Name};
-use plain_tree::{Bytes, Kind, Node, Slot, Slots, Tree};
+use plain_tree::{Bytes, Node, NodeKind, Slot, Slots, Tree};
 use std::alloc::{AllocError, Global};
 
 fn copied_name(alloc: Global, name: &Name) -> Result<Bytes, AllocError>
@@ -68,7 +68,7 @@ fn load_kind<D: Device>(
     layout: &Layout,
     i: u32,
     inode: &Dinode,
-) -> Result<Kind, MountFault>
+) -> Result<NodeKind, MountFault>
     requires layout { IsLayout (D.contents device.old) layout.now }
     requires low { 1 ≤ i }
     requires bound { i < layout.now.sizes.ninodes }
@@ -84,15 +84,15 @@ fn load_kind<D: Device>(
     if is_directory(inode) {
         let entries = load_slots(alloc, device, layout, inode, numbers.as_slice())?;
         let slots = slots_in(alloc, entries.as_slice())?;
-        return Ok(Kind::Directory { slots });
+        return Ok(NodeKind::Directory { slots });
     }
     if is_file(inode) {
         let bytes = load_content(alloc, device, layout, inode, numbers.as_slice())?;
-        return Ok(Kind::File {
+        return Ok(NodeKind::File {
             bytes: Bytes::new(bytes),
         });
     }
-    Ok(Kind::Device {
+    Ok(NodeKind::Device {
         major: inode.major,
         minor: inode.minor,
         size: inode.size,

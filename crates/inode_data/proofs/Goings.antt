@@ -1,5 +1,5 @@
 -- How a program over the blocks of a content goes on.
-use Rattle.inode_data.proofs.Vocabulary.{◌≡◌, ℕ, List, Option, refl, sym, ap, ◌∙◌, [], None, option_map, option_map_or, number_in, unloaded, without_content, beside_emptying, Emptying, BufferState, Dinode, bytes_of, look_up, located, name_in_table, take_one, Super, numbers_in, slice_index, if◌then◌else◌, ◌==◌, Some, Located, Seat, One, Two, First, Second, GuardState, Inode, Do, bind, unmarked, P, Hand, no_inode, with_buffer}
+use Rattle.inode_data.proofs.Vocabulary.{◌≡◌, ℕ, List, Option, refl, sym, ap, ◌∙◌, [], None, option_map, option_map_or, number_in, unloaded, without_content, beside_emptying, Emptying, BufferState, Dinode, bytes_of, look_up, located, name_in_table, take_one, Super, numbers_in, slice_index, if◌then◌else◌, ◌==◌, Some, Located, InodePlace, One, Two, First, Second, GuardState, Inode, Do, bind, unmarked, P, Hand, no_inode, with_buffer}
 use Rattle.fs_machine.specs.Steps as steps
 
 -- the indirect block by its buffer
@@ -23,6 +23,6 @@ number-kept e h g same = sym (bare-number e.seat h) ∙ ap (number_in e.seat) sa
     numbered None = refl
     numbered (Some g) = refl
 
-    bare-number : (k : Seat) (h : Hand) → number_in k (with_buffer First None (with_buffer Second None (unloaded k h))) ≡ number_in k h
+    bare-number : (k : InodePlace) (h : Hand) → number_in k (with_buffer First None (with_buffer Second None (unloaded k h))) ≡ number_in k h
     bare-number One h = numbered (option_map without_content h.one) ∙ bared h.one ∙ sym (numbered h.one)
     bare-number Two h = numbered (option_map without_content h.two) ∙ bared h.two ∙ sym (numbered h.two)

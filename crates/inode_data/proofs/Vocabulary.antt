@@ -1,5 +1,5 @@
 -- What this crate's proofs speak of: its own definitions, and what the crates below and the library call things.
-pub use Rattle.inode_data.specs.Vocabulary.{BufferState, Dinode, Do, First, Get, GuardState, HandState as Hand, Inode, Oracle, P, Ret, Seat, Second, Super, asks, bind, block_len, bytes_of, fetch, fetch_left, free_block, free_left, number_in, numbers_in, option_map_or, outcome, record_left, store, store_left, take_left, unloaded, unmarked, with_buffer}
+pub use Rattle.inode_data.specs.Vocabulary.{BufferState, Dinode, Do, First, Get, GuardState, HandState as Hand, Inode, Oracle, P, Ret, InodePlace, Second, Super, asks, bind, block_len, bytes_of, fetch, fetch_left, free_block, free_left, number_in, numbers_in, option_map_or, outcome, record_left, store, store_left, take_left, unloaded, unmarked, with_buffer}
 pub use Rattle.fs_machine.proofs.Vocabulary.{Bool, List, None, Option, Some, [], ap, arith, cases_eq, cond, get_or, if◌then◌else◌, length, no_inode, option_map, read_unless, refl, slice_index, subst, suc, sym, zero, ℕ, ⊎_elim, ◌++◌, ◌+◌, ◌-◌, ◌<◌, ◌==◌, ◌∙◌, ◌∷◌, ◌≡◌, ◌≢◌, ◌≤◌}
 pub use Rattle.fs_layout.proofs.Vocabulary.{append-nil, append_assoc, cases_lt, drop, drop-drop, drop_all, drop_at, get_or-drop, length-append, ne_eqb, take, take-append-le, ◌%◌, ◌*◌, ◌/◌}
 pub use Rattle.inode_table.proofs.Vocabulary.{HasOne, fetch_has, first}
@@ -37,5 +37,5 @@ pub use Rattle.inode_table.proofs.HasOnes.{record_has, store_has}
 pub use Rattle.inode_table.specs.HeldInodes.{without_content}
 pub use Rattle.std.proofs.lemmas.Bool.{le-ltb, lt-ltb}
 pub use Rattle.std.proofs.lemmas.List.{drop-append-le, length-drop, length-take, take_all}
-pub use Rattle.fs_machine.specs.declared.hand.Seat.TheVariants.{One, Two}
+pub use Rattle.fs_machine.specs.declared.hand.InodePlace.TheVariants.{One, Two}
 pub use Rattle.inode_table.specs.declared.store_inode.StoreInode.{StoreInode}

@@ -1,6 +1,6 @@
 -- The inode at a seat freed.
 use Rattle.std.specs.Prelude.{◌≡◌, ℕ, None, IsSome}
-use Rattle.inode_data.specs.Vocabulary.{MatchOption, Dinode, Super, bind, P, store, HandState as Hand, First, Seat, Op, inode_at, number_in, record_left, record_asked, record_place, record_seat, RecordReady}
+use Rattle.inode_data.specs.Vocabulary.{MatchOption, Dinode, Super, bind, P, store, HandState as Hand, First, InodePlace, Op, inode_at, number_in, record_left, record_asked, record_place, record_seat, RecordReady}
 use Rattle.inode_data.specs.Freeing.{truncate, freed}
 use Rattle.inode_data.specs.Emptying.{truncate_left, truncate_asked, emptying_of, TruncateReady, HasNoBuffer}
 use Rattle.inode_data.specs.declared.free_inode.FreeInode.{FreeInode}
@@ -32,7 +32,7 @@ FreeingReady (Truncating m) h = TruncateReady m h
 FreeingReady (Storing e m) h = RecordReady m h × (record_place m ≡ First) × (record_seat m ≡ e.seat) × (h.second ≡ None)
 
 -- nothing is loaded of the inode
-abbrev pub IsUnloadedAt : Seat → Hand → Type 0
+abbrev pub IsUnloadedAt : InodePlace → Hand → Type 0
 IsUnloadedAt k h = MatchOption (inode_at k h) ⊥ (λ g. g.value.content ≡ None)
 
 abbrev pub HasFreed : Emptying → Hand → Type 0

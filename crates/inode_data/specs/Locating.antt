@@ -35,17 +35,17 @@ abbrev pub locate_asked : Locate → Op
 locate_asked l = stage_asked l.stage
 
 -- a block is taken by way of the first place
-abbrev pub Takes : TakeBlock → Hand → Type 0
-Takes m h = TakeReady m h × (take_place m ≡ First)
+abbrev pub TakesByFirst : TakeBlock → Hand → Type 0
+TakesByFirst m h = TakeReady m h × (take_place m ≡ First)
 
 abbrev pub HasTable : Hand → Type 0
 HasTable h = MatchOption (buffer_at Second h) ⊥ (λ g. IsSome g.value.content)
 
 abbrev pub StageReady : Stage → Hand → Type 0
-StageReady (Direct i m) h = Takes m h × (i < direct) × (h.second ≡ None)
-StageReady (NewTable i m) h = Takes m h × (i < numbers_per_block) × (h.second ≡ None)
+StageReady (Direct i m) h = TakesByFirst m h × (i < direct) × (h.second ≡ None)
+StageReady (NewTable i m) h = TakesByFirst m h × (i < numbers_per_block) × (h.second ≡ None)
 StageReady (Table i f) h = FetchReady f h × (fetch_place f ≡ Second) × (i < numbers_per_block) × (h.first ≡ None) × IsSome h.txn
-StageReady (NewEntry i m) h = Takes m h × (i < numbers_per_block) × HasTable h
+StageReady (NewEntry i m) h = TakesByFirst m h × (i < numbers_per_block) × HasTable h
 StageReady (Name i number) h = HasTable h × (i < numbers_per_block) × (h.first ≡ None) × IsSome h.txn
 StageReady (Give number) h = HasTable h × (h.first ≡ None) × IsSome h.txn
 

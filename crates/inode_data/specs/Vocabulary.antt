@@ -27,5 +27,5 @@ pub use Rattle.fs_layout.specs.declared.superblock.Super.{Super}
 pub use Rattle.fs_machine.specs.declared.entries.Inode.{Inode}
 pub use Rattle.fs_machine.specs.declared.hand.Hand.{Hand as HandState}
 pub use Rattle.fs_machine.specs.declared.hand.Place.{Place}
-pub use Rattle.fs_machine.specs.declared.hand.Seat.{Seat}
+pub use Rattle.fs_machine.specs.declared.hand.InodePlace.{InodePlace}
 pub use Rattle.fs_machine.specs.declared.op.Op.{Op}

@@ -8,7 +8,7 @@ ghost use Rattle.inode_data.specs.declared.truncate.Emptying.{Emptying as Emptyi
 
 use crate::truncate::{Emptying, Truncate};
 use fs_layout::{Dinode, Super};
-use fs_machine::{Answer, Hand, Op, Part, Place, Routine, Seat};
+use fs_machine::{Answer, Hand, InodePlace, Op, Part, Place, Routine};
 use inode_table::{StoreRecord, record_at, unload_at};
 
 /// Empties an inode without links and stores it with type 0, so that it may be taken again. Nothing is loaded of it then.
@@ -22,7 +22,7 @@ pub enum FreeInode {
 
 impl FreeInode {
     /// The inode whose lock is at a seat, on a disk with this superblock.
-    pub fn begin(hand: &mut Hand, seat: Seat, sizes: &Super) -> FreeInode
+    pub fn begin(hand: &mut Hand, seat: InodePlace, sizes: &Super) -> FreeInode
         requires emptying { IsEmptying (record { seat = seat; sizes = sizes.now }) hand.old }
         requires free { HasNoBuffer hand.old }
         ensures program { freeing_left result hand.new ≡ free_record sizes.now (number_in seat hand.old) (record_in seat hand.old) }

@@ -12,13 +12,13 @@ use crate::place::{block_number, next_at, number_at};
 use bitmap_alloc::FreeBlock;
 use fs_layout::widths::ADDRESSES;
 use fs_layout::{Dinode, Super};
-use fs_machine::{Answer, Fetch, Hand, Op, Part, Place, Routine, Seat};
+use fs_machine::{Answer, Fetch, Hand, InodePlace, Op, Part, Place, Routine};
 use inode_table::{StoreRecord, record_at};
 
 /// What an emptying is about: the inode whose lock is at this seat, and where the disk's parts lie.
 #[derive(Clone, Copy, Drop)]
 pub struct Emptying {
-    pub seat: Seat,
+    pub seat: InodePlace,
     pub sizes: Super,
 }
 
@@ -42,7 +42,7 @@ pub enum Truncate {
 
 impl Truncate {
     /// The content of the inode whose lock is at a seat, on a disk with this superblock.
-    pub fn begin(hand: &mut Hand, seat: Seat, sizes: &Super) -> Truncate
+    pub fn begin(hand: &mut Hand, seat: InodePlace, sizes: &Super) -> Truncate
         requires emptying { IsEmptying (record { seat = seat; sizes = sizes.now }) hand.old }
         requires free { HasNoBuffer hand.old }
         ensures program { truncate_left result hand.new ≡ truncate sizes.now (number_in seat hand.old) (record_in seat hand.old) }

@@ -1,13 +1,13 @@
 -- A step of the tree acts at a walk's last lookup: what it leaves of the world.
-use Rattle.inode_machine.proofs.Vocabulary.{◌≡◌, ◌≢◌, ◌⊎◌, inl, inr, ℕ, ◌+◌, ◌<◌, ◌≤◌, Bool, true, false, List, [], ◌∷◌, Option, Some, None, refl, sym, ◌∙◌, ap, subst, arith, P, own, onto, Fine, Wp, Node, Action, Inherit, StepAnswer, hart_count, Name, Tree, put, look, is_live, live_directory, settle, makes_node, opens_one, refusal_with, effect_with, answer_with, StepWith, AsksForWhatStays, row_of, settle_alive, settle_live, settle_again, settled_step, settled_makes, IsWellFormed, same_or, put_same, put_other, sum_same, look_live, look_same, Walk, Deed, Stage, Step, walks_at, Look, Mine, Note, Desk, World, stage_of, sort_of, with_walk, Made, acts, act_entered, act_left, found_by, look_made, looked, made_by, new_id, with_made, own_names, Stands, shop_of, Found, IsReferredTo, IsReached, IsAlone, Inv, machine}
-use Rattle.inode_machine.proofs.Frame.{ours_some, Kin, Did, Ours, Fair, two_refs, refers_on, type_on}
+use Rattle.inode_machine.proofs.Vocabulary.{◌≡◌, ◌≢◌, ◌⊎◌, inl, inr, ℕ, ◌+◌, ◌<◌, ◌≤◌, Bool, true, false, List, [], ◌∷◌, Option, Some, None, refl, sym, ◌∙◌, ap, subst, arith, P, own, onto, Fine, Wp, Node, Action, Inherit, StepAnswer, hart_count, Name, Tree, put, look, is_live, live_directory, settle, makes_node, opens_one, refusal_with, effect_with, answer_with, StepWith, AsksForWhatStays, row_of, settle_alive, settle_live, settle_again, settled_step, settled_makes, IsWellFormed, same_or, put_same, put_other, sum_same, look_live, look_same, Walk, Deed, Stage, Step, walks_at, Look, Mine, Note, Desk, World, stage_of, type_of, with_walk, Made, acts, act_entered, act_left, found_by, look_made, looked, made_by, new_id, with_made, own_names, Stands, file_tables_of, Found, IsReferredTo, IsReached, IsAlone, Inv, machine}
+use Rattle.inode_machine.proofs.Frame.{ours_some, FilesStep, HartStep, Ours, Fair, two_refs, refers_on, type_on}
 use Rattle.inode_machine.proofs.Freeing.{lone_file}
 use Rattle.inode_machine.proofs.Walking.{refs_walk, moves_good}
 
 -- What an act by hart h needs of its change, and then leaves. p: what it found, and has not counted up yet.
 pub record Fits (h : ℕ) (v : World) (all : Tree) (p : Option ℕ) (alone : ℕ → Bool) (next : ℕ) (D : ℕ → Desk) (c : Bool) : Type 0 where
   pub ids : (k : ℕ) → next ≤ k → all.files k ≡ None
-  pub shop : Kin h (λ n. Ours h (v.keeper n)) (shop_of v) (record { files = v.files; desks = D; ids = v.ids; slots = v.slots; clean = c; tree_fds = all.fds; tree_files = all.files })
+  pub file_tables : FilesStep h (λ n. Ours h (v.keeper n)) (file_tables_of v) (record { files = v.files; desks = D; ids = v.ids; slots = v.slots; clean = c; tree_fds = all.fds; tree_files = all.files })
   pub fds : (D h).fds ≡ (v.desks h).fds
   pub free : (D h).lender ≡ None
   pub unlent : (v.desks h).lender ≡ None
@@ -19,15 +19,15 @@ pub record Fits (h : ℕ) (v : World) (all : Tree) (p : Option ℕ) (alone : ℕ
   pub rows : (g : ℕ) → g ≢ h → row_of all g ≡ row_of v.all g
   -- nodes change where the hart keeps them, and their types where it keeps them alone
   pub nodes : (j : ℕ) → ((all.nodes j ≡ v.all.nodes j) × (alone j ≡ v.alone j)) ⊎ (v.keeper j ≡ Some h)
-  pub sort : (j : ℕ) → (sort_of (all.nodes j) ≡ sort_of (v.all.nodes j)) ⊎ ((v.keeper j ≡ Some h) × (v.alone j ≡ true))
-  pub noted : (m : Note) → (D h).noted ≡ Some m → (0 < (v.harts h).refs m.number) ⊎ (p ≡ Some m.number) → alone m.number ≡ false → sort_of (all.nodes m.number) ≡ m.sort
+  pub inode_type : (j : ℕ) → (type_of (all.nodes j) ≡ type_of (v.all.nodes j)) ⊎ ((v.keeper j ≡ Some h) × (v.alone j ≡ true))
+  pub noted : (m : Note) → (D h).noted ≡ Some m → (0 < (v.harts h).refs m.number) ⊎ (p ≡ Some m.number) → alone m.number ≡ false → type_of (all.nodes m.number) ≡ m.inode_type
   pub lone : (j : ℕ) → alone j ≡ true → (v.alone j ≡ true) × (is_live (all.nodes j) ≡ false)
   pub held : (j : ℕ) → v.keeper j ≡ Some h → (v.lock j ≡ Some h) ⊎ (alone j ≡ true)
   pub named : (j : ℕ) → own_names (row_of all h) (D h) j ≡ true → (own_names (row_of v.all h) (v.desks h) j ≡ true) ⊎ ((0 < (v.harts h).refs j) ⊎ (p ≡ Some j))
   pub found : (j : ℕ) → p ≡ Some j → Found v.keeper all.nodes h j
 
 pub acts_did : (h : ℕ) (v : World) (all : Tree) (p : Option ℕ) (alone : ℕ → Bool) (next : ℕ) (D : ℕ → Desk) (c : Bool) → h < hart_count → Inv v → (v.harts h).pending ≡ None → Fits h v all p alone next D c
-    → Did h v (record v { clean = c; desks = D; all = all; alone = alone; next = next; harts = with_walk v.harts h None p })
+    → HartStep h v (record v { clean = c; desks = D; all = all; alone = alone; next = next; harts = with_walk v.harts h None p })
 acts_did h v all p alone next D c lt inv none fits =
     record {
       hart = lt;
@@ -39,12 +39,12 @@ acts_did h v all p alone next D c lt inv none fits =
       rows = fits.rows;
       size = fits.size;
       ids = fits.ids;
-      shop = fits.shop;
+      file_tables = fits.file_tables;
       free = fits.free;
       raised = λ q. fits.joined;
       quiet = λ j is f. absurd (let e = fits.joined in cc (e, f));
-      sort = fits.sort;
-      sorts = λ k e is. elim (fits.sort e.file.number) [ inl q ↦ type_on v.all.nodes all.nodes e q (inv.sorts k e is) | inr q ↦ absurd (lone_file h e.file.number k e v inv lt q.1 q.0 is refl) ];
+      inode_type = fits.inode_type;
+      inode_types = λ k e is. elim (fits.inode_type e.file.number) [ inl q ↦ type_on v.all.nodes all.nodes e q (inv.inode_types k e is) | inr q ↦ absurd (lone_file h e.file.number k e v inv lt q.1 q.0 is refl) ];
       noted = λ m is r s. fits.noted m is (elim r [
         | inl a ↦ inl (let e = refs_walk v.harts h None p h m.number in omega (arith, e, a))
         | inr a ↦ inr (sym (ap (λ (z : Mine). z.pending) (put_same v.harts h new)) ∙ a)

@@ -1,6 +1,6 @@
 -- A step that acts where its walk ends: at the last lookup, or at the start of a path without elements.
-use Rattle.inode_machine.proofs.Vocabulary.{◌≡◌, inl, inr, ℕ, ◌<◌, true, false, List, [], Option, Some, None, refl, sym, ◌∙◌, ap, subst, Cause, Node, Action, Inherit, StepAnswer, Failed, AsksForWhatStays, hart_count, root, Name, Tree, put, look, live_directory, is_absolute, start_of, elements, settle, path_of, follows_path, makes_node, refusal_with, IsInPlace, StepWith, settle_alive, settle_live, settle_named, settled_step, IsWellFormed, look_live, cwd_named, look_same, either, put_same, Walk, Acts, Looks, Takes, Begin, Look, Desk, Note, World, stage_of, sort_of, with_walk, found_by, acts, looked, look_made, begun, Own, Held, own_of, Inv}
-use Rattle.tree_laws.specs.Moves.{Begins}
+use Rattle.inode_machine.proofs.Vocabulary.{◌≡◌, inl, inr, ℕ, ◌<◌, true, false, List, [], Option, Some, None, refl, sym, ◌∙◌, ap, subst, Cause, Node, Action, Inherit, StepAnswer, Failed, AsksForWhatStays, hart_count, root, Name, Tree, put, look, live_directory, is_absolute, start_of, elements, settle, path_of, follows_path, makes_node, refusal_with, IsInPlace, StepWith, settle_alive, settle_live, settle_named, settled_step, IsWellFormed, look_live, cwd_named, look_same, either, put_same, Walk, Acts, LookupLeadsTo, PlaysStep, Begin, Look, Desk, Note, World, stage_of, type_of, with_walk, found_by, acts, looked, look_made, begun, Own, Held, own_of, Inv}
+use Rattle.tree_laws.specs.Moves.{StartLeadsTo}
 use Rattle.inode_machine.proofs.Frame.{Fair, fair, fair_then}
 use Rattle.inode_machine.proofs.Rules.{root_live, has_node}
 use Rattle.inode_machine.proofs.Walking.{walk_did, own_walk}
@@ -41,13 +41,13 @@ acts_takes h v u s res par a id T finder asks step same walks = record {
 
 pub last_takes : (h d : ℕ) (v u : World) (O : Own) (x : Held) (y : Walk) (j : ℕ) (a : StepAnswer) (id : ℕ) (T : Tree) → Finder y.step → own_of h v ≡ O → Inv v → O.mine.walk ≡ Some y → y.at ≡ d → O.inodes d ≡ Some x → live_directory x.node ≡ true → y.rest ≡ [] → look v.all.nodes y.at y.next ≡ Some j
     → StepWith v.all h y.step (Some j) (Some (y.at, y.next)) a 0 id T → settle T ≡ settle u.all → (stage_of u).walk ≡ put (λ g. (v.harts g).walk) h None
-    → Takes (stage_of v) h (record { move = Look 0; told = Some (record { act = record { step = y.step; answer = a }; new = 0 }) }) (stage_of u)
+    → PlaysStep (stage_of v) h (record { move = Look 0; told = Some (record { act = record { step = y.step; answer = a }; new = 0 }) }) (stage_of u)
 last_takes h d v u O x y j a id T finder ov inv walks at isd live rest found step same after = record {
   walk = y;
   is = ap (λ (o : Own). o.mine.walk) ov ∙ walks;
   live = ap (λ (z : Option Node). live_directory z) settled ∙ live_at;
-  looks = subst (λ (z : List Name). Looks (stage_of v) h y z (look (settle v.all).nodes y.at y.next) 0 (Some (record { act = record { step = y.step; answer = a }; new = 0 })) (stage_of u)) (sym rest)
-      (subst (λ (z : Option ℕ). Looks (stage_of v) h y [] z 0 (Some (record { act = record { step = y.step; answer = a }; new = 0 })) (stage_of u)) (sym (look_same v.all.nodes (settle v.all).nodes y.at y.next settled ∙ found))
+  looks = subst (λ (z : List Name). LookupLeadsTo (stage_of v) h y z (look (settle v.all).nodes y.at y.next) 0 (Some (record { act = record { step = y.step; answer = a }; new = 0 })) (stage_of u)) (sym rest)
+      (subst (λ (z : Option ℕ). LookupLeadsTo (stage_of v) h y [] z 0 (Some (record { act = record { step = y.step; answer = a }; new = 0 })) (stage_of u)) (sym (look_same v.all.nodes (settle v.all).nodes y.at y.next settled ∙ found))
       (acts_takes h v u y.step (Some j) (Some (y.at, y.next)) a id T finder asks step same after));
 }
   where
@@ -80,13 +80,13 @@ start_stays t h path well lt = elim (either (is_absolute path)) [
 
 pub start_takes : (h : ℕ) (v u : World) (s : Action) (a : StepAnswer) (id : ℕ) (T : Tree) → Finder s → h < hart_count → Inv v → (v.harts h).walk ≡ None → elements (path_of s) ≡ [] → IsInPlace (settle v.all) h s
     → StepWith v.all h s (Some (start_of v.all h (path_of s))) None a 0 id T → settle T ≡ settle u.all → (stage_of u).walk ≡ put (λ g. (v.harts g).walk) h None
-    → Takes (stage_of v) h (record { move = Begin s 0; told = Some (record { act = record { step = s; answer = a }; new = 0 }) }) (stage_of u)
+    → PlaysStep (stage_of v) h (record { move = Begin s 0; told = Some (record { act = record { step = s; answer = a }; new = 0 }) }) (stage_of u)
 unfolding settle
 start_takes h v u s a id T finder lt inv rests path place step same after = record {
   follows = finder.follows;
   rests = rests;
   place = place;
-  begins = subst (λ (z : List Name). Begins (stage_of v) h s z 0 (Some (record { act = record { step = s; answer = a }; new = 0 })) (stage_of u)) (sym path)
+  begins = subst (λ (z : List Name). StartLeadsTo (stage_of v) h s z 0 (Some (record { act = record { step = s; answer = a }; new = 0 })) (stage_of u)) (sym path)
       (acts_takes h v u s (Some (start_of v.all h (path_of s))) None a id T finder (record {
         node = λ n q. let e : start_of v.all h (path_of s) ≡ n = cc in subst (λ (z : ℕ). (settle v.all).nodes z ≡ v.all.nodes z) e (start_stays v.all h (path_of s) inv.well lt);
         directory = λ p q. absurd cc;
@@ -106,7 +106,7 @@ pub record Finding (h j : ℕ) (v : World) (O : Own) : Type 0 where
 pub finding : (h d j : ℕ) (e : Name) (v : World) (O : Own) → own_of h v ≡ O → O.desk.lender ≡ None → h < hart_count → Inv v → O.mine.pending ≡ None → v.keeper d ≡ Some h → look v.all.nodes d e ≡ Some j → Finding h j v O
 finding h d j e v O ov free lt inv none keeps finds = record {
   fair = fair_then note.fair (fair note.fair.inv (walk_did h None (Some j) u1 (ap (λ (o : Own). o.desk.lender) note.owned ∙ free) lt note.fair.inv (ap (λ (o : Own). o.mine.pending) ov ∙ none)
-      (λ m q s. let a : note_of v.all j ≡ m = some_is (sym (ap (λ (z : Desk). z.noted) (put_same v.desks h (record (v.desks h) { noted = Some (note_of v.all j) }))) ∙ q) in (λ z. sort_of (v.all.nodes (sym a z).number)) ∙ (λ z. (a z).sort))
+      (λ m q s. let a : note_of v.all j ≡ m = some_is (sym (ap (λ (z : Desk). z.noted) (put_same v.desks h (record (v.desks h) { noted = Some (note_of v.all j) }))) ∙ q) in (λ z. type_of (v.all.nodes (sym a z).number)) ∙ (λ z. (a z).inode_type))
       (λ z q. absurd cc)
       (λ i q. let s : j ≡ i = cc in record { directory = d; name = e; keeps = keeps; finds = finds ∙ ap (λ (z : ℕ). Some z) s })));
   owned = own_walk h None (Some j) u1 (record O { desk = record (O.desk) { noted = Some (note_of v.all j) } }) note.owned;

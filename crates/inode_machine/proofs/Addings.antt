@@ -1,7 +1,7 @@
 -- A new inode's name is entered: its node comes into the tree, and it is the hart's alone no longer.
-use Rattle.inode_machine.proofs.Vocabulary.{◌≡◌, ◌≢◌, inl, inr, ℕ, ◌<◌, true, false, Option, Some, None, refl, sym, ◌∙◌, ap, Node, hart_count, Tree, put, is_live, live_directory, with_nodes, IsWellFormed, same_or, put_same, put_other, Note, World, Sort, OfDirectory, sort_of, sort_of_kind, with_walk, Own, Held, view, is_hart, if_kept, own_of, shop_of, Inv}
-use Rattle.inode_machine.proofs.Basics.{shop_same, stands_in, kept_here, Fair, fair, fair_then, has_inode, locks_it, has_node, Writes, writes, Fits, acts_did, two_put}
-use Rattle.inode_machine.proofs.Removes.{directory_sort}
+use Rattle.inode_machine.proofs.Vocabulary.{◌≡◌, ◌≢◌, inl, inr, ℕ, ◌<◌, true, false, Option, Some, None, refl, sym, ◌∙◌, ap, Node, hart_count, Tree, put, is_live, live_directory, with_nodes, IsWellFormed, same_or, put_same, put_other, Note, World, InodeType, OfDirectory, type_of, type_of_kind, with_walk, Own, Held, view, is_hart, if_kept, own_of, file_tables_of, Inv}
+use Rattle.inode_machine.proofs.Basics.{file_tables_same, stands_in, kept_here, Fair, fair, fair_then, has_inode, locks_it, has_node, Writes, writes, Fits, acts_did, two_put}
+use Rattle.inode_machine.proofs.Removes.{type_of_directory}
 
 abbrev pub added_nodes : (ℕ → Option Node) → ℕ → ℕ → Node → Node → ℕ → Option Node
 added_nodes ns d i x y = put (put ns d (Some x)) i (Some y)
@@ -21,7 +21,7 @@ pub record Adding (h d i : ℕ) (r : Option Node) (X x y : Node) (a z : Held) (v
 
 -- a: what the hart has of the directory, whose node was X; z: what it has of the new inode
 pub adding : (h d i : ℕ) (r : Option Node) (X x y : Node) (a z : Held) (v : World) (O : Own) → own_of h v ≡ O → O.desk.lender ≡ None → h < hart_count → Inv v → O.desk.joined ≡ true → O.mine.pending ≡ None
-    → O.inodes d ≡ Some a → a.node ≡ Some X → a.alone ≡ false → live_directory (Some X) ≡ true → sort_of_kind x.kind ≡ OfDirectory → O.inodes i ≡ Some z → z.alone ≡ true → z.locked ≡ true → z.node ≡ None → ((t : Note) → O.desk.noted ≡ Some t → t.number ≢ i)
+    → O.inodes d ≡ Some a → a.node ≡ Some X → a.alone ≡ false → live_directory (Some X) ≡ true → type_of_kind x.kind ≡ OfDirectory → O.inodes i ≡ Some z → z.alone ≡ true → z.locked ≡ true → z.node ≡ None → ((t : Note) → O.desk.noted ≡ Some t → t.number ≢ i)
     → ((v.all.nodes d ≡ Some X) → (v.all.nodes i ≡ None) → IsWellFormed (with_nodes v.all (added_nodes v.all.nodes d i x y))) → Adding h d i r X x y a z v O
 adding h d i r X x y a z v O ov free lt inv joined none isd an shared live sorted isi lone locked blank notes well = record {
   fair = fair_then wr.fair (fair wr.fair.inv (acts_did h u1 all None (put v.alone i false) v.next v.desks v.clean lt wr.fair.inv idle fits));
@@ -72,10 +72,10 @@ adding h d i r X x y a z v O ov free lt inv joined none isd an shared live sorte
     put_i : all.nodes i ≡ Some y
     put_i = put_same (put v.all.nodes d (Some x)) i (Some y)
 
-    sorts : (j : ℕ) → j ≢ i → sort_of (all.nodes j) ≡ sort_of (v.all.nodes j)
-    sorts j o = elim (same_or j d) [
-      | inl q ↦ ap (λ (c : ℕ). sort_of (all.nodes c)) q ∙ ap (λ (p : Option Node). sort_of p) put_d ∙ ap (λ (s : Sort). Some s) (sorted ∙ sym (directory_sort X live)) ∙ sym (ap (λ (c : ℕ). sort_of (v.all.nodes c)) q ∙ ap (λ (p : Option Node). sort_of p) nd)
-      | inr b ↦ ap (λ (p : Option Node). sort_of p) (node_else j b o)
+    inode_types : (j : ℕ) → j ≢ i → type_of (all.nodes j) ≡ type_of (v.all.nodes j)
+    inode_types j o = elim (same_or j d) [
+      | inl q ↦ ap (λ (c : ℕ). type_of (all.nodes c)) q ∙ ap (λ (p : Option Node). type_of p) put_d ∙ ap (λ (s : InodeType). Some s) (sorted ∙ sym (type_of_directory X live)) ∙ sym (ap (λ (c : ℕ). type_of (v.all.nodes c)) q ∙ ap (λ (p : Option Node). type_of p) nd)
+      | inr b ↦ ap (λ (p : Option Node). type_of p) (node_else j b o)
     ]
 
     not_d : (j : ℕ) → v.alone j ≡ true → j ≢ d
@@ -84,12 +84,12 @@ adding h d i r X x y a z v O ov free lt inv joined none isd an shared live sorte
     fits : Fits h u1 all None (put v.alone i false) v.next v.desks v.clean
     fits = record {
       ids = inv.ids;
-      shop = shop_same h (shop_of v) inv.tied;
+      file_tables = file_tables_same h (file_tables_of v) inv.tied;
       fds = refl;
       free = ap (λ (o : Own). o.desk.lender) ov ∙ free;
       unlent = ap (λ (o : Own). o.desk.lender) ov ∙ free;
       joined = ap (λ (o : Own). o.desk.joined) ov ∙ joined;
-      directory = stands_in (v.desks h) (v.all.cwd h) v.all.nodes all.nodes (sorts (v.desks h).directory (λ q. absurd (let b = (inv.directory h lt).sort in let c : sort_of (v.all.nodes (v.desks h).directory) ≡ None = ap (λ (c : ℕ). sort_of (v.all.nodes c)) q ∙ ap (λ (p : Option Node). sort_of p) ni in cc (b, c)))) (inv.directory h lt);
+      directory = stands_in (v.desks h) (v.all.cwd h) v.all.nodes all.nodes (inode_types (v.desks h).directory (λ q. absurd (let b = (inv.directory h lt).inode_type in let c : type_of (v.all.nodes (v.desks h).directory) ≡ None = ap (λ (c : ℕ). type_of (v.all.nodes c)) q ∙ ap (λ (p : Option Node). type_of p) ni in cc (b, c)))) (inv.directory h lt);
       home = refl;
       well = well nd ni;
       size = refl;
@@ -98,10 +98,10 @@ adding h d i r X x y a z v O ov free lt inv joined none isd an shared live sorte
         | inl q ↦ inr (ap v.keeper q ∙ (has_inode h d v O a ov isd).0)
         | inr b ↦ elim (same_or j i) [ inl q ↦ inr (ap v.keeper q ∙ kept_i) | inr o ↦ inl (node_else j b o, put_other v.alone i false j o) ]
       ];
-      sort = λ j. elim (same_or j i) [ inl q ↦ inr (ap v.keeper q ∙ kept_i, ap v.alone q ∙ lone_at) | inr o ↦ inl (sorts j o) ];
+      inode_type = λ j. elim (same_or j i) [ inl q ↦ inr (ap v.keeper q ∙ kept_i, ap v.alone q ∙ lone_at) | inr o ↦ inl (inode_types j o) ];
       noted = λ t is b s.
           let o : t.number ≢ i = notes t (ap (λ (p : Own). p.desk.noted) (sym ov) ∙ is) in
-          sorts t.number o ∙ inv.noted h t lt is (elim b [ inl c ↦ inl c | inr c ↦ absurd cc ]) (sym (put_other v.alone i false t.number o) ∙ s);
+          inode_types t.number o ∙ inv.noted h t lt is (elim b [ inl c ↦ inl c | inr c ↦ absurd cc ]) (sym (put_other v.alone i false t.number o) ∙ s);
       lone = λ j is. elim (same_or j i) [
         | inl q ↦ absurd (let s : put v.alone i false j ≡ false = ap (put v.alone i false) q ∙ put_same v.alone i false in cc (s, is))
         | inr o ↦ (let was : v.alone j ≡ true = sym (put_other v.alone i false j o) ∙ is in (was, ap (λ (p : Option Node). is_live p) (node_else j (not_d j was) o) ∙ (inv.alone j was).dead))

@@ -1,21 +1,21 @@
 -- A walk begins at its path's start, to which a reference is counted.
-use Rattle.inode_machine.proofs.Vocabulary.{◌≡◌, ◌≢◌, inl, inr, ℕ, ◌+◌, ◌<◌, Bool, true, false, nat_lt, ◌==◌, ◌||◌, List, ◌∷◌, Option, Some, None, refl, sym, ◌∙◌, ap, subst, arith, if◌then◌else◌, Do, own, onto, Fine, Good, Safe, Wp, Reply, Node, Kind, Directory, File, Device, Action, hart_count, root, Name, Tree, is_directory, is_live, live_directory, put, elements, start_of, is_absolute, settle, hold_names, path_of, follows_path, IsInPlace, Row, key_names, row_of, settled_row, one_if, IsWellFormed, folder_dead, either, and_true, eq_self, same_or, put_same, put_other, Walk, Stage, Step, Begin, Note, World, stage_of, UpStart, OfDirectory, sort_of, sort_of_kind, counted_up, start_if, start_number, has_place, is_at, with_walk, begun as begun_by, marked, mended, new_id, places, with_mark, Own, Held, key_in, left_or, own_names, own_of, Inv, machine, ThisP as P, Stop, NoMemory, begins_unless_full, makes, start_on}
-use Rattle.tree_laws.specs.Moves.{Begins}
+use Rattle.inode_machine.proofs.Vocabulary.{◌≡◌, ◌≢◌, inl, inr, ℕ, ◌+◌, ◌<◌, Bool, true, false, nat_lt, ◌==◌, ◌||◌, List, ◌∷◌, Option, Some, None, refl, sym, ◌∙◌, ap, subst, arith, if◌then◌else◌, Do, own, onto, Fine, Good, Safe, Wp, Reply, Node, NodeKind, Directory, File, Device, Action, hart_count, root, Name, Tree, is_directory, is_live, live_directory, put, elements, start_of, is_absolute, settle, hold_names, path_of, follows_path, IsInPlace, Row, key_names, row_of, settled_row, one_if, IsWellFormed, folder_dead, either, and_true, eq_self, same_or, put_same, put_other, Walk, Stage, Step, Begin, Note, World, stage_of, UpStart, OfDirectory, type_of, type_of_kind, counted_up, start_if, start_number, has_place, is_at, with_walk, begun as begun_by, marked, mended, new_id, places, with_mark, Own, Held, key_in, left_or, own_names, own_of, Inv, machine, ThisP as P, WalkStop, NoMemory, begins_unless_full, makes, start_on}
+use Rattle.tree_laws.specs.Moves.{StartLeadsTo}
 use Rattle.inode_machine.proofs.Basics.{AllNames, fair, fair_then, has_node, root_live, s-owned, locks_none, MayRefer, Ups, ups, walk_did, own_walk, stage_walk, moves_good, spoilt, KeepsHold, mends, IsListed, listed_held, times, one_at, one_else, listed_free, listed_on, stays_same, names_stay, On, Gone, Ready, few_listed, Known}
 
 -- a live directory is one
-live_sort : (o : Option Node) → live_directory o ≡ true → sort_of o ≡ Some OfDirectory
-live_sort None e = absurd cc
-live_sort (Some v) e = at v.kind (and_true (nat_lt 0 v.count) (is_directory v.kind) e).1
+live_type : (o : Option Node) → live_directory o ≡ true → type_of o ≡ Some OfDirectory
+live_type None e = absurd cc
+live_type (Some v) e = at v.kind (and_true (nat_lt 0 v.count) (is_directory v.kind) e).1
   where
-    at : (k : Kind) → is_directory k ≡ true → Some (sort_of_kind k) ≡ Some OfDirectory
+    at : (k : NodeKind) → is_directory k ≡ true → Some (type_of_kind k) ≡ Some OfDirectory
     at (Directory slots) q = refl
     at (File bytes) q = absurd cc
     at (Device major minor size) q = absurd cc
 
-pub root_sort : (t : Tree) → IsWellFormed t → sort_of (t.nodes root) ≡ Some OfDirectory
-root_sort t well = elim (either (live_directory (t.nodes root))) [
-  | inl y ↦ live_sort (t.nodes root) y
+pub root_type : (t : Tree) → IsWellFormed t → type_of (t.nodes root) ≡ Some OfDirectory
+root_type t well = elim (either (live_directory (t.nodes root))) [
+  | inl y ↦ live_type (t.nodes root) y
   | inr y ↦ absurd (well.forest.rooted (folder_dead (t.nodes root) y))
 ]
 
@@ -23,12 +23,12 @@ root_sort t well = elim (either (live_directory (t.nodes root))) [
 pub record Begun (h i : ℕ) (s : Action) (base : ℕ → ℕ) (ns : List ℕ) (O : Own) (v : World) : Type 0 where
   pub up : Ups h i O v
   pub start : i ≡ start_of v.all h (path_of s)
-  pub sort : sort_of (v.all.nodes i) ≡ Some OfDirectory
+  pub inode_type : type_of (v.all.nodes i) ≡ Some OfDirectory
   pub refs : (j : ℕ) → put O.mine.refs i (O.mine.refs i + 1) j ≡ base j + times j ns + one_if (i == j)
   pub apart : (j : ℕ) → 0 < times j ns → j ≢ i
   pub out : O.inodes i ≡ None
 
-pub s-begin : (h : ℕ) (s : Action) (B : List Step → Type 0) (Q : Reply → List Step → World → Type 0) (base : ℕ → ℕ) (O0 : Own) (ns : List ℕ) (n : ℕ) (es : List Step) (w : World) (O : Own) (go : ℕ → P Reply) (lost : Stop → List ℕ → P Reply)
+pub s-begin : (h : ℕ) (s : Action) (B : List Step → Type 0) (Q : Reply → List Step → World → Type 0) (base : ℕ → ℕ) (O0 : Own) (ns : List ℕ) (n : ℕ) (es : List Step) (w : World) (O : Own) (go : ℕ → P Reply) (lost : WalkStop → List ℕ → P Reply)
     → h < hart_count → Ready base O0 → Gone h base ns O0 O w → 0 < n → ((m : Note) → O.desk.noted ≡ Some m → 0 < O.mine.refs m.number)
     → ((i : ℕ) (v : World) → Inv v → own_of h v ≡ O → Begun h i s base ns O v
     → Fine machine h (places h (UpStart (is_absolute (path_of s))) (Some i) (makes (Begin s 0)) v) 0 n B es v (marked h (makes (Begin s 0)) (counted_up h i v)) (λ l. Wp machine h B Q (go i) l (onto (own h (places h (UpStart (is_absolute (path_of s))) (Some i) (makes (Begin s 0)) v)) es) (marked h (makes (Begin s 0)) (counted_up h i v))))
@@ -51,7 +51,7 @@ s-begin h s B Q base O0 ns n es w O go lost lt ready at pos notes then_ full = s
           refs = at.refs;
           listed = listed_on O (record O { desk = record (O.desk) { opening = None; left = None; full = true }; mine = record { refs = O.mine.refs; walk = None; pending = None } }) base ns at.listed (λ i. refl) (λ i t. refl) (λ i q. (λ z. (O.row.cwd == i) || (hold_names O.row.hold i || (key_names (key_in O.row.keys (sym (at.stays.opening ∙ ready.opening) z)) i || is_at (sym (at.stays.left ∙ ready.left) z) i))) ∙ q);
         }) refl).wp)
-    tried v inv ov true = then_ i v inv ov (record { up = up; start = sym (number_is (is_absolute (path_of s)) v.all refl); sort = sort (is_absolute (path_of s)); refs = more_refs; apart = not_listed; out = out })
+    tried v inv ov true = then_ i v inv ov (record { up = up; start = sym (number_is (is_absolute (path_of s)) v.all refl); inode_type = inode_type (is_absolute (path_of s)); refs = more_refs; apart = not_listed; out = out })
       where
         i : ℕ
         i = start_number (v.desks h) (is_absolute (path_of s))
@@ -83,9 +83,9 @@ s-begin h s B Q base O0 ns n es w O go lost lt ready at pos notes then_ full = s
             let f = at.refs (v.desks h).directory in
             omega (arith, c, f))
 
-        sort : (c : Bool) → sort_of (v.all.nodes (start_number (v.desks h) c)) ≡ Some OfDirectory
-        sort true = root_sort v.all inv.well
-        sort false = (inv.directory h lt).sort
+        inode_type : (c : Bool) → type_of (v.all.nodes (start_number (v.desks h) c)) ≡ Some OfDirectory
+        inode_type true = root_type v.all inv.well
+        inode_type false = (inv.directory h lt).inode_type
 
         up : Ups h i O v
         up = ups h i O v inv ov free lt (mine (is_absolute (path_of s))) (inl at.pending) (λ m q x. inl (let c = notes m q in let f : O.mine.refs m.number ≡ O.mine.refs i = ap O.mine.refs x in omega (arith, c, f))) (let f = at.refs i in let c = few_listed ready at.listed i i in omega (arith, f, c))
@@ -108,7 +108,7 @@ s-begin h s B Q base O0 ns n es w O go lost lt ready at pos notes then_ full = s
             kept_not (Some x) q = absurd (not_start (is_absolute (path_of s)) i (at.listed.all i (at.listed.only i x q)) refl)
 
 -- The start of a path with elements is looked into next.
-pub s-start : (h : ℕ) (s : Action) (B : List Step → Type 0) (Q : Reply → List Step → World → Type 0) (base : ℕ → ℕ) (O0 : Own) (e : Name) (r : List Name) (ns : List ℕ) (n : ℕ) (es : List Step) (w : World) (O : Own) (go : ℕ → P Reply) (lost : Stop → List ℕ → P Reply)
+pub s-start : (h : ℕ) (s : Action) (B : List Step → Type 0) (Q : Reply → List Step → World → Type 0) (base : ℕ → ℕ) (O0 : Own) (e : Name) (r : List Name) (ns : List ℕ) (n : ℕ) (es : List Step) (w : World) (O : Own) (go : ℕ → P Reply) (lost : WalkStop → List ℕ → P Reply)
     → h < hart_count → Ready base O0 → Gone h base ns O0 O w → 0 < n → follows_path s ≡ true → elements (path_of s) ≡ e ∷ r → AllNames (elements (path_of s)) → ((t : Tree) → row_of t h ≡ O0.row → IsInPlace t h s) → ((m : Note) → O.desk.noted ≡ Some m → 0 < O.mine.refs m.number)
     → B (record { move = Begin s 0; told = None } ∷ es)
     → ((d l : ℕ) (u : World) (R : Own) → l + 1 ≡ n → On h s d e r base ns O0 R u → Safe machine h B Q (go d) l (record { move = Begin s 0; told = None } ∷ es) u)
@@ -165,6 +165,6 @@ s-start h s B Q base O0 e r ns n es w O go lost lt ready at pos follows path nam
         start_settled : i ≡ start_of (settle v.all) h (path_of s)
         start_settled = begun.start ∙ (λ z. if is_absolute (path_of s) then root else (ap (λ (x : Row). x.cwd) (sym (settled_row v.all h)) z))
 
-        plays : Begins (stage_of v) h s (elements (path_of s)) 0 None (stage_of u)
-        plays = subst (λ (z : List Name). Begins (stage_of v) h s z 0 None (stage_of u)) (sym path)
+        plays : StartLeadsTo (stage_of v) h s (elements (path_of s)) 0 None (stage_of u)
+        plays = subst (λ (z : List Name). StartLeadsTo (stage_of v) h s z 0 None (stage_of u)) (sym path)
             (refl, stage_walk h (Some to) None u1 ∙ ap (λ (m : Stage). record { tree = m.tree; walk = put m.walk h (Some to) }) up.stage ∙ (λ z. record { tree = settle v.all; walk = put (λ g. (v.harts g).walk) h (Some (record { step = s; at = start_settled z; next = e; rest = r })) }))

@@ -1,5 +1,5 @@
 -- A step that changes what two harts have: a hart's, and those of the one that it serves, which rests.
-use Rattle.inode_machine.proofs.Vocabulary.{◌≡◌, ◌≢◌, inl, inr, ℕ, ◌+◌, ◌<◌, ◌≤◌, true, ◌==◌, [], Option, Some, None, refl, sym, ◌∙◌, ap, subst, arith, OpenFile, hart_count, descriptor_count, row_of, Hold, holds_raised, sum_below, IsWellFormed, eq_self, same_or, one_yes, Mine, Entry, Desk, World, child_of, given_of, OfDirectory, sort_of, Own, Held, Rests, Idle, Others, Stands, IsTied, own_names, own_of, Found, IsReferredTo, IsReached, reference_limit, References, IsAlone, Has, Lends, Inv, left_or, HasType}
+use Rattle.inode_machine.proofs.Vocabulary.{◌≡◌, ◌≢◌, inl, inr, ℕ, ◌+◌, ◌<◌, ◌≤◌, true, ◌==◌, [], Option, Some, None, refl, sym, ◌∙◌, ap, subst, arith, OpenFile, hart_count, descriptor_count, row_of, Hold, holds_raised, sum_below, IsWellFormed, eq_self, same_or, one_yes, Mine, Entry, Desk, World, child_of, given_of, OfDirectory, type_of, Own, Held, Rests, Idle, Others, Stands, IsTied, own_names, own_of, Found, IsReferredTo, IsReached, reference_limit, References, IsAlone, Has, Lends, Inv, left_or, HasType}
 use Rattle.inode_machine.proofs.Rules.{FairTo}
 use Rattle.inode_machine.proofs.Frame.{has_none, resting_names}
 use Rattle.inode_machine.proofs.Counting.{one_most}
@@ -21,9 +21,9 @@ pub record Serves (h c : ℕ) (v : World) (F : ℕ → Option Entry) (D : ℕ �
   pub others : (g : ℕ) → g ≢ h → g ≢ c → H g ≡ v.harts g
   pub fds : (g : ℕ) → g ≢ c → X g ≡ v.all.fds g
   pub cwd : (g : ℕ) → g ≢ c → C g ≡ v.all.cwd g
-  pub numbers : (k : ℕ) (e : Entry) → v.files k ≡ Some e → (f : Entry) × (F k ≡ Some f) × (f.sort ≡ e.sort) × (f.file ≡ e.file)
+  pub numbers : (k : ℕ) (e : Entry) → v.files k ≡ Some e → (f : Entry) × (F k ≡ Some f) × (f.inode_type ≡ e.inode_type) × (f.file ≡ e.file)
   pub tied : IsTied (record { files = F; desks = D; ids = v.ids; slots = v.slots; clean = v.clean; tree_fds = X; tree_files = v.all.files })
-  pub sorts : (k : ℕ) (e : Entry) → F k ≡ Some e → HasType v.all.nodes e
+  pub inode_types : (k : ℕ) (e : Entry) → F k ≡ Some e → HasType v.all.nodes e
   pub well : IsWellFormed (record (v.all) { fds = X; cwd = C })
   pub counts : (i : ℕ) → R i ≡ v.slots i + sum_below hart_count (λ g. (H g).refs i)
   pub lone : (i : ℕ) (a : IsAlone v.keeper v.all.nodes v.refs v.harts i) → R i ≡ (H a.hart).refs i
@@ -40,7 +40,7 @@ pub record Serves (h c : ℕ) (v : World) (F : ℕ → Option Entry) (D : ℕ �
   pub found : (H h).pending ≡ None
   -- the child
   pub rests : Idle c (both_world v F D R H X C)
-  pub sort : sort_of (v.all.nodes (D c).directory) ≡ Some OfDirectory
+  pub inode_type : type_of (v.all.nodes (D c).directory) ≡ Some OfDirectory
   pub stands : (D c).lender ≡ None → C c ≡ (D c).directory
   pub lends : (g : ℕ) → (D c).lender ≡ Some g → (g ≡ h) × (child_of (D h) ≡ Some c) × Has (given_of (D h)) (D c).fds (C c) (D c).directory (D h).directory
   pub served : (g : ℕ) → child_of (D h) ≡ Some g → (g ≡ c) × ((D c).lender ≡ Some h)
@@ -119,9 +119,9 @@ module _ (h c : ℕ) (v : World) (F : ℕ → Option Entry) (D : ℕ → Desk) (
   directory g lt = by_hart g (Stands (D g) (C g) v.all.nodes)
       (λ e. subst (λ (z : ℕ). Stands (D z) (C z) v.all.nodes) (sym e) (let a = inv.directory h s.hart in record {
         at = λ _. s.directory ∙ a.at s.unlent ∙ (λ z. left_or (sym s.left z) (sym (s.cwd h (λ q. apart (sym q))) z));
-        sort = ap (λ (n : ℕ). sort_of (v.all.nodes n)) s.directory ∙ a.sort;
+        inode_type = ap (λ (n : ℕ). type_of (v.all.nodes n)) s.directory ∙ a.inode_type;
       }))
-      (λ e. subst (λ (z : ℕ). Stands (D z) (C z) v.all.nodes) (sym e) (record { at = λ free. sym (s.stands free) ∙ (λ z. left_or (sym s.rests.left z) (C c)); sort = s.sort }))
+      (λ e. subst (λ (z : ℕ). Stands (D z) (C z) v.all.nodes) (sym e) (record { at = λ free. sym (s.stands free) ∙ (λ z. left_or (sym s.rests.left z) (C c)); inode_type = s.inode_type }))
       (λ nh nc. subst (λ (d : Desk). Stands d (C g) v.all.nodes) (sym (s.desks g nh nc)) (subst (λ (z : ℕ). Stands (v.desks g) z v.all.nodes) (sym (s.cwd g nc)) (inv.directory g lt)))
 
   -- A hart that a third one serves is as it was.
@@ -172,7 +172,7 @@ module _ (h c : ℕ) (v : World) (F : ℕ → Option Entry) (D : ℕ → Desk) (
     counts = s.counts;
     refers = refers;
     tied = s.tied;
-    sorts = s.sorts;
+    inode_types = s.inode_types;
     named = named;
     pending = λ g i lt is. by_hart g (Found v.keeper v.all.nodes g i)
         (λ e. absurd (let a : (H h).pending ≡ Some i = ap (λ (z : ℕ). (H z).pending) (sym e) ∙ is in let b = s.found in cc (a, b)))
@@ -182,7 +182,7 @@ module _ (h c : ℕ) (v : World) (F : ℕ → Option Entry) (D : ℕ → Desk) (
         (λ e. absurd (let a : (H h).walk ≡ Some k = ap (λ (z : ℕ). (H z).walk) (sym e) ∙ is in let b = s.walk in cc (a, b)))
         (λ e. absurd (let a : (H c).walk ≡ Some k = ap (λ (z : ℕ). (H z).walk) (sym e) ∙ is in let b = s.rests.walk in cc (a, b)))
         (λ nh nc. reached g k.at nh nc (inv.walks g k lt (ap (λ (m : Mine). m.walk) (sym (s.others g nh nc)) ∙ is)));
-    noted = λ g n lt is r q. by_hart g (sort_of (v.all.nodes n.number) ≡ n.sort)
+    noted = λ g n lt is r q. by_hart g (type_of (v.all.nodes n.number) ≡ n.inode_type)
         (λ e. absurd (let a : (D h).noted ≡ Some n = ap (λ (z : ℕ). (D z).noted) (sym e) ∙ is in let b = s.noted in cc (a, b)))
         (λ e. absurd (let a : (D c).noted ≡ Some n = ap (λ (z : ℕ). (D z).noted) (sym e) ∙ is in let b = s.rests.noted in cc (a, b)))
         (λ nh nc. inv.noted g n lt (ap (λ (d : Desk). d.noted) (sym (s.desks g nh nc)) ∙ is) (reached_back g n.number nh nc r) q);

@@ -1,5 +1,5 @@
 -- No transaction of a call records more than ten blocks.
-use Rattle.inode_machine.proofs.Vocabulary.{◌≡◌, ◌⊎◌, inl, inr, ℕ, zero, suc, ◌+◌, ◌-◌, ◌≤◌, ◌==◌, ◌||◌, List, [], ◌∷◌, length, Bool, true, false, Option, Some, None, refl, subst, arith, if◌then◌else◌, Cause, NoEntry, Reply, Call, Action, Name, elements, same_name, dot, dotdot, creates, piece_count, descriptor_count, one_if, either, eq_self, Do, unmarked, Sort, Face, face_or, is_live_face, is_directory_face, is_directory_sort, Mark, ClaimResult, New, NoInode, NoPlace, EntryResult, InPlace, NoBlock, NoSlot, LockResult, NotLocked, LocksIt, JoinResult, NotJoined, Joined, Wrote, Whole, Refused, Short, LoanResult, Lent, Moved, Free, Forget, Store, Enter, Clear, ThisP as P, Stop, NotThere, NoMemory, done, failed, stopped, drop, give_up, free_all, tail, walk, walk_step, walk_parent, leave_directory, with_last, start, start_on, joined_on, read_on, dup_on, stat_on, close_on, write_from, wrote_on, write_program, installed_on, take_descriptor, open_end, open_face, open_at, open_old, open_new, make_on, make_with, create_found, create_in, unmake, empties, lower_parent, clear_name, unlink_child, unlink_found, unlink_in, name_directory, mkdir_with, mkdir_on, mkdir_in, mkdir_refused, lower, named_on, link_found, link_in, link_name, link_raise, link_at, bump_refused, in_parent, chdir_at, inherit_end, lend_on, lend_from, Spent, unspent, size, with_record, with_bitmap, with_contents, spent_after, HasRoom, TransactionsAreSmall}
+use Rattle.inode_machine.proofs.Vocabulary.{◌≡◌, ◌⊎◌, inl, inr, ℕ, zero, suc, ◌+◌, ◌-◌, ◌≤◌, ◌==◌, ◌||◌, List, [], ◌∷◌, length, Bool, true, false, Option, Some, None, refl, subst, arith, if◌then◌else◌, Cause, NoEntry, Reply, Call, Action, Name, elements, same_name, dot, dotdot, creates, piece_count, descriptor_count, one_if, either, eq_self, Do, unmarked, InodeType, Face, face_or, is_live_face, is_directory_face, is_directory_type, Mark, ClaimResult, New, NoInode, NoPlace, EntryResult, InPlace, NoBlock, NoSlot, LockResult, NotLocked, LocksIt, JoinResult, NotJoined, Joined, Wrote, Whole, Refused, Short, LoanResult, Lent, Moved, Free, Forget, Store, Enter, Clear, ThisP as P, WalkStop, NotThere, NoMemory, done, failed, stopped, drop, give_up, free_all, tail, walk, walk_step, walk_parent, leave_directory, with_last, start, start_on, joined_on, read_on, dup_on, stat_on, close_on, write_from, wrote_on, write_program, installed_on, take_descriptor, open_end, open_face, open_at, open_old, open_new, make_on, make_with, create_found, create_in, unmake, empties, lower_parent, clear_name, unlink_child, unlink_found, unlink_in, name_directory, mkdir_with, mkdir_on, mkdir_in, mkdir_refused, lower, named_on, link_found, link_in, link_name, link_raise, link_at, bump_refused, in_parent, chdir_at, inherit_end, lend_on, lend_from, Spent, unspent, size, with_record, with_bitmap, with_contents, spent_after, HasRoom, TransactionsAreSmall}
 use Rattle.plain_tree.specs.declared.call.Call.TheVariants as calls
 use Rattle.plain_tree.specs.declared.step.Action.TheVariants as steps
 use Rattle.inode_machine.specs.Budget.{has}
@@ -122,7 +122,7 @@ module _ {A : Type 0} where
   left : (d : ℕ) (list : List ℕ) (k : List ℕ → P A) (s : Spent) → size s ≤ 10 → ((ms : List ℕ) → HasRoom s (k ms)) → HasRoom s (leave_directory d list k)
   left d list k s ok rest = (ok, λ _. (ok, λ last. rest (with_last list d last)))
 
-  module _ (s : Spent) (ok : size s ≤ 10) (lost : Stop → List ℕ → P A) (is_lost : (why : Stop) (ms : List ℕ) → HasRoom s (lost why ms)) where
+  module _ (s : Spent) (ok : size s ≤ 10) (lost : WalkStop → List ℕ → P A) (is_lost : (why : WalkStop) (ms : List ℕ) → HasRoom s (lost why ms)) where
     stepped : (d : ℕ) (list : List ℕ) (go : ℕ → List ℕ → P A) → ((j : ℕ) (ms : List ℕ) → HasRoom s (go j ms)) → (found : Option ℕ) → HasRoom s (walk_step d list go lost found)
     stepped d list go goes None = left d list (lost NotThere) s ok (is_lost NotThere)
     stepped d list go goes (Some j) = (ok, λ there. by there)
@@ -147,7 +147,7 @@ module _ {A : Type 0} where
         by (Some d) = goes d
 
 -- a path's start, and a walk from there: to its end, or to its last directory
-module _ {A : Type 0} (s : Spent) (ok : size s ≤ 10) (lost : Stop → List ℕ → P A) (is_lost : (why : Stop) (ms : List ℕ) → HasRoom s (lost why ms)) where
+module _ {A : Type 0} (s : Spent) (ok : size s ≤ 10) (lost : WalkStop → List ℕ → P A) (is_lost : (why : WalkStop) (ms : List ℕ) → HasRoom s (lost why ms)) where
   walks_to : (a : Action) (path : List ℕ) (k : ℕ → List ℕ → P A) → ((n : ℕ) (ms : List ℕ) → HasRoom s (k n ms)) → HasRoom s (start a path [] (λ d. walk a d (elements path) [] k lost) lost)
   walks_to a path k rest = started s ok lost is_lost a path [] (λ d. walk a d (elements path) [] k lost) (λ d. walked s ok lost is_lost a d (elements path) [] k rest)
 
@@ -166,8 +166,8 @@ module _ (ns : List ℕ) (b : ℕ) (le : b ≤ 10) where
 -- ---- open
 
 module _ (path : List ℕ) (flags : ℕ) (ns : List ℕ) (b : ℕ) (le : b ≤ 10) where
-  took : (n : ℕ) (sort : Sort) (list : List ℕ) (mark : ℕ → Option Mark) (k : ℕ → P Reply) (s : Spent) → IsIn n ns → Within ns b s → ((fd : ℕ) → HasRoom s (k fd)) → HasRoom s (take_descriptor path flags n sort list mark k)
-  took n sort list mark k s at within rest = (ok, λ there. either_way s there _ _ (ok, λ o. by o) (ended ns b le n list _ s at within))
+  took : (n : ℕ) (inode_type : InodeType) (list : List ℕ) (mark : ℕ → Option Mark) (k : ℕ → P Reply) (s : Spent) → IsIn n ns → Within ns b s → ((fd : ℕ) → HasRoom s (k fd)) → HasRoom s (take_descriptor path flags n inode_type list mark k)
+  took n inode_type list mark k s at within rest = (ok, λ there. either_way s there _ _ (ok, λ o. by o) (ended ns b le n list _ s at within))
     where
       ok : size s ≤ 10
       ok = fits ns b s within le
@@ -179,23 +179,23 @@ module _ (path : List ℕ) (flags : ℕ) (ns : List ℕ) (b : ℕ) (le : b ≤ 1
   opened : (n : ℕ) (list : List ℕ) (fd : ℕ) (s : Spent) → Within ns b s → HasRoom s (open_end path flags n list fd)
   opened n list fd s within = (fits ns b s within le, λ _. tailed list _ s (fits ns b s within le))
 
-  faced : (n : ℕ) (list : List ℕ) (sort : Sort) (why : Option Cause) (s : Spent) → IsIn n ns → Within ns b s → HasRoom s (open_face path flags n list sort why)
-  faced n list sort (Some c) s at within = ended ns b le n list _ s at within
-  faced n list sort None s at within =
+  faced : (n : ℕ) (list : List ℕ) (inode_type : InodeType) (why : Option Cause) (s : Spent) → IsIn n ns → Within ns b s → HasRoom s (open_face path flags n list inode_type why)
+  faced n list inode_type (Some c) s at within = ended ns b le n list _ s at within
+  faced n list inode_type None s at within =
       let emptied : Within ns b (with_record n (with_bitmap s)) = recorded ns b n (with_bitmap s) at within in
-      took n sort list _ _ s at within (λ fd. either_way s (empties flags sort) _ _
+      took n inode_type list _ _ s at within (λ fd. either_way s (empties flags inode_type) _ _
       (fits ns b (with_record n (with_bitmap s)) emptied le, λ _. opened n list fd (with_record n (with_bitmap s)) emptied)
       (opened n list fd s within))
 
   at_inode : (n : ℕ) (list : List ℕ) (s : Spent) → IsIn n ns → Within ns b s → HasRoom s (open_at path flags n list)
-  at_inode n list s at within = (fits ns b s within le, λ a. faced n list (face_or a.face).sort _ s at within)
+  at_inode n list s at within = (fits ns b s within le, λ a. faced n list (face_or a.face).inode_type _ s at within)
 
 -- a walk that is lost ends the call
 module _ (c : Call) where
-  abbrev lost : Stop → List ℕ → P Reply
+  abbrev lost : WalkStop → List ℕ → P Reply
   lost why ms = tail ms (stopped c why)
 
-  is_lost : (why : Stop) (ms : List ℕ) → HasRoom unspent (lost why ms)
+  is_lost : (why : WalkStop) (ms : List ℕ) → HasRoom unspent (lost why ms)
   is_lost why ms = tailed ms (stopped c why) unspent few
 
 on_parent : (s : Spent) (c : Call) (a : Action) (path : List ℕ) (k : ℕ → Name → List ℕ → P Reply) (es : List Name) → ((d : ℕ) (e : Name) (ms : List ℕ) → HasRoom unspent (k d e ms)) → HasRoom s (in_parent c a path k es)
@@ -240,11 +240,11 @@ module _ (path : List ℕ) (d : ℕ) (e : Name) (list : List ℕ) where
     entered b s within = recorded both (b + 2) d (with_bitmap (with_contents 2 s)) old_here (let w = within in omega (arith, w))
 
     -- open
-    made : (flags : ℕ) (sort : Sort) (b : ℕ) (s : Spent) (a : EntryResult) → b ≤ 10 → Within both b s → HasRoom s (make_on path flags n sort d list a)
-    made flags sort b s InPlace le within =
-        (fits both b s within le, λ _. dropped both b le d _ s old_here within (λ t w. took path flags both b le n sort list _ _ t new_here w (λ fd. opened path flags both b le n list fd t w)))
-    made flags sort b s NoBlock le within = undone b _ s le within
-    made flags sort b s NoSlot le within = undone b _ s le within
+    made : (flags : ℕ) (inode_type : InodeType) (b : ℕ) (s : Spent) (a : EntryResult) → b ≤ 10 → Within both b s → HasRoom s (make_on path flags n inode_type d list a)
+    made flags inode_type b s InPlace le within =
+        (fits both b s within le, λ _. dropped both b le d _ s old_here within (λ t w. took path flags both b le n inode_type list _ _ t new_here w (λ fd. opened path flags both b le n list fd t w)))
+    made flags inode_type b s NoBlock le within = undone b _ s le within
+    made flags inode_type b s NoSlot le within = undone b _ s le within
 
     -- mkdir
     directory_named : (f : Face) (b : ℕ) (s : Spent) (a : EntryResult) → b ≤ 10 → Within both b s → HasRoom s (name_directory path d f n list a)
@@ -272,7 +272,7 @@ module _ (path : List ℕ) (d : ℕ) (e : Name) (list : List ℕ) where
       few_claimed,
       λ seen. (
         fits both 4 stored_new new_stored (omega arith),
-        λ _. (fits both 6 (entered_after stored_new) (entered 4 stored_new new_stored) (omega arith), λ a. made flags (face_or seen.face).sort 6 (entered_after stored_new) a (omega arith) (entered 4 stored_new new_stored)),
+        λ _. (fits both 6 (entered_after stored_new) (entered 4 stored_new new_stored) (omega arith), λ a. made flags (face_or seen.face).inode_type 6 (entered_after stored_new) a (omega arith) (entered 4 stored_new new_stored)),
       ),
     )
 
@@ -313,7 +313,7 @@ module _ (path : List ℕ) (d : ℕ) (e : Name) (list : List ℕ) where
         lowered : (s : Spent) → Within both 4 s → HasRoom s (lower_parent d f g (give_up d (Do (Store n (g.count - 1)) unmarked (λ _. give_up n (tail list (done (calls.Unlink path)))))))
         lowered s w =
             let stored : Within both 4 (with_record d s) = recorded both 4 d s old_here w in
-            either_way s (is_directory_sort g.sort) _ _ (fits both 4 (with_record d s) stored (omega arith), λ _. parent_part (with_record d s) stored) (parent_part s w)
+            either_way s (is_directory_type g.inode_type) _ _ (fits both 4 (with_record d s) stored (omega arith), λ _. parent_part (with_record d s) stored) (parent_part s w)
 
     child_unlinked : (f : Face) → HasRoom unspent (unlink_child path d e list f n)
     child_unlinked f =
@@ -404,10 +404,10 @@ module _ (old new : List ℕ) (n : ℕ) where
     links_in : HasRoom (with_record n unspent) (link_in old new n d e list)
     links_in = (few_stored n, λ a. either_way (with_record n unspent) (is_live_face a.face) _ _ (links_found a.found) (backs 3 _ (with_record n unspent) (omega arith) two_within))
 
-  gone : (why : Stop) (ms : List ℕ) (r : Reply) → HasRoom (with_record n unspent) (lower old new n r ms)
+  gone : (why : WalkStop) (ms : List ℕ) (r : Reply) → HasRoom (with_record n unspent) (lower old new n r ms)
   gone why ms r = back_down linked 2 r ms (with_record n unspent) (omega arith) (here n []) raised_within
 
-  abbrev back : Stop → List ℕ → P Reply
+  abbrev back : WalkStop → List ℕ → P Reply
   back why ms = lower old new n (stopped (calls.Link old new) why) ms
 
   links_name : (list : List ℕ) (es : List Name) → HasRoom (with_record n unspent) (link_name old new n list es)
@@ -422,7 +422,7 @@ module _ (old new : List ℕ) (n : ℕ) where
   links_at : (list : List ℕ) → HasRoom unspent (link_at old new n list)
   links_at list = (
     few,
-    λ a. either_way unspent (is_directory_sort (face_or a.face).sort) _ _
+    λ a. either_way unspent (is_directory_type (face_or a.face).inode_type) _ _
         (ended linked 2 (omega arith) n list _ unspent (here n []) (named [] 1 n unspent start_within)) (raises list (face_or a.face) (bump_refused (face_or a.face))),
   )
 

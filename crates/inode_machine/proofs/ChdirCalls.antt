@@ -1,7 +1,7 @@
 -- Chdir is right, whatever the other harts do.
-use Rattle.inode_machine.proofs.Vocabulary.{◌≡◌, ◌≢◌, ◌⊎◌, inl, inr, ℕ, ◌+◌, ◌-◌, ◌*◌, ◌<◌, ◌≤◌, Bool, true, false, ◌==◌, ◌||◌, List, [], ◌∷◌, length, Option, Some, None, refl, sym, ◌∙◌, ap, subst, arith, if◌then◌else◌, Do, unmarked, own, onto, Fine, Safe, Wp, Begun, Ends, IsBeginning, NoEntry, NotDirectory, Reply, Call, Node, Kind, Directory, File, Device, Action, Chdir, Inherit, StepAnswer, Done, Failed, next_of, reply_of, had_room, hart_count, descriptor_count, Name, Tree, put, elements, is_absolute, is_directory, is_live, live_directory, look, settle, start_of, node_at, node_or, place_of, refusal_with, IsInPlace, Row, row_of, settle_again, one_if, either, eq_is, eq_not, eq_self, same_or, put_same, put_other, look_live, look_same, Deed, Walk, Move, Stage, Step, IsNext, MayEnd, begins, Begin, Look, Desk, Note, World, stage_of, UpStart, Settle, OfDirectory, face_of, is_directory_face, is_directory_sort, sort_of, sort_of_kind, counted_up, is_at, with_walk, Made, acts, begun, made_by, marked, new_id, places, Held, Own, own_names, own_of, Idle, Inv, machine, ThisP as P, Stop, NoMemory, done, drop, failed, give_up, makes, start, stopped, tail, walk, walk_step, chdir_at, chdir_program, limit, covered_calls}
+use Rattle.inode_machine.proofs.Vocabulary.{◌≡◌, ◌≢◌, ◌⊎◌, inl, inr, ℕ, ◌+◌, ◌-◌, ◌*◌, ◌<◌, ◌≤◌, Bool, true, false, ◌==◌, ◌||◌, List, [], ◌∷◌, length, Option, Some, None, refl, sym, ◌∙◌, ap, subst, arith, if◌then◌else◌, Do, unmarked, own, onto, Fine, Safe, Wp, Begun, Ends, IsBeginning, NoEntry, NotDirectory, Reply, Call, Node, NodeKind, Directory, File, Device, Action, Chdir, Inherit, StepAnswer, Done, Failed, next_of, reply_of, had_room, hart_count, descriptor_count, Name, Tree, put, elements, is_absolute, is_directory, is_live, live_directory, look, settle, start_of, node_at, node_or, place_of, refusal_with, IsInPlace, Row, row_of, settle_again, one_if, either, eq_is, eq_not, eq_self, same_or, put_same, put_other, look_live, look_same, Deed, Walk, Move, Stage, Step, IsNext, MayEnd, begins, Begin, Look, Desk, Note, World, stage_of, UpStart, SetDirectory, OfDirectory, face_of, is_directory_face, is_directory_type, type_of, type_of_kind, counted_up, is_at, with_walk, Made, acts, begun, made_by, marked, new_id, places, Held, Own, own_names, own_of, Idle, Inv, machine, ThisP as P, WalkStop, NoMemory, done, drop, failed, give_up, makes, start, stopped, tail, walk, walk_step, chdir_at, chdir_program, limit, covered_calls}
 use Rattle.plain_tree.specs.declared.call.Call.TheVariants as calls
-use Rattle.inode_machine.proofs.Basics.{AllNames, Fair, fair, fair_then, has_inode, has_node, live_typed, locked_held, my_refs, noted_sort, s-take, sort_there, below_is, moves_good, own_walk, stage_walk, walk_did, s-join, s-drop, KeepsHold, MoveFine, mends, note_of, times, one_at, one_else, listed_among, listed_beside, directory_sort, At, Gone, Lost, On, Ready, Stays, names_stay, stays_same, s-arrive, s-walk, Finder, Finding, finding, found_world, last_made, last_takes, refused_made, start_made, start_takes, MayRest, Walked, back_at, face_sort, follows_begin, follows_look, follows_lost, follows_quit, gone_at, home, home_is, joined_own, looks, may_rest, may_stay, missed, names_plain, ready_at, times_none, s-ends, s-lost, tells, walked_begun, walked_tells}
+use Rattle.inode_machine.proofs.Basics.{AllNames, Fair, fair, fair_then, has_inode, has_node, live_typed, locked_held, my_refs, noted_type, s-take, type_there, below_is, moves_good, own_walk, stage_walk, walk_did, s-join, s-drop, KeepsHold, MoveFine, mends, note_of, times, one_at, one_else, listed_among, listed_beside, type_of_directory, At, Gone, Lost, On, Ready, Stays, names_stay, stays_same, s-arrive, s-walk, Finder, Finding, finding, found_world, last_made, last_takes, refused_made, start_made, start_takes, MayRest, Walked, back_at, face_type, follows_begin, follows_look, follows_lost, follows_quit, gone_at, home, home_is, joined_own, looks, may_rest, may_stay, missed, names_plain, ready_at, times_none, s-ends, s-lost, tells, walked_begun, walked_tells}
 use Rattle.inode_machine.proofs.Beginnings.{Begun as StartsAt, s-begin, s-start}
 use Rattle.inode_machine.proofs.Chdirs.{Leaving, kind_directory, chdir_made, chdir_refused_step, chdir_step, leaving, left_world, mends_left, s-settle}
 use Rattle.inode_machine.proofs.Endings.{Follows, s-give-up}
@@ -38,21 +38,21 @@ chdir_missing t h path par = refl
 
 -- Types.
 
-pub sort_directory : (o : Option Node) → is_directory (node_or o).kind ≡ true → sort_of o ≡ Some OfDirectory
-sort_directory None e = absurd cc
-sort_directory (Some v) e = at v.kind e
+pub type_directory : (o : Option Node) → is_directory (node_or o).kind ≡ true → type_of o ≡ Some OfDirectory
+type_directory None e = absurd cc
+type_directory (Some v) e = at v.kind e
   where
-    at : (k : Kind) → is_directory k ≡ true → Some (sort_of_kind k) ≡ Some OfDirectory
+    at : (k : NodeKind) → is_directory k ≡ true → Some (type_of_kind k) ≡ Some OfDirectory
     at (Directory slots) q = refl
     at (File bytes) q = absurd cc
     at (Device major minor size) q = absurd cc
 
 -- what is there and is no directory shows no face of one
-sort_not : (o v : Option Node) → is_live o ≡ true → is_directory (node_or o).kind ≡ false → sort_of v ≡ sort_of o → is_directory_face (face_of v) ≡ false
-sort_not None v live e q = absurd cc
-sort_not (Some x) v live e q = face_sort v (sort_of_kind x.kind) q ∙ at x.kind e
+type_not : (o v : Option Node) → is_live o ≡ true → is_directory (node_or o).kind ≡ false → type_of v ≡ type_of o → is_directory_face (face_of v) ≡ false
+type_not None v live e q = absurd cc
+type_not (Some x) v live e q = face_type v (type_of_kind x.kind) q ∙ at x.kind e
   where
-    at : (k : Kind) → is_directory k ≡ false → is_directory_sort (sort_of_kind k) ≡ false
+    at : (k : NodeKind) → is_directory k ≡ false → is_directory_type (type_of_kind k) ≡ false
     at (Directory slots) p = absurd cc
     at (File bytes) p = refl
     at (Device major minor size) p = refl
@@ -101,10 +101,10 @@ module _ (h : ℕ) (path : List ℕ) (w : World) (free : (w.desks h).lender ≡ 
   s-moved : (j : ℕ) (ns : List ℕ) (t : Option Note) (n : ℕ) (es : List Step) (u : World) (R : Own) → 2000 + 971 * length ns ≤ n → At h j base ns None t (went j O0) R u → Walked c (record { step = s; answer = Done } ∷ []) es
       → Safe machine h B Q (chdir_at path j ns) n es u
   s-moved j ns t n es u R few at told =
-      s-take (λ o. sort_of o ≡ Some OfDirectory) (λ o q. sort_there o OfDirectory q) tt at.owns (at.stays.lender ∙ free) lt (omega (arith, few)) at.out (let r = at.refs j in let o = one_at j in omega (arith, r, o))
-      (λ v inv ov. let q : v.all.cwd h ≡ j = ap (λ (o : Own). o.row.cwd) ov ∙ ap (λ (r : Row). r.cwd) at.stays.row in ap (λ (z : ℕ). sort_of (v.all.nodes z)) (sym q) ∙ directory_sort v.all h inv.well lt)
-      (λ l1 x u1 q1 sort own1.
-      subst (λ (b : Bool). Safe machine h B Q (if b then Do (Settle j) unmarked (λ old. drop old (tail ns (done c))) else give_up j (tail ns (failed c NotDirectory))) l1 es u1) (sym (face_sort x OfDirectory sort))
+      s-take (λ o. type_of o ≡ Some OfDirectory) (λ o q. type_there o OfDirectory q) tt at.owns (at.stays.lender ∙ free) lt (omega (arith, few)) at.out (let r = at.refs j in let o = one_at j in omega (arith, r, o))
+      (λ v inv ov. let q : v.all.cwd h ≡ j = ap (λ (o : Own). o.row.cwd) ov ∙ ap (λ (r : Row). r.cwd) at.stays.row in ap (λ (z : ℕ). type_of (v.all.nodes z)) (sym q) ∙ type_of_directory v.all h inv.well lt)
+      (λ l1 x u1 q1 inode_type own1.
+      subst (λ (b : Bool). Safe machine h B Q (if b then Do (SetDirectory j) unmarked (λ old. drop old (tail ns (done c))) else give_up j (tail ns (failed c NotDirectory))) l1 es u1) (sym (face_type x OfDirectory inode_type))
       (s-settle own1 (at.stays.lender ∙ free) lt (omega (arith, q1, few)) (put_same R.inodes j (Some (locked_held x))) refl refl refl at.pending (ap (λ (r : Row). r.cwd) at.stays.row) spare (ap (λ (f : ℕ → Option ℕ). f descriptor_count) (at.stays.lent ∙ idle.lent)) (λ l2 u2 q2 own2.
       subst (λ (z : ℕ). Safe machine h B Q (drop z (tail ns (done c))) l2 es u2) (sym (at.stays.directory))
       (s-drop d own2 (at.stays.lender ∙ free) lt (omega (arith, q1, q2, few)) (at.stays.joined) (back_at R.inodes j (Some (locked_held x)) at.out d ∙ out_d (R.inodes d) refl) here at.pending at.walk twice (λ l3 u3 q3 own3.
@@ -172,13 +172,13 @@ module _ (h : ℕ) (path : List ℕ) (w : World) (free : (w.desks h).lender ≡ 
       ]
 
   -- What was found is no directory, and is given up.
-  s-not-moved : (j : ℕ) (ns : List ℕ) (x : Option Node) (n : ℕ) (es : List Step) (u : World) (R : Own) → 2000 + 971 * length ns ≤ n → At h j base ns None (Some (record { number = j; sort = sort_of x })) O0 R u → is_live x ≡ true → is_directory (node_or x).kind ≡ false → Walked c (record { step = s; answer = Failed NotDirectory } ∷ []) es
+  s-not-moved : (j : ℕ) (ns : List ℕ) (x : Option Node) (n : ℕ) (es : List Step) (u : World) (R : Own) → 2000 + 971 * length ns ≤ n → At h j base ns None (Some (record { number = j; inode_type = type_of x })) O0 R u → is_live x ≡ true → is_directory (node_or x).kind ≡ false → Walked c (record { step = s; answer = Failed NotDirectory } ∷ []) es
       → Safe machine h B Q (chdir_at path j ns) n es u
   s-not-moved j ns x n es u R few at live isnt told =
-      s-take (λ o. sort_of o ≡ sort_of x) (λ o q e. live_typed x live (sym q ∙ ap (λ (z : Option Node). sort_of z) e)) tt at.owns (at.stays.lender ∙ free) lt (omega (arith, few)) at.out refers
-      (λ v inv ov. noted_sort h j R (record { number = j; sort = sort_of x }) at.noted refl at.out refers lt v inv ov)
-      (λ l1 y u1 q1 sort own1.
-      subst (λ (b : Bool). Safe machine h B Q (if b then Do (Settle j) unmarked (λ old. drop old (tail ns (done c))) else give_up j (tail ns (failed c NotDirectory))) l1 es u1) (sym (sort_not x y live isnt sort))
+      s-take (λ o. type_of o ≡ type_of x) (λ o q e. live_typed x live (sym q ∙ ap (λ (z : Option Node). type_of z) e)) tt at.owns (at.stays.lender ∙ free) lt (omega (arith, few)) at.out refers
+      (λ v inv ov. noted_type h j R (record { number = j; inode_type = type_of x }) at.noted refl at.out refers lt v inv ov)
+      (λ l1 y u1 q1 inode_type own1.
+      subst (λ (b : Bool). Safe machine h B Q (if b then Do (SetDirectory j) unmarked (λ old. drop old (tail ns (done c))) else give_up j (tail ns (failed c NotDirectory))) l1 es u1) (sym (type_not x y live isnt inode_type))
       (s-give-up j y base ns own1 (at.stays.lender ∙ free) lt (omega (arith, q1, few)) (at.stays.joined) at.listed at.out at.refs at.walk at.pending (λ q. ready.spare j (sym (names_stay R O0 at.stays j) ∙ q)) (λ l2 M u2 q2 own2 g.
       s-ends h c (failed c NotDirectory) base ns l2 es u2 M own2 (ap (λ (z : Desk). z.lender) g.desk ∙ at.stays.lender ∙ free) lt (omega (arith, q1, q2, few)) (ap (λ (z : Desk). z.joined) g.desk ∙ at.stays.joined) g.listed g.refs g.walk g.pending
       (may_stay M O0 base (stays_same M R O0 g.row g.ninodes g.desk at.stays) may) (inr (told [] (failed c NotDirectory) (chdir_not path))))))
@@ -197,10 +197,10 @@ module _ (h : ℕ) (path : List ℕ) (w : World) (free : (w.desks h).lender ≡ 
   begun_not : (es : List Step) → Walked c [] es → Walked c (record { step = s; answer = Failed NotDirectory } ∷ []) (tells (Look 0) (deed_of (Failed NotDirectory)) ∷ es) × B (tells (Look 0) (deed_of (Failed NotDirectory)) ∷ es)
   begun_not es told = let a = walked_tells c [] (Look 0) (deed_of (Failed NotDirectory)) es tt told in (a, walked_begun c (record { step = s; answer = Failed NotDirectory } ∷ []) (tells (Look 0) (deed_of (Failed NotDirectory)) ∷ es) [] (failed c NotDirectory) a (chdir_not path))
 
-  abbrev lost : Stop → List ℕ → P Reply
+  abbrev lost : WalkStop → List ℕ → P Reply
   lost why ns = tail ns (stopped c why)
 
-  loses : (why : Stop) (ms : List ℕ) (l : ℕ) (es : List Step) (u : World) (R : Own) → 971 * length ms + 2000 ≤ l → Gone h base ms O0 R u → Lost (Walked c (missed s ∷ [])) why es R → Safe machine h B Q (lost why ms) l es u
+  loses : (why : WalkStop) (ms : List ℕ) (l : ℕ) (es : List Step) (u : World) (R : Own) → 971 * length ms + 2000 ≤ l → Gone h base ms O0 R u → Lost (Walked c (missed s ∷ [])) why es R → Safe machine h B Q (lost why ms) l es u
   loses why ms l es u R few gone told = s-lost h c s 2000 base O0 lt ready may (chdir_follows path) (omega arith) why ms l es u R few gone told
 
   place : (t : Tree) → row_of t h ≡ O0.row → IsInPlace t h s
@@ -291,11 +291,11 @@ module _ (h : ℕ) (path : List ℕ) (w : World) (free : (w.desks h).lender ≡ 
           (record { stays = record { row = on.stays.row; ninodes = on.stays.ninodes; fds = on.stays.fds; hand = on.stays.hand; joined = on.stays.joined; directory = on.stays.directory; lent = on.stays.lent; lender = on.stays.lender; opening = sym ready.opening; left = sym ready.left }; inodes = refl; refs = refl; walk = refl; pending = refl; full = refl })
           (λ ms l2 u2 R few2 at2. s-moved j ms (Some (note_of u.all j)) l2 (tells (Look 0) (deed_of Done) ∷ es) u2 R (omega (arith, few2)) at2 b.0)).wp)
         where
-          sort : sort_of (u.all.nodes j) ≡ Some OfDirectory
-          sort = sort_directory (u.all.nodes j) isa
+          inode_type : type_of (u.all.nodes j) ≡ Some OfDirectory
+          inode_type = type_directory (u.all.nodes j) isa
 
           g : Leaving h j (found_world h j u) O2
-          g = leaving h j (found_world h j u) O2 f.owned free_o lt f.fair.inv (on.stays.left ∙ ready.left) sort (inr (ap (λ (o : Own). o.mine.pending) f.owned))
+          g = leaving h j (found_world h j u) O2 f.owned free_o lt f.fair.inv (on.stays.left ∙ ready.left) inode_type (inr (ap (λ (o : Own). o.mine.pending) f.owned))
 
           O3 : Own
           O3 = record O2 { row = record (O.row) { cwd = j }; desk = record (O2.desk) { left = Some (O.row.cwd) } }
@@ -345,7 +345,7 @@ module _ (h : ℕ) (path : List ℕ) (w : World) (free : (w.desks h).lender ≡ 
       b = begun_done (Begin s 0) [] (chdir_follows path).first (λ xs r p. p)
 
       isa : is_directory (node_at v.all (start_of v.all h path)).kind ≡ true
-      isa = kind_directory (v.all.nodes (start_of v.all h path)) (ap (λ (z : ℕ). sort_of (v.all.nodes z)) (sym at.start) ∙ at.sort)
+      isa = kind_directory (v.all.nodes (start_of v.all h path)) (ap (λ (z : ℕ). type_of (v.all.nodes z)) (sym at.start) ∙ at.inode_type)
 
       made_is : begun v.all h s (elements path) 0 (new_id v) ≡ record { all = record (v.all) { cwd = put v.all.cwd h i }; walk = None; found = None; opened = None; entered = None; left = Some (v.all.cwd h); told = Some (deed_of Done) }
       made_is = start_made v.all h s 0 (new_id v) none ∙ ap (λ (m : Made). record m { found = None }) (chdir_made v.all h (start_of v.all h path) 0 (new_id v) path None isa)
@@ -361,7 +361,7 @@ module _ (h : ℕ) (path : List ℕ) (w : World) (free : (w.desks h).lender ≡ 
       refers = let a = my_refs h u2 O2 i own2 in let p = put_same O.mine.refs i (O.mine.refs i + 1) in omega (arith, a, p)
 
       g : Leaving h i u2 O2
-      g = leaving h i u2 O2 own2 (gone.stays.lender ∙ free) lt stills.inv (gone.stays.left ∙ ready.left) at.sort (inl refers)
+      g = leaving h i u2 O2 own2 (gone.stays.lender ∙ free) lt stills.inv (gone.stays.left ∙ ready.left) at.inode_type (inl refers)
 
   notes : (m : Note) → O0.desk.noted ≡ Some m → 0 < O0.mine.refs m.number
   notes m q = absurd (let a = idle.noted in cc (a, q))

@@ -1,6 +1,6 @@
 -- A change of directory: the tree's step, what is taken back of it, and the hart's own.
-use Rattle.inode_machine.proofs.Vocabulary.{◌≡◌, inl, inr, ℕ, ◌+◌, ◌<◌, Bool, true, false, ◌==◌, ◌||◌, List, [], Option, Some, None, refl, sym, ◌∙◌, ap, subst, arith, Do, unmarked, P, Fine, Safe, Wp, NotDirectory, Node, Kind, Directory, File, Device, Chdir, Done, Failed, hart_count, Name, Tree, put, is_directory, hold_names, settle, node_at, node_or, answer_with, effect_with, place_of, refusal_with, StepWith, key_names, row_of, one_if, either, eq_is, or_right, put_same, put_other, well_chdir, Step, Desk, World, Settle, OfDirectory, sort_of, sort_of_kind, is_at, unlocked, with_directory, with_walk, child_of, acts, mended, unheld, unmoved, unopened, Own, Held, key_in, left_or, own_names, own_of, shop_of, Inv, IsReached, machine}
-use Rattle.inode_machine.proofs.Basics.{shop_same, directory_named, Did, Fair, fair, fair_then, has_inode, s-owned, quiet, locks_it, my_refs, below_is, gives, walk_named_did, own_walk, with_new, Flagging, desk_changes, names_less, KeepsHold, unheld_is, directory_sort, Mending}
+use Rattle.inode_machine.proofs.Vocabulary.{◌≡◌, inl, inr, ℕ, ◌+◌, ◌<◌, Bool, true, false, ◌==◌, ◌||◌, List, [], Option, Some, None, refl, sym, ◌∙◌, ap, subst, arith, Do, unmarked, P, Fine, Safe, Wp, NotDirectory, Node, NodeKind, Directory, File, Device, Chdir, Done, Failed, hart_count, Name, Tree, put, is_directory, hold_names, settle, node_at, node_or, answer_with, effect_with, place_of, refusal_with, StepWith, key_names, row_of, one_if, either, eq_is, or_right, put_same, put_other, well_chdir, Step, Desk, World, SetDirectory, OfDirectory, type_of, type_of_kind, is_at, unlocked, with_directory, with_walk, child_of, acts, mended, unheld, unmoved, unopened, Own, Held, key_in, left_or, own_names, own_of, file_tables_of, Inv, IsReached, machine}
+use Rattle.inode_machine.proofs.Basics.{file_tables_same, directory_named, HartStep, Fair, fair, fair_then, has_inode, s-owned, quiet, locks_it, my_refs, below_is, gives, walk_named_did, own_walk, with_new, Flagging, desk_changes, names_less, KeepsHold, unheld_is, type_of_directory, Mending}
 
 -- The tree's step.
 
@@ -25,34 +25,34 @@ pub chdir_refused_step : (t : Tree) (h j id : ℕ) (path : List ℕ) (par : Opti
 unfolding place_of
 chdir_refused_step t h j id path par lt e = (chdir_refused t h j path par e, (chdir_refused t h j path par e, refl, rw (below_is h hart_count lt) refl))
 
-pub kind_directory : (o : Option Node) → sort_of o ≡ Some OfDirectory → is_directory (node_or o).kind ≡ true
+pub kind_directory : (o : Option Node) → type_of o ≡ Some OfDirectory → is_directory (node_or o).kind ≡ true
 kind_directory None e = absurd cc
 kind_directory (Some v) e = at v.kind e
   where
-    at : (k : Kind) → Some (sort_of_kind k) ≡ Some OfDirectory → is_directory k ≡ true
+    at : (k : NodeKind) → Some (type_of_kind k) ≡ Some OfDirectory → is_directory k ≡ true
     at (Directory slots) q = refl
     at (File bytes) q = absurd cc
     at (Device major minor size) q = absurd cc
 
 -- The tree's current directory changes, where the one that the hart refers to is the one that it leaves.
-cwd_did : (h x k : ℕ) (v : World) → (v.desks h).lender ≡ None → h < hart_count → Inv v → (v.desks h).left ≡ Some k → sort_of (v.all.nodes x) ≡ Some OfDirectory → IsReached v h x → Did h v (record v { all = record (v.all) { cwd = put v.all.cwd h x } })
-cwd_did h x k v free lt inv left sort reached = record {
+cwd_did : (h x k : ℕ) (v : World) → (v.desks h).lender ≡ None → h < hart_count → Inv v → (v.desks h).left ≡ Some k → type_of (v.all.nodes x) ≡ Some OfDirectory → IsReached v h x → HartStep h v (record v { all = record (v.all) { cwd = put v.all.cwd h x } })
+cwd_did h x k v free lt inv left inode_type reached = record {
   hart = lt;
   inodes = λ j. inl (record { lock = refl; keeper = refl; disk = refl; node = refl; alone = refl });
   mine = λ g ne. refl;
   rows = λ g ne. λ i. record { cwd = put_other v.all.cwd h x g ne i; hold = v.all.holds g; fds = v.all.fds g; keys = (row_of v.all g).keys };
   size = refl;
   ids = inv.ids;
-  shop = shop_same h (shop_of v) inv.tied;
+  file_tables = file_tables_same h (file_tables_of v) inv.tied;
   free = free;
   raised = inv.raised h lt;
   quiet = λ j is f. inv.quiet j h is f;
-  sort = λ j. inl refl;
-  sorts = inv.sorts;
+  inode_type = λ j. inl refl;
+  inode_types = inv.inode_types;
   noted = λ m is r s. inv.noted h m lt is r s;
-  directory = let s = inv.directory h lt in record { at = λ _. s.at free ∙ (λ z. left_or (left z) (v.all.cwd h)) ∙ sym (λ z. left_or (left z) (put v.all.cwd h x h)); sort = s.sort };
+  directory = let s = inv.directory h lt in record { at = λ _. s.at free ∙ (λ z. left_or (left z) (v.all.cwd h)) ∙ sym (λ z. left_or (left z) (put v.all.cwd h x h)); inode_type = s.inode_type };
   refers = inv.refers h lt;
-  well = well_chdir v.all h x inv.well (kind_directory (v.all.nodes x) sort);
+  well = well_chdir v.all h x inv.well (kind_directory (v.all.nodes x) inode_type);
   counts = inv.counts;
   alone = inv.alone;
   kept = λ j is. (inv.kept j h is).1;
@@ -93,9 +93,9 @@ pub record Leaving (h j : ℕ) (v : World) (O : Own) : Type 0 where
   pub fair : Fair h v (left_world h j v)
   pub owned : own_of h (left_world h j v) ≡ record O { row = record (O.row) { cwd = j }; desk = record (O.desk) { left = Some (O.row.cwd) } }
 
-pub leaving : (h j : ℕ) (v : World) (O : Own) → own_of h v ≡ O → O.desk.lender ≡ None → h < hart_count → Inv v → O.desk.left ≡ None → sort_of (v.all.nodes j) ≡ Some OfDirectory → IsReached v h j → Leaving h j v O
-leaving h j v O ov free lt inv none sort reached = record {
-  fair = fair_then f.fair (fair f.fair.inv (cwd_did h j (v.all.cwd h) u (ap (λ (o : Own). o.desk.lender) f.owned ∙ free) lt f.fair.inv (ap (λ (z : Desk). z.left) (put_same v.desks h new)) sort reached));
+pub leaving : (h j : ℕ) (v : World) (O : Own) → own_of h v ≡ O → O.desk.lender ≡ None → h < hart_count → Inv v → O.desk.left ≡ None → type_of (v.all.nodes j) ≡ Some OfDirectory → IsReached v h j → Leaving h j v O
+leaving h j v O ov free lt inv none inode_type reached = record {
+  fair = fair_then f.fair (fair f.fair.inv (cwd_did h j (v.all.cwd h) u (ap (λ (o : Own). o.desk.lender) f.owned ∙ free) lt f.fair.inv (ap (λ (z : Desk). z.left) (put_same v.desks h new)) inode_type reached));
   owned = own_cwd h j u (record O { desk = record (O.desk) { left = Some (O.row.cwd) } }) f.owned;
 }
   where
@@ -111,7 +111,7 @@ leaving h j v O ov free lt inv none sort reached = record {
     f : Flagging h v O new (record (O.desk) { left = Some (O.row.cwd) }) v.clean
     f = desk_changes h v O new (record (O.desk) { left = Some (O.row.cwd) }) v.clean ov free lt inv (ap (λ (o : Own). record (o.desk) { left = Some (o.row.cwd) }) ov) (record { fds = refl; hand = refl; lent = refl; opening = refl })
         (λ i q. names i q)
-        (let s = inv.directory h lt in record { at = λ _. s.at (ap (λ (o : Own). o.desk.lender) ov ∙ free) ∙ (λ z. left_or (was z) (v.all.cwd h)); sort = s.sort })
+        (let s = inv.directory h lt in record { at = λ _. s.at (ap (λ (o : Own). o.desk.lender) ov ∙ free) ∙ (λ z. left_or (was z) (v.all.cwd h)); inode_type = s.inode_type })
         (inv.refers h lt).home (inl refl)
         (ap (λ (o : Own). o.desk.lender) ov ∙ free) (λ q i is. inv.quiet i h is q) (inv.raised h lt) (λ m q r s. inv.noted h m lt q r s) (λ q. inv.tied.spoiled h q) (λ q. q) (λ q. q)
       where
@@ -146,14 +146,14 @@ mends_left h k v O ov free lt inv opening left hold names = subst (λ (z : World
     O1 : Own
     O1 = record O { row = record (O.row) { cwd = k } }
 
-    sort : sort_of (v.all.nodes k) ≡ Some OfDirectory
-    sort = ap (λ (z : ℕ). sort_of (v.all.nodes z)) (sym stands) ∙ (inv.directory h lt).sort
+    inode_type : type_of (v.all.nodes k) ≡ Some OfDirectory
+    inode_type = ap (λ (z : ℕ). type_of (v.all.nodes z)) (sym stands) ∙ (inv.directory h lt).inode_type
 
     reached : IsReached v h k
     reached = subst (λ (z : ℕ). IsReached v h z) stands (inv.named h (v.desks h).directory lt (ap (λ (o : Own). o.desk.lender) ov ∙ free) (directory_named (row_of v.all h) (v.desks h) ((inv.directory h lt).at (ap (λ (o : Own). o.desk.lender) ov ∙ free))))
 
     back : Fair h v u1
-    back = fair inv (cwd_did h k k v (ap (λ (o : Own). o.desk.lender) ov ∙ free) lt inv left_v sort reached)
+    back = fair inv (cwd_did h k k v (ap (λ (o : Own). o.desk.lender) ov ∙ free) lt inv left_v inode_type reached)
 
     ov1 : own_of h u1 ≡ O1
     ov1 = own_cwd h k v O ov
@@ -171,7 +171,7 @@ mends_left h k v O ov free lt inv opening left hold names = subst (λ (z : World
     f = desk_changes h u1 O1 new (record (O.desk) { opening = None; left = None; full = true }) false ov1 free lt back.inv (ap (λ (o : Own). record (o.desk) { opening = None; left = None; full = true }) ov)
         (record { fds = refl; hand = refl; lent = refl; opening = sym (ap (λ (o : Own). o.desk.opening) ov ∙ opening) })
         (λ i q. fewer i q)
-        (record { at = λ _. stands ∙ sym (put_same v.all.cwd h k); sort = (inv.directory h lt).sort })
+        (record { at = λ _. stands ∙ sym (put_same v.all.cwd h k); inode_type = (inv.directory h lt).inode_type })
         (inv.refers h lt).home (inl refl)
         (ap (λ (o : Own). o.desk.lender) ov ∙ free) (λ q i is. inv.quiet i h is q) (inv.raised h lt) (λ m q r s. inv.noted h m lt q r s) (λ q. refl) (λ q. refl) (λ q. absurd cc)
       where
@@ -202,7 +202,7 @@ mends_left h k v O ov free lt inv opening left hold names = subst (λ (z : World
 pub s-settle : {A : Type 0} {h i : ℕ} {x : Held} {k : ℕ → P machine A} {B : List Step → Type 0} {Q : A → List Step → World → Type 0} {n : ℕ} {es : List Step} {w : World} {O : Own}
     → own_of h w ≡ O → O.desk.lender ≡ None → h < hart_count → 0 < n → O.inodes i ≡ Some x → x.locked ≡ true → x.alone ≡ false → x.disk ≡ x.node → O.mine.pending ≡ None → O.row.cwd ≡ i → one_if (O.desk.directory == i) < O.mine.refs i → child_of O.desk ≡ None
     → ((l : ℕ) (u : World) → l + 1 ≡ n → own_of h u ≡ record O { inodes = put O.inodes i None; desk = record (O.desk) { directory = i; left = None } } → Safe machine h B Q (k O.desk.directory) l es u)
-    → Safe machine h B Q (Do (Settle i) unmarked k) n es w
+    → Safe machine h B Q (Do (SetDirectory i) unmarked k) n es w
 s-settle {A} {h} {i} {x} {k} {B} {Q} {n} {es} {w} {O} owns free lt pos isi has shared whole none stands spare childless rest = s-owned owns free pos (λ v inv ov. (
   (locks_it h i v O x ov isi has, subst (λ (o : Own). one_if (o.desk.directory == i) < o.mine.refs i) (sym ov) spare),
   (λ _ _.
@@ -216,7 +216,7 @@ s-settle {A} {h} {i} {x} {k} {B} {Q} {n} {es} {w} {O} owns free lt pos isi has s
     settles : (v : World) → Inv v → own_of h v ≡ O → Flagging h v O (record (v.desks h) { directory = i; left = None }) (record (O.desk) { directory = i; left = None }) v.clean
     settles v inv ov = desk_changes h v O (record (v.desks h) { directory = i; left = None }) (record (O.desk) { directory = i; left = None }) v.clean ov free lt inv (ap (λ (o : Own). record (o.desk) { directory = i; left = None }) ov) (record { fds = refl; hand = refl; lent = refl; opening = refl })
         (λ j q. fewer j q)
-        (let c : v.all.cwd h ≡ i = ap (λ (o : Own). o.row.cwd) ov ∙ stands in record { at = λ _. sym c; sort = ap (λ (z : ℕ). sort_of (v.all.nodes z)) (sym c) ∙ directory_sort v.all h inv.well lt })
+        (let c : v.all.cwd h ≡ i = ap (λ (o : Own). o.row.cwd) ov ∙ stands in record { at = λ _. sym c; inode_type = ap (λ (z : ℕ). type_of (v.all.nodes z)) (sym c) ∙ type_of_directory v.all h inv.well lt })
         (let r = my_refs h v O i ov in omega (arith, r, spare)) (inr (ap (λ (o : Own). child_of o.desk) ov ∙ childless))
         (ap (λ (o : Own). o.desk.lender) ov ∙ free) (λ q j is. inv.quiet j h is q) (inv.raised h lt) (λ m q r s. inv.noted h m lt q r s) (λ q. inv.tied.spoiled h q) (λ q. q) (λ q. q)
       where

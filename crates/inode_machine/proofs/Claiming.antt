@@ -1,6 +1,6 @@
 -- A new inode: claimed, and its count and its entries stored; and what a call takes back where it finds no room.
-use Rattle.inode_machine.proofs.Vocabulary.{◌≡◌, ◌≢◌, ◌⊎◌, inl, inr, ℕ, ◌+◌, ◌<◌, ◌≤◌, Bool, true, false, ◌==◌, nat_lt, List, [], Option, Some, None, refl, sym, ◌∙◌, ap, subst, arith, if◌then◌else◌, Do, Ran, unmarked, P, own, onto, Good, Fine, Safe, Wp, Node, Directory, count_limit, hart_count, put, settle, node_or, sum_below, eq_is, same_or, put_same, put_other, and_true, Walk, Step, Mine, World, ClaimResult, New, NoInode, NoPlace, Outside, Room, RoomFor, Picks, Claim, Store, Fill, Sort, is_nothing, blank, claimed, claim_if, is_free, place_count, referenced, with_count, with_dots, fill_if, with_mark, mended, places, Own, shop_of, own_names, Held, view, is_hart, own_of, IsReferredTo, Inv, machine, IsReached, HonestClaim, mends_if_full, mends_unless_new}
-use Rattle.inode_machine.proofs.Frame.{shop_same, put_elim, ours_none, ours_some, kept_here, Did, Fair, fair, own_inodes, has_inode, found_more, one_refs, refers_put}
+use Rattle.inode_machine.proofs.Vocabulary.{◌≡◌, ◌≢◌, ◌⊎◌, inl, inr, ℕ, ◌+◌, ◌<◌, ◌≤◌, Bool, true, false, ◌==◌, nat_lt, List, [], Option, Some, None, refl, sym, ◌∙◌, ap, subst, arith, if◌then◌else◌, Do, Ran, unmarked, P, own, onto, Good, Fine, Safe, Wp, Node, Directory, count_limit, hart_count, put, settle, node_or, sum_below, eq_is, same_or, put_same, put_other, and_true, Walk, Step, Mine, World, ClaimResult, New, NoInode, NoPlace, Outside, Room, RoomFor, Picks, Claim, Store, Fill, InodeType, is_nothing, blank, claimed, claim_if, is_free, place_count, referenced, with_count, with_dots, fill_if, with_mark, mended, places, Own, file_tables_of, own_names, Held, view, is_hart, own_of, IsReferredTo, Inv, machine, IsReached, HonestClaim, mends_if_full, mends_unless_new}
+use Rattle.inode_machine.proofs.Frame.{file_tables_same, put_elim, ours_none, ours_some, kept_here, HartStep, Fair, fair, own_inodes, has_inode, found_more, one_refs, refers_put}
 use Rattle.inode_machine.proofs.Rules.{opens_slots, s-owned, quiet, each_refs, here_refs, walks_refs, total_same, total_changed, my_refs, has_disk, locks_it, has_node}
 use Rattle.inode_machine.proofs.Counting.{writes}
 use Rattle.inode_machine.proofs.Rows.{unlive}
@@ -33,22 +33,22 @@ free_is w n e = let a = and_true (is_nothing (w.disk n)) (w.refs n == 0) e in (n
     none None q = refl
     none (Some v) q = absurd cc
 
-abbrev pub claimed_held : Sort → Held
-claimed_held sort = record { disk = Some (blank sort); node = None; alone = true; locked = false }
+abbrev pub claimed_held : InodeType → Held
+claimed_held inode_type = record { disk = Some (blank inode_type); node = None; alone = true; locked = false }
 
 -- A number that nobody refers to is the hart's alone.
-pub record Claiming (h i : ℕ) (sort : Sort) (v : World) (O : Own) : Type 0 where
-  pub fair : Fair h v (claimed h sort v i)
-  pub stage : ◌≡◌ {A = ℕ → Option Walk} (λ g. ((claimed h sort v i).harts g).walk) (λ g. (v.harts g).walk)
+pub record Claiming (h i : ℕ) (inode_type : InodeType) (v : World) (O : Own) : Type 0 where
+  pub fair : Fair h v (claimed h inode_type v i)
+  pub stage : ◌≡◌ {A = ℕ → Option Walk} (λ g. ((claimed h inode_type v i).harts g).walk) (λ g. (v.harts g).walk)
   pub out : O.inodes i ≡ None
   pub zero : O.mine.refs i ≡ 0
-  pub owned : own_of h (claimed h sort v i) ≡ record O { inodes = put O.inodes i (Some (claimed_held sort)); mine = record { refs = put O.mine.refs i (O.mine.refs i + 1); walk = O.mine.walk; pending = O.mine.pending } }
+  pub owned : own_of h (claimed h inode_type v i) ≡ record O { inodes = put O.inodes i (Some (claimed_held inode_type)); mine = record { refs = put O.mine.refs i (O.mine.refs i + 1); walk = O.mine.walk; pending = O.mine.pending } }
 
-pub claiming : (h i : ℕ) (sort : Sort) (v : World) (O : Own) → own_of h v ≡ O → O.desk.lender ≡ None → h < hart_count → Inv v → O.desk.joined ≡ true → is_free v i ≡ true → Claiming h i sort v O
-claiming h i sort v O ov free lt inv joined is_free_i = record { fair = fair inv did; stage = walks_refs v.harts h i ((v.harts h).refs i + 1); out = out (O.inodes i) refl; zero = sym (my_refs h v O i ov) ∙ zero; owned = owned }
+pub claiming : (h i : ℕ) (inode_type : InodeType) (v : World) (O : Own) → own_of h v ≡ O → O.desk.lender ≡ None → h < hart_count → Inv v → O.desk.joined ≡ true → is_free v i ≡ true → Claiming h i inode_type v O
+claiming h i inode_type v O ov free lt inv joined is_free_i = record { fair = fair inv did; stage = walks_refs v.harts h i ((v.harts h).refs i + 1); out = out (O.inodes i) refl; zero = sym (my_refs h v O i ov) ∙ zero; owned = owned }
   where
     u : World
-    u = claimed h sort v i
+    u = claimed h inode_type v i
 
     none : v.disk i ≡ None
     none = (free_is v i is_free_i).0
@@ -97,7 +97,7 @@ claiming h i sort v O ov free lt inv joined is_free_i = record { fair = fair inv
     back j ne (inl a) = inl (let r = each_refs v.harts h i ((v.harts h).refs i + 1) h j (inr ne) in omega (arith, r, a))
     back j ne (inr a) = inr (sym (ap (λ (m : Mine). m.pending) (put_same v.harts h new)) ∙ a)
 
-    did : Did h v u
+    did : HartStep h v u
     did =
         record {
           hart = lt;
@@ -108,18 +108,18 @@ claiming h i sort v O ov free lt inv joined is_free_i = record { fair = fair inv
               whole = λ f. absurd (let s : u.keeper j ≡ Some h = ap u.keeper q ∙ put_same v.keeper i (Some h) in cc);
               keeps = λ g is. absurd (unlocked g (ap v.lock (sym q) ∙ is));
             })
-            | inr ne ↦ inl (record { lock = refl; keeper = put_other v.keeper i (Some h) j ne; disk = put_other v.disk i (Some (blank sort)) j ne; node = refl; alone = put_other v.alone i true j ne })
+            | inr ne ↦ inl (record { lock = refl; keeper = put_other v.keeper i (Some h) j ne; disk = put_other v.disk i (Some (blank inode_type)) j ne; node = refl; alone = put_other v.alone i true j ne })
           ];
           mine = λ g ne. put_other v.harts h new g ne;
           rows = λ g ne. refl;
           size = refl;
           ids = inv.ids;
-          shop = shop_same h (shop_of v) inv.tied;
+          file_tables = file_tables_same h (file_tables_of v) inv.tied;
           free = ap (λ (o : Own). o.desk.lender) ov ∙ free;
           raised = inv.raised h lt;
           quiet = λ j is f. absurd (let e : (v.desks h).joined ≡ true = ap (λ (o : Own). o.desk.joined) ov ∙ joined in cc (e, f));
-          sort = λ j. inl refl;
-          sorts = inv.sorts;
+          inode_type = λ j. inl refl;
+          inode_types = inv.inode_types;
           noted = λ n is r s. elim (same_or n.number i) [
             | inl q ↦ absurd (let a : put v.alone i true n.number ≡ true = ap (put v.alone i true) q ∙ put_same v.alone i true in cc (a, s))
             | inr ne ↦ inv.noted h n lt is (back n.number ne r) (sym (put_other v.alone i true n.number ne) ∙ s)
@@ -170,39 +170,39 @@ claiming h i sort v O ov free lt inv joined is_free_i = record { fair = fair inv
         go None q = refl
         go (Some g) q = absurd (unlocked g q)
 
-    owned : own_of h u ≡ record O { inodes = put O.inodes i (Some (claimed_held sort)); mine = record { refs = put O.mine.refs i (O.mine.refs i + 1); walk = O.mine.walk; pending = O.mine.pending } }
+    owned : own_of h u ≡ record O { inodes = put O.inodes i (Some (claimed_held inode_type)); mine = record { refs = put O.mine.refs i (O.mine.refs i + 1); walk = O.mine.walk; pending = O.mine.pending } }
     owned = λ z. record {
-      inodes = own_inodes h i v u O (Some (claimed_held sort)) ov
-          (kept_here h (u.keeper i) (view u h i) (put_same v.keeper i (Some h)) ∙ (λ r. Some (record { disk = put_same v.disk i (Some (blank sort)) r; node = node_none r; alone = put_same v.alone i true r; locked = not_locked r })))
-          (λ j ne. (put_other v.keeper i (Some h) j ne, (λ r. record { disk = put_other v.disk i (Some (blank sort)) j ne r; node = v.all.nodes j; alone = put_other v.alone i true j ne r; locked = is_hart (v.lock j) h }))) z;
+      inodes = own_inodes h i v u O (Some (claimed_held inode_type)) ov
+          (kept_here h (u.keeper i) (view u h i) (put_same v.keeper i (Some h)) ∙ (λ r. Some (record { disk = put_same v.disk i (Some (blank inode_type)) r; node = node_none r; alone = put_same v.alone i true r; locked = not_locked r })))
+          (λ j ne. (put_other v.keeper i (Some h) j ne, (λ r. record { disk = put_other v.disk i (Some (blank inode_type)) j ne r; node = v.all.nodes j; alone = put_other v.alone i true j ne r; locked = is_hart (v.lock j) h }))) z;
       mine = (put_same v.harts h new ∙ ap (λ (o : Own). record { refs = put o.mine.refs i (o.mine.refs i + 1); walk = o.mine.walk; pending = o.mine.pending }) ov) z;
       row = ap (λ (o : Own). o.row) ov z;
       ninodes = ap (λ (o : Own). o.ninodes) ov z;
       desk = ap (λ (o : Own). o.desk) ov z;
     }
 
-pub s-claim : {A : Type 0} {h : ℕ} (sort : Sort) {k : ClaimResult → P machine A} {B : List Step → Type 0} {Q : A → List Step → World → Type 0} {n : ℕ} {es : List Step} {w : World} {O : Own}
+pub s-claim : {A : Type 0} {h : ℕ} (inode_type : InodeType) {k : ClaimResult → P machine A} {B : List Step → Type 0} {Q : A → List Step → World → Type 0} {n : ℕ} {es : List Step} {w : World} {O : Own}
     → own_of h w ≡ O → O.desk.lender ≡ None → h < hart_count → 12300 < n → O.desk.joined ≡ true → Mendable O
     → ((l i : ℕ) (u : World) → l + 12301 ≡ n → 1 ≤ i → i < O.ninodes → O.inodes i ≡ None → O.mine.refs i ≡ 0
-    → own_of h u ≡ record O { inodes = put O.inodes i (Some (claimed_held sort)); mine = record { refs = put O.mine.refs i (O.mine.refs i + 1); walk = O.mine.walk; pending = O.mine.pending } } → Safe machine h B Q (k (New i)) l es u)
+    → own_of h u ≡ record O { inodes = put O.inodes i (Some (claimed_held inode_type)); mine = record { refs = put O.mine.refs i (O.mine.refs i + 1); walk = O.mine.walk; pending = O.mine.pending } } → Safe machine h B Q (k (New i)) l es u)
     → ((l : ℕ) (u : World) → l + 12301 ≡ n → own_of h u ≡ mended_own O → Safe machine h B Q (k NoInode) l es u)
     → ((l : ℕ) (u : World) → l + 12301 ≡ n → own_of h u ≡ mended_own O → Safe machine h B Q (k NoPlace) l es u)
-    → Safe machine h B Q (Do (Claim sort) mends_unless_new k) n es w
-s-claim {A} {h} sort {k} {B} {Q} {n} {es} {w} {O} owns free lt pos joined can then_ none full = s-owned owns free pos (λ v inv ov. (ap (λ (o : Own). o.desk.joined) ov ∙ joined, (λ x honest. at v inv ov x honest)))
+    → Safe machine h B Q (Do (Claim inode_type) mends_unless_new k) n es w
+s-claim {A} {h} inode_type {k} {B} {Q} {n} {es} {w} {O} owns free lt pos joined can then_ none full = s-owned owns free pos (λ v inv ov. (ap (λ (o : Own). o.desk.joined) ov ∙ joined, (λ x honest. at v inv ov x honest)))
   where
     Goal : World → Outside → Type 0
-    Goal v x = Good machine ClaimResult h (λ a. places h (Claim sort) a (mends_unless_new a) v) 12300 n B es v ⊥ (with_mark h mends_unless_new (claim_if h sort v x)) (λ l a u. Wp machine h B Q (k a) l (onto (own h (places h (Claim sort) a (mends_unless_new a) v)) es) u)
+    Goal v x = Good machine ClaimResult h (λ a. places h (Claim inode_type) a (mends_unless_new a) v) 12300 n B es v ⊥ (with_mark h mends_unless_new (claim_if h inode_type v x)) (λ l a u. Wp machine h B Q (k a) l (onto (own h (places h (Claim inode_type) a (mends_unless_new a) v)) es) u)
 
     at : (v : World) → Inv v → own_of h v ≡ O → (x : Outside) → HonestClaim v x → Goal v x
     at v inv ov Room honest = mend_fine h 12300 n B Q es v O (k NoInode) ov free lt inv can pos none
     at v inv ov (RoomFor j) honest = mend_fine h 12300 n B Q es v O (k NoPlace) ov free lt inv can pos full
     at v inv ov (Picks i) honest = by_place (nat_lt (referenced v) place_count)
       where
-        by_place : (b : Bool) → Good machine ClaimResult h (λ a. places h (Claim sort) a (mends_unless_new a) v) 12300 n B es v ⊥ (with_mark h mends_unless_new (if b then Ran (New i) (claimed h sort v i) else Ran NoPlace v)) (λ l a u. Wp machine h B Q (k a) l (onto (own h (places h (Claim sort) a (mends_unless_new a) v)) es) u)
+        by_place : (b : Bool) → Good machine ClaimResult h (λ a. places h (Claim inode_type) a (mends_unless_new a) v) 12300 n B es v ⊥ (with_mark h mends_unless_new (if b then Ran (New i) (claimed h inode_type v i) else Ran NoPlace v)) (λ l a u. Wp machine h B Q (k a) l (onto (own h (places h (Claim inode_type) a (mends_unless_new a) v)) es) u)
         by_place false = mend_fine h 12300 n B Q es v O (k NoPlace) ov free lt inv can pos full
         by_place true =
-            let c = claiming h i sort v O ov free lt inv joined honest.2 in
-            quiet c.fair (λ z. record { tree = settle v.all; walk = c.stage z }) pos (λ l q. (then_ l i (claimed h sort v i) q honest.0 (let s = ap (λ (o : Own). o.ninodes) ov in let b = honest.1 in omega (arith, s, b)) c.out c.zero c.owned).wp)
+            let c = claiming h i inode_type v O ov free lt inv joined honest.2 in
+            quiet c.fair (λ z. record { tree = settle v.all; walk = c.stage z }) pos (λ l q. (then_ l i (claimed h inode_type v i) q honest.0 (let s = ap (λ (o : Own). o.ninodes) ov in let b = honest.1 in omega (arith, s, b)) c.out c.zero c.owned).wp)
 
 -- A record of an inode that the hart has locked.
 

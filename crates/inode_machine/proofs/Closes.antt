@@ -1,6 +1,6 @@
 -- Close: a descriptor goes, and with the last one its open file, whose reference is the hart's then.
-use Rattle.inode_machine.proofs.Vocabulary.{◌≡◌, ◌≢◌, ◌⊎◌, inl, inr, ℕ, ◌+◌, ◌-◌, ◌<◌, ◌≤◌, Bool, true, false, ◌==◌, ◌&&◌, nat_lt, List, [], ◌∷◌, Option, Some, None, refl, sym, ◌∙◌, ap, subst, arith, if◌then◌else◌, Do, P, own, onto, Good, Safe, Wp, BadDescriptor, OpenFile, Close, Done, hart_count, descriptor_count, Name, Tree, put, fd_names, file_names, settle, resolve, parent, file_at, refusal_with, effect_with, answer_with, place_of, IsInPlace, has_fd, closed, Row, key_at, key_of, row_of, with_open, NamesLess, settle_less, file_settled, sum_below, one_if, eq_self, eq_is, eq_isnt, either, same_or, put_same, put_other, sum_same, sum_changed, one_no, one_yes, well_closed, Walk, Stage, Step, Takes, OwnMove, is_at, file_count, with_refs, with_walk, slot_at, entry_at, close_at, close_if, close_less, close_last, Mine, Entry, Desk, World, stage_of, places, with_mark, made_by, new_id, Shut, Own, shop_of, number_is, users, own_names, own_of, IsAlone, Inv, machine, nothing, reference_limit, HasType, own_step}
-use Rattle.inode_machine.proofs.Basics.{bond_of, put_elim, stands_on, Fair, fair, has_none, one_refs, s-owned, my_refs, each_refs, here_refs, walks_refs, total_same, total_changed, opens_slots, locks_none, below_is, refs_walk, stage_walk, moves_good, with_fd, users_put, users_fd, Changes, changes, changed_shop, tied_closed, kept_open, sells_did, own_takes, names_less, Behind, behind, behind_none, Refused, fails, refused_good, renewed, renewed_slots, renewed_at, renewed_same, SameRow, SameDesk, less_is, not_one, renewed_sorts, same_desk}
+use Rattle.inode_machine.proofs.Vocabulary.{◌≡◌, ◌≢◌, ◌⊎◌, inl, inr, ℕ, ◌+◌, ◌-◌, ◌<◌, ◌≤◌, Bool, true, false, ◌==◌, ◌&&◌, nat_lt, List, [], ◌∷◌, Option, Some, None, refl, sym, ◌∙◌, ap, subst, arith, if◌then◌else◌, Do, P, own, onto, Good, Safe, Wp, BadDescriptor, OpenFile, Close, Done, hart_count, descriptor_count, Name, Tree, put, fd_names, file_names, settle, resolve, parent, file_at, refusal_with, effect_with, answer_with, place_of, IsInPlace, has_fd, closed, Row, key_at, key_of, row_of, with_open, NamesLess, settle_less, file_settled, sum_below, one_if, eq_self, eq_is, eq_isnt, either, same_or, put_same, put_other, sum_same, sum_changed, one_no, one_yes, well_closed, Walk, Stage, Step, PlaysStep, OwnMove, is_at, file_count, with_refs, with_walk, slot_at, entry_at, close_at, close_if, close_less, close_last, Mine, Entry, Desk, World, stage_of, places, with_mark, made_by, new_id, Shut, Own, file_tables_of, number_is, users, own_names, own_of, IsAlone, Inv, machine, nothing, reference_limit, HasType, own_step}
+use Rattle.inode_machine.proofs.Basics.{bond_of, put_elim, stands_on, Fair, fair, has_none, one_refs, s-owned, my_refs, each_refs, here_refs, walks_refs, total_same, total_changed, opens_slots, locks_none, below_is, refs_walk, stage_walk, moves_good, with_fd, users_put, users_fd, Changes, changes, changed_file_tables, tied_closed, kept_open, sells_did, own_takes, names_less, Behind, behind, behind_none, Refused, fails, refused_good, renewed, renewed_slots, renewed_at, renewed_same, SameRow, SameDesk, less_is, not_one, renewed_types, same_desk}
 
 -- The tree without the descriptor.
 
@@ -96,14 +96,14 @@ rows_stay t h fd g ne = λ r. record { cwd = t.cwd g; hold = t.holds g; fds = pu
 
 -- What both ends of a close show of the table and of references.
 pub record Closing (h fd : ℕ) (v : World) (F : ℕ → Option Entry) (S : ℕ → ℕ) (H : ℕ → Mine) : Type 0 where
-  pub changes : Changes (shop_of v) h fd None None F S
+  pub changes : Changes (file_tables_of v) h fd None None F S
   pub others : (g : ℕ) → g ≢ h → H g ≡ v.harts g
   pub refs : (j : ℕ) → (v.harts h).refs j ≤ (H h).refs j
   pub few : (j : ℕ) → (H h).refs j ≤ reference_limit
   pub counts : (j : ℕ) → v.refs j ≡ S j + sum_below hart_count (λ g. (H g).refs j)
   pub lone : (i : ℕ) (a : IsAlone v.keeper v.all.nodes v.refs v.harts i) → v.refs i ≡ (H a.hart).refs i
-  pub sorts : (k : ℕ) (x : Entry) → F k ≡ Some x → HasType v.all.nodes x
-  pub types : (k : ℕ) (d x : Entry) → v.files k ≡ Some d → F k ≡ Some x → x.sort ≡ d.sort
+  pub inode_types : (k : ℕ) (x : Entry) → F k ≡ Some x → HasType v.all.nodes x
+  pub types : (k : ℕ) (d x : Entry) → v.files k ≡ Some d → F k ≡ Some x → x.inode_type ≡ d.inode_type
   pub found : (H h).pending ≡ None
   pub walk : (H h).walk ≡ None
   pub walks : ◌≡◌ {A = ℕ → Option Walk} (λ g. (H g).walk) (put (λ g. (v.harts g).walk) h None)
@@ -116,7 +116,7 @@ shut_step fd = record { move = OwnMove (Close fd) 0; told = Some (record { act =
 
 pub record Shuts (h fd : ℕ) (v : World) (O : Own) (F : ℕ → Option Entry) (S : ℕ → ℕ) (H : ℕ → Mine) : Type 0 where
   pub fair : Fair h v (shut_world h fd v F S H)
-  pub takes : Takes (stage_of v) h (shut_step fd) (stage_of (shut_world h fd v F S H))
+  pub takes : PlaysStep (stage_of v) h (shut_step fd) (stage_of (shut_world h fd v F S H))
   pub row : SameRow (row_of (without_fd v.all h fd) h) O.row
   pub desk : SameDesk (with_fd v.desks h fd None h) O.desk
 
@@ -125,7 +125,7 @@ pub shuts : (h fd s : ℕ) (e : Entry) (v : World) (O : Own) (F : ℕ → Option
 shuts h fd s e v O F S H inv ov free lt walk still idle empty unnoted hit c = record {
   fair = fair inv (sells_did h v F D S T H lt inv (record {
     kin = record {
-      tied = tied_closed (changed_shop (shop_of v) h fd None None F S) (record (v.all) { fds = fewer v.all h fd }) (changes (shop_of v) h fd None None F S inv.tied c.changes) refl refl;
+      tied = tied_closed (changed_file_tables (file_tables_of v) h fd None None F S) (record (v.all) { fds = fewer v.all h fd }) (changes (file_tables_of v) h fd None None F S inv.tied c.changes) refl refl;
       desks = λ g ne. put_other v.desks h new g ne;
       numbers = λ g i j d lg ne li q a.
           let x = c.changes.used j d a (users_fd D g i j lg li (ap (λ (z : Desk). z.fds i) (put_other v.desks h new g ne) ∙ q)) in
@@ -139,7 +139,7 @@ shuts h fd s e v O F S H inv ov free lt walk still idle empty unnoted hit c = re
     unlent = (ap (λ (o : Own). o.desk.lender) ov ∙ free);
     joined = ap (λ (z : Desk). z.joined) desk_is;
     holds = refl;
-    sorts = c.sorts;
+    inode_types = c.inode_types;
     noted = λ m q. absurd (let a = same.noted in cc (a, q, unnoted));
     directory = stands_on (v.desks h) (D h) (v.all.cwd h) v.all.nodes (ap (λ (o : Own). o.desk.lender) ov ∙ free) (ap (λ (z : Desk). z.directory) desk_is) (ap (λ (z : Desk). z.left) desk_is) (inv.directory h lt);
     well = well_closed v.all h fd inv.well;
@@ -203,21 +203,21 @@ fewer_there : (h fd s k : ℕ) (e : Entry) (v : World) → h < hart_count → Be
 fewer_there h fd s k e v lt hit ne = let a = fewer_users h fd s k e v lt hit in let b = not_one s k (λ z. ne (sym z)) in omega (arith, a, b)
 
 -- Another descriptor has the open file still.
-closing_less : (h fd s : ℕ) (e : Entry) (v : World) → Inv v → h < hart_count → (v.desks h).opening ≡ None → (v.desks h).lent ≡ nothing → Behind h fd s e v → e.references ≢ 1 → Closing h fd v (put v.files s (Some (record { file = e.file; sort = e.sort; references = e.references - 1 }))) v.slots (with_walk v.harts h None None)
+closing_less : (h fd s : ℕ) (e : Entry) (v : World) → Inv v → h < hart_count → (v.desks h).opening ≡ None → (v.desks h).lent ≡ nothing → Behind h fd s e v → e.references ≢ 1 → Closing h fd v (put v.files s (Some (record { file = e.file; inode_type = e.inode_type; references = e.references - 1 }))) v.slots (with_walk v.harts h None None)
 closing_less h fd s e v inv lt idle unlent hit many = record {
   changes = record {
     hart = lt;
     below = hit.below;
     opening = idle;
     same = refl;
-    keep = renewed (shop_of v) s e f (with_fd v.desks h fd None) inv.tied (record { at = hit.at; same = refl; counted = (let a = fewer_here h fd s e v lt hit in let b = counted.0 in omega (arith, a, b)); more = (let b = counted.1 in omega (arith, b, many)); other = λ j ne. fewer_there h fd s j e v lt hit ne });
+    keep = renewed (file_tables_of v) s e f (with_fd v.desks h fd None) inv.tied (record { at = hit.at; same = refl; counted = (let a = fewer_here h fd s e v lt hit in let b = counted.0 in omega (arith, a, b)); more = (let b = counted.1 in omega (arith, b, many)); other = λ j ne. fewer_there h fd s j e v lt hit ne });
     used = λ j d a more. let z = renewed_at v.files s e f j d hit.at refl a in (z.0, z.1);
     has = λ j z. absurd cc;
     slots = λ j. inv.tied.slots j ∙ sym (renewed_slots v.files s e f j hit.at refl);
     lent = λ k q. absurd (let a = ap (λ (g : ℕ → Option ℕ). g fd) unlent in cc (a, q));
   };
-  sorts = λ k x q. renewed_sorts v s e f inv hit.at refl refl refl k x q;
-  types = λ k d x p q. let z = renewed_same v.files s e f k d hit.at refl refl p in let a : Some z.0 ≡ Some x = sym z.1 ∙ q in let b : z.0 ≡ x = cc in ap (λ (y : Entry). y.sort) (sym b) ∙ z.2;
+  inode_types = λ k x q. renewed_types v s e f inv hit.at refl refl refl k x q;
+  types = λ k d x p q. let z = renewed_same v.files s e f k d hit.at refl refl p in let a : Some z.0 ≡ Some x = sym z.1 ∙ q in let b : z.0 ≡ x = cc in ap (λ (y : Entry). y.inode_type) (sym b) ∙ z.2;
   others = λ g ne. put_other v.harts h new g ne;
   refs = λ j. let r = refs_walk v.harts h None None h j in omega (arith, r);
   few = λ j. let r = refs_walk v.harts h None None h j in let a = (inv.refers h lt).few j in omega (arith, r, a);
@@ -232,7 +232,7 @@ closing_less h fd s e v inv lt idle unlent hit many = record {
     new = record { refs = (v.harts h).refs; walk = None; pending = None }
 
     f : Entry
-    f = record { file = e.file; sort = e.sort; references = e.references - 1 }
+    f = record { file = e.file; inode_type = e.inode_type; references = e.references - 1 }
 
     counted : (e.references ≡ users v.desks s) × (0 < e.references)
     counted = inv.tied.counted s e hit.at
@@ -260,8 +260,8 @@ closing_last h fd s e v inv lt idle unlent hit one room = record {
     slots = λ j. slots j;
     lent = λ k q. absurd (let a = ap (λ (g : ℕ → Option ℕ). g fd) unlent in cc (a, q));
   };
-  sorts = λ k x q. put_elim v.files s None k (λ z. z ≡ Some x → HasType v.all.nodes x) (λ e p. absurd cc) (λ ne p. inv.sorts k x p) q;
-  types = λ k d x p q. put_elim v.files s None k (λ z. z ≡ Some x → x.sort ≡ d.sort) (λ e r. absurd cc) (λ ne r. let a : Some x ≡ Some d = sym r ∙ p in let b : x ≡ d = cc in ap (λ (y : Entry). y.sort) b) q;
+  inode_types = λ k x q. put_elim v.files s None k (λ z. z ≡ Some x → HasType v.all.nodes x) (λ e p. absurd cc) (λ ne p. inv.inode_types k x p) q;
+  types = λ k d x p q. put_elim v.files s None k (λ z. z ≡ Some x → x.inode_type ≡ d.inode_type) (λ e r. absurd cc) (λ ne r. let a : Some x ≡ Some d = sym r ∙ p in let b : x ≡ d = cc in ap (λ (y : Entry). y.inode_type) b) q;
   others = λ g ne. put_other W h new g ne ∙ put_other v.harts h mid g ne;
   refs = λ j. let r = refs_walk W h None None h j in elim (same_or j n) [
     | inl q ↦ (let a = subst (λ (z : ℕ). (W h).refs z ≡ (v.harts h).refs z + 1) (sym q) (here_refs v.harts h n ((v.harts h).refs n + 1)) in omega (arith, r, a))
@@ -349,7 +349,7 @@ s-shut {A} {h} fd {k} {B} {Q} {n} {es} {w} {O} owns free lt pos walks none idle 
         let x = shuts h fd s e v O _ _ _ inv ov free lt (walk v ov) (still v ov) (opening_none v ov) empty unnoted hit c in
         moves_good h 0 n B Q es v (close_less h v fd s e) (OwnMove (Close fd) 0) (k (Some None)) (made_by v.all h (new_id v) (v.harts h).walk (OwnMove (Close fd) 0)) (record { all = without_fd v.all h fd; walk = None; found = None; opened = None; entered = None; left = None; told = (shut_step fd).told })
         (made_is v s e hit) x.fair x.takes bd pos
-        (λ l r. (less l (row_of (without_fd v.all h fd) h) (with_fd v.desks h fd None h) (shut_world h fd v (put v.files s (Some (record { file = e.file; sort = e.sort; references = e.references - 1 }))) v.slots (with_walk v.harts h None None)) r x.row x.desk
+        (λ l r. (less l (row_of (without_fd v.all h fd) h) (with_fd v.desks h fd None h) (shut_world h fd v (put v.files s (Some (record { file = e.file; inode_type = e.inode_type; references = e.references - 1 }))) v.slots (with_walk v.harts h None None)) r x.row x.desk
         (λ z. record {
           inodes = ap (λ (o : Own). o.inodes) ov z;
           mine = (put_same v.harts h (record { refs = (v.harts h).refs; walk = None; pending = None }) ∙ ap (λ (o : Own). record { refs = o.mine.refs; walk = None; pending = None }) ov) z;

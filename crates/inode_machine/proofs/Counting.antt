@@ -1,6 +1,6 @@
 -- Unlocking, writing, counting down, and claiming a free number.
-use Rattle.inode_machine.proofs.Vocabulary.{◌≡◌, ◌≢◌, ◌⊎◌, inl, inr, ℕ, ◌+◌, ◌-◌, ◌<◌, ◌≤◌, Bool, true, false, ◌==◌, List, [], Option, Some, None, refl, sym, ◌∙◌, ap, subst, arith, nat_tests, Do, unmarked, P, Good, Fine, Safe, Wp, Node, hart_count, put, is_live, settle, row_of, sum_below, one_if, eq_is, eq_not, either, same_or, put_same, put_other, and_true, one_no, Walk, Step, Mine, World, stage_of, with_mark, unlocked, counted_down, down_if, is_dead, is_last, reserved, walk_down_if, Down, Give, WalkDown, Own, shop_of, own_names, Held, view, is_hart, if_kept, own_of, IsReferredTo, Inv, machine, IsReached, Spares, left_or}
-use Rattle.inode_machine.proofs.Frame.{shop_same, put_elim, ours_none, ours_some, kept_here, Did, Fair, fair, own_inodes, has_inode, has_none, directory_named, one_refs, two_refs, refers_put}
+use Rattle.inode_machine.proofs.Vocabulary.{◌≡◌, ◌≢◌, ◌⊎◌, inl, inr, ℕ, ◌+◌, ◌-◌, ◌<◌, ◌≤◌, Bool, true, false, ◌==◌, List, [], Option, Some, None, refl, sym, ◌∙◌, ap, subst, arith, nat_tests, Do, unmarked, P, Good, Fine, Safe, Wp, Node, hart_count, put, is_live, settle, row_of, sum_below, one_if, eq_is, eq_not, either, same_or, put_same, put_other, and_true, one_no, Walk, Step, Mine, World, stage_of, with_mark, unlocked, counted_down, down_if, is_dead, is_last, reserved, walk_down_if, Down, UnlockInode, WalkDown, Own, file_tables_of, own_names, Held, view, is_hart, if_kept, own_of, IsReferredTo, Inv, machine, IsReached, Spares, left_or}
+use Rattle.inode_machine.proofs.Frame.{file_tables_same, put_elim, ours_none, ours_some, kept_here, HartStep, Fair, fair, own_inodes, has_inode, has_none, directory_named, one_refs, two_refs, refers_put}
 use Rattle.inode_machine.proofs.Rules.{opens_slots, s-owned, quiet, each_refs, here_refs, walks_refs, total_same, total_changed, my_refs, not_alone, has_disk, has_node, is_me, is_mine, locks_it, locks_not}
 
 abbrev pub after_unlock : ℕ → World → World
@@ -17,7 +17,7 @@ gives h i x O v free lt inv ov isi shared whole none = record { fair = fair inv 
     kept : v.keeper i ≡ Some h
     kept = (has_inode h i v O x ov isi).0
 
-    did : Did h v (after_unlock i v)
+    did : HartStep h v (after_unlock i v)
     did =
         record {
           hart = lt;
@@ -34,12 +34,12 @@ gives h i x O v free lt inv ov isi shared whole none = record { fair = fair inv 
           rows = λ g ne. refl;
           size = refl;
           ids = inv.ids;
-          shop = shop_same h (shop_of v) inv.tied;
+          file_tables = file_tables_same h (file_tables_of v) inv.tied;
           free = ap (λ (o : Own). o.desk.lender) ov ∙ free;
           raised = inv.raised h lt;
           quiet = λ j. put_elim v.keeper i None j (λ z. z ≡ Some h → (v.desks h).joined ≡ false → v.disk j ≡ v.all.nodes j) (λ q is f. absurd cc) (λ q is f. inv.quiet j h is f);
-          sort = λ j. inl refl;
-          sorts = inv.sorts;
+          inode_type = λ j. inl refl;
+          inode_types = inv.inode_types;
           noted = λ n is r s. inv.noted h n lt is r s;
           directory = inv.directory h lt;
           refers = inv.refers h lt;
@@ -73,7 +73,7 @@ gives h i x O v free lt inv ov isi shared whole none = record { fair = fair inv 
 pub s-give : {A : Type 0} {h i : ℕ} {x : Held} {k : Unit {0} → P machine A} {B : List Step → Type 0} {Q : A → List Step → World → Type 0} {n : ℕ} {es : List Step} {w : World} {O : Own}
     → own_of h w ≡ O → O.desk.lender ≡ None → h < hart_count → 0 < n → O.inodes i ≡ Some x → x.locked ≡ true → x.alone ≡ false → x.disk ≡ x.node → O.mine.pending ≡ None
     → ((l : ℕ) (u : World) → l + 1 ≡ n → own_of h u ≡ record O { inodes = put O.inodes i None } → Safe machine h B Q (k tt) l es u)
-    → Safe machine h B Q (Do (Give i) unmarked k) n es w
+    → Safe machine h B Q (Do (UnlockInode i) unmarked k) n es w
 s-give {A} {h} {i} {x} {k} {B} {Q} {n} {es} {w} {O} owns free lt pos isi has shared whole none rest = s-owned owns free pos (λ v inv ov. (
   locks_it h i v O x ov isi has,
   (λ _ _.
@@ -94,7 +94,7 @@ writes h i y x O v free lt joined inv ov isi = record { fair = fair inv did; own
     kept : v.keeper i ≡ Some h
     kept = (has_inode h i v O x ov isi).0
 
-    did : Did h v (record v { disk = put v.disk i y })
+    did : HartStep h v (record v { disk = put v.disk i y })
     did =
         record {
           hart = lt;
@@ -111,12 +111,12 @@ writes h i y x O v free lt joined inv ov isi = record { fair = fair inv did; own
           rows = λ g ne. refl;
           size = refl;
           ids = inv.ids;
-          shop = shop_same h (shop_of v) inv.tied;
+          file_tables = file_tables_same h (file_tables_of v) inv.tied;
           free = ap (λ (o : Own). o.desk.lender) ov ∙ free;
           raised = inv.raised h lt;
           quiet = λ j is f. absurd (let e : (v.desks h).joined ≡ true = ap (λ (o : Own). o.desk.joined) ov ∙ joined in cc (e, f));
-          sort = λ j. inl refl;
-          sorts = inv.sorts;
+          inode_type = λ j. inl refl;
+          inode_types = inv.inode_types;
           noted = λ n is r s. inv.noted h n lt is r s;
           directory = inv.directory h lt;
           refers = inv.refers h lt;
@@ -194,7 +194,7 @@ lasting h i v O L b ov free lt inv out refers none e there here mine = record { 
     only : O.mine.refs i ≡ 1
     only = sym (my_refs h v O i ov) ∙ sym only_v ∙ one_is (v.refs i) two.0
 
-    did : Did h v u
+    did : HartStep h v u
     did =
         record {
           hart = lt;
@@ -211,12 +211,12 @@ lasting h i v O L b ov free lt inv out refers none e there here mine = record { 
           rows = λ g ne. refl;
           size = refl;
           ids = inv.ids;
-          shop = shop_same h (shop_of v) inv.tied;
+          file_tables = file_tables_same h (file_tables_of v) inv.tied;
           free = ap (λ (o : Own). o.desk.lender) ov ∙ free;
           raised = inv.raised h lt;
           quiet = λ j. put_elim v.keeper i (Some h) j (λ z. z ≡ Some h → (v.desks h).joined ≡ false → v.disk j ≡ v.all.nodes j) (λ q is f. inv.whole j (ap v.keeper q ∙ nobody)) (λ q is f. inv.quiet j h is f);
-          sort = λ j. inl refl;
-          sorts = inv.sorts;
+          inode_type = λ j. inl refl;
+          inode_types = inv.inode_types;
           noted = λ n is r s. inv.noted h n lt is r (put_elim v.alone i true n.number (λ z. z ≡ false → v.alone n.number ≡ false) (λ q e. absurd cc) (λ q e. e) s);
           directory = inv.directory h lt;
           refers = inv.refers h lt;
@@ -336,7 +336,7 @@ counting h i v O ov free lt inv out refers none still = record { fair = fair inv
       | inr s ↦ absurd (not_home h i v O O.desk.opening inv ov free lt s.0 (ap (λ (o : Own). o.desk.directory) (sym ov) ∙ q))
     ]
 
-    did : Did h v u
+    did : HartStep h v u
     did =
         record {
           hart = lt;
@@ -345,12 +345,12 @@ counting h i v O ov free lt inv out refers none still = record { fair = fair inv
           rows = λ g ne. refl;
           size = refl;
           ids = inv.ids;
-          shop = shop_same h (shop_of v) inv.tied;
+          file_tables = file_tables_same h (file_tables_of v) inv.tied;
           free = ap (λ (o : Own). o.desk.lender) ov ∙ free;
           raised = inv.raised h lt;
           quiet = λ j is f. inv.quiet j h (sym (keeper_same j) ∙ is) f;
-          sort = λ j. inl refl;
-          sorts = inv.sorts;
+          inode_type = λ j. inl refl;
+          inode_types = inv.inode_types;
           noted = λ n is r s. inv.noted h n lt is (shrink n.number r) (sym (alone_same n.number) ∙ s);
           directory = inv.directory h lt;
           refers = refers_put (v.harts h) (u.harts h) (v.desks h) (v.desks h) i ((v.harts h).refs i - 1) (ap (λ (m : Mine). m.refs) (put_same v.harts h new)) refl (let a = (inv.refers h lt).few i in omega (arith, a)) (λ q. home q) (inv.refers h lt);

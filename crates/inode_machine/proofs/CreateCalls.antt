@@ -1,10 +1,10 @@
 -- An open that may make its file is right, whatever the other harts do: what is there is opened, what isn't is made.
-use Rattle.inode_machine.proofs.Vocabulary.{◌≡◌, ◌≢◌, ◌⊎◌, inl, inr, ℕ, ◌+◌, ◌*◌, ◌<◌, ◌≤◌, Bool, true, false, ◌==◌, nat_lt, List, [], ◌∷◌, length, Option, Some, None, refl, sym, ◌∙◌, ap, subst, arith, if◌then◌else◌, own, onto, Fine, Safe, Wp, Begun, Ends, Cause, NoEntry, Full, Descriptors, DiskInodes, MemInodes, Reply, Call, Node, Action, Opened, Failed, NoRoom, next_of, Key, Row, key_is, IsLeastUnused, creates, has_room, is_file, lowest, makes_node, node_at, node_or, open_kind, refusal_with, effect_with, answer_with, StepWith, Name, Tree, put, look, elements, is_live, live_directory, settle, hart_count, descriptor_count, settle_again, one_if, look_live, either, eq_not, same_or, put_same, put_other, live_some, look_same, Walk, Stage, Step, Look, Quit, Desk, Mark, Note, World, stage_of, Take, OfFile, Sort, AtName, face_of, seen_in, is_live_face, open_refusal, sort_of, sort_of_kind, with_walk, acts, look_made, looked, made_by, marked, mended, new_id, places, Held, Own, own_names, own_of, nothing, Idle, Inv, machine, ThisP as P, failed, full, give_up, is_some, is_there, looks_if, looks_where, makes, tail, create_found, create_in, file_for, open_at, open_new, open_old, open_program, in_parent, path_cost, rest_cost, covered_calls}
+use Rattle.inode_machine.proofs.Vocabulary.{◌≡◌, ◌≢◌, ◌⊎◌, inl, inr, ℕ, ◌+◌, ◌*◌, ◌<◌, ◌≤◌, Bool, true, false, ◌==◌, nat_lt, List, [], ◌∷◌, length, Option, Some, None, refl, sym, ◌∙◌, ap, subst, arith, if◌then◌else◌, own, onto, Fine, Safe, Wp, Begun, Ends, Cause, NoEntry, Full, Descriptors, DiskInodes, MemInodes, Reply, Call, Node, Action, Opened, Failed, NoRoom, next_of, Key, Row, key_is, IsLeastUnused, creates, has_room, is_file, lowest, makes_node, node_at, node_or, open_kind, refusal_with, effect_with, answer_with, StepWith, Name, Tree, put, look, elements, is_live, live_directory, settle, hart_count, descriptor_count, settle_again, one_if, look_live, either, eq_not, same_or, put_same, put_other, live_some, look_same, Walk, Stage, Step, Look, GiveUpWalk, Desk, Mark, Note, World, stage_of, Take, OfFile, InodeType, AtName, face_of, seen_in, is_live_face, open_refusal, type_of, type_of_kind, with_walk, acts, look_made, looked, made_by, marked, mended, new_id, places, Held, Own, own_names, own_of, nothing, Idle, Inv, machine, ThisP as P, failed, full, give_up, is_some, is_there, looks_if, looks_where, makes, tail, create_found, create_in, file_for, open_at, open_new, open_old, open_program, in_parent, path_cost, rest_cost, covered_calls}
 use Rattle.plain_tree.specs.declared.call.Call.TheVariants as calls
 use Rattle.plain_tree.specs.declared.step.Action.TheVariants as steps
-use Rattle.inode_machine.proofs.Basics.{AllNames, Fair, fair, fair_same, fair_then, has_inode, has_node, locked_held, my_refs, noted_sort, quiet, s-up, one_most, own_walk, stage_walk, walk_did, lowest_same, Flagging, not_at, KeepsHold, MoveFine, live_face, mends, note_of, noting, quit_good, s-take-then, spoilt, times, one_at, one_else, listed_held, At, Mending, On, Ready, Stays, names_stay, stays_same, known_there, on_refers, Finding, finding, found_world, refused_made, Walked, home, joined_own, may_rest, ready_at, Opening, fresh_id, opened_row, opened_tree, opened_world, opening, row_back, unopened_row, claimed_held, mended_own, s-claim, act_good_to, told_step, Holding, Joins, holding_on, holding_same, holding_set, holding_to, mendable, stays_mended, unlisted, s-give-end, s-give-up-in, Follows, begun_refused, quit_step, walking_quit, walking_told, written_by}
+use Rattle.inode_machine.proofs.Basics.{AllNames, Fair, fair, fair_same, fair_then, has_inode, has_node, locked_held, my_refs, noted_type, quiet, s-up, one_most, own_walk, stage_walk, walk_did, lowest_same, Flagging, not_at, KeepsHold, MoveFine, live_face, mends, note_of, noting, quit_good, s-take-then, spoilt, times, one_at, one_else, listed_held, At, Mending, On, Ready, Stays, names_stay, stays_same, known_there, on_refers, Finding, finding, found_world, refused_made, Walked, home, joined_own, may_rest, ready_at, Opening, fresh_id, opened_row, opened_tree, opened_world, opening, row_back, unopened_row, claimed_held, mended_own, s-claim, act_good_to, told_step, Holding, HasJoined, holding_on, holding_same, holding_set, holding_to, mendable, stays_mended, unlisted, s-give-end, s-give-up-in, Follows, begun_refused, quit_step, walking_quit, walking_told, written_by}
 use Rattle.inode_machine.proofs.Unopens.{mends_opened}
-use Rattle.inode_machine.proofs.Opens.{dirties, moves_full, open_place, refusal_by_sort, file_by_sort}
+use Rattle.inode_machine.proofs.Opens.{dirties, moves_full, open_place, refusal_by_type, file_by_type}
 use Rattle.inode_machine.proofs.OpenEnds.{open_refused, opened_act, opened_begins, s-open-full, s-open-refused, s-opened}
 use Rattle.inode_machine.proofs.Pairs.{pair_new}
 use Rattle.inode_machine.proofs.Makings.{makes_file, names_opened}
@@ -81,7 +81,7 @@ module _ (h : ℕ) (path : List ℕ) (flags : ℕ) (w : World) (free : (w.desks 
   ready : Ready base O0
   ready = ready_at h w free lt holds idle
 
-  joins : Joins base O0
+  joins : HasJoined base O0
   joins = record { ready = ready; may = may_rest h w idle }
 
   -- the directory's lock alone
@@ -179,14 +179,14 @@ module _ (h : ℕ) (path : List ℕ) (flags : ℕ) (w : World) (free : (w.desks 
             cc (b, f, live_j))
       ]
 
-      sort : Sort
-      sort = sort_of_kind (node_at u.all j).kind
+      inode_type : InodeType
+      inode_type = type_of_kind (node_at u.all j).kind
 
-      sort_is : sort_of (u.all.nodes j) ≡ Some sort
-      sort_is = ap (λ (o : Option Node). sort_of o) there
+      type_is : type_of (u.all.nodes j) ≡ Some inode_type
+      type_is = ap (λ (o : Option Node). type_of o) there
 
-      refusal : open_refusal (flags == 0) sort ≡ open_kind flags (node_at u.all j).kind
-      refusal = sym (refusal_by_sort (u.all.nodes j) flags sort sort_is)
+      refusal : open_refusal (flags == 0) inode_type ≡ open_kind flags (node_at u.all j).kind
+      refusal = sym (refusal_by_type (u.all.nodes j) flags inode_type type_is)
 
       f : Finding h j u O1
       f = finding h d j e u O1 own1 free_o lt inv on.pending (has_inode h d u O1 (locked_held x) own1 isd).0 found
@@ -216,8 +216,8 @@ module _ (h : ℕ) (path : List ℕ) (flags : ℕ) (w : World) (free : (w.desks 
       keeps_hold = subst (λ (r : Row). KeepsHold r.hold) (sym on.stays.row) ready.hold
 
       -- its type is what it was at the lookup
-      typed : (P0 R : Own) (u2 : World) → At h j base ns None (Some (note_of u.all j)) P0 R u2 → (v : World) → Inv v → own_of h v ≡ R → sort_of (v.all.nodes j) ≡ Some sort
-      typed P0 R u2 at v inv2 ov = noted_sort h j R (note_of u.all j) at.noted refl at.out (let r = at.refs j in let o = one_at j in omega (arith, r, o)) lt v inv2 ov ∙ sort_is
+      typed : (P0 R : Own) (u2 : World) → At h j base ns None (Some (note_of u.all j)) P0 R u2 → (v : World) → Inv v → own_of h v ≡ R → type_of (v.all.nodes j) ≡ Some inode_type
+      typed P0 R u2 at v inv2 ov = noted_type h j R (note_of u.all j) at.noted refl at.out (let r = at.refs j in let o = one_at j in omega (arith, r, o)) lt v inv2 ov ∙ type_is
 
       -- the table's lowest descriptor is the tree's
       low : lowest (u.all.fds h) ≡ lowest O.desk.fds
@@ -239,7 +239,7 @@ module _ (h : ℕ) (path : List ℕ) (flags : ℕ) (w : World) (free : (w.desks 
           (refusal_is, refl, open_place u.all h path flags lt) refl (λ q. absurd (let a = there_makes u.all path flags d j e flag found in cc (a, q)))
           f.fair (λ z. record { tree = settle u.all; walk = walks_are z }) (begun_refused c [] s k (told_step 0 s (Failed k) ∷ es) (follows path flags) written) (omega (arith, few))
           (λ l q. (same l (told_step 0 s (Failed k) ∷ es) (found_world h j u) (omega (arith, q, few)) f.owned (λ l2 u2 R few2 desk at2.
-          s-open-refused h path flags w free lt holds idle j ns (Some (note_of u.all j)) sort k l2 (told_step 0 s (Failed k) ∷ es) u2 R (omega (arith, few2)) at2 (typed O0 R u2 at2) (refusal ∙ why) written)).wp)
+          s-open-refused h path flags w free lt holds idle j ns (Some (note_of u.all j)) inode_type k l2 (told_step 0 s (Failed k) ∷ es) u2 R (omega (arith, few2)) at2 (typed O0 R u2 at2) (refusal ∙ why) written)).wp)
         where
           refusal_is : refusal_with u.all h s (Some j) (Some (d, e)) ≡ Some k
           refusal_is = there_kind u.all h j path flags d e (Some j) flag found ∙ why
@@ -254,7 +254,7 @@ module _ (h : ℕ) (path : List ℕ) (flags : ℕ) (w : World) (free : (w.desks 
           (ap (λ (o : Option Walk). look_made u.all h o 0 (new_id u)) mine ∙ (λ i. looked u.all h (record { step = s; at = d; next = e; rest = [] }) [] (found i) 0 (new_id u)) ∙ there_full u.all h j (new_id u) path flags d e flag found goes room)
           (fair_then f.fair dirty) refl (omega (arith, few))
           (λ l q. (same l (told_step 0 s (NoRoom Descriptors) ∷ es) (record (found_world h j u) { clean = false }) (omega (arith, q, few)) f.owned (λ l2 u2 R few2 desk at2.
-          s-open-full h path flags w free lt holds idle j ns (Some (note_of u.all j)) sort l2 (told_step 0 s (NoRoom Descriptors) ∷ es) u2 R (omega (arith, few2)) at2 (typed O0 R u2 at2) (refusal ∙ goes)
+          s-open-full h path flags w free lt holds idle j ns (Some (note_of u.all j)) inode_type l2 (told_step 0 s (NoRoom Descriptors) ∷ es) u2 R (omega (arith, few2)) at2 (typed O0 R u2 at2) (refusal ∙ goes)
           (ap (λ (z : Desk). has_room z.fds) desk ∙ ap (λ (z : ℕ). nat_lt z descriptor_count) (sym low) ∙ room))).wp)
 
       goes_at : open_kind flags (node_at u.all j).kind ≡ None → has_room (u.all.fds h) ≡ true → MoveFine h 1611 n B Q es u (Look 0) (create_found path flags d e ns (Some j))
@@ -267,8 +267,8 @@ module _ (h : ℕ) (path : List ℕ) (flags : ℕ) (w : World) (free : (w.desks 
           (λ l q. (reaches d j e ns x (note_of u.all j) l (told_step 0 s (Opened fd (new_id u) isf) ∷ es) uc P0 O3 M3 (omega (arith, q, few)) note.owned free refl spare k3 refl refl refl fresh
           (λ v inv2 ov. mends_opened h fd v O3 ov free_o lt inv2 refl (on.stays.left ∙ ready.left) keeps_hold (λ i p. names0 i (bare i p)))
           (holding_to O0 M3 k3 refl back refl (λ i p q2. names_stay M3 O0 back i ∙ sym (names_stay O1 O0 k1.stays i) ∙ (k1.all i p).unnamed)) refl refl refl
-          (λ l2 u2 R few2 desk at2. s-opened h path flags w free lt holds idle j fd (new_id u) isf ns (Some (note_of u.all j)) sort l2 (told_step 0 s (Opened fd (new_id u) isf) ∷ es) u2 R (omega (arith, few2)) at2 (typed P0 R u2 at2) (refusal ∙ goes)
-          (ap (λ (z : Desk). has_room z.fds) desk ∙ ap (λ (z : ℕ). nat_lt z descriptor_count) (sym low) ∙ room) (ap (λ (z : Desk). lowest z.fds) desk ∙ sym low) (file_by_sort (u.all.nodes j) sort sort_is) written)).wp)
+          (λ l2 u2 R few2 desk at2. s-opened h path flags w free lt holds idle j fd (new_id u) isf ns (Some (note_of u.all j)) inode_type l2 (told_step 0 s (Opened fd (new_id u) isf) ∷ es) u2 R (omega (arith, few2)) at2 (typed P0 R u2 at2) (refusal ∙ goes)
+          (ap (λ (z : Desk). has_room z.fds) desk ∙ ap (λ (z : ℕ). nat_lt z descriptor_count) (sym low) ∙ room) (ap (λ (z : Desk). lowest z.fds) desk ∙ sym low) (file_by_type (u.all.nodes j) inode_type type_is) written)).wp)
         where
           fd : ℕ
           fd = lowest (u.all.fds h)
@@ -286,7 +286,7 @@ module _ (h : ℕ) (path : List ℕ) (flags : ℕ) (w : World) (free : (w.desks 
           written = walking_told c [] s (Opened fd (new_id u) isf) 0 es told
 
           -- what was noted before has the type that it had
-          notes : (m : Note) → (u.desks h).noted ≡ Some m → Some j ≡ Some m.number → sort_of (u.all.nodes m.number) ≡ m.sort
+          notes : (m : Note) → (u.desks h).noted ≡ Some m → Some j ≡ Some m.number → type_of (u.all.nodes m.number) ≡ m.inode_type
           notes m is q =
               let g : j ≡ m.number = cc in
               let r = my_refs h u O1 m.number own1 in
@@ -390,11 +390,11 @@ module _ (h : ℕ) (path : List ℕ) (flags : ℕ) (w : World) (free : (w.desks 
       Goal u x m p = Fine machine h (places h (Take d (AtName e)) (seen_in d (AtName e) x) m u) 1611 n B es u (marked h m u) (λ l. Wp machine h B Q p l (onto (own h (places h (Take d (AtName e)) (seen_in d (AtName e) x) m u)) es) (marked h m u))
 
       -- what is marked and done, as the directory is
-      as_seen : (u : World) (x : Option Node) (a : Bool) (f : Option ℕ) → live_directory x ≡ a → look (λ j. x) d e ≡ f → Goal u x (if a then looks_if (is_some f) else makes (Quit s)) (if a then create_found path flags d e ns f else give_up d (tail ns (failed c NoEntry)))
+      as_seen : (u : World) (x : Option Node) (a : Bool) (f : Option ℕ) → live_directory x ≡ a → look (λ j. x) d e ≡ f → Goal u x (if a then looks_if (is_some f) else makes (GiveUpWalk s)) (if a then create_found path flags d e ns f else give_up d (tail ns (failed c NoEntry)))
           → Goal u x (looks_where s is_there (seen_in d (AtName e) x)) (if is_live_face (face_of x) then create_found path flags d e ns (look (λ j. x) d e) else give_up d (tail ns (failed c NoEntry)))
       as_seen u x a f q r good =
-          subst (λ (b : Bool). Goal u x (if b then looks_if (is_some (look (λ j. x) d e)) else makes (Quit s)) (if b then create_found path flags d e ns (look (λ j. x) d e) else give_up d (tail ns (failed c NoEntry)))) (sym (live_face x ∙ q))
-          (subst (λ (g : Option ℕ). Goal u x (if a then looks_if (is_some g) else makes (Quit s)) (if a then create_found path flags d e ns g else give_up d (tail ns (failed c NoEntry)))) (sym r) good)
+          subst (λ (b : Bool). Goal u x (if b then looks_if (is_some (look (λ j. x) d e)) else makes (GiveUpWalk s)) (if b then create_found path flags d e ns (look (λ j. x) d e) else give_up d (tail ns (failed c NoEntry)))) (sym (live_face x ∙ q))
+          (subst (λ (g : Option ℕ). Goal u x (if a then looks_if (is_some g) else makes (GiveUpWalk s)) (if a then create_found path flags d e ns g else give_up d (tail ns (failed c NoEntry)))) (sym r) good)
 
       seen : (u : World) (x : Option Node) → Inv u → own_of h u ≡ record O { inodes = put O.inodes d (Some (locked_held x)) } → (a : Bool) → live_directory x ≡ a → (f : Option ℕ) → look (λ j. x) d e ≡ f
           → Goal u x (looks_where s is_there (seen_in d (AtName e) x)) (if is_live_face (face_of x) then create_found path flags d e ns (look (λ j. x) d e) else give_up d (tail ns (failed c NoEntry)))

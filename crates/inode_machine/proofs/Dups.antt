@@ -1,11 +1,11 @@
 -- A descriptor's open file, a refused step, want of room, and one more descriptor.
-use Rattle.inode_machine.proofs.Vocabulary.{◌≡◌, ◌≢◌, ◌⊎◌, inl, inr, ℕ, ◌+◌, ◌<◌, Bool, true, false, ◌==◌, ◌&&◌, ◌||◌, nat_lt, List, [], ◌∷◌, Option, Some, None, refl, sym, ◌∙◌, ap, subst, arith, if◌then◌else◌, nat_tests, Do, unmarked, P, own, onto, Good, Fine, Safe, Wp, Cause, BadDescriptor, OpenFile, Action, Dup, Inherit, NewFd, Failed, hart_count, descriptor_count, Name, Tree, put, fd_names, and_then, settle, resolve, parent, hold_names, no_fd as is_nothing, path_of, follows_path, file_at, lowest, has_room, refusal_with, effect_with, answer_with, makes_node, place_of, refused, IsInPlace, holds_raised, Row, key_at, row_of, key_names, with_open, NamesLess, settle_less, file_settled, sum_below, one_if, IsWellFormed, eq_self, eq_not, same_or, put_same, put_other, sum_same, one_no, one_yes, well_dup, Stage, Step, OwnMove, is_at, file_count, with_walk, slot_at, entry_at, doubled, double_at, double_if, with_joined, child_of, places, with_mark, with_made, made_by, found_by, refused_all, new_id, Mine, Entry, Desk, World, Note, dups, Double, Join, Leave, Say, Own, shop_of, Shop, IsTied, id_at, number_is, users, own_names, own_of, Inv, machine, Held, key_in, Stands, view, IsReached, HasType, KeepsFiles, Sort, sort_of}
+use Rattle.inode_machine.proofs.Vocabulary.{◌≡◌, ◌≢◌, ◌⊎◌, inl, inr, ℕ, ◌+◌, ◌<◌, Bool, true, false, ◌==◌, ◌&&◌, ◌||◌, nat_lt, List, [], ◌∷◌, Option, Some, None, refl, sym, ◌∙◌, ap, subst, arith, if◌then◌else◌, nat_tests, Do, unmarked, P, own, onto, Good, Fine, Safe, Wp, Cause, BadDescriptor, OpenFile, Action, Dup, Inherit, NewFd, Failed, hart_count, descriptor_count, Name, Tree, put, fd_names, and_then, settle, resolve, parent, hold_names, no_fd as is_nothing, path_of, follows_path, file_at, lowest, has_room, refusal_with, effect_with, answer_with, makes_node, place_of, refused, IsInPlace, holds_raised, Row, key_at, row_of, key_names, with_open, NamesLess, settle_less, file_settled, sum_below, one_if, IsWellFormed, eq_self, eq_not, same_or, put_same, put_other, sum_same, one_no, one_yes, well_dup, Stage, Step, OwnMove, is_at, file_count, with_walk, slot_at, entry_at, doubled, double_at, double_if, with_joined, child_of, places, with_mark, with_made, made_by, found_by, refused_all, new_id, Mine, Entry, Desk, World, Note, dups, Double, Join, Leave, Say, Own, file_tables_of, FileTables, IsTied, id_at, number_is, users, own_names, own_of, Inv, machine, Held, key_in, Stands, view, IsReached, HasType, KeepsFiles, InodeType, type_of}
 use Rattle.inode_machine.proofs.Frame.{bond_of, put_elim, stands_on, Fair, fair, fair_same, kept_here}
 use Rattle.inode_machine.proofs.Rules.{s-owned, quiet, UnlocksAll, locks_none, s-owned-from}
 use Rattle.inode_machine.proofs.Rows.{below_is}
 use Rattle.inode_machine.proofs.Walking.{refs_walk, walk_did, own_walk, stage_walk, moves_good}
 use Rattle.inode_machine.proofs.Tables.{with_fd, users_put, lowest_same, lowest_free, changes}
-use Rattle.inode_machine.proofs.Shops.{Sells, sells_did, own_takes, names_less}
+use Rattle.inode_machine.proofs.FileTablesSteps.{Sells, sells_did, own_takes, names_less}
 
 -- What stands behind a descriptor.
 pub record Behind (h fd s : ℕ) (e : Entry) (v : World) : Type 0 where
@@ -96,7 +96,7 @@ pub record Flagging (h : ℕ) (v : World) (O : Own) (new d : Desk) (c : Bool) : 
 pub desk_changes : (h : ℕ) (v : World) (O : Own) (new d : Desk) (c : Bool) → own_of h v ≡ O → O.desk.lender ≡ None → h < hart_count → Inv v → new ≡ d → SameFiles new (v.desks h)
     → ((j : ℕ) → own_names (row_of v.all h) new j ≡ true → own_names (row_of v.all h) (v.desks h) j ≡ true) → Stands new (v.all.cwd h) v.all.nodes → 0 < (v.harts h).refs new.directory → ((new.directory ≡ (v.desks h).directory) ⊎ (child_of (v.desks h) ≡ None)) → new.lender ≡ None
     → (new.joined ≡ false → (j : ℕ) → v.keeper j ≡ Some h → v.disk j ≡ v.all.nodes j) → (holds_raised true (v.all.holds h) ≡ true → new.joined ≡ true)
-    → ((m : Note) → new.noted ≡ Some m → IsReached v h m.number → v.alone m.number ≡ false → sort_of (v.all.nodes m.number) ≡ m.sort)
+    → ((m : Note) → new.noted ≡ Some m → IsReached v h m.number → v.alone m.number ≡ false → type_of (v.all.nodes m.number) ≡ m.inode_type)
     → (new.full ≡ true → c ≡ false) → (v.clean ≡ false → c ≡ false) → (c ≡ true → v.clean ≡ true) → Flagging h v O new d c
 desk_changes h v O new d c ov free lt inv is same names stands home stays unlent quiet raises notes mine his back = record {
   fair = fair inv (record {
@@ -106,12 +106,12 @@ desk_changes h v O new d c ov free lt inv is same names stands home stays unlent
     rows = λ g ne. refl;
     size = refl;
     ids = inv.ids;
-    shop = record { tied = tied; desks = λ g ne. put_other v.desks h new g ne; numbers = λ g i k e lg ne li q a. (e, a, refl, inl refl); clean = back; bond = ap (λ (z : Desk). bond_of z) here ∙ (λ z. record { child = same.lent z descriptor_count; given = same.lent z (descriptor_count + 1); lender = (unlent ∙ sym (ap (λ (o : Own). o.desk.lender) ov ∙ free)) z }); stays = elim stays [ inl q ↦ inl (ap (λ (z : Desk). z.directory) here ∙ q) | inr q ↦ inr q ] };
+    file_tables = record { tied = tied; desks = λ g ne. put_other v.desks h new g ne; numbers = λ g i k e lg ne li q a. (e, a, refl, inl refl); clean = back; bond = ap (λ (z : Desk). bond_of z) here ∙ (λ z. record { child = same.lent z descriptor_count; given = same.lent z (descriptor_count + 1); lender = (unlent ∙ sym (ap (λ (o : Own). o.desk.lender) ov ∙ free)) z }); stays = elim stays [ inl q ↦ inl (ap (λ (z : Desk). z.directory) here ∙ q) | inr q ↦ inr q ] };
     free = ap (λ (z : Desk). z.lender) here ∙ unlent;
     raised = λ q. ap (λ (z : Desk). z.joined) here ∙ raises q;
     quiet = λ j is f. quiet (sym (ap (λ (z : Desk). z.joined) here) ∙ f) j is;
-    sort = λ j. inl refl;
-    sorts = inv.sorts;
+    inode_type = λ j. inl refl;
+    inode_types = inv.inode_types;
     noted = λ m is r s. notes m (sym (ap (λ (z : Desk). z.noted) here) ∙ is) r s;
     directory = subst (λ (z : Desk). Stands z (v.all.cwd h) v.all.nodes) (sym here) stands;
     refers = record { few = (inv.refers h lt).few; home = subst (λ (z : Desk). 0 < (v.harts h).refs z.directory) (sym here) home };
@@ -176,7 +176,7 @@ desk_changes h v O new d c ov free lt inv is same names stands home stays unlent
 -- the same, where it leaves no directory and opens nothing else
 pub flagging : (h : ℕ) (v : World) (O : Own) (new d : Desk) (c : Bool) → own_of h v ≡ O → O.desk.lender ≡ None → h < hart_count → Inv v → new ≡ d → SameTable new (v.desks h) → new.lender ≡ None
     → (new.joined ≡ false → (j : ℕ) → v.keeper j ≡ Some h → v.disk j ≡ v.all.nodes j) → (holds_raised true (v.all.holds h) ≡ true → new.joined ≡ true)
-    → ((m : Note) → new.noted ≡ Some m → IsReached v h m.number → v.alone m.number ≡ false → sort_of (v.all.nodes m.number) ≡ m.sort)
+    → ((m : Note) → new.noted ≡ Some m → IsReached v h m.number → v.alone m.number ≡ false → type_of (v.all.nodes m.number) ≡ m.inode_type)
     → (new.full ≡ true → c ≡ false) → (v.clean ≡ false → c ≡ false) → (c ≡ true → v.clean ≡ true) → Flagging h v O new d c
 flagging h v O new d c ov free lt inv is same unlent quiet raises notes mine his back = desk_changes h v O new d c ov free lt inv is (record { fds = same.fds; hand = same.hand; lent = same.lent; opening = same.opening })
     (λ j q. (λ z. (v.all.cwd h == j) || (hold_names (v.all.holds h) j || (key_names (key_in (row_of v.all h).keys (sym same.opening z)) j || is_at (sym same.left z) j))) ∙ q)
@@ -233,14 +233,14 @@ pub s-say : {A : Type 0} {h : ℕ} {k : Unit {0} → P machine A} {B : List Step
 s-say {h = h} {O = O} owns free lt pos none out rest = s-owned owns free pos (λ v inv ov. ((locks_none h v O inv ov none, ap (λ (o : Own). o.desk.joined) ov ∙ out), (λ _ _. quiet (fair_same inv) refl pos (λ l q. (rest l v q (λ f. inv.tied.spoiled h (ap (λ (o : Own). o.desk.full) ov ∙ f)) ov).wp))))
 
 -- A slot's entry changes, but not its open file.
-pub record Renews (s : Shop) (k : ℕ) (e f : Entry) (D : ℕ → Desk) : Type 0 where
+pub record Renews (s : FileTables) (k : ℕ) (e f : Entry) (D : ℕ → Desk) : Type 0 where
   pub at : s.files k ≡ Some e
   pub same : f.file ≡ e.file
   pub counted : f.references ≡ users D k
   pub more : 0 < f.references
   pub other : (j : ℕ) → j ≢ k → users D j ≡ users s.desks j
 
-pub renewed : (s : Shop) (k : ℕ) (e f : Entry) (D : ℕ → Desk) → IsTied s → Renews s k e f D → (j : ℕ) (x : Entry) → put s.files k (Some f) j ≡ Some x → (d : Entry) × (s.files j ≡ Some d) × (x.file ≡ d.file) × (x.references ≡ users D j) × (0 < x.references)
+pub renewed : (s : FileTables) (k : ℕ) (e f : Entry) (D : ℕ → Desk) → IsTied s → Renews s k e f D → (j : ℕ) (x : Entry) → put s.files k (Some f) j ≡ Some x → (d : Entry) × (s.files j ≡ Some d) × (x.file ≡ d.file) × (x.references ≡ users D j) × (0 < x.references)
 renewed s k e f D tied r j x q = elim (same_or j k) [
   | inl t ↦
       let a : Some f ≡ Some x = sym (put_same s.files k (Some f)) ∙ ap (put s.files k (Some f)) (sym t) ∙ q in
@@ -263,12 +263,12 @@ renewed_at files k e f j d at same q = elim (same_or j k) [
 ]
 
 -- and the same open file, where the change keeps it
-pub renewed_same : (files : ℕ → Option Entry) (k : ℕ) (e f : Entry) (j : ℕ) (d : Entry) → files k ≡ Some e → f.file ≡ e.file → f.sort ≡ e.sort → files j ≡ Some d → (x : Entry) × (put files k (Some f) j ≡ Some x) × (x.sort ≡ d.sort) × (x.file ≡ d.file)
-renewed_same files k e f j d at same sort q = elim (same_or j k) [
+pub renewed_same : (files : ℕ → Option Entry) (k : ℕ) (e f : Entry) (j : ℕ) (d : Entry) → files k ≡ Some e → f.file ≡ e.file → f.inode_type ≡ e.inode_type → files j ≡ Some d → (x : Entry) × (put files k (Some f) j ≡ Some x) × (x.inode_type ≡ d.inode_type) × (x.file ≡ d.file)
+renewed_same files k e f j d at same inode_type q = elim (same_or j k) [
   | inl t ↦
       let a : Some e ≡ Some d = sym at ∙ ap files (sym t) ∙ q in
       let b : e ≡ d = cc in
-      (f, ap (put files k (Some f)) t ∙ put_same files k (Some f), sort ∙ ap (λ (z : Entry). z.sort) b, same ∙ ap (λ (z : Entry). z.file) b)
+      (f, ap (put files k (Some f)) t ∙ put_same files k (Some f), inode_type ∙ ap (λ (z : Entry). z.inode_type) b, same ∙ ap (λ (z : Entry). z.file) b)
   | inr ne ↦ (d, put_other files k (Some f) j ne ∙ q, refl, refl)
 ]
 
@@ -306,17 +306,17 @@ same_desk h fd y v O ov = record {
     is = put_same v.desks h (record (v.desks h) { fds = put (v.desks h).fds fd y })
 
 -- an entry's type stays its inode's
-pub renewed_sorts : (v : World) (k : ℕ) (e f : Entry) → Inv v → v.files k ≡ Some e → f.file.number ≡ e.file.number → f.file.writable ≡ e.file.writable → f.sort ≡ e.sort → (j : ℕ) (d : Entry) → put v.files k (Some f) j ≡ Some d → HasType v.all.nodes d
-renewed_sorts v k e f inv at number writable sort j d q = elim (same_or j k) [
+pub renewed_types : (v : World) (k : ℕ) (e f : Entry) → Inv v → v.files k ≡ Some e → f.file.number ≡ e.file.number → f.file.writable ≡ e.file.writable → f.inode_type ≡ e.inode_type → (j : ℕ) (d : Entry) → put v.files k (Some f) j ≡ Some d → HasType v.all.nodes d
+renewed_types v k e f inv at number writable inode_type j d q = elim (same_or j k) [
   | inl t ↦
       let a : Some f ≡ Some d = sym (put_same v.files k (Some f)) ∙ ap (put v.files k (Some f)) (sym t) ∙ q in
       let b : f ≡ d = cc in
-      let was = inv.sorts k e at in
+      let was = inv.inode_types k e at in
       subst (λ (z : Entry). HasType v.all.nodes z) b (record {
-        sort = ap (λ (n : ℕ). sort_of (v.all.nodes n)) number ∙ was.sort ∙ ap (λ (z : Sort). Some z) (sym sort);
-        written = λ y z. was.written (sym writable ∙ y) (sym sort ∙ z);
+        inode_type = ap (λ (n : ℕ). type_of (v.all.nodes n)) number ∙ was.inode_type ∙ ap (λ (z : InodeType). Some z) (sym inode_type);
+        written = λ y z. was.written (sym writable ∙ y) (sym inode_type ∙ z);
       })
-  | inr ne ↦ inv.sorts j d (sym (put_other v.files k (Some f) j ne) ∙ q)
+  | inr ne ↦ inv.inode_types j d (sym (put_other v.files k (Some f) j ne) ∙ q)
 ]
 
 pub not_one : (a b : ℕ) → a ≢ b → one_if (a == b) ≡ 0
@@ -413,7 +413,7 @@ s-double {A} {h} fd {k} {B} {Q} {n} {es} {w} {O} owns free lt pos walks none idl
         f = lowest (v.desks h).fds
 
         F : ℕ → Option Entry
-        F = put v.files s (Some (record { file = e.file; sort = e.sort; references = e.references + 1 }))
+        F = put v.files s (Some (record { file = e.file; inode_type = e.inode_type; references = e.references + 1 }))
 
         D : ℕ → Desk
         D = with_fd v.desks h f (Some s)
@@ -443,7 +443,7 @@ s-double {A} {h} fd {k} {B} {Q} {n} {es} {w} {O} owns free lt pos walks none idl
         uses_free : (j : ℕ) → one_if (is_at ((v.desks h).fds f) j) ≡ 0
         uses_free j = ap (λ (z : Option ℕ). one_if (is_at z j)) spare.1 ∙ one_no false refl
 
-        renews : Renews (shop_of v) s e (record { file = e.file; sort = e.sort; references = e.references + 1 }) D
+        renews : Renews (file_tables_of v) s e (record { file = e.file; inode_type = e.inode_type; references = e.references + 1 }) D
         renews = record {
           at = hit.at;
           same = refl;
@@ -453,15 +453,15 @@ s-double {A} {h} fd {k} {B} {Q} {n} {es} {w} {O} owns free lt pos walks none idl
         }
 
         tied : IsTied (record { files = F; desks = D; ids = v.ids; slots = v.slots; clean = v.clean; tree_fds = T.fds; tree_files = T.files })
-        tied = changes (shop_of v) h f (Some s) (Some (v.ids s)) F v.slots inv.tied (record {
+        tied = changes (file_tables_of v) h f (Some s) (Some (v.ids s)) F v.slots inv.tied (record {
           hart = lt;
           below = spare.0;
           opening = opening_none v ov;
           same = refl;
-          keep = renewed (shop_of v) s e (record { file = e.file; sort = e.sort; references = e.references + 1 }) D inv.tied renews;
-          used = λ j d a more. let z = renewed_at v.files s e (record { file = e.file; sort = e.sort; references = e.references + 1 }) j d hit.at refl a in (z.0, z.1);
+          keep = renewed (file_tables_of v) s e (record { file = e.file; inode_type = e.inode_type; references = e.references + 1 }) D inv.tied renews;
+          used = λ j d a more. let z = renewed_at v.files s e (record { file = e.file; inode_type = e.inode_type; references = e.references + 1 }) j d hit.at refl a in (z.0, z.1);
           has = λ j z. let a : s ≡ j = cc in (e, ap v.files (sym a) ∙ hit.at, fd, hit.below, hit.tree ∙ ap (λ (y : ℕ). Some (v.ids y)) a);
-          slots = λ j. inv.tied.slots j ∙ sym (renewed_slots v.files s e (record { file = e.file; sort = e.sort; references = e.references + 1 }) j hit.at refl);
+          slots = λ j. inv.tied.slots j ∙ sym (renewed_slots v.files s e (record { file = e.file; inode_type = e.inode_type; references = e.references + 1 }) j hit.at refl);
           lent = λ k q. absurd (let a = inv.tied.lends h f k lt spare.0 q in let b = spare.1 in cc (a, b));
         })
 
@@ -482,7 +482,7 @@ s-double {A} {h} fd {k} {B} {Q} {n} {es} {w} {O} owns free lt pos walks none idl
           kin = record {
             tied = tied;
             desks = λ g ne. put_other v.desks h (record (v.desks h) { fds = put (v.desks h).fds f (Some s) }) g ne;
-            numbers = λ g i j d lg ne li z a. let x = renewed_same v.files s e (record { file = e.file; sort = e.sort; references = e.references + 1 }) j d hit.at refl refl a in (x.0, x.1, x.2, inl x.3);
+            numbers = λ g i j d lg ne li z a. let x = renewed_same v.files s e (record { file = e.file; inode_type = e.inode_type; references = e.references + 1 }) j d hit.at refl refl a in (x.0, x.1, x.2, inl x.3);
             clean = λ c. c;
             bond = ap (λ (z : Desk). bond_of z) desk_is;
             stays = inl (ap (λ (z : Desk). z.directory) desk_is);
@@ -491,7 +491,7 @@ s-double {A} {h} fd {k} {B} {Q} {n} {es} {w} {O} owns free lt pos walks none idl
           unlent = (ap (λ (o : Own). o.desk.lender) ov ∙ free);
           joined = ap (λ (z : Desk). z.joined) desk_is;
           holds = refl;
-          sorts = λ k x q. renewed_sorts v s e (record { file = e.file; sort = e.sort; references = e.references + 1 }) inv hit.at refl refl refl k x q;
+          inode_types = λ k x q. renewed_types v s e (record { file = e.file; inode_type = e.inode_type; references = e.references + 1 }) inv hit.at refl refl refl k x q;
           noted = λ m q. (sym (ap (λ (z : Desk). z.noted) desk_is) ∙ q, (λ p. let r = refs_walk v.harts h None None h m.number in omega (arith, r, p)));
           directory = stands_on (v.desks h) (D h) (v.all.cwd h) v.all.nodes (ap (λ (o : Own). o.desk.lender) ov ∙ free) (ap (λ (z : Desk). z.directory) desk_is) (ap (λ (z : Desk). z.left) desk_is) (inv.directory h lt);
           home = ap (λ (z : Desk). z.directory) desk_is;
@@ -506,7 +506,7 @@ s-double {A} {h} fd {k} {B} {Q} {n} {es} {w} {O} owns free lt pos walks none idl
           counts = λ j. inv.counts j ∙ ap (λ (z : ℕ). v.slots j + z) (sym (sum_same hart_count (λ g. (v.harts g).refs j) (λ g. (with_walk v.harts h None None g).refs j) (λ g l. refs_walk v.harts h None None g j)));
           pinned = λ j kept o.
               let ne : o.fd ≢ f = (λ z. absurd (let a : (v.desks h).fds o.fd ≡ None = ap (v.desks h).fds z ∙ spare.1 in let b = o.is in cc (a, b))) in
-              let z = renewed_at v.files s e (record { file = e.file; sort = e.sort; references = e.references + 1 }) o.slot o.entry hit.at refl o.at in
+              let z = renewed_at v.files s e (record { file = e.file; inode_type = e.inode_type; references = e.references + 1 }) o.slot o.entry hit.at refl o.at in
               inl (record { fd = o.fd; below = o.below; slot = o.slot; is = ap (λ (d : Desk). d.fds o.fd) desk_is ∙ put_other (v.desks h).fds f (Some s) o.fd ne ∙ o.is; entry = z.0; at = z.1; number = z.2 ∙ o.number });
           names = λ j is. names_same j is;
           still = ap (λ (o : Own). o.mine.pending) ov ∙ none;

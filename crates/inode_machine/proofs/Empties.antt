@@ -1,5 +1,5 @@
 -- A file that the hart keeps is emptied, behind a descriptor of its own.
-use Rattle.inode_machine.proofs.Vocabulary.{◌≡◌, ℕ, ◌+◌, ◌<◌, true, List, [], ◌∷◌, Option, Some, None, refl, sym, ◌∙◌, ap, subst, Do, P, own, onto, Fine, Safe, Wp, Node, Kind, Directory, File, Device, OpenFile, Truncate, Done, hart_count, Name, Tree, put, is_live, settle, resolve, parent, answer_with, effect_with, emptied, file_at, is_file, node_at, node_or, place_of, refusal_with, with_nodes, IsInPlace, StepWith, Key, Behind, behind, settle_again, settled_step, IsWellFormed, effect_well, Stage, Step, OwnMove, World, Empty, sort_of, sort_of_kind, changed_record, with_no_bytes, with_walk, acts, made_by, own_made, marked, new_id, places, Own, own_of, Inv, machine, own_step}
+use Rattle.inode_machine.proofs.Vocabulary.{◌≡◌, ℕ, ◌+◌, ◌<◌, true, List, [], ◌∷◌, Option, Some, None, refl, sym, ◌∙◌, ap, subst, Do, P, own, onto, Fine, Safe, Wp, Node, NodeKind, Directory, File, Device, OpenFile, Truncate, Done, hart_count, Name, Tree, put, is_live, settle, resolve, parent, answer_with, effect_with, emptied, file_at, is_file, node_at, node_or, place_of, refusal_with, with_nodes, IsInPlace, StepWith, Key, Behind, behind, settle_again, settled_step, IsWellFormed, effect_well, Stage, Step, OwnMove, World, Empty, type_of, type_of_kind, changed_record, with_no_bytes, with_walk, acts, made_by, own_made, marked, new_id, places, Own, own_of, Inv, machine, own_step}
 use Rattle.inode_machine.proofs.Basics.{fair, fair_then, s-owned, has_disk, has_node, locked_held, locks_it, below_is, moves_good, own_walk, stage_walk, walk_did, own_takes}
 use Rattle.inode_machine.proofs.Writings.{Changing, changed_world, changing}
 
@@ -47,10 +47,10 @@ s-empty {A} {h} j fd key v {k} {B} {Q} {n} {es} {w} {O} owns free lt pos joined 
     y : Node
     y = emptied_node v
 
-    sort_y : (x : Kind) → sort_of_kind (emptied x) ≡ sort_of_kind x
-    sort_y (Directory slots) = refl
-    sort_y (File bytes) = refl
-    sort_y (Device major minor size) = refl
+    type_y : (x : NodeKind) → type_of_kind (emptied x) ≡ type_of_kind x
+    type_y (Directory slots) = refl
+    type_y (File bytes) = refl
+    type_y (Device major minor size) = refl
 
     good : (v0 : World) → Inv v0 → own_of h v0 ≡ O
         → Fine machine h (places h (Empty j) tt (own_step (Truncate fd)) v0) 900 n B es v0 (marked h (own_step (Truncate fd)) (changed_record v0 j with_no_bytes)) (λ l. Wp machine h B Q (k tt) l (onto (own h (places h (Empty j) tt (own_step (Truncate fd)) v0)) es) (marked h (own_step (Truncate fd)) (changed_record v0 j with_no_bytes)))
@@ -85,7 +85,7 @@ s-empty {A} {h} j fd key v {k} {B} {Q} {n} {es} {w} {O} owns free lt pos joined 
         effect_is = trunc_effect v0.all h fd 0 (new_id v0) j at.file v None None at.at file_j there
 
         c : Changing h j y (locked_held (Some v)) v0 O
-        c = changing h j y (locked_held (Some v)) v0 O ov free lt inv none isj ((λ z. Some (sort_y v.kind z)) ∙ ap (λ (o : Option Node). sort_of o) (sym there)) (ap (λ (o : Option Node). is_live o) (sym there))
+        c = changing h j y (locked_held (Some v)) v0 O ov free lt inv none isj ((λ z. Some (type_y v.kind z)) ∙ ap (λ (o : Option Node). type_of o) (sym there)) (ap (λ (o : Option Node). is_live o) (sym there))
             (subst (λ (z : Tree). IsWellFormed z) effect_is (effect_well v0.all h (Truncate fd) None None 0 (new_id v0) inv.well lt placed (λ m q. absurd cc) (λ q e. absurd cc) (trunc_goes v0.all h fd None None) (record { node = λ z. absurd cc; file = λ z. absurd cc })))
 
         u1 : World

@@ -1,31 +1,31 @@
 -- The descriptor of a file that an open made: where the file is to be emptied, it is empty.
-use Rattle.inode_machine.proofs.Vocabulary.{◌≡◌, ◌≢◌, ◌⊎◌, inl, inr, ℕ, ◌+◌, ◌-◌, ◌<◌, true, false, List, [], ◌∷◌, Option, Some, None, refl, sym, ◌∙◌, ap, subst, Do, Came, Ran, P, own, onto, Good, Fine, Safe, Wp, Node, Kind, Directory, File, Device, OpenFile, Truncate, Done, hart_count, Tree, put, settle, resolve, parent, effect_with, is_file, lowest, has_room, place_of, with_nodes, StepWith, Key, key_is, Behind, behind, settle_again, put_self, Stage, Step, OwnMove, Mark, World, Install, Sort, OfDirectory, sort_of, sort_of_kind, install_if, installed, with_walk, made_by, marked, new_id, places, with_mark, own_names, own_of, Own, Inv, machine, own_step}
+use Rattle.inode_machine.proofs.Vocabulary.{◌≡◌, ◌≢◌, ◌⊎◌, inl, inr, ℕ, ◌+◌, ◌-◌, ◌<◌, true, false, List, [], ◌∷◌, Option, Some, None, refl, sym, ◌∙◌, ap, subst, Do, ExecResult, Ran, P, own, onto, Good, Fine, Safe, Wp, Node, NodeKind, Directory, File, Device, OpenFile, Truncate, Done, hart_count, Tree, put, settle, resolve, parent, effect_with, is_file, lowest, has_room, place_of, with_nodes, StepWith, Key, key_is, Behind, behind, settle_again, put_self, Stage, Step, OwnMove, Mark, World, Install, InodeType, OfDirectory, type_of, type_of_kind, install_if, installed, with_walk, made_by, marked, new_id, places, with_mark, own_names, own_of, Own, Inv, machine, own_step}
 use Rattle.inode_machine.proofs.Basics.{fair, fair_then, s-owned, has_node, locked_held, walks_refs, not_home, spares, below_is, moves_good, own_walk, stage_walk, walk_did, own_takes}
 use Rattle.inode_machine.proofs.Empties.{empty_step, emptied_node, trunc_effect, trunc_made, trunc_place, trunc_settled}
 use Rattle.inode_machine.proofs.Installs.{own_installed, installing, Installing}
 
-file_no_directory : (k : Kind) (s : Sort) → ◌≡◌ {A = Option Sort} (Some (sort_of_kind k)) (Some s) → is_file k ≡ true → s ≢ OfDirectory
+file_no_directory : (k : NodeKind) (s : InodeType) → ◌≡◌ {A = Option InodeType} (Some (type_of_kind k)) (Some s) → is_file k ≡ true → s ≢ OfDirectory
 file_no_directory (Directory slots) s e f q = absurd cc
 file_no_directory (File bytes) s e f q = cc
 file_no_directory (Device major minor size) s e f q = absurd cc
 
-pub s-install-empty : {A : Type 0} {h : ℕ} (fd s : ℕ) (f : OpenFile) (sort : Sort) (y : Node) {m : Option ℕ → Option Mark} {k : Option ℕ → P machine A} {B : List Step → Type 0} {Q : A → List Step → World → Type 0} {n : ℕ} {es : List Step} {w : World} {O : Own}
+pub s-install-empty : {A : Type 0} {h : ℕ} (fd s : ℕ) (f : OpenFile) (inode_type : InodeType) (y : Node) {m : Option ℕ → Option Mark} {k : Option ℕ → P machine A} {B : List Step → Type 0} {Q : A → List Step → World → Type 0} {n : ℕ} {es : List Step} {w : World} {O : Own}
     → own_of h w ≡ O → O.desk.lender ≡ None → h < hart_count → 0 < n → O.desk.opening ≡ Some fd → O.desk.hand ≡ Some s → has_room O.desk.fds ≡ true → lowest O.desk.fds ≡ fd → O.row.keys fd ≡ Some (key_is f) → f.offset ≡ 0 → m (Some fd) ≡ own_step (Truncate fd)
-    → O.mine.walk ≡ None → O.mine.pending ≡ None → O.inodes f.number ≡ Some (locked_held (Some y)) → sort_of (Some y) ≡ Some sort → is_file y.kind ≡ true → emptied_node y ≡ y → 0 < O.mine.refs f.number → ((1 < O.mine.refs f.number) ⊎ (own_names O.row (record (O.desk) { opening = None }) f.number ≡ false)) → B (empty_step fd ∷ es)
+    → O.mine.walk ≡ None → O.mine.pending ≡ None → O.inodes f.number ≡ Some (locked_held (Some y)) → type_of (Some y) ≡ Some inode_type → is_file y.kind ≡ true → emptied_node y ≡ y → 0 < O.mine.refs f.number → ((1 < O.mine.refs f.number) ⊎ (own_names O.row (record (O.desk) { opening = None }) f.number ≡ false)) → B (empty_step fd ∷ es)
     → ((l : ℕ) (u : World) → l + 1 ≡ n → own_of h u ≡ own_installed O f.number fd s → Safe machine h B Q (k (Some fd)) l (empty_step fd ∷ es) u)
-    → Safe machine h B Q (Do (Install f sort) m k) n es w
-s-install-empty {A} {h} fd s f sort y {m} {k} {B} {Q} {n} {es} {w} {O} owns free lt pos opens hand room low keyed start marks walks none isi typed isf empty refers may b rest = s-owned owns free pos (λ v inv ov.
+    → Safe machine h B Q (Do (Install f inode_type) m k) n es w
+s-install-empty {A} {h} fd s f inode_type y {m} {k} {B} {Q} {n} {es} {w} {O} owns free lt pos opens hand room low keyed start marks walks none isi typed isf empty refers may b rest = s-owned owns free pos (λ v inv ov.
     let p : (v.desks h).hand ≡ Some s = ap (λ (o : Own). o.desk.hand) ov ∙ hand in
     let q : has_room (v.desks h).fds ≡ true = ap (λ (o : Own). has_room o.desk.fds) ov ∙ room in
     let c : lowest (v.desks h).fds ≡ fd = ap (λ (o : Own). lowest o.desk.fds) ov ∙ low in (
       ((λ z. cc (p, z)), start, spares h f.number v O ov refers (elim may [ inl x ↦ inl x | inr x ↦ inr (not_home h f.number v O None inv ov free lt x) ])),
-      (λ _ _. subst (λ (z : Came (Option ℕ) World). Good machine (Option ℕ) h (λ a. places h (Install f sort) a (m a) v) 0 n B es v ⊥ (with_mark h m z) (λ l a u. Wp machine h B Q (k a) l (onto (own h (places h (Install f sort) a (m a) v)) es) u))
-          (sym ((λ i. install_if h v f sort (p i) (q i)) ∙ (λ i. Ran (Some (c i)) (installed h v f sort s (c i)))))
-          (subst (λ (z : Option Mark). Fine machine h (places h (Install f sort) (Some fd) z v) 0 n B es v (marked h z (installed h v f sort s fd)) (λ l. Wp machine h B Q (k (Some fd)) l (onto (own h (places h (Install f sort) (Some fd) z v)) es) (marked h z (installed h v f sort s fd)))) (sym marks) (good v inv ov))),
+      (λ _ _. subst (λ (z : ExecResult (Option ℕ) World). Good machine (Option ℕ) h (λ a. places h (Install f inode_type) a (m a) v) 0 n B es v ⊥ (with_mark h m z) (λ l a u. Wp machine h B Q (k a) l (onto (own h (places h (Install f inode_type) a (m a) v)) es) u))
+          (sym ((λ i. install_if h v f inode_type (p i) (q i)) ∙ (λ i. Ran (Some (c i)) (installed h v f inode_type s (c i)))))
+          (subst (λ (z : Option Mark). Fine machine h (places h (Install f inode_type) (Some fd) z v) 0 n B es v (marked h z (installed h v f inode_type s fd)) (λ l. Wp machine h B Q (k (Some fd)) l (onto (own h (places h (Install f inode_type) (Some fd) z v)) es) (marked h z (installed h v f inode_type s fd)))) (sym marks) (good v inv ov))),
     ))
   where
     good : (v : World) → Inv v → own_of h v ≡ O
-        → Fine machine h (places h (Install f sort) (Some fd) (own_step (Truncate fd)) v) 0 n B es v (marked h (own_step (Truncate fd)) (installed h v f sort s fd)) (λ l. Wp machine h B Q (k (Some fd)) l (onto (own h (places h (Install f sort) (Some fd) (own_step (Truncate fd)) v)) es) (marked h (own_step (Truncate fd)) (installed h v f sort s fd)))
+        → Fine machine h (places h (Install f inode_type) (Some fd) (own_step (Truncate fd)) v) 0 n B es v (marked h (own_step (Truncate fd)) (installed h v f inode_type s fd)) (λ l. Wp machine h B Q (k (Some fd)) l (onto (own h (places h (Install f inode_type) (Some fd) (own_step (Truncate fd)) v)) es) (marked h (own_step (Truncate fd)) (installed h v f inode_type s fd)))
     good v inv ov =
         moves_good h 0 n B Q es v u (OwnMove (Truncate fd) 0) (k (Some fd)) (made_by v.all h (new_id v) (v.harts h).walk (OwnMove (Truncate fd) 0)) (record { all = v.all; walk = None; found = None; opened = None; entered = None; left = None; told = (empty_step fd).told })
         (trunc_made v.all h fd 0 (new_id v) f.number at.file y (resolve v.all h []) (parent v.all h []) at.at file_is there ∙ (λ z. record { all = stays z; walk = None; found = None; opened = None; entered = None; left = None; told = (empty_step fd).told }))
@@ -38,13 +38,13 @@ s-install-empty {A} {h} fd s f sort y {m} {k} {B} {Q} {n} {es} {w} {O} owns free
         (λ l q. (rest l u1 q (own_walk h None None u (own_installed O f.number fd s) c.owned ∙ kept)).wp)
       where
         u : World
-        u = installed h v f sort s fd
+        u = installed h v f inode_type s fd
 
         u1 : World
         u1 = record u { harts = with_walk u.harts h None None }
 
-        c : Installing h fd s f sort O v
-        c = installing h fd s f sort (locked_held (Some y)) v O ov free lt inv opens hand keyed start walks none isi refl typed (λ _. file_no_directory y.kind sort typed isf) refers may
+        c : Installing h fd s f inode_type O v
+        c = installing h fd s f inode_type (locked_held (Some y)) v O ov free lt inv opens hand keyed start walks none isi refl typed (λ _. file_no_directory y.kind inode_type typed isf) refers may
 
         at : Behind v.all h fd (key_is f)
         at = behind v.all h fd (key_is f) (ap (λ (o : Own). o.row.keys fd) ov ∙ keyed)

@@ -1,5 +1,5 @@
 -- How a call on a path ends: what it was told, what it gives up, and what it has then.
-use Rattle.inode_machine.proofs.Vocabulary.{◌≡◌, ◌≢◌, ◌⊎◌, inl, inr, ℕ, ◌+◌, ◌-◌, ◌*◌, ◌<◌, ◌≤◌, Bool, true, false, ◌==◌, ◌||◌, List, [], ◌∷◌, ◌++◌, length, Option, Some, None, refl, sym, ◌∙◌, ap, subst, arith, onto, oldest_first, Safe, Begun, Ends, onto_is, NoEntry, Reply, Call, Node, Action, Failed, Act, next_of, hart_count, put, hold_names, Row, key_names, Hold, holds_raised, one_if, one_yes, either, same_or, put_same, put_other, Deed, Step, Move, begins, fail, IsNext, MayEnd, IsPlayed, IsWholeCall, Begin, Look, Quit, Desk, World, Sort, sort_of, face_of, is_directory_face, is_directory_sort, is_at, Own, Held, key_in, nothing, own_names, own_of, Idle, Inv, Rests, left_or, machine, ThisP as P, Stop, NotThere, NoMemory, failed, give_up, stopped, tail, covered_calls}
+use Rattle.inode_machine.proofs.Vocabulary.{◌≡◌, ◌≢◌, ◌⊎◌, inl, inr, ℕ, ◌+◌, ◌-◌, ◌*◌, ◌<◌, ◌≤◌, Bool, true, false, ◌==◌, ◌||◌, List, [], ◌∷◌, ◌++◌, length, Option, Some, None, refl, sym, ◌∙◌, ap, subst, arith, onto, oldest_first, Safe, Begun, Ends, onto_is, NoEntry, Reply, Call, Node, Action, Failed, Act, next_of, hart_count, put, hold_names, Row, key_names, Hold, holds_raised, one_if, one_yes, either, same_or, put_same, put_other, Deed, Step, Move, begins, fail, IsNext, MayEnd, IsPlayed, IsWholeCall, Begin, Look, GiveUpWalk, Desk, World, InodeType, type_of, face_of, is_directory_face, is_directory_type, is_at, Own, Held, key_in, nothing, own_names, own_of, Idle, Inv, Rests, left_or, machine, ThisP as P, WalkStop, NotThere, NoMemory, failed, give_up, stopped, tail, covered_calls}
 use Rattle.inode_machine.proofs.Rules.{locked_held}
 use Rattle.inode_machine.proofs.Counting.{s-give, one_most}
 use Rattle.inode_machine.proofs.Drops.{s-drop}
@@ -46,8 +46,8 @@ follows_look c s f es w = (walked_look c [] es w, walked_begun c [] (looks (Look
 pub follows_lost : (c : Call) (s : Action) → Follows c s → (es : List Step) → Walked c [] es → Walked c (missed s ∷ []) (tells (Look 0) (fail s) ∷ es) × Begun covered_calls c (tells (Look 0) (fail s) ∷ es)
 follows_lost c s f es w = let a = walked_tells c [] (Look 0) (fail s) es tt w in (a, walked_begun c (missed s ∷ []) (tells (Look 0) (fail s) ∷ es) [] (failed c NoEntry) a f.missing)
 
-pub follows_quit : (c : Call) (s : Action) → Follows c s → (es : List Step) → Walked c [] es → Walked c (missed s ∷ []) (tells (Quit s) (fail s) ∷ es) × Begun covered_calls c (tells (Quit s) (fail s) ∷ es)
-follows_quit c s f es w = let a = walked_tells c [] (Quit s) (fail s) es tt w in (a, walked_begun c (missed s ∷ []) (tells (Quit s) (fail s) ∷ es) [] (failed c NoEntry) a f.missing)
+pub follows_quit : (c : Call) (s : Action) → Follows c s → (es : List Step) → Walked c [] es → Walked c (missed s ∷ []) (tells (GiveUpWalk s) (fail s) ∷ es) × Begun covered_calls c (tells (GiveUpWalk s) (fail s) ∷ es)
+follows_quit c s f es w = let a = walked_tells c [] (GiveUpWalk s) (fail s) es tt w in (a, walked_begun c (missed s ∷ []) (tells (GiveUpWalk s) (fail s) ∷ es) [] (failed c NoEntry) a f.missing)
 
 pub follows_begin : (c : Call) (s : Action) → Follows c s → Walked c [] (looks (Begin s 0) ∷ []) × Begun covered_calls c (looks (Begin s 0) ∷ [])
 follows_begin c s f = let a = walked_begin c [] s [] f.first (λ xs r p. p) in (a, walked_begun c [] (looks (Begin s 0) ∷ []) (tells (Look 0) (fail s) ∷ []) (failed c NoEntry) a (tt, f.missing))
@@ -99,12 +99,12 @@ s-ends h c r base ns n es w O owns free lt few joined listed refs walk pending m
     ))
 
 -- Where its walk was lost.
-pub s-lost : (h : ℕ) (c : Call) (s : Action) (K : ℕ) (base : ℕ → ℕ) (O0 : Own) → h < hart_count → Ready base O0 → MayRest O0 base → Follows c s → 64 ≤ K → (why : Stop) (ms : List ℕ) (l : ℕ) (es : List Step) (u : World) (R : Own) → 971 * length ms + K ≤ l → Gone h base ms O0 R u
+pub s-lost : (h : ℕ) (c : Call) (s : Action) (K : ℕ) (base : ℕ → ℕ) (O0 : Own) → h < hart_count → Ready base O0 → MayRest O0 base → Follows c s → 64 ≤ K → (why : WalkStop) (ms : List ℕ) (l : ℕ) (es : List Step) (u : World) (R : Own) → 971 * length ms + K ≤ l → Gone h base ms O0 R u
     → Lost (λ xs. Walked c (missed s ∷ []) xs) why es R → Safe machine h (Begun covered_calls c) (Ends covered_calls h c) (tail ms (stopped c why)) l es u
 s-lost h c s K base O0 lt ready may f enough why ms l es u R few g told =
     s-ends h c (stopped c why) base ms l es u R g.owns (g.stays.lender ∙ ready.free) lt (omega (arith, few, enough)) (g.stays.joined ∙ ready.joined) g.listed g.refs g.walk g.pending (may_stay R O0 base g.stays may) (by why told)
   where
-    by : (why : Stop) → Lost (λ xs. Walked c (missed s ∷ []) xs) why es R → (R.desk.full ≡ true) ⊎ IsWholeCall c (oldest_first es) (stopped c why)
+    by : (why : WalkStop) → Lost (λ xs. Walked c (missed s ∷ []) xs) why es R → (R.desk.full ≡ true) ⊎ IsWholeCall c (oldest_first es) (stopped c why)
     by NotThere t = inr (t [] (failed c NoEntry) f.missing)
     by NoMemory t = inl t
 
@@ -174,11 +174,11 @@ s-refuse h c r j x base ns n es w O own free lt few joined listed out refs walk 
     }) (elim told [ inl f ↦ inl (ap (λ (z : Desk). z.full) g.desk ∙ f) | inr y ↦ inr y ]))
 
 -- a face tells the type
-pub face_sort : (v : Option Node) (s : Sort) → sort_of v ≡ Some s → is_directory_face (face_of v) ≡ is_directory_sort s
-face_sort None s e = absurd cc
-face_sort (Some v) s e = ap (λ (z : Sort). is_directory_sort z) (some_is e)
+pub face_type : (v : Option Node) (s : InodeType) → type_of v ≡ Some s → is_directory_face (face_of v) ≡ is_directory_type s
+face_type None s e = absurd cc
+face_type (Some v) s e = ap (λ (z : InodeType). is_directory_type z) (some_is e)
   where
-    some_is : {a b : Sort} → ◌≡◌ {A = Option Sort} (Some a) (Some b) → a ≡ b
+    some_is : {a b : InodeType} → ◌≡◌ {A = Option InodeType} (Some a) (Some b) → a ≡ b
     some_is q = cc
 
 -- What a call on a path has once it has joined.

@@ -1,5 +1,5 @@
 -- A name is entered: without room for it nothing is; and mkdir's act, which is at that moment.
-use Rattle.inode_machine.proofs.Vocabulary.{◌≡◌, ◌≢◌, ℕ, ◌+◌, ◌<◌, ◌≤◌, Bool, true, false, nat_lt, List, [], ◌∷◌, Option, Some, None, refl, sym, ◌∙◌, ap, subst, arith, nat_tests, Do, Ran, Came, P, own, onto, Good, Fine, Safe, Wp, Node, Mkdir, Done, hart_count, count_limit, Name, Tree, put, look, is_directory, live_directory, settle, node_or, node_at, with_nodes, raised, new_directory, IsNewNode, refusal_with, effect_with, answer_with, place_of, IsInPlace, IsWellFormed, and_true, put_same, put_other, look_same, effect_well, Step, Look, Note, World, Mark, Outside, Room, RoomFor, Picks, EntryResult, InPlace, NoBlock, NoSlot, Enter, Mends, with_entry, enter_if, enter_in, is_full_directory, Made, new_id, marked, places, with_mark, Own, Held, own_of, Inv, machine, IsName, makes}
+use Rattle.inode_machine.proofs.Vocabulary.{◌≡◌, ◌≢◌, ℕ, ◌+◌, ◌<◌, ◌≤◌, Bool, true, false, nat_lt, List, [], ◌∷◌, Option, Some, None, refl, sym, ◌∙◌, ap, subst, arith, nat_tests, Do, Ran, ExecResult, P, own, onto, Good, Fine, Safe, Wp, Node, Mkdir, Done, hart_count, count_limit, Name, Tree, put, look, is_directory, live_directory, settle, node_or, node_at, with_nodes, raised, new_directory, IsNewNode, refusal_with, effect_with, answer_with, place_of, IsInPlace, IsWellFormed, and_true, put_same, put_other, look_same, effect_well, Step, Look, Note, World, Mark, Outside, Room, RoomFor, Picks, EntryResult, InPlace, NoBlock, NoSlot, Enter, Mends, with_entry, enter_if, enter_in, is_full_directory, Made, new_id, marked, places, with_mark, Own, Held, own_of, Inv, machine, IsName, makes}
 use Rattle.inode_machine.proofs.Basics.{s-owned, locks_it, has_disk, has_node, stage_walk, Mendable, mended_own, mend_fine, acts_gone, act_good, no_walk, told_step, two_put}
 use Rattle.inode_machine.proofs.Addings.{Adding, added_world, adding}
 
@@ -18,7 +18,7 @@ s-enter-with {A} {h} d i {x} X e {m} {k} {B} {Q} {n} {es} {w} {O} owns free lt p
   (λ o _. by_slots v inv ov o (is_full_directory (v.disk d))),
 ))
   where
-    Goal : World → Came EntryResult World → Type 0
+    Goal : World → ExecResult EntryResult World → Type 0
     Goal v z = Good machine EntryResult h (λ a. places h (Enter d e i) a (m a) v) 1640 n B es v ⊥ (with_mark h m z) (λ l a u. Wp machine h B Q (k a) l (onto (own h (places h (Enter d e i) a (m a) v)) es) u)
 
     -- nothing is entered

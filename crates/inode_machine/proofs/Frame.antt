@@ -1,5 +1,5 @@
 -- One lemma for all operations: what a step of one hart leaves to the others, and what still holds.
-use Rattle.inode_machine.proofs.Vocabulary.{◌≡◌, ◌≢◌, ◌⊎◌, inl, inr, ℕ, zero, suc, ◌+◌, ◌<◌, ◌≤◌, Bool, true, false, ◌==◌, ◌||◌, Option, Some, None, refl, sym, ◌∙◌, ap, subst, arith, if◌then◌else◌, OpenFile, hart_count, descriptor_count, Node, put, hold_names, Row, key_names, row_of, holds_raised, sum_below, IsWellFormed, either, or_left, or_right, eq_self, eq_is, eq_not, same_or, put_same, put_other, look_same, look_live, sum_part, sum_two, sort_of, Walk, Mine, Entry, Note, Desk, World, is_at, child_of, given_of, key_in, Own, Rests, left_or, Stands, shop_of, Shop, IsTied, own_names, Held, view, is_hart, if_kept, own_of, Found, IsReferredTo, IsReached, reference_limit, References, IsAlone, Has, KeepsFiles, HasType, Lends, Inv}
+use Rattle.inode_machine.proofs.Vocabulary.{◌≡◌, ◌≢◌, ◌⊎◌, inl, inr, ℕ, zero, suc, ◌+◌, ◌<◌, ◌≤◌, Bool, true, false, ◌==◌, ◌||◌, Option, Some, None, refl, sym, ◌∙◌, ap, subst, arith, if◌then◌else◌, OpenFile, hart_count, descriptor_count, Node, put, hold_names, Row, key_names, row_of, holds_raised, sum_below, IsWellFormed, either, or_left, or_right, eq_self, eq_is, eq_not, same_or, put_same, put_other, look_same, look_live, sum_part, sum_two, type_of, Walk, Mine, Entry, Note, Desk, World, is_at, child_of, given_of, key_in, Own, Rests, left_or, Stands, file_tables_of, FileTables, IsTied, own_names, Held, view, is_hart, if_kept, own_of, Found, IsReferredTo, IsReached, reference_limit, References, IsAlone, Has, KeepsFiles, HasType, Lends, Inv}
 
 -- Functions changed at one place, and what is kept.
 
@@ -82,35 +82,35 @@ stays_number Mine e f (inl same) = ap (λ (z : OpenFile). z.number) same
 stays_number Mine e f (inr moved) = moved.1
 
 -- what a step does to open files
-pub record Kin (h : ℕ) (Mine : ℕ → Type 0) (v u : Shop) : Type 0 where
+pub record FilesStep (h : ℕ) (Mine : ℕ → Type 0) (v u : FileTables) : Type 0 where
   pub tied : IsTied u
   pub desks : (g : ℕ) → g ≢ h → u.desks g ≡ v.desks g
   -- what another hart's descriptor has is as it was, or of an inode that is this hart's to change; its type stays
-  pub numbers : (g i k : ℕ) (e : Entry) → g < hart_count → g ≢ h → i < descriptor_count → (v.desks g).fds i ≡ Some k → v.files k ≡ Some e → (f : Entry) × (u.files k ≡ Some f) × (f.sort ≡ e.sort) × Stays Mine e f
+  pub numbers : (g i k : ℕ) (e : Entry) → g < hart_count → g ≢ h → i < descriptor_count → (v.desks g).fds i ≡ Some k → v.files k ≡ Some e → (f : Entry) × (u.files k ≡ Some f) × (f.inode_type ≡ e.inode_type) × Stays Mine e f
   pub clean : u.clean ≡ true → v.clean ≡ true
   -- it serves whom it served, and has meanwhile its directory
   pub bond : bond_of (u.desks h) ≡ bond_of (v.desks h)
   pub stays : ((u.desks h).directory ≡ (v.desks h).directory) ⊎ (child_of (v.desks h) ≡ None)
 
-pub shop_same : {Mine : ℕ → Type 0} (h : ℕ) (s : Shop) → IsTied s → Kin h Mine s s
-shop_same h s tied = record { tied = tied; desks = λ g ne. refl; numbers = λ g i k e lt ne li is at. (e, at, refl, inl refl); clean = λ c. c; bond = refl; stays = inl refl }
+pub file_tables_same : {Mine : ℕ → Type 0} (h : ℕ) (s : FileTables) → IsTied s → FilesStep h Mine s s
+file_tables_same h s tied = record { tied = tied; desks = λ g ne. refl; numbers = λ g i k e lt ne li is at. (e, at, refl, inl refl); clean = λ c. c; bond = refl; stays = inl refl }
 
 -- a step of hart h: of the invariant's parts only what isn't the others'
-pub record Did (h : ℕ) (v u : World) : Type 0 where
+pub record HartStep (h : ℕ) (v u : World) : Type 0 where
   pub hart : h < hart_count
   pub inodes : (j : ℕ) → Kept j v u ⊎ Changed h j v u
   pub mine : (g : ℕ) → g ≢ h → u.harts g ≡ v.harts g
   pub rows : (g : ℕ) → g ≢ h → row_of u.all g ≡ row_of v.all g
   pub size : u.all.ninodes ≡ v.all.ninodes
   pub ids : (k : ℕ) → u.next ≤ k → u.all.files k ≡ None
-  pub shop : Kin h (λ n. Ours h (v.keeper n)) (shop_of v) (shop_of u)
+  pub file_tables : FilesStep h (λ n. Ours h (v.keeper n)) (file_tables_of v) (file_tables_of u)
   pub free : (u.desks h).lender ≡ None
   pub raised : holds_raised true (u.all.holds h) ≡ true → (u.desks h).joined ≡ true
   pub quiet : (j : ℕ) → u.keeper j ≡ Some h → (u.desks h).joined ≡ false → u.disk j ≡ u.all.nodes j
   -- types stay, but for what the hart keeps alone
-  pub sort : (j : ℕ) → (sort_of (u.all.nodes j) ≡ sort_of (v.all.nodes j)) ⊎ ((v.keeper j ≡ Some h) × (v.alone j ≡ true))
-  pub sorts : (k : ℕ) (e : Entry) → u.files k ≡ Some e → HasType u.all.nodes e
-  pub noted : (n : Note) → (u.desks h).noted ≡ Some n → IsReached u h n.number → u.alone n.number ≡ false → sort_of (u.all.nodes n.number) ≡ n.sort
+  pub inode_type : (j : ℕ) → (type_of (u.all.nodes j) ≡ type_of (v.all.nodes j)) ⊎ ((v.keeper j ≡ Some h) × (v.alone j ≡ true))
+  pub inode_types : (k : ℕ) (e : Entry) → u.files k ≡ Some e → HasType u.all.nodes e
+  pub noted : (n : Note) → (u.desks h).noted ≡ Some n → IsReached u h n.number → u.alone n.number ≡ false → type_of (u.all.nodes n.number) ≡ n.inode_type
   pub directory : Stands (u.desks h) (u.all.cwd h) u.all.nodes
   pub well : IsWellFormed u.all
   pub counts : (i : ℕ) → u.refs i ≡ u.slots i + sum_below hart_count (λ g. (u.harts g).refs i)
@@ -122,24 +122,24 @@ pub record Did (h : ℕ) (v u : World) : Type 0 where
   pub pending : (i : ℕ) → (u.harts h).pending ≡ Some i → Found u.keeper u.all.nodes h i
   pub walks : (k : Walk) → (u.harts h).walk ≡ Some k → IsReached u h k.at
 
-pinned_on : (h : ℕ) (v u : World) (g i : ℕ) → Kin h (λ n. Ours h (v.keeper n)) (shop_of v) (shop_of u) → g < hart_count → g ≢ h → u.harts g ≡ v.harts g → IsReferredTo v.desks v.files v.harts g i → IsReferredTo u.desks u.files u.harts g i
+pinned_on : (h : ℕ) (v u : World) (g i : ℕ) → FilesStep h (λ n. Ours h (v.keeper n)) (file_tables_of v) (file_tables_of u) → g < hart_count → g ≢ h → u.harts g ≡ v.harts g → IsReferredTo v.desks v.files v.harts g i → IsReferredTo u.desks u.files u.harts g i
 pinned_on h v u g i kin lt ne same (inl o) =
     let n = kin.numbers g o.fd o.slot o.entry lt ne o.below o.is o.at in
     inl (record { fd = o.fd; below = o.below; slot = o.slot; is = ap (λ (d : Desk). d.fds o.fd) (kin.desks g ne) ∙ o.is; entry = n.0; at = n.1; number = stays_number (λ n. Ours h (v.keeper n)) o.entry n.0 n.3 ∙ o.number })
 pinned_on h v u g i kin lt ne same (inr p) = inr (let e = ap (λ (m : Mine). m.refs i) same in omega (arith, e, p))
 
-found_on : (h : ℕ) (v u : World) (g i : ℕ) → Did h v u → g ≢ h → Found v.keeper v.all.nodes g i → Found u.keeper u.all.nodes g i
+found_on : (h : ℕ) (v u : World) (g i : ℕ) → HartStep h v u → g ≢ h → Found v.keeper v.all.nodes g i → Found u.keeper u.all.nodes g i
 found_on h v u g i did ne f = at (did.inodes f.directory)
   where
     at : Kept f.directory v u ⊎ Changed h f.directory v u → Found u.keeper u.all.nodes g i
     at (inl k) = record { directory = f.directory; name = f.name; keeps = k.keeper ∙ f.keeps; finds = look_same v.all.nodes u.all.nodes f.directory f.name k.node ∙ f.finds }
     at (inr c) = not_ours h g (v.keeper f.directory) c.before ne f.keeps
 
-reached_on : (h : ℕ) (v u : World) (g i : ℕ) → Did h v u → g ≢ h → IsReached v g i → IsReached u g i
+reached_on : (h : ℕ) (v u : World) (g i : ℕ) → HartStep h v u → g ≢ h → IsReached v g i → IsReached u g i
 reached_on h v u g i did ne (inl p) = inl (let e = ap (λ (m : Mine). m.refs i) (did.mine g ne) in omega (arith, e, p))
 reached_on h v u g i did ne (inr f) = inr (ap (λ (m : Mine). m.pending) (did.mine g ne) ∙ f)
 
-reached_back : (h : ℕ) (v u : World) (g i : ℕ) → Did h v u → g ≢ h → IsReached u g i → IsReached v g i
+reached_back : (h : ℕ) (v u : World) (g i : ℕ) → HartStep h v u → g ≢ h → IsReached u g i → IsReached v g i
 reached_back h v u g i did ne (inl p) = inl (let e = ap (λ (m : Mine). m.refs i) (did.mine g ne) in omega (arith, e, p))
 reached_back h v u g i did ne (inr f) = inr (ap (λ (m : Mine). m.pending) (sym (did.mine g ne)) ∙ f)
 
@@ -183,15 +183,15 @@ resting_names r d n hold opening left q = eq_is r.cwd n (at (r.cwd == n) refl)
 
 -- it stays where the desk's other things change
 pub stands_on : (d e : Desk) (cwd : ℕ) (nodes : ℕ → Option Node) → d.lender ≡ None → e.directory ≡ d.directory → e.left ≡ d.left → Stands d cwd nodes → Stands e cwd nodes
-stands_on d e cwd nodes free same left s = record { at = λ _. same ∙ s.at free ∙ (λ z. left_or (sym left z) cwd); sort = ap (λ (n : ℕ). sort_of (nodes n)) same ∙ s.sort }
+stands_on d e cwd nodes free same left s = record { at = λ _. same ∙ s.at free ∙ (λ z. left_or (sym left z) cwd); inode_type = ap (λ (n : ℕ). type_of (nodes n)) same ∙ s.inode_type }
 
 -- and where its type does
-pub stands_in : (d : Desk) (cwd : ℕ) (nodes ns : ℕ → Option Node) → sort_of (ns d.directory) ≡ sort_of (nodes d.directory) → Stands d cwd nodes → Stands d cwd ns
-stands_in d cwd nodes ns same s = record { at = s.at; sort = same ∙ s.sort }
+pub stands_in : (d : Desk) (cwd : ℕ) (nodes ns : ℕ → Option Node) → type_of (ns d.directory) ≡ type_of (nodes d.directory) → Stands d cwd nodes → Stands d cwd ns
+stands_in d cwd nodes ns same s = record { at = s.at; inode_type = same ∙ s.inode_type }
 
 -- an open file's type stays where its inode's does
-pub type_on : (nodes ns : ℕ → Option Node) (e : Entry) → sort_of (ns e.file.number) ≡ sort_of (nodes e.file.number) → HasType nodes e → HasType ns e
-type_on nodes ns e same t = record { sort = same ∙ t.sort; written = t.written }
+pub type_on : (nodes ns : ℕ → Option Node) (e : Entry) → type_of (ns e.file.number) ≡ type_of (nodes e.file.number) → HasType nodes e → HasType ns e
+type_on nodes ns e same t = record { inode_type = same ∙ t.inode_type; written = t.written }
 
 -- the same references
 pub refers_on : (m n : Mine) (d e : Desk) → ((i : ℕ) → n.refs i ≡ m.refs i) → e.directory ≡ d.directory → References m d → References n e
@@ -207,8 +207,8 @@ refers_put m n d e i r is at little home a = record {
   home = subst (λ (f : ℕ → ℕ). 0 < f e.directory) (sym is) (subst (λ (z : ℕ). 0 < put m.refs i r z) (sym at) (put_elim m.refs i r d.directory (λ z. 0 < z) (λ q. home q) (λ ne. a.home)));
 }
 
-pub did_others : (h : ℕ) (v u : World) → Did h v u → (g : ℕ) → g ≢ h → own_of g u ≡ own_of g v
-did_others h v u did g ne = λ i. record { inodes = λ j. inode j (did.inodes j) i; mine = did.mine g ne i; row = did.rows g ne i; ninodes = did.size i; desk = did.shop.desks g ne i }
+pub did_others : (h : ℕ) (v u : World) → HartStep h v u → (g : ℕ) → g ≢ h → own_of g u ≡ own_of g v
+did_others h v u did g ne = λ i. record { inodes = λ j. inode j (did.inodes j) i; mine = did.mine g ne i; row = did.rows g ne i; ninodes = did.size i; desk = did.file_tables.desks g ne i }
   where
     inode : (j : ℕ) → Kept j v u ⊎ Changed h j v u → if_kept (u.keeper j) g (view u g j) ≡ if_kept (v.keeper j) g (view v g j)
     inode j (inl k) =
@@ -217,9 +217,9 @@ did_others h v u did g ne = λ i. record { inodes = λ j. inode j (did.inodes j)
     inode j (inr c) = not_kept h g (u.keeper j) (view u g j) c.after ne ∙ sym (not_kept h g (v.keeper j) (view v g j) c.before ne)
 
 -- no other hart's open file moves
-pub did_opens : (h : ℕ) (v u : World) → Did h v u → (g : ℕ) → g ≢ h → KeepsFiles g v u
+pub did_opens : (h : ℕ) (v u : World) → HartStep h v u → (g : ℕ) → g ≢ h → KeepsFiles g v u
 did_opens h v u did g ne i k e lt below is at =
-    let n = did.shop.numbers g i k e lt ne below is at in
+    let n = did.file_tables.numbers g i k e lt ne below is at in
     (n.0, n.1, n.2, (λ keeps. elim n.3 [ inl same ↦ same | inr moved ↦ not_ours h g (v.keeper e.file.number) moved.0 ne keeps ]))
 
 -- nor by two steps
@@ -249,7 +249,7 @@ child_directory w c g l = at (given_of (w.desks c)) l.has
     at (Some zero) x = inr x
     at (Some (suc k)) x = inl x
 
-pub did_inv : (h : ℕ) (v u : World) → Inv v → Did h v u → Inv u
+pub did_inv : (h : ℕ) (v u : World) → Inv v → HartStep h v u → Inv u
 did_inv h v u inv did =
     record {
       well = did.well;
@@ -272,13 +272,13 @@ did_inv h v u inv did =
       counts = did.counts;
       refers = λ g lt. elim (same_or g h) [
         | inl e ↦ subst (λ (z : ℕ). References (u.harts z) (u.desks z)) (sym e) did.refers
-        | inr ne ↦ subst (λ (m : Mine). References m (u.desks g)) (sym (did.mine g ne)) (subst (λ (d : Desk). References (v.harts g) d) (sym (did.shop.desks g ne)) (inv.refers g lt))
+        | inr ne ↦ subst (λ (m : Mine). References m (u.desks g)) (sym (did.mine g ne)) (subst (λ (d : Desk). References (v.harts g) d) (sym (did.file_tables.desks g ne)) (inv.refers g lt))
       ];
-      tied = did.shop.tied;
-      sorts = did.sorts;
+      tied = did.file_tables.tied;
+      inode_types = did.inode_types;
       named = λ g i lt free is. elim (same_or g h) [
         | inl e ↦ subst (λ (z : ℕ). IsReached u z i) (sym e) (did.named i (subst (λ (z : ℕ). own_names (row_of u.all z) (u.desks z) i ≡ true) e is))
-        | inr ne ↦ reached_on h v u g i did ne (inv.named g i lt (ap (λ (d : Desk). d.lender) (sym (did.shop.desks g ne)) ∙ free) ((λ z. own_names (sym (did.rows g ne) z) (sym (did.shop.desks g ne) z) i) ∙ is))
+        | inr ne ↦ reached_on h v u g i did ne (inv.named g i lt (ap (λ (d : Desk). d.lender) (sym (did.file_tables.desks g ne)) ∙ free) ((λ z. own_names (sym (did.rows g ne) z) (sym (did.file_tables.desks g ne) z) i) ∙ is))
       ];
       pending = λ g i lt is. elim (same_or g h) [
         | inl e ↦ subst (λ (z : ℕ). Found u.keeper u.all.nodes z i) (sym e) (did.pending i (subst (λ (z : ℕ). (u.harts z).pending ≡ Some i) e is))
@@ -290,35 +290,35 @@ did_inv h v u inv did =
       ];
       noted = λ g n lt is r s. elim (same_or g h) [
         | inl e ↦ did.noted n (ap (λ (z : ℕ). (u.desks z).noted) (sym e) ∙ is) (subst (λ (z : ℕ). IsReached u z n.number) e r) s
-        | inr ne ↦ (let r2 = reached_back h v u g n.number did ne r in elim (did.sort n.number) [
-          | inl e ↦ e ∙ inv.noted g n lt (ap (λ (d : Desk). d.noted) (sym (did.shop.desks g ne)) ∙ is) r2 (still_shared g n.number lt ne r2 s (did.inodes n.number))
+        | inr ne ↦ (let r2 = reached_back h v u g n.number did ne r in elim (did.inode_type n.number) [
+          | inl e ↦ e ∙ inv.noted g n lt (ap (λ (d : Desk). d.noted) (sym (did.file_tables.desks g ne)) ∙ is) r2 (still_shared g n.number lt ne r2 s (did.inodes n.number))
           | inr a ↦ absurd (lone_not h g n.number v inv lt ne a.0 a.1 r2)
         ])
       ];
       directory = λ g lt. elim (same_or g h) [
         | inl e ↦ subst (λ (z : ℕ). Stands (u.desks z) (u.all.cwd z) u.all.nodes) (sym e) did.directory
-        | inr ne ↦ subst (λ (d : Desk). Stands d (u.all.cwd g) u.all.nodes) (sym (did.shop.desks g ne)) (let s = inv.directory g lt in record {
+        | inr ne ↦ subst (λ (d : Desk). Stands d (u.all.cwd g) u.all.nodes) (sym (did.file_tables.desks g ne)) (let s = inv.directory g lt in record {
           at = λ free. s.at free ∙ (λ z. left_or (v.desks g).left (sym (did.rows g ne) z).cwd);
-          sort = elim (did.sort (v.desks g).directory) [
-            | inl e ↦ e ∙ s.sort
+          inode_type = elim (did.inode_type (v.desks g).directory) [
+            | inl e ↦ e ∙ s.inode_type
             | inr a ↦ absurd (lone_not h g (v.desks g).directory v inv lt ne a.0 a.1 (inl (inv.refers g lt).home))
           ];
         })
       ];
       raised = λ g lt q. elim (same_or g h) [
         | inl e ↦ ap (λ (z : ℕ). (u.desks z).joined) e ∙ did.raised (ap (λ (z : ℕ). holds_raised true (u.all.holds z)) (sym e) ∙ q)
-        | inr ne ↦ ap (λ (d : Desk). d.joined) (did.shop.desks g ne) ∙ inv.raised g lt (ap (λ (r : Row). holds_raised true r.hold) (sym (did.rows g ne)) ∙ q)
+        | inr ne ↦ ap (λ (d : Desk). d.joined) (did.file_tables.desks g ne) ∙ inv.raised g lt (ap (λ (r : Row). holds_raised true r.hold) (sym (did.rows g ne)) ∙ q)
       ];
       lent = λ g c lt is. elim (same_or g h) [
         | inl e ↦ absurd (let a = ap (λ (z : ℕ). (u.desks z).lender) (sym e) ∙ is in let b = did.free in cc (a, b))
-        | inr ne ↦ lent g c ne (inv.lent g c lt (ap (λ (d : Desk). d.lender) (sym (did.shop.desks g ne)) ∙ is))
+        | inr ne ↦ lent g c ne (inv.lent g c lt (ap (λ (d : Desk). d.lender) (sym (did.file_tables.desks g ne)) ∙ is))
       ];
       serves = λ c g lt is.
           let s = inv.serves c g lt (child_was c (same_or c h) ∙ is) in (
             s.0,
             elim (same_or g h) [
-              | inl e ↦ absurd (let a : (v.desks h).lender ≡ Some c = ap (λ (z : ℕ). (v.desks z).lender) (sym e) ∙ s.1 in let b : (v.desks h).lender ≡ None = ap (λ (z : Bond). z.lender) (sym did.shop.bond) ∙ did.free in cc (a, b))
-              | inr ne ↦ ap (λ (d : Desk). d.lender) (did.shop.desks g ne) ∙ s.1
+              | inl e ↦ absurd (let a : (v.desks h).lender ≡ Some c = ap (λ (z : ℕ). (v.desks z).lender) (sym e) ∙ s.1 in let b : (v.desks h).lender ≡ None = ap (λ (z : Bond). z.lender) (sym did.file_tables.bond) ∙ did.free in cc (a, b))
+              | inr ne ↦ ap (λ (d : Desk). d.lender) (did.file_tables.desks g ne) ∙ s.1
             ],
           );
     }
@@ -328,24 +328,24 @@ did_inv h v u inv did =
     whole j (inr c) none = c.whole none
 
     quiet : (j g : ℕ) → g ≢ h → u.keeper j ≡ Some g → (u.desks g).joined ≡ false → Kept j v u ⊎ Changed h j v u → u.disk j ≡ u.all.nodes j
-    quiet j g ne is free (inl k) = k.disk ∙ inv.quiet j g (sym k.keeper ∙ is) (ap (λ (d : Desk). d.joined) (sym (did.shop.desks g ne)) ∙ free) ∙ sym k.node
+    quiet j g ne is free (inl k) = k.disk ∙ inv.quiet j g (sym k.keeper ∙ is) (ap (λ (d : Desk). d.joined) (sym (did.file_tables.desks g ne)) ∙ free) ∙ sym k.node
     quiet j g ne is free (inr c) = not_ours h g (u.keeper j) c.after ne is
 
     child_was : (c : ℕ) → ((c ≡ h) ⊎ (c ≢ h)) → child_of (v.desks c) ≡ child_of (u.desks c)
-    child_was c (inl e) = ap (λ (z : ℕ). child_of (v.desks z)) e ∙ sym (ap (λ (z : Bond). z.child) did.shop.bond) ∙ ap (λ (z : ℕ). child_of (u.desks z)) (sym e)
-    child_was c (inr nc) = ap (λ (d : Desk). child_of d) (sym (did.shop.desks c nc))
+    child_was c (inl e) = ap (λ (z : ℕ). child_of (v.desks z)) e ∙ sym (ap (λ (z : Bond). z.child) did.file_tables.bond) ∙ ap (λ (z : ℕ). child_of (u.desks z)) (sym e)
+    child_was c (inr nc) = ap (λ (d : Desk). child_of d) (sym (did.file_tables.desks c nc))
 
     given_was : (c : ℕ) → ((c ≡ h) ⊎ (c ≢ h)) → given_of (v.desks c) ≡ given_of (u.desks c)
-    given_was c (inl e) = ap (λ (z : ℕ). given_of (v.desks z)) e ∙ sym (ap (λ (z : Bond). z.given) did.shop.bond) ∙ ap (λ (z : ℕ). given_of (u.desks z)) (sym e)
-    given_was c (inr nc) = ap (λ (d : Desk). given_of d) (sym (did.shop.desks c nc))
+    given_was c (inl e) = ap (λ (z : ℕ). given_of (v.desks z)) e ∙ sym (ap (λ (z : Bond). z.given) did.file_tables.bond) ∙ ap (λ (z : ℕ). given_of (u.desks z)) (sym e)
+    given_was c (inr nc) = ap (λ (d : Desk). given_of d) (sym (did.file_tables.desks c nc))
 
     lent : (g c : ℕ) → g ≢ h → Lends v c g → Lends u c g
     lent g c ne l = record {
       hart = l.hart;
-      free = elim (same_or c h) [ inl e ↦ ap (λ (z : ℕ). (u.desks z).lender) e ∙ did.free | inr nc ↦ ap (λ (d : Desk). d.lender) (did.shop.desks c nc) ∙ l.free ];
+      free = elim (same_or c h) [ inl e ↦ ap (λ (z : ℕ). (u.desks z).lender) e ∙ did.free | inr nc ↦ ap (λ (d : Desk). d.lender) (did.file_tables.desks c nc) ∙ l.free ];
       child = sym (child_was c (same_or c h)) ∙ l.child;
       rests = subst (λ (o : Own). Rests o) (sym (did_others h v u did g ne)) l.rests;
-      has = subst (λ (d : Desk). Has (given_of (u.desks c)) d.fds (u.all.cwd g) d.directory (u.desks c).directory) (sym (did.shop.desks g ne))
+      has = subst (λ (d : Desk). Has (given_of (u.desks c)) d.fds (u.all.cwd g) d.directory (u.desks c).directory) (sym (did.file_tables.desks g ne))
           (has_on (given_of (v.desks c)) (given_of (u.desks c)) (v.desks g).fds (v.all.cwd g) (u.all.cwd g) (v.desks g).directory (v.desks c).directory (u.desks c).directory (given_was c (same_or c h)) (sym cwd) (stays (same_or c h)) l.has);
     }
       where
@@ -353,8 +353,8 @@ did_inv h v u inv did =
         cwd = ap (λ (r : Row). r.cwd) (did.rows g ne)
 
         stays : ((c ≡ h) ⊎ (c ≢ h)) → (v.desks c).directory ≡ (u.desks c).directory
-        stays (inr nc) = ap (λ (d : Desk). d.directory) (sym (did.shop.desks c nc))
-        stays (inl e) = elim did.shop.stays [
+        stays (inr nc) = ap (λ (d : Desk). d.directory) (sym (did.file_tables.desks c nc))
+        stays (inl e) = elim did.file_tables.stays [
           | inl q ↦ ap (λ (z : ℕ). (v.desks z).directory) e ∙ sym q ∙ ap (λ (z : ℕ). (u.desks z).directory) (sym e)
           | inr q ↦ absurd (let a = l.child in let b : child_of (v.desks c) ≡ None = ap (λ (z : ℕ). child_of (v.desks z)) e ∙ q in cc (a, b))
         ]
@@ -375,7 +375,7 @@ did_inv h v u inv did =
     keeps j g (inr c) is = c.keeps g is
 
     kept : (j g : ℕ) → g ≢ h → u.keeper j ≡ Some g → Kept j v u ⊎ Changed h j v u → (g < hart_count) × IsReferredTo u.desks u.files u.harts g j
-    kept j g ne is (inl k) = let p = inv.kept j g (sym k.keeper ∙ is) in (p.0, pinned_on h v u g j did.shop p.0 ne (did.mine g ne) p.1)
+    kept j g ne is (inl k) = let p = inv.kept j g (sym k.keeper ∙ is) in (p.0, pinned_on h v u g j did.file_tables p.0 ne (did.mine g ne) p.1)
     kept j g ne is (inr c) = not_ours h g (u.keeper j) c.after ne is
 
     held : (j g : ℕ) → g ≢ h → u.keeper j ≡ Some g → Kept j v u ⊎ Changed h j v u → (u.lock j ≡ Some g) ⊎ (u.alone j ≡ true)
@@ -389,8 +389,8 @@ pub record Fair (h : ℕ) (v u : World) : Type 0 where
   pub opens : (g : ℕ) → g ≢ h → KeepsFiles g v u
   pub clean : u.clean ≡ true → v.clean ≡ true
 
-pub fair : {h : ℕ} {v u : World} → Inv v → Did h v u → Fair h v u
-fair {h} {v} {u} inv did = record { inv = did_inv h v u inv did; others = did_others h v u did; opens = did_opens h v u did; clean = did.shop.clean }
+pub fair : {h : ℕ} {v u : World} → Inv v → HartStep h v u → Fair h v u
+fair {h} {v} {u} inv did = record { inv = did_inv h v u inv did; others = did_others h v u did; opens = did_opens h v u did; clean = did.file_tables.clean }
 
 pub fair_then : {h : ℕ} {v u w : World} → Fair h v u → Fair h u w → Fair h v w
 fair_then {h} {v} {u} {w} a b = record { inv = b.inv; others = λ g ne. b.others g ne ∙ a.others g ne; opens = λ g ne. files_then g v u w (a.others g ne) (a.opens g ne) (b.opens g ne); clean = λ c. a.clean (b.clean c) }

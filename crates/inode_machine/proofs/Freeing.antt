@@ -1,6 +1,6 @@
 -- Inodes that one hart keeps alone: locked, freed, and anybody's again.
-use Rattle.inode_machine.proofs.Vocabulary.{◌≡◌, ◌≢◌, ◌⊎◌, inl, inr, ℕ, ◌+◌, ◌-◌, ◌<◌, Bool, true, false, ◌==◌, List, [], Option, Some, None, refl, sym, ◌∙◌, ap, subst, arith, Do, unmarked, P, Good, Fine, Safe, Wp, Node, hart_count, put, is_live, is_named, settle, row_of, settle_nodes, sum_below, either, same_or, put_same, put_other, none_any, look_live, Step, Walk, Mine, World, Entry, with_mark, lock_if, blank, counted_down, file_count, locked, unlocked, Frees, Take, Give, Free, Forget, shop_of, own_names, Held, view, is_hart, if_kept, own_of, IsReferredTo, IsReached, IsAlone, Inv, IsOut, machine, looking_cost, number_is, Sought, sum_part, one_yes, one_if, eq_self, Own, Query, Sight, seen_in, sort_of}
-use Rattle.inode_machine.proofs.Frame.{child_directory, shop_same, put_elim, ours_none, ours_some, kept_here, Did, Fair, fair, fair_then, own_inodes, has_inode, found_more, one_refs, two_refs, stands_in, directory_named, refers_put, resting_names, type_on}
+use Rattle.inode_machine.proofs.Vocabulary.{◌≡◌, ◌≢◌, ◌⊎◌, inl, inr, ℕ, ◌+◌, ◌-◌, ◌<◌, Bool, true, false, ◌==◌, List, [], Option, Some, None, refl, sym, ◌∙◌, ap, subst, arith, Do, unmarked, P, Good, Fine, Safe, Wp, Node, hart_count, put, is_live, is_named, settle, row_of, settle_nodes, sum_below, either, same_or, put_same, put_other, none_any, look_live, Step, Walk, Mine, World, Entry, with_mark, lock_if, blank, counted_down, file_count, locked, unlocked, Frees, Take, UnlockInode, Free, Forget, file_tables_of, own_names, Held, view, is_hart, if_kept, own_of, IsReferredTo, IsReached, IsAlone, Inv, IsOut, machine, looking_cost, number_is, Sought, sum_part, one_yes, one_if, eq_self, Own, Query, Sight, seen_in, type_of}
+use Rattle.inode_machine.proofs.Frame.{child_directory, file_tables_same, put_elim, ours_none, ours_some, kept_here, HartStep, Fair, fair, fair_then, own_inodes, has_inode, found_more, one_refs, two_refs, stands_in, directory_named, refers_put, resting_names, type_on}
 use Rattle.inode_machine.proofs.Rules.{s-owned, quiet, each_refs, here_refs, walks_refs, total_same, total_changed, my_refs, is_me, has_disk, has_node, locks_it}
 use Rattle.inode_machine.proofs.Counting.{Writes, writes, spares, not_home}
 use Rattle.inode_machine.proofs.Rows.{hart_not}
@@ -29,7 +29,7 @@ locking_kept h i x v O ov free lt inv isi out = record { unlocked = none (v.lock
     same : (j : ℕ) → put v.keeper i (Some h) j ≡ v.keeper j
     same j = put_elim v.keeper i (Some h) j (λ z. z ≡ v.keeper j) (λ q. sym (ap v.keeper q ∙ kept)) (λ q. refl)
 
-    did : Did h v u
+    did : HartStep h v u
     did =
         record {
           hart = lt;
@@ -46,12 +46,12 @@ locking_kept h i x v O ov free lt inv isi out = record { unlocked = none (v.lock
           rows = λ g ne. refl;
           size = refl;
           ids = inv.ids;
-          shop = shop_same h (shop_of v) inv.tied;
+          file_tables = file_tables_same h (file_tables_of v) inv.tied;
           free = ap (λ (o : Own). o.desk.lender) ov ∙ free;
           raised = inv.raised h lt;
           quiet = λ j is f. inv.quiet j h (sym (same j) ∙ is) f;
-          sort = λ j. inl refl;
-          sorts = inv.sorts;
+          inode_type = λ j. inl refl;
+          inode_types = inv.inode_types;
           noted = λ n is r s. inv.noted h n lt is r s;
           directory = inv.directory h lt;
           refers = inv.refers h lt;
@@ -186,7 +186,7 @@ s-free {A} {h} {i} {x} {k} {B} {Q} {n} {es} {w} {O} owns free lt pos joined isi 
           | inr ne ↦ inl (put_other v.all.nodes i None j ne)
         ])
 
-        did : Did h u1 u
+        did : HartStep h u1 u
         did =
             record {
               hart = lt;
@@ -203,20 +203,20 @@ s-free {A} {h} {i} {x} {k} {B} {Q} {n} {es} {w} {O} owns free lt pos joined isi 
               rows = λ g ne. refl;
               size = refl;
               ids = inv.ids;
-              shop = shop_same h (shop_of v) inv.tied;
+              file_tables = file_tables_same h (file_tables_of v) inv.tied;
               free = ap (λ (o : Own). o.desk.lender) ov ∙ free;
               raised = inv.raised h lt;
               quiet = λ j is f. absurd (let e : (v.desks h).joined ≡ true = ap (λ (o : Own). o.desk.joined) ov ∙ joined in cc (e, f));
-              sort = λ j. elim (same_or j i) [
+              inode_type = λ j. elim (same_or j i) [
                 | inl q ↦ inr (ap v.keeper q ∙ kept, ap v.alone q ∙ lone_at)
-                | inr ne ↦ inl (ap (λ (z : Option Node). sort_of z) (put_other v.all.nodes i None j ne))
+                | inr ne ↦ inl (ap (λ (z : Option Node). type_of z) (put_other v.all.nodes i None j ne))
               ];
-              sorts = λ k e is. type_on v.all.nodes (put v.all.nodes i None) e (ap (λ (z : Option Node). sort_of z) (put_other v.all.nodes i None e.file.number (lone_file h i k e v inv lt lone_at kept is))) (inv.sorts k e is);
+              inode_types = λ k e is. type_on v.all.nodes (put v.all.nodes i None) e (ap (λ (z : Option Node). type_of z) (put_other v.all.nodes i None e.file.number (lone_file h i k e v inv lt lone_at kept is))) (inv.inode_types k e is);
               noted = λ n is r s. elim (same_or n.number i) [
                 | inl q ↦ absurd (let a : v.alone n.number ≡ true = ap v.alone q ∙ lone_at in cc (a, s))
-                | inr ne ↦ ap (λ (z : Option Node). sort_of z) (put_other v.all.nodes i None n.number ne) ∙ inv.noted h n lt is r s
+                | inr ne ↦ ap (λ (z : Option Node). type_of z) (put_other v.all.nodes i None n.number ne) ∙ inv.noted h n lt is r s
               ];
-              directory = stands_in (v.desks h) (v.all.cwd h) v.all.nodes (put v.all.nodes i None) (ap (λ (z : Option Node). sort_of z) (put_other v.all.nodes i None (v.desks h).directory not_directory)) (inv.directory h lt);
+              directory = stands_in (v.desks h) (v.all.cwd h) v.all.nodes (put v.all.nodes i None) (ap (λ (z : Option Node). type_of z) (put_other v.all.nodes i None (v.desks h).directory not_directory)) (inv.directory h lt);
               refers = inv.refers h lt;
               well = well_gone v.all i inv.well dead out;
               counts = inv.counts;
@@ -243,7 +243,7 @@ s-free {A} {h} {i} {x} {k} {B} {Q} {n} {es} {w} {O} owns free lt pos joined isi 
 pub s-give-alone : {A : Type 0} {h i : ℕ} {x : Held} {k : Unit {0} → P machine A} {B : List Step → Type 0} {Q : A → List Step → World → Type 0} {n : ℕ} {es : List Step} {w : World} {O : Own}
     → own_of h w ≡ O → O.desk.lender ≡ None → h < hart_count → 0 < n → O.inodes i ≡ Some x → x.locked ≡ true → x.alone ≡ true
     → ((l : ℕ) (u : World) → l + 1 ≡ n → own_of h u ≡ record O { inodes = put O.inodes i (Some (record x { locked = false })) } → Safe machine h B Q (k tt) l es u)
-    → Safe machine h B Q (Do (Give i) unmarked k) n es w
+    → Safe machine h B Q (Do (UnlockInode i) unmarked k) n es w
 s-give-alone {A} {h} {i} {x} {k} {B} {Q} {n} {es} {w} {O} owns free lt pos isi has lone rest = s-owned owns free pos (λ v inv ov. (
   locks_it h i v O x ov isi has,
   (λ _ _.
@@ -258,7 +258,7 @@ s-give-alone {A} {h} {i} {x} {k} {B} {Q} {n} {es} {w} {O} owns free lt pos isi h
     kept : (v : World) → own_of h v ≡ O → v.keeper i ≡ Some h
     kept v ov = (has_inode h i v O x ov isi).0
 
-    did : (v : World) → Inv v → own_of h v ≡ O → Did h v (record v { lock = put v.lock i None })
+    did : (v : World) → Inv v → own_of h v ≡ O → HartStep h v (record v { lock = put v.lock i None })
     did v inv ov =
         record {
           hart = lt;
@@ -275,12 +275,12 @@ s-give-alone {A} {h} {i} {x} {k} {B} {Q} {n} {es} {w} {O} owns free lt pos isi h
           rows = λ g ne. refl;
           size = refl;
           ids = inv.ids;
-          shop = shop_same h (shop_of v) inv.tied;
+          file_tables = file_tables_same h (file_tables_of v) inv.tied;
           free = ap (λ (o : Own). o.desk.lender) ov ∙ free;
           raised = inv.raised h lt;
           quiet = λ j is f. inv.quiet j h is f;
-          sort = λ j. inl refl;
-          sorts = inv.sorts;
+          inode_type = λ j. inl refl;
+          inode_types = inv.inode_types;
           noted = λ n is r s. inv.noted h n lt is r s;
           directory = inv.directory h lt;
           refers = inv.refers h lt;
@@ -381,7 +381,7 @@ s-forget {A} {h} {i} {x} {k} {B} {Q} {n} {es} {w} {O} owns free lt pos isi lone 
             let l : is_hart (v.lock i) h ≡ false = ap (λ (y : Held). y.locked) (has_inode h i v O x ov isi).1 ∙ out in
             absurd (cc (m, l))
 
-        did : Did h v u
+        did : HartStep h v u
         did =
             record {
               hart = lt;
@@ -398,12 +398,12 @@ s-forget {A} {h} {i} {x} {k} {B} {Q} {n} {es} {w} {O} owns free lt pos isi lone 
               rows = λ g ne. refl;
               size = refl;
               ids = inv.ids;
-              shop = shop_same h (shop_of v) inv.tied;
+              file_tables = file_tables_same h (file_tables_of v) inv.tied;
               free = ap (λ (o : Own). o.desk.lender) ov ∙ free;
               raised = inv.raised h lt;
               quiet = λ j is f. inv.quiet j h (was j is) f;
-              sort = λ j. inl refl;
-              sorts = inv.sorts;
+              inode_type = λ j. inl refl;
+              inode_types = inv.inode_types;
               noted = λ n is r s. elim (same_or n.number i) [
                 | inl q ↦ absurd (none_left n.number q r)
                 | inr ne ↦ inv.noted h n lt is (shrink n.number r) (sym (put_other v.alone i false n.number ne) ∙ s)
@@ -451,7 +451,7 @@ s-forget {A} {h} {i} {x} {k} {B} {Q} {n} {es} {w} {O} owns free lt pos isi lone 
 pub s-free-all : {A : Type 0} {h i : ℕ} (s : Option Node) {k : P machine A} {B : List Step → Type 0} {Q : A → List Step → World → Type 0} {n : ℕ} {es : List Step} {w : World} {O : Own}
     → own_of h w ≡ O → O.desk.lender ≡ None → h < hart_count → 902 < n → O.desk.joined ≡ true → O.inodes i ≡ Some (record { disk = s; node = s; alone = true; locked = true }) → O.mine.refs i ≡ 1 → O.mine.pending ≡ None → own_names O.row O.desk i ≡ false → O.mine.walk ≡ None
     → ((l : ℕ) (u : World) → l + 903 ≡ n → own_of h u ≡ record O { inodes = put (put (put O.inodes i (Some (record { disk = None; node = None; alone = true; locked = true }))) i (Some (record { disk = None; node = None; alone = true; locked = false }))) i None; mine = record { refs = put O.mine.refs i (O.mine.refs i - 1); walk = O.mine.walk; pending = O.mine.pending } } → Safe machine h B Q k l es u)
-    → Safe machine h B Q (Do (Free i) (λ _. Some (Frees i)) (λ _. Do (Give i) unmarked (λ _. Do (Forget i) unmarked (λ _. k)))) n es w
+    → Safe machine h B Q (Do (Free i) (λ _. Some (Frees i)) (λ _. Do (UnlockInode i) unmarked (λ _. Do (Forget i) unmarked (λ _. k)))) n es w
 s-free-all {h = h} {i = i} s {O = O} owns free lt few joined isi one none unnamed still rest =
     s-free owns free lt (omega arith) joined isi refl refl unnamed none (λ l2 u2 q2 own2.
     s-give-alone own2 free lt (omega arith) (put_same _ i (Some (record { disk = None; node = None; alone = true; locked = true }))) refl refl (λ l3 u3 q3 own3.

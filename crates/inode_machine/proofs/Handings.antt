@@ -1,5 +1,5 @@
 -- The open-file table where a hart hands its descriptors to the one that it serves.
-use Rattle.inode_machine.proofs.Vocabulary.{◌≡◌, ◌≢◌, ◌⊎◌, inl, inr, ℕ, ◌+◌, ◌-◌, ◌<◌, ◌≤◌, true, false, ◌==◌, not, Option, Some, None, refl, sym, ◌∙◌, ap, arith, hart_count, descriptor_count, put, sum_below, one_if, eq_self, either, same_or, put_same, put_other, sum_changed, sum_same, sum_none, one_yes, one_no, Entry, Desk, is_at, is_nothing, next_used, id_at, uses, users, Shop, IsTied}
+use Rattle.inode_machine.proofs.Vocabulary.{◌≡◌, ◌≢◌, ◌⊎◌, inl, inr, ℕ, ◌+◌, ◌-◌, ◌<◌, ◌≤◌, true, false, ◌==◌, not, Option, Some, None, refl, sym, ◌∙◌, ap, arith, hart_count, descriptor_count, put, sum_below, one_if, eq_self, either, same_or, put_same, put_other, sum_changed, sum_same, sum_none, one_yes, one_no, Entry, Desk, is_at, is_nothing, next_used, id_at, uses, users, FileTables, IsTied}
 use Rattle.inode_machine.proofs.Frame.{put_elim}
 use Rattle.inode_machine.proofs.Dups.{Renews, renewed, renewed_slots, not_one}
 use Rattle.inode_machine.proofs.Openings.{first_is, first_some}
@@ -62,10 +62,10 @@ pub record SameTied (d e : Desk) : Type 0 where
 pub same_tied : (d : Desk) → SameTied d d
 same_tied d = record { fds = λ i l. refl; lent = λ i l. refl; hand = refl; opening = refl; full = refl }
 
-abbrev pub desks_shop : Shop → (ℕ → Desk) → Shop
-desks_shop s D = record { files = s.files; desks = D; ids = s.ids; slots = s.slots; clean = s.clean; tree_fds = s.tree_fds; tree_files = s.tree_files }
+abbrev pub desks_file_tables : FileTables → (ℕ → Desk) → FileTables
+desks_file_tables s D = record { files = s.files; desks = D; ids = s.ids; slots = s.slots; clean = s.clean; tree_fds = s.tree_fds; tree_files = s.tree_files }
 
-pub tied_as : (s : Shop) (D : ℕ → Desk) → ((g : ℕ) → SameTied (D g) (s.desks g)) → IsTied s → IsTied (desks_shop s D)
+pub tied_as : (s : FileTables) (D : ℕ → Desk) → ((g : ℕ) → SameTied (D g) (s.desks g)) → IsTied s → IsTied (desks_file_tables s D)
 tied_as s D same tied = record {
   fds = λ g i lg li o. tied.fds g i lg li (ap (λ (z : Option ℕ). is_at z i) (sym (same g).opening) ∙ o) ∙ ap (λ (z : Option ℕ). id_at s.ids z) (sym ((same g).fds i li));
   fresh = λ g i lg o. let f = tied.fresh g i lg (sym (same g).opening ∙ o) in record { below = f.below; free = (same g).fds i f.below ∙ f.free; id = f.id; is = f.is; file = f.file; at = f.at; offset = f.offset; only = f.only };
@@ -104,12 +104,12 @@ users_lent D h i k y lh li =
     omega (arith, a, b, c, e)
 
 abbrev pub counted_more : Entry → Entry
-counted_more e = record { file = e.file; sort = e.sort; references = e.references + 1 }
+counted_more e = record { file = e.file; inode_type = e.inode_type; references = e.references + 1 }
 
-abbrev pub lent_shop : Shop → ℕ → ℕ → ℕ → Entry → Shop
-lent_shop s h i k e = record { files = put s.files k (Some (counted_more e)); desks = lent_desks s.desks h i (Some k); ids = s.ids; slots = s.slots; clean = s.clean; tree_fds = s.tree_fds; tree_files = s.tree_files }
+abbrev pub lent_file_tables : FileTables → ℕ → ℕ → ℕ → Entry → FileTables
+lent_file_tables s h i k e = record { files = put s.files k (Some (counted_more e)); desks = lent_desks s.desks h i (Some k); ids = s.ids; slots = s.slots; clean = s.clean; tree_fds = s.tree_fds; tree_files = s.tree_files }
 
-pub tied_lent : (s : Shop) (h i k : ℕ) (e : Entry) → IsTied s → h < hart_count → i < descriptor_count → (s.desks h).fds i ≡ Some k → (s.desks h).lent i ≡ None → s.files k ≡ Some e → IsTied (lent_shop s h i k e)
+pub tied_lent : (s : FileTables) (h i k : ℕ) (e : Entry) → IsTied s → h < hart_count → i < descriptor_count → (s.desks h).fds i ≡ Some k → (s.desks h).lent i ≡ None → s.files k ≡ Some e → IsTied (lent_file_tables s h i k e)
 tied_lent s h i k e tied lt li is unlent at = record {
   fds = λ g j lg lj o. tied.fds g j lg lj (ap (λ (z : Option ℕ). is_at z j) (sym (opening_is g)) ∙ o) ∙ ap (λ (z : Option ℕ). id_at s.ids z) (sym (fds_is g j));
   fresh = λ g j lg o. let f = tied.fresh g j lg (sym (opening_is g) ∙ o) in record { below = f.below; free = fds_is g j ∙ f.free; id = f.id; is = f.is; file = f.file; at = f.at; offset = f.offset; only = f.only };
@@ -173,7 +173,7 @@ tied_lent s h i k e tied lt li is unlent at = record {
     ]
 
 -- All of a hart's descriptors are the child's too, which had none. x, y: their desks then.
-pub record HandsAll (s : Shop) (h c : ℕ) (x y : Desk) : Type 0 where
+pub record HandsAll (s : FileTables) (h c : ℕ) (x y : Desk) : Type 0 where
   pub hart : h < hart_count
   pub below : c < hart_count
   pub apart : c ≢ h
@@ -193,10 +193,10 @@ pub record HandsAll (s : Shop) (h c : ℕ) (x y : Desk) : Type 0 where
   pub child_opening : y.opening ≡ (s.desks c).opening
   pub child_full : y.full ≡ (s.desks c).full
 
-abbrev pub handed_shop : Shop → ℕ → ℕ → Desk → Desk → Shop
-handed_shop s h c x y = record { files = s.files; desks = put (put s.desks h x) c y; ids = s.ids; slots = s.slots; clean = s.clean; tree_fds = put s.tree_fds c (s.tree_fds h); tree_files = s.tree_files }
+abbrev pub handed_file_tables : FileTables → ℕ → ℕ → Desk → Desk → FileTables
+handed_file_tables s h c x y = record { files = s.files; desks = put (put s.desks h x) c y; ids = s.ids; slots = s.slots; clean = s.clean; tree_fds = put s.tree_fds c (s.tree_fds h); tree_files = s.tree_files }
 
-module _ (s : Shop) (h c : ℕ) (x y : Desk) (tied : IsTied s) (a : HandsAll s h c x y) where
+module _ (s : FileTables) (h c : ℕ) (x y : Desk) (tied : IsTied s) (a : HandsAll s h c x y) where
   abbrev D : ℕ → Desk
   D = put (put s.desks h x) c y
 
@@ -266,7 +266,7 @@ module _ (s : Shop) (h c : ℕ) (x y : Desk) (tied : IsTied s) (a : HandsAll s h
       none : (f : ℕ → Option ℕ) → ((i : ℕ) → i < descriptor_count → f i ≡ None) → sum_below descriptor_count (λ i. one_if (is_at (f i) k)) ≡ 0
       none f e = sum_none descriptor_count (λ i. one_if (is_at (f i) k)) (λ i l. ap (λ (z : Option ℕ). one_if (is_at z k)) (e i l) ∙ one_no false refl)
 
-  pub tied_handed : IsTied (handed_shop s h c x y)
+  pub tied_handed : IsTied (handed_file_tables s h c x y)
   tied_handed = record {
     fds = λ g i lg li o. elim (fds_is g i li) [
       | inl r ↦ ap (λ (z : ℕ). T z i) r.0 ∙ ap (λ (f : ℕ → Option ℕ). f i) (put_same s.tree_fds c (s.tree_fds h)) ∙ tied.fds h i a.hart li (no_opening i) ∙ ap (λ (z : Option ℕ). id_at s.ids z) (sym r.1)

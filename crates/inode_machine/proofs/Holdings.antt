@@ -124,16 +124,16 @@ pub s-give-up : {A : Type 0} {h : ℕ} (d : ℕ) {x : Held} {base : ℕ → ℕ}
 s-give-up d owns lt ready few k walk none isd whole rest = s-give-up-in d owns lt ready.free ready.joined (λ q. let a = ready.spare d q in omega (arith, a)) few k walk none isd whole rest
 
 -- What a hart that rests has once it has joined.
-pub record Joins (base : ℕ → ℕ) (O0 : Own) : Type 0 where
+pub record HasJoined (base : ℕ → ℕ) (O0 : Own) : Type 0 where
   pub ready : Ready base O0
   pub may : MayRest O0 base
 
 -- the call found no room, or its steps are written
-abbrev pub Told : Call → Reply → List Step → Own → Type 0
-Told c r es O = (O.desk.full ≡ true) ⊎ IsWholeCall c (oldest_first es) r
+abbrev pub IsAnswerable : Call → Reply → List Step → Own → Type 0
+IsAnswerable c r es O = (O.desk.full ≡ true) ⊎ IsWholeCall c (oldest_first es) r
 
 -- The call ends.
-pub s-end : (h : ℕ) (c : Call) (r : Reply) {base : ℕ → ℕ} {O0 : Own} (ns : List ℕ) (E : ℕ → Option Held) (more : ℕ → ℕ) (n : ℕ) (es : List Step) (w : World) (O : Own) → h < hart_count → Joins base O0 → own_of h w ≡ O → 971 * length ns + 63 < n → Holding base ns O0 O E more → ((i : ℕ) → E i ≡ None) → ((i : ℕ) → more i ≡ 0) → O.mine.walk ≡ None → O.mine.pending ≡ None → Told c r es O
+pub s-end : (h : ℕ) (c : Call) (r : Reply) {base : ℕ → ℕ} {O0 : Own} (ns : List ℕ) (E : ℕ → Option Held) (more : ℕ → ℕ) (n : ℕ) (es : List Step) (w : World) (O : Own) → h < hart_count → HasJoined base O0 → own_of h w ≡ O → 971 * length ns + 63 < n → Holding base ns O0 O E more → ((i : ℕ) → E i ≡ None) → ((i : ℕ) → more i ≡ 0) → O.mine.walk ≡ None → O.mine.pending ≡ None → IsAnswerable c r es O
     → Safe machine h (Begun covered_calls c) (Ends covered_calls h c) (tail ns r) n es w
 s-end h c r {base} {O0} ns E more n es w O lt joins owns few k empty no_more walk none told =
     s-ends h c r base ns n es w O owns (k.stays.lender ∙ joins.ready.free) lt few (k.stays.joined ∙ joins.ready.joined)
@@ -176,8 +176,8 @@ stays_mended R ready s row ninodes desk = record {
 }
 
 -- The directory alone is locked: it is given up, and the call ends.
-pub s-give-end : (h : ℕ) (c : Call) (r : Reply) {x : Held} {base : ℕ → ℕ} {O0 : Own} (ns : List ℕ) (E : ℕ → Option Held) (d n : ℕ) (es : List Step) (w : World) (O : Own) → h < hart_count → Joins base O0 → own_of h w ≡ O → 971 * length ns + 970 < n → Holding base ns O0 O E (λ i. 0 + one_if (d == i)) → E d ≡ Some x → IsWhole x → ((i : ℕ) → i ≢ d → E i ≡ None)
-    → O.mine.walk ≡ None → O.mine.pending ≡ None → Told c r es O
+pub s-give-end : (h : ℕ) (c : Call) (r : Reply) {x : Held} {base : ℕ → ℕ} {O0 : Own} (ns : List ℕ) (E : ℕ → Option Held) (d n : ℕ) (es : List Step) (w : World) (O : Own) → h < hart_count → HasJoined base O0 → own_of h w ≡ O → 971 * length ns + 970 < n → Holding base ns O0 O E (λ i. 0 + one_if (d == i)) → E d ≡ Some x → IsWhole x → ((i : ℕ) → i ≢ d → E i ≡ None)
+    → O.mine.walk ≡ None → O.mine.pending ≡ None → IsAnswerable c r es O
     → Safe machine h (Begun covered_calls c) (Ends covered_calls h c) (give_up d (tail ns r)) n es w
 s-give-end h c r {x} {base} {O0} ns E d n es w O lt joins owns few k isd whole else_ walk none told =
     s-give-up d {more = λ i. 0} owns lt joins.ready (omega (arith, few)) k walk none isd whole (λ l u R q own2 desk walk2 none2 k2.

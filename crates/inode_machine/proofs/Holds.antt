@@ -1,6 +1,6 @@
 -- A hart's hold changes in the tree, alone or with an inode that it keeps: what that leaves, and the steps of link that it makes.
-use Rattle.inode_machine.proofs.Vocabulary.{◌≡◌, ◌⊎◌, inl, inr, ℕ, ◌<◌, Bool, true, false, ◌==◌, ◌||◌, nat_lt, [], Option, Some, None, refl, sym, ◌∙◌, ap, subst, if◌then◌else◌, TooManyLinks, Node, Hold, Action, Bump, Unbump, StepAnswer, Done, Failed, AsksForWhatStays, count_limit, hart_count, Name, Tree, put, hold_names, is_live, settle, resolve, parent, answer_with, at_hold, bump_refusal, drop_hold, effect_with, holds_raised, lowered, makes_node, node_or, opens_one, place_of, raise_hold, raised, refusal_with, IsInPlace, StepWith, key_names, row_of, settle_again, settled_step, IsWellFormed, raised_at, either, put_same, put_other, not_raised, well_hold, effect_well, OwnMove, World, sort_of, is_at, act_left, acts, found_by, made_by, new_id, own_made, Own, Held, key_in, own_of, shop_of, view, is_hart, Found, IsReached, Inv}
-use Rattle.inode_machine.proofs.Frame.{shop_same, put_elim, ours_some, kept_here, Did, Fair, fair, own_inodes, has_inode, stands_in, type_on}
+use Rattle.inode_machine.proofs.Vocabulary.{◌≡◌, ◌⊎◌, inl, inr, ℕ, ◌<◌, Bool, true, false, ◌==◌, ◌||◌, nat_lt, [], Option, Some, None, refl, sym, ◌∙◌, ap, subst, if◌then◌else◌, TooManyLinks, Node, Hold, Action, Bump, Unbump, StepAnswer, Done, Failed, AsksForWhatStays, count_limit, hart_count, Name, Tree, put, hold_names, is_live, settle, resolve, parent, answer_with, at_hold, bump_refusal, drop_hold, effect_with, holds_raised, lowered, makes_node, node_or, opens_one, place_of, raise_hold, raised, refusal_with, IsInPlace, StepWith, key_names, row_of, settle_again, settled_step, IsWellFormed, raised_at, either, put_same, put_other, not_raised, well_hold, effect_well, OwnMove, World, type_of, is_at, act_left, acts, found_by, made_by, new_id, own_made, Own, Held, key_in, own_of, file_tables_of, view, is_hart, Found, IsReached, Inv}
+use Rattle.inode_machine.proofs.Frame.{file_tables_same, put_elim, ours_some, kept_here, HartStep, Fair, fair, own_inodes, has_inode, stands_in, type_on}
 use Rattle.inode_machine.proofs.Rows.{below_is}
 use Rattle.inode_machine.proofs.Acting.{acts_gone}
 
@@ -23,11 +23,11 @@ held_world ns h o v = record v { all = held_tree v.all ns h o }
 pub record Turns (h : ℕ) (v : World) (ns : ℕ → Option Node) (o : Option Hold) : Type 0 where
   pub well : IsWellFormed (held_tree v.all ns h o)
   pub nodes : (j : ℕ) → (ns j ≡ v.all.nodes j) ⊎ ((v.keeper j ≡ Some h) × (v.alone j ≡ false))
-  pub sorts : (j : ℕ) → sort_of (ns j) ≡ sort_of (v.all.nodes j)
+  pub inode_types : (j : ℕ) → type_of (ns j) ≡ type_of (v.all.nodes j)
   pub names : (j : ℕ) → hold_names o j ≡ true → IsReached v h j
   pub found : (j : ℕ) → (v.harts h).pending ≡ Some j → Found v.keeper ns h j
 
-pub turns_did : (h : ℕ) (v : World) (ns : ℕ → Option Node) (o : Option Hold) → (v.desks h).lender ≡ None → (v.desks h).joined ≡ true → h < hart_count → Inv v → Turns h v ns o → Did h v (held_world ns h o v)
+pub turns_did : (h : ℕ) (v : World) (ns : ℕ → Option Node) (o : Option Hold) → (v.desks h).lender ≡ None → (v.desks h).joined ≡ true → h < hart_count → Inv v → Turns h v ns o → HartStep h v (held_world ns h o v)
 turns_did h v ns o free joined lt inv t = record {
   hart = lt;
   inodes = λ j. elim (t.nodes j) [
@@ -38,14 +38,14 @@ turns_did h v ns o free joined lt inv t = record {
   rows = λ g ne. λ i. record { cwd = v.all.cwd g; hold = put_other v.all.holds h o g ne i; fds = v.all.fds g; keys = (row_of v.all g).keys };
   size = refl;
   ids = inv.ids;
-  shop = shop_same h (shop_of v) inv.tied;
+  file_tables = file_tables_same h (file_tables_of v) inv.tied;
   free = free;
   raised = λ q. joined;
   quiet = λ j is f. absurd (cc (joined, f));
-  sort = λ j. inl (t.sorts j);
-  sorts = λ k e is. type_on v.all.nodes ns e (t.sorts e.file.number) (inv.sorts k e is);
-  noted = λ m is r s. t.sorts m.number ∙ inv.noted h m lt is r s;
-  directory = stands_in (v.desks h) (v.all.cwd h) v.all.nodes ns (t.sorts (v.desks h).directory) (inv.directory h lt);
+  inode_type = λ j. inl (t.inode_types j);
+  inode_types = λ k e is. type_on v.all.nodes ns e (t.inode_types e.file.number) (inv.inode_types k e is);
+  noted = λ m is r s. t.inode_types m.number ∙ inv.noted h m lt is r s;
+  directory = stands_in (v.desks h) (v.all.cwd h) v.all.nodes ns (t.inode_types (v.desks h).directory) (inv.directory h lt);
   refers = inv.refers h lt;
   well = t.well;
   counts = inv.counts;
@@ -81,7 +81,7 @@ pub record Rehold (h : ℕ) (o : Option Hold) (v : World) (O : Own) : Type 0 whe
 
 pub reholds : (h : ℕ) (o : Option Hold) (v : World) (O : Own) → own_of h v ≡ O → O.desk.lender ≡ None → O.desk.joined ≡ true → h < hart_count → Inv v → ((j : ℕ) → hold_names o j ≡ true → IsReached v h j) → IsWellFormed (held_tree v.all v.all.nodes h o) → Rehold h o v O
 reholds h o v O ov free joined lt inv names well = record {
-  fair = fair inv (turns_did h v v.all.nodes o (ap (λ (z : Own). z.desk.lender) ov ∙ free) (ap (λ (z : Own). z.desk.joined) ov ∙ joined) lt inv (record { well = well; nodes = λ j. inl refl; sorts = λ j. refl; names = names; found = λ j q. inv.pending h j lt q }));
+  fair = fair inv (turns_did h v v.all.nodes o (ap (λ (z : Own). z.desk.lender) ov ∙ free) (ap (λ (z : Own). z.desk.joined) ov ∙ joined) lt inv (record { well = well; nodes = λ j. inl refl; inode_types = λ j. refl; names = names; found = λ j q. inv.pending h j lt q }));
   owned = λ z. record {
     inodes = ap (λ (x : Own). x.inodes) ov z;
     mine = ap (λ (x : Own). x.mine) ov z;
@@ -96,9 +96,9 @@ pub record Turned (h i : ℕ) (y : Node) (o : Option Hold) (x : Held) (v : World
   pub fair : Fair h v (held_world (put v.all.nodes i (Some y)) h o v)
   pub owned : own_of h (held_world (put v.all.nodes i (Some y)) h o v) ≡ record O { inodes = put O.inodes i (Some (record x { node = Some y })); row = record (O.row) { hold = o } }
 
-pub turned : (h i : ℕ) (y : Node) (o : Option Hold) (x : Held) (v : World) (O : Own) → own_of h v ≡ O → O.desk.lender ≡ None → O.desk.joined ≡ true → h < hart_count → Inv v → O.mine.pending ≡ None → O.inodes i ≡ Some x → x.alone ≡ false → sort_of (Some y) ≡ sort_of (v.all.nodes i)
+pub turned : (h i : ℕ) (y : Node) (o : Option Hold) (x : Held) (v : World) (O : Own) → own_of h v ≡ O → O.desk.lender ≡ None → O.desk.joined ≡ true → h < hart_count → Inv v → O.mine.pending ≡ None → O.inodes i ≡ Some x → x.alone ≡ false → type_of (Some y) ≡ type_of (v.all.nodes i)
     → ((j : ℕ) → hold_names o j ≡ true → IsReached v h j) → IsWellFormed (held_tree v.all (put v.all.nodes i (Some y)) h o) → Turned h i y o x v O
-turned h i y o x v O ov free joined lt inv none isi shared sort names well = record { fair = fair inv did; owned = owned }
+turned h i y o x v O ov free joined lt inv none isi shared inode_type names well = record { fair = fair inv did; owned = owned }
   where
     ns : ℕ → Option Node
     ns = put v.all.nodes i (Some y)
@@ -106,12 +106,12 @@ turned h i y o x v O ov free joined lt inv none isi shared sort names well = rec
     u : World
     u = held_world ns h o v
 
-    did : Did h v u
+    did : HartStep h v u
     did = turns_did h v ns o (ap (λ (z : Own). z.desk.lender) ov ∙ free) (ap (λ (z : Own). z.desk.joined) ov ∙ joined) lt inv (record {
       well = well;
       nodes = λ j. put_elim v.all.nodes i (Some y) j (λ z. (z ≡ v.all.nodes j) ⊎ ((v.keeper j ≡ Some h) × (v.alone j ≡ false)))
           (λ q. inr (ap v.keeper q ∙ (has_inode h i v O x ov isi).0, ap v.alone q ∙ ap (λ (z : Held). z.alone) (has_inode h i v O x ov isi).1 ∙ shared)) (λ ne. inl refl);
-      sorts = λ j. put_elim v.all.nodes i (Some y) j (λ z. sort_of z ≡ sort_of (v.all.nodes j)) (λ q. sort ∙ ap (λ (z : ℕ). sort_of (v.all.nodes z)) (sym q)) (λ ne. refl);
+      inode_types = λ j. put_elim v.all.nodes i (Some y) j (λ z. type_of z ≡ type_of (v.all.nodes j)) (λ q. inode_type ∙ ap (λ (z : ℕ). type_of (v.all.nodes z)) (sym q)) (λ ne. refl);
       names = names;
       found = λ j q. absurd (let a : (v.harts h).pending ≡ None = ap (λ (z : Own). z.mine.pending) ov ∙ none in cc (a, q));
     })

@@ -1,5 +1,5 @@
 -- The start of an inherit: the child is reserved, and what else holds does so still.
-use Rattle.inode_machine.proofs.Vocabulary.{◌≡◌, ◌≢◌, inl, inr, ℕ, ◌<◌, Bool, false, ◌==◌, [], Option, Some, None, refl, sym, ◌∙◌, ap, subst, Begins, Right, hart_count, descriptor_count, put, row_of, one_if, same_or, put_same, put_other, Desk, World, child_of, given_of, serving, sort_of, Own, Idle, Rests, Others, shop_of, own_names, own_of, Has, Lends, Inv, left_or, begin_call, covered_calls, serving_world}
+use Rattle.inode_machine.proofs.Vocabulary.{◌≡◌, ◌≢◌, inl, inr, ℕ, ◌<◌, Bool, false, ◌==◌, [], Option, Some, None, refl, sym, ◌∙◌, ap, subst, Begins, Right, hart_count, descriptor_count, put, row_of, one_if, same_or, put_same, put_other, Desk, World, child_of, given_of, serving, type_of, Own, Idle, Rests, Others, file_tables_of, own_names, own_of, Has, Lends, Inv, left_or, begin_call, covered_calls, serving_world}
 use Rattle.plain_tree.specs.declared.call.Call.TheVariants as calls
 use Rattle.inode_machine.proofs.Basics.{Inherits, inherit_begins, SameTied, same_tied, tied_as}
 use Rattle.inode_machine.proofs.Turnings.{serving_child, serving_given, serving_none}
@@ -86,8 +86,8 @@ module _ (h c : ℕ) (w : World) (lt : h < hart_count) (below : c < hart_count) 
     alone = inv.alone;
     counts = inv.counts;
     refers = λ g l. let r = inv.refers g l in record { few = r.few; home = subst (λ (z : ℕ). 0 < (w.harts g).refs z) (sym (part (λ d. d.directory) g refl refl)) r.home };
-    tied = tied_as (shop_of w) D same inv.tied;
-    sorts = inv.sorts;
+    tied = tied_as (file_tables_of w) D same inv.tied;
+    inode_types = inv.inode_types;
     named = λ g i l f is. inv.named g i l (lender_is g f) (sym (names_is g i) ∙ is);
     pending = inv.pending;
     walks = inv.walks;
@@ -95,7 +95,7 @@ module _ (h c : ℕ) (w : World) (lt : h < hart_count) (below : c < hart_count) 
     raised = λ g l q. part (λ d. d.joined) g refl refl ∙ inv.raised g l q;
     directory = λ g l. let s = inv.directory g l in record {
       at = λ f. part (λ d. d.directory) g refl refl ∙ s.at (lender_is g f) ∙ (λ z. left_or (sym (part (λ d. d.left) g refl refl) z) (w.all.cwd g));
-      sort = ap (λ (n : ℕ). sort_of (w.all.nodes n)) (part (λ d. d.directory) g refl refl) ∙ s.sort;
+      inode_type = ap (λ (n : ℕ). type_of (w.all.nodes n)) (part (λ d. d.directory) g refl refl) ∙ s.inode_type;
     };
     lent = lent;
     serves = λ b g l is. by_hart b ((g < hart_count) × ((D g).lender ≡ Some b))

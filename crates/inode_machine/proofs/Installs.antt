@@ -1,11 +1,11 @@
 -- The descriptor of an open: the slot in hand gets the open file, which the tree has had since the step, and the hart's reference.
-use Rattle.inode_machine.proofs.Vocabulary.{◌≡◌, ◌≢◌, ◌⊎◌, inl, inr, ℕ, ◌+◌, ◌-◌, ◌<◌, Bool, true, false, ◌==◌, nat_lt, List, Option, Some, None, refl, sym, ◌∙◌, ap, subst, arith, Do, Came, Ran, P, own, onto, Good, Fine, Safe, Wp, Node, OpenFile, hart_count, descriptor_count, put, hold_names, settle, lowest, has_room, key_is, key_names, row_of, key_from, sum_below, one_if, eq_self, eq_not, either, same_or, put_same, put_other, sum_same, sum_changed, one_yes, one_no, Step, Mine, Entry, Desk, Mark, World, Install, Sort, sort_of, OfDirectory, file_count, install_if, installed, is_at, opening_id, or_zero, marked, places, with_mark, id_at, key_in, number_is, own_names, own_of, shop_of, uses, users, Held, IsOpening, Own, Inv, Opens, IsReached, Shop, IsTied, machine, HasType}
-use Rattle.inode_machine.proofs.Basics.{bond_of, put_elim, stands_on, has_inode, one_refs, Did, Fair, fair, refers_put, s-owned, quiet, each_refs, has_node, here_refs, my_refs, total_changed, total_same, walks_refs, not_home, spares, is_at_some, less_not, users_put, users_some, with_fd, not_one}
+use Rattle.inode_machine.proofs.Vocabulary.{◌≡◌, ◌≢◌, ◌⊎◌, inl, inr, ℕ, ◌+◌, ◌-◌, ◌<◌, Bool, true, false, ◌==◌, nat_lt, List, Option, Some, None, refl, sym, ◌∙◌, ap, subst, arith, Do, ExecResult, Ran, P, own, onto, Good, Fine, Safe, Wp, Node, OpenFile, hart_count, descriptor_count, put, hold_names, settle, lowest, has_room, key_is, key_names, row_of, key_from, sum_below, one_if, eq_self, eq_not, either, same_or, put_same, put_other, sum_same, sum_changed, one_yes, one_no, Step, Mine, Entry, Desk, Mark, World, Install, InodeType, type_of, OfDirectory, file_count, install_if, installed, is_at, opening_id, or_zero, marked, places, with_mark, id_at, key_in, number_is, own_names, own_of, file_tables_of, uses, users, Held, IsOpening, Own, Inv, Opens, IsReached, FileTables, IsTied, machine, HasType}
+use Rattle.inode_machine.proofs.Basics.{bond_of, put_elim, stands_on, has_inode, one_refs, HartStep, Fair, fair, refers_put, s-owned, quiet, each_refs, has_node, here_refs, my_refs, total_changed, total_same, walks_refs, not_home, spares, is_at_some, less_not, users_put, users_some, with_fd, not_one}
 use Rattle.inode_machine.proofs.Tables.{less_is}
 use Rattle.inode_machine.proofs.Unopens.{key_more}
 
 -- the slot s in hand, and the descriptor that the tree has
-pub record Takes (s : Shop) (h fd k : ℕ) (f : OpenFile) (o : IsOpening s h fd) : Type 0 where
+pub record MayInstall (s : FileTables) (h fd k : ℕ) (f : OpenFile) (o : IsOpening s h fd) : Type 0 where
   pub hart : h < hart_count
   pub opening : (s.desks h).opening ≡ Some fd
   pub hand : (s.desks h).hand ≡ Some k
@@ -14,11 +14,11 @@ pub record Takes (s : Shop) (h fd k : ℕ) (f : OpenFile) (o : IsOpening s h fd)
 abbrev pub took : (ℕ → Desk) → ℕ → ℕ → ℕ → ℕ → Desk
 took D h fd k = put D h (record (D h) { fds = put (D h).fds fd (Some k); hand = None; opening = None })
 
-abbrev pub took_shop : Shop → ℕ → ℕ → ℕ → OpenFile → Sort → ℕ → Shop
-took_shop s h fd k f sort id = record { files = put s.files k (Some (record { file = f; sort = sort; references = 1 })); desks = took s.desks h fd k; ids = put s.ids k id; slots = put s.slots f.number (s.slots f.number + 1); clean = s.clean; tree_fds = s.tree_fds; tree_files = s.tree_files }
+abbrev pub took_file_tables : FileTables → ℕ → ℕ → ℕ → OpenFile → InodeType → ℕ → FileTables
+took_file_tables s h fd k f inode_type id = record { files = put s.files k (Some (record { file = f; inode_type = inode_type; references = 1 })); desks = took s.desks h fd k; ids = put s.ids k id; slots = put s.slots f.number (s.slots f.number + 1); clean = s.clean; tree_fds = s.tree_fds; tree_files = s.tree_files }
 
-pub takes_tied : (s : Shop) (h fd k : ℕ) (f : OpenFile) (sort : Sort) (o : IsOpening s h fd) → IsTied s → Takes s h fd k f o → IsTied (took_shop s h fd k f sort o.id)
-takes_tied s h fd k f sort o tied t =
+pub takes_tied : (s : FileTables) (h fd k : ℕ) (f : OpenFile) (inode_type : InodeType) (o : IsOpening s h fd) → IsTied s → MayInstall s h fd k f o → IsTied (took_file_tables s h fd k f inode_type o.id)
+takes_tied s h fd k f inode_type o tied t =
     record {
       fds = λ g i lg li q. elim (same_or g h) [
         | inl r ↦ subst (λ (z : ℕ). s.tree_fds z i ≡ id_at I ((D z).fds i)) (sym r) (mine i li)
@@ -62,7 +62,7 @@ takes_tied s h fd k f sort o tied t =
     }
   where
     one : Entry
-    one = record { file = f; sort = sort; references = 1 }
+    one = record { file = f; inode_type = inode_type; references = 1 }
 
     new : Desk
     new = record (s.desks h) { fds = put (s.desks h).fds fd (Some k); hand = None; opening = None }
@@ -171,26 +171,26 @@ same_file a b k o = λ i. record { number = (k i).number; offset = o i; readable
 abbrev pub own_installed : Own → ℕ → ℕ → ℕ → Own
 own_installed O j fd s = record O { mine = record { refs = put O.mine.refs j (O.mine.refs j - 1); walk = O.mine.walk; pending = O.mine.pending }; desk = record (O.desk) { fds = put O.desk.fds fd (Some s); hand = None; opening = None } }
 
-pub record Installing (h fd s : ℕ) (f : OpenFile) (sort : Sort) (O : Own) (v : World) : Type 0 where
-  pub lands : Fair h v (installed h v f sort s fd)
-  pub owned : own_of h (installed h v f sort s fd) ≡ own_installed O f.number fd s
+pub record Installing (h fd s : ℕ) (f : OpenFile) (inode_type : InodeType) (O : Own) (v : World) : Type 0 where
+  pub lands : Fair h v (installed h v f inode_type s fd)
+  pub owned : own_of h (installed h v f inode_type s fd) ≡ own_installed O f.number fd s
 
 -- The descriptor is taken: the open file stands in the slot, and has the hart's reference.
-pub installing : (h fd s : ℕ) (f : OpenFile) (sort : Sort) (x : Held) (v : World) (O : Own) → own_of h v ≡ O → O.desk.lender ≡ None → h < hart_count → Inv v → O.desk.opening ≡ Some fd → O.desk.hand ≡ Some s → O.row.keys fd ≡ Some (key_is f) → f.offset ≡ 0
-    → O.mine.walk ≡ None → O.mine.pending ≡ None → O.inodes f.number ≡ Some x → x.alone ≡ false → sort_of x.node ≡ Some sort → (f.writable ≡ true → sort ≢ OfDirectory) → 0 < O.mine.refs f.number → ((1 < O.mine.refs f.number) ⊎ (own_names O.row (record (O.desk) { opening = None }) f.number ≡ false))
-    → Installing h fd s f sort O v
-installing h fd s f sort x v O ov free lt inv opens hand keyed start walks none isi shared typed written refers may = record { lands = fair inv did; owned = owned }
+pub installing : (h fd s : ℕ) (f : OpenFile) (inode_type : InodeType) (x : Held) (v : World) (O : Own) → own_of h v ≡ O → O.desk.lender ≡ None → h < hart_count → Inv v → O.desk.opening ≡ Some fd → O.desk.hand ≡ Some s → O.row.keys fd ≡ Some (key_is f) → f.offset ≡ 0
+    → O.mine.walk ≡ None → O.mine.pending ≡ None → O.inodes f.number ≡ Some x → x.alone ≡ false → type_of x.node ≡ Some inode_type → (f.writable ≡ true → inode_type ≢ OfDirectory) → 0 < O.mine.refs f.number → ((1 < O.mine.refs f.number) ⊎ (own_names O.row (record (O.desk) { opening = None }) f.number ≡ false))
+    → Installing h fd s f inode_type O v
+installing h fd s f inode_type x v O ov free lt inv opens hand keyed start walks none isi shared typed written refers may = record { lands = fair inv did; owned = owned }
   where
     i0 : ℕ
     i0 = f.number
 
     u : World
-    u = installed h v f sort s fd
+    u = installed h v f inode_type s fd
 
     opened : (v.desks h).opening ≡ Some fd
     opened = ap (λ (o : Own). o.desk.opening) ov ∙ opens
 
-    o : IsOpening (shop_of v) h fd
+    o : IsOpening (file_tables_of v) h fd
     o = inv.tied.fresh h fd lt opened
 
     file : o.file ≡ f
@@ -199,8 +199,8 @@ installing h fd s f sort x v O ov free lt inv opens hand keyed start walks none 
     id_is : opening_id v h ≡ o.id
     id_is = ap (λ (z : Option ℕ). or_zero (v.all.fds h (or_zero z))) opened ∙ ap (λ (z : Option ℕ). or_zero z) o.is
 
-    tied : IsTied (shop_of u)
-    tied = subst (λ (z : ℕ). IsTied (took_shop (shop_of v) h fd s f sort z)) (sym id_is) (takes_tied (shop_of v) h fd s f sort o inv.tied (record { hart = lt; opening = opened; hand = ap (λ (p : Own). p.desk.hand) ov ∙ hand; file = file }))
+    tied : IsTied (file_tables_of u)
+    tied = subst (λ (z : ℕ). IsTied (took_file_tables (file_tables_of v) h fd s f inode_type z)) (sym id_is) (takes_tied (file_tables_of v) h fd s f inode_type o inv.tied (record { hart = lt; opening = opened; hand = ap (λ (p : Own). p.desk.hand) ov ∙ hand; file = file }))
 
     new : Mine
     new = record { refs = put (v.harts h).refs i0 ((v.harts h).refs i0 - 1); walk = (v.harts h).walk; pending = (v.harts h).pending }
@@ -214,8 +214,8 @@ installing h fd s f sort x v O ov free lt inv opens hand keyed start walks none 
     more : 0 < (v.harts h).refs i0
     more = let r = my_refs h v O i0 ov in omega (arith, r, refers)
 
-    here : u.files s ≡ Some (record { file = f; sort = sort; references = 1 })
-    here = put_same v.files s (Some (record { file = f; sort = sort; references = 1 }))
+    here : u.files s ≡ Some (record { file = f; inode_type = inode_type; references = 1 })
+    here = put_same v.files s (Some (record { file = f; inode_type = inode_type; references = 1 }))
 
     grow : (j : ℕ) → ((j ≡ i0) → 1 < (v.harts h).refs i0) → 0 < (v.harts h).refs j → 0 < (u.harts h).refs j
     grow j ok a = elim (same_or j i0) [
@@ -224,7 +224,7 @@ installing h fd s f sort x v O ov free lt inv opens hand keyed start walks none 
     ]
 
     new_pin : Opens (u.desks h).fds u.files i0
-    new_pin = record { fd = fd; below = o.below; slot = s; is = ap (λ (d : Desk). d.fds fd) (put_same v.desks h desk) ∙ put_same (v.desks h).fds fd (Some s); entry = record { file = f; sort = sort; references = 1 }; at = here; number = refl }
+    new_pin = record { fd = fd; below = o.below; slot = s; is = ap (λ (d : Desk). d.fds fd) (put_same v.desks h desk) ∙ put_same (v.desks h).fds fd (Some s); entry = record { file = f; inode_type = inode_type; references = 1 }; at = here; number = refl }
 
     pend : (v.harts h).pending ≡ None
     pend = ap (λ (p : Own). p.mine.pending) ov ∙ none
@@ -249,7 +249,7 @@ installing h fd s f sort x v O ov free lt inv opens hand keyed start walks none 
     ]
 
     stays : (j : ℕ) (e : Entry) → v.files j ≡ Some e → u.files j ≡ Some e
-    stays j e a = put_other v.files s (Some (record { file = f; sort = sort; references = 1 })) j (λ q. absurd (let x = (inv.tied.hand h s lt (ap (λ (p : Own). p.desk.hand) ov ∙ hand)).1 in let y : v.files j ≡ v.files s = ap v.files q in cc (a, x, y))) ∙ a
+    stays j e a = put_other v.files s (Some (record { file = f; inode_type = inode_type; references = 1 })) j (λ q. absurd (let x = (inv.tied.hand h s lt (ap (λ (p : Own). p.desk.hand) ov ∙ hand)).1 in let y : v.files j ≡ v.files s = ap v.files q in cc (a, x, y))) ∙ a
 
     home : (v.desks h).directory ≡ i0 → 0 < (v.harts h).refs i0 - 1
     home q = elim may [
@@ -257,7 +257,7 @@ installing h fd s f sort x v O ov free lt inv opens hand keyed start walks none 
       | inr m ↦ absurd (not_home h i0 v O None inv ov free lt m (ap (λ (p : Own). p.desk.directory) (sym ov) ∙ q))
     ]
 
-    did : Did h v u
+    did : HartStep h v u
     did = record {
       hart = lt;
       inodes = λ j. inl (record { lock = refl; keeper = refl; disk = refl; node = refl; alone = refl });
@@ -265,14 +265,14 @@ installing h fd s f sort x v O ov free lt inv opens hand keyed start walks none 
       rows = λ g ne. refl;
       size = refl;
       ids = inv.ids;
-      shop = record { tied = tied; desks = λ g ne. put_other v.desks h desk g ne; numbers = λ g i j e lg ne li r a. (e, stays j e a, refl, inl refl); clean = λ c. c; bond = ap (λ (d : Desk). bond_of d) desk_is; stays = inl (ap (λ (d : Desk). d.directory) desk_is) };
+      file_tables = record { tied = tied; desks = λ g ne. put_other v.desks h desk g ne; numbers = λ g i j e lg ne li r a. (e, stays j e a, refl, inl refl); clean = λ c. c; bond = ap (λ (d : Desk). bond_of d) desk_is; stays = inl (ap (λ (d : Desk). d.directory) desk_is) };
       free = ap (λ (d : Desk). d.lender) desk_is ∙ ap (λ (p : Own). p.desk.lender) ov ∙ free;
       raised = λ q. ap (λ (d : Desk). d.joined) desk_is ∙ inv.raised h lt q;
       quiet = λ j is g. inv.quiet j h is (sym (ap (λ (d : Desk). d.joined) desk_is) ∙ g);
-      sort = λ j. inl refl;
-      sorts = λ k e is. elim (same_or k s) [
-        | inl q ↦ (let a : Some (record { file = f; sort = sort; references = 1 }) ≡ Some e = sym here ∙ ap u.files (sym q) ∙ is in let b : record { file = f; sort = sort; references = 1 } ≡ e = cc in subst (λ (z : Entry). HasType v.all.nodes z) b (record { sort = ap (λ (z : Option Node). sort_of z) (has_node h i0 v O x ov isi) ∙ typed; written = written }))
-        | inr ne ↦ inv.sorts k e (sym (put_other v.files s (Some (record { file = f; sort = sort; references = 1 })) k ne) ∙ is)
+      inode_type = λ j. inl refl;
+      inode_types = λ k e is. elim (same_or k s) [
+        | inl q ↦ (let a : Some (record { file = f; inode_type = inode_type; references = 1 }) ≡ Some e = sym here ∙ ap u.files (sym q) ∙ is in let b : record { file = f; inode_type = inode_type; references = 1 } ≡ e = cc in subst (λ (z : Entry). HasType v.all.nodes z) b (record { inode_type = ap (λ (z : Option Node). type_of z) (has_node h i0 v O x ov isi) ∙ typed; written = written }))
+        | inr ne ↦ inv.inode_types k e (sym (put_other v.files s (Some (record { file = f; inode_type = inode_type; references = 1 })) k ne) ∙ is)
       ];
       noted = λ m q r g. inv.noted h m lt (sym (ap (λ (d : Desk). d.noted) desk_is) ∙ q) (shrink m.number r) g;
       directory = stands_on (v.desks h) (u.desks h) (v.all.cwd h) v.all.nodes (ap (λ (o : Own). o.desk.lender) ov ∙ free) (ap (λ (d : Desk). d.directory) desk_is) (ap (λ (d : Desk). d.left) desk_is) (inv.directory h lt);
@@ -306,21 +306,21 @@ installing h fd s f sort x v O ov free lt inv opens hand keyed start walks none 
       desk = (put_same v.desks h desk ∙ ap (λ (p : Own). record (p.desk) { fds = put p.desk.fds fd (Some s); hand = None; opening = None }) ov) z;
     }
 
-pub s-install : {A : Type 0} {h : ℕ} {x : Held} (fd s : ℕ) (f : OpenFile) (sort : Sort) {m : Option ℕ → Option Mark} {k : Option ℕ → P machine A} {B : List Step → Type 0} {Q : A → List Step → World → Type 0} {n : ℕ} {es : List Step} {w : World} {O : Own}
+pub s-install : {A : Type 0} {h : ℕ} {x : Held} (fd s : ℕ) (f : OpenFile) (inode_type : InodeType) {m : Option ℕ → Option Mark} {k : Option ℕ → P machine A} {B : List Step → Type 0} {Q : A → List Step → World → Type 0} {n : ℕ} {es : List Step} {w : World} {O : Own}
     → own_of h w ≡ O → O.desk.lender ≡ None → h < hart_count → 0 < n → O.desk.opening ≡ Some fd → O.desk.hand ≡ Some s → has_room O.desk.fds ≡ true → lowest O.desk.fds ≡ fd → O.row.keys fd ≡ Some (key_is f) → f.offset ≡ 0 → m (Some fd) ≡ None
-    → O.mine.walk ≡ None → O.mine.pending ≡ None → O.inodes f.number ≡ Some x → x.alone ≡ false → sort_of x.node ≡ Some sort → (f.writable ≡ true → sort ≢ OfDirectory) → 0 < O.mine.refs f.number → ((1 < O.mine.refs f.number) ⊎ (own_names O.row (record (O.desk) { opening = None }) f.number ≡ false))
+    → O.mine.walk ≡ None → O.mine.pending ≡ None → O.inodes f.number ≡ Some x → x.alone ≡ false → type_of x.node ≡ Some inode_type → (f.writable ≡ true → inode_type ≢ OfDirectory) → 0 < O.mine.refs f.number → ((1 < O.mine.refs f.number) ⊎ (own_names O.row (record (O.desk) { opening = None }) f.number ≡ false))
     → ((l : ℕ) (u : World) → l + 1 ≡ n
     → own_of h u ≡ own_installed O f.number fd s
     → Safe machine h B Q (k (Some fd)) l es u)
-    → Safe machine h B Q (Do (Install f sort) m k) n es w
-s-install {A} {h} {x} fd s f sort {m} {k} {B} {Q} {n} {es} {w} {O} owns free lt pos opens hand room low keyed start unmarked walks none isi shared typed written refers may rest = s-owned owns free pos (λ v inv ov.
+    → Safe machine h B Q (Do (Install f inode_type) m k) n es w
+s-install {A} {h} {x} fd s f inode_type {m} {k} {B} {Q} {n} {es} {w} {O} owns free lt pos opens hand room low keyed start unmarked walks none isi shared typed written refers may rest = s-owned owns free pos (λ v inv ov.
     let a : (v.desks h).hand ≡ Some s = ap (λ (o : Own). o.desk.hand) ov ∙ hand in
     let b : has_room (v.desks h).fds ≡ true = ap (λ (o : Own). has_room o.desk.fds) ov ∙ room in
     let c : lowest (v.desks h).fds ≡ fd = ap (λ (o : Own). lowest o.desk.fds) ov ∙ low in (
       ((λ q. cc (a, q)), start, spares h f.number v O ov refers (elim may [ inl y ↦ inl y | inr y ↦ inr (not_home h f.number v O None inv ov free lt y) ])),
-      (λ _ _. subst (λ (z : Came (Option ℕ) World). Good machine (Option ℕ) h (λ a. places h (Install f sort) a (m a) v) 0 n B es v ⊥ (with_mark h m z) (λ l a u. Wp machine h B Q (k a) l (onto (own h (places h (Install f sort) a (m a) v)) es) u))
-          (sym ((λ i. install_if h v f sort (a i) (b i)) ∙ (λ i. Ran (Some (c i)) (installed h v f sort s (c i))))) (
-          let at = installing h fd s f sort x v O ov free lt inv opens hand keyed start walks none isi shared typed written refers may in
-          subst (λ (z : Option Mark). Fine machine h (places h (Install f sort) (Some fd) z v) 0 n B es v (marked h z (installed h v f sort s fd)) (λ l. Wp machine h B Q (k (Some fd)) l (onto (own h (places h (Install f sort) (Some fd) z v)) es) (marked h z (installed h v f sort s fd)))) (sym unmarked)
-          (quiet at.lands (λ z. record { tree = settle v.all; walk = walks_refs v.harts h f.number ((v.harts h).refs f.number - 1) z }) pos (λ l q. (rest l (installed h v f sort s fd) q at.owned).wp)))),
+      (λ _ _. subst (λ (z : ExecResult (Option ℕ) World). Good machine (Option ℕ) h (λ a. places h (Install f inode_type) a (m a) v) 0 n B es v ⊥ (with_mark h m z) (λ l a u. Wp machine h B Q (k a) l (onto (own h (places h (Install f inode_type) a (m a) v)) es) u))
+          (sym ((λ i. install_if h v f inode_type (a i) (b i)) ∙ (λ i. Ran (Some (c i)) (installed h v f inode_type s (c i))))) (
+          let at = installing h fd s f inode_type x v O ov free lt inv opens hand keyed start walks none isi shared typed written refers may in
+          subst (λ (z : Option Mark). Fine machine h (places h (Install f inode_type) (Some fd) z v) 0 n B es v (marked h z (installed h v f inode_type s fd)) (λ l. Wp machine h B Q (k (Some fd)) l (onto (own h (places h (Install f inode_type) (Some fd) z v)) es) (marked h z (installed h v f inode_type s fd)))) (sym unmarked)
+          (quiet at.lands (λ z. record { tree = settle v.all; walk = walks_refs v.harts h f.number ((v.harts h).refs f.number - 1) z }) pos (λ l q. (rest l (installed h v f inode_type s fd) q at.owned).wp)))),
     ))

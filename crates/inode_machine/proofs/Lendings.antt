@@ -1,6 +1,6 @@
 -- The rules of an inherit: each descriptor is handed on, then the directory, and then the child starts again.
-use Rattle.inode_machine.proofs.Vocabulary.{◌≡◌, ◌≢◌, inl, ℕ, ◌+◌, ◌<◌, not, ◌==◌, [], Option, Some, None, refl, sym, ◌∙◌, ap, subst, arith, Inherit, Done, AsksForWhatStays, hart_count, descriptor_count, Name, Tree, put, settle, resolve, parent, no_fd, refusal_with, effect_with, answer_with, place_of, IsInPlace, MayChoose, StepWith, settle_again, settled_step, one_if, eq_not, none_any, put_same, put_other, sum_same, well_inherit, Walk, Stage, Step, Takes, OwnMove, Mine, Entry, Desk, World, stage_of, is_at, with_walk, slot_or, more_users, with_lent, serving, sort_of, Made, made_by, new_id, Own, Rests, own_names, own_of, shop_of, id_at, Has, Inv, left_or}
-use Rattle.inode_machine.proofs.Basics.{FairTo, bond_of, stands_on, Fair, fair, has_none, below_is, refs_walk, stage_walk, sells_did, renewed_same, renewed_sorts, lent_desks, counted_more, tied_lent, HandsAll, tied_handed, both_world}
+use Rattle.inode_machine.proofs.Vocabulary.{◌≡◌, ◌≢◌, inl, ℕ, ◌+◌, ◌<◌, not, ◌==◌, [], Option, Some, None, refl, sym, ◌∙◌, ap, subst, arith, Inherit, Done, AsksForWhatStays, hart_count, descriptor_count, Name, Tree, put, settle, resolve, parent, no_fd, refusal_with, effect_with, answer_with, place_of, IsInPlace, MayChoose, StepWith, settle_again, settled_step, one_if, eq_not, none_any, put_same, put_other, sum_same, well_inherit, Walk, Stage, Step, PlaysStep, OwnMove, Mine, Entry, Desk, World, stage_of, is_at, with_walk, slot_or, more_users, with_lent, serving, type_of, Made, made_by, new_id, Own, Rests, own_names, own_of, file_tables_of, id_at, Has, Inv, left_or}
+use Rattle.inode_machine.proofs.Basics.{FairTo, bond_of, stands_on, Fair, fair, has_none, below_is, refs_walk, stage_walk, sells_did, renewed_same, renewed_types, lent_desks, counted_more, tied_lent, HandsAll, tied_handed, both_world}
 use Rattle.inode_machine.proofs.Turnings.{Server, Kid, kid, Turns, turned_fair, turned_own, serving_child, serving_given, serving_none}
 
 -- The step of the tree.
@@ -61,7 +61,7 @@ pub made_is : (t : Tree) (h c id : ℕ) (k : Option Walk) → made_by t h id k (
 made_is t h c id k = rw (inherit_goes t h c (resolve t h []) (parent t h []))
     (λ r. record { all = inherit_effect t h c 0 id (resolve t h []) (parent t h []) r; walk = None; found = None; opened = None; entered = None; left = None; told = Some (record { act = record { step = Inherit c; answer = inherit_answer t h c id (resolve t h []) (parent t h []) r }; new = 0 }) })
 
-pub inherit_takes : (h c : ℕ) (v u : World) → h < hart_count → Kid h c v → (v.harts h).walk ≡ None → ((i : ℕ) → i < descriptor_count → v.all.fds c i ≡ None) → (stage_of u).tree ≡ settle (inherited_tree v.all h c) → (stage_of u).walk ≡ put (λ g. (v.harts g).walk) h None → Takes (stage_of v) h (inherited c) (stage_of u)
+pub inherit_takes : (h c : ℕ) (v u : World) → h < hart_count → Kid h c v → (v.harts h).walk ≡ None → ((i : ℕ) → i < descriptor_count → v.all.fds c i ≡ None) → (stage_of u).tree ≡ settle (inherited_tree v.all h c) → (stage_of u).walk ≡ put (λ g. (v.harts g).walk) h None → PlaysStep (stage_of v) h (inherited c) (stage_of u)
 inherit_takes h c v u lt k walk none tree walks = record {
   follows = refl;
   rests = walk;
@@ -98,7 +98,7 @@ pub lends_one : (h c i s : ℕ) (e : Entry) (v : World) (O : Own) → Inv v → 
 lends_one h c i s e v O inv ov srv li is unlent at = record {
   fair = fair inv (sells_did h v F D v.slots v.all v.harts srv.hart inv (record {
     kin = record {
-      tied = tied_lent (shop_of v) h i s e inv.tied srv.hart li is unlent at;
+      tied = tied_lent (file_tables_of v) h i s e inv.tied srv.hart li is unlent at;
       desks = λ g ne. put_other v.desks h new g ne;
       numbers = λ g j l d lg ne lj q a. let x = renewed_same v.files s e (counted_more e) l d at refl refl a in (x.0, x.1, x.2, inl x.3);
       clean = λ q. q;
@@ -113,7 +113,7 @@ lends_one h c i s e v O inv ov srv li is unlent at = record {
     unlent = free;
     joined = ap (λ (d : Desk). d.joined) desk_is;
     holds = refl;
-    sorts = λ l x q. renewed_sorts v s e (counted_more e) inv at refl refl refl l x q;
+    inode_types = λ l x q. renewed_types v s e (counted_more e) inv at refl refl refl l x q;
     noted = λ m q. (sym (ap (λ (d : Desk). d.noted) desk_is) ∙ q, (λ p. p));
     directory = stands_on (v.desks h) (D h) (v.all.cwd h) v.all.nodes free (ap (λ (d : Desk). d.directory) desk_is) (ap (λ (d : Desk). d.left) desk_is) (inv.directory h srv.hart);
     home = ap (λ (d : Desk). d.directory) desk_is;
@@ -244,8 +244,8 @@ module _ (h c i s : ℕ) (e : Entry) (v : World) (O : Own) (inv : Inv v) (ov : o
     fds = λ g nc. put_other v.all.fds c (v.all.fds h) g nc;
     cwd = λ g nc. put_other v.all.cwd c (v.all.cwd h) g nc;
     numbers = λ l d q. renewed_same v.files s e (counted_more e) l d at refl refl q;
-    tied = tied_handed (record { files = F; desks = before; ids = v.ids; slots = v.slots; clean = v.clean; tree_fds = v.all.fds; tree_files = v.all.files }) h c x y (tied_lent (shop_of v) h i s e inv.tied srv.hart li is unlent at) hands;
-    sorts = λ l d q. renewed_sorts v s e (counted_more e) inv at refl refl refl l d q;
+    tied = tied_handed (record { files = F; desks = before; ids = v.ids; slots = v.slots; clean = v.clean; tree_fds = v.all.fds; tree_files = v.all.files }) h c x y (tied_lent (file_tables_of v) h i s e inv.tied srv.hart li is unlent at) hands;
+    inode_types = λ l d q. renewed_types v s e (counted_more e) inv at refl refl refl l d q;
     well = well_inherit v.all h c inv.well srv.hart;
     counts = λ j. inv.counts j ∙ ap (λ (z : ℕ). v.slots j + z) (sym (sum_same hart_count (λ g. (v.harts g).refs j) (λ g. (H g).refs j) (λ g l. refs_walk v.harts h None None g j)));
     apart = λ j g kept q. refl;
@@ -262,7 +262,7 @@ module _ (h c i s : ℕ) (e : Entry) (v : World) (O : Own) (inv : Inv v) (ov : o
     opening = ap (λ (d : Desk). d.opening) (there c k.apart) ∙ child_rests.opening;
     left = ap (λ (d : Desk). d.left) (there c k.apart) ∙ child_rests.left;
     noted = ap (λ (d : Desk). d.noted) (there c k.apart) ∙ child_rests.noted;
-    sort = ap (λ (d : Desk). sort_of (v.all.nodes d.directory)) (there c k.apart) ∙ (inv.directory c k.below).sort;
+    inode_type = ap (λ (d : Desk). type_of (v.all.nodes d.directory)) (there c k.apart) ∙ (inv.directory c k.below).inode_type;
     phase = inl (serving_child c (Some 0), ap (λ (d : Desk). d.lender) (there c k.apart) ∙ k.lender, subst (λ (z : Option ℕ). Has z y.fds (C c) y.directory (v.desks h).directory) (sym (serving_given c (Some 0))) (put_same v.all.cwd c (v.all.cwd h) ∙ at_home h c v O inv ov srv));
   }
 
@@ -275,5 +275,5 @@ module _ (h c i s : ℕ) (e : Entry) (v : World) (O : Own) (inv : Inv v) (ov : o
   pub all_lent_own : own_of h all_lent ≡ record O { mine = ended_mine O; desk = record (O.desk) { lent = serving c (Some 0) } }
   all_lent_own = turned_own h c v O F D v.refs H X C (serving c (Some 0)) y inv ov srv turns ∙ (λ z. record O { mine = mine_is z; desk = record (O.desk) { lent = serving c (Some 0) } })
 
-  pub all_lent_takes : Takes (stage_of v) h (inherited c) (stage_of all_lent)
+  pub all_lent_takes : PlaysStep (stage_of v) h (inherited c) (stage_of all_lent)
   all_lent_takes = inherit_takes h c v all_lent srv.hart k (ap (λ (o : Own). o.mine.walk) ov ∙ srv.walk) (tree_empty h c v inv k none) refl (ap (λ (m : Stage). m.walk) (stage_walk h None None v))

@@ -10,7 +10,7 @@ pub mod Numbers
 pub mod Walking
 pub mod Freeing
 pub mod Orphans
-pub mod Shops
+pub mod FileTablesSteps
 pub mod Dups
 pub mod Closes
 pub mod Stats

@@ -1,15 +1,15 @@
 -- Link is right, whatever the other harts do.
-use Rattle.inode_machine.proofs.Vocabulary.{◌≡◌, ◌≢◌, ◌⊎◌, inl, inr, ℕ, ◌+◌, ◌*◌, ◌<◌, ◌≤◌, Bool, true, false, ◌==◌, ◌||◌, nat_lt, List, [], ◌∷◌, length, Option, Some, None, refl, sym, ◌∙◌, ap, subst, arith, if◌then◌else◌, own, onto, Fine, Safe, Wp, Begun, Ends, IsBeginning, IsDirectory, NoEntry, TooManyLinks, Reply, Call, Node, Kind, Directory, File, Device, Hold, Action, Inherit, StepAnswer, Done, Failed, Act, next_of, reply_of, had_room, first_cause, count_limit, hart_count, root, Name, Tree, put, elements, hold_names, is_absolute, is_directory, is_live, live_directory, look, settle, start_of, IsInPlace, node_at, node_or, raised, Row, key_names, row_of, settle_again, settled_row, IsThere, raised_at, either, eq_is, same_or, put_same, put_other, look_live, not_raised, live_some, well_hold, look_same, Deed, Walk, Stage, Step, MayEnd, Begin, Look, Desk, Mark, Note, World, stage_of, Take, UpStart, OfDirectory, AtNothing, face_of, face_or, is_directory_sort, seen_in, sort_of, sort_of_kind, counted_up, is_at, with_walk, Made, acts, begun, made_by, marked, new_id, places, Held, Own, key_in, own_names, own_of, Idle, Inv, machine, ThisP as P, Stop, NoMemory, failed, give_up, makes, own_step, start, stopped, tail, walk, walk_step, bump_refused, bumps_if, is_refused, link_at, link_program, link_raise, limit, covered_calls}
+use Rattle.inode_machine.proofs.Vocabulary.{◌≡◌, ◌≢◌, ◌⊎◌, inl, inr, ℕ, ◌+◌, ◌*◌, ◌<◌, ◌≤◌, Bool, true, false, ◌==◌, ◌||◌, nat_lt, List, [], ◌∷◌, length, Option, Some, None, refl, sym, ◌∙◌, ap, subst, arith, if◌then◌else◌, own, onto, Fine, Safe, Wp, Begun, Ends, IsBeginning, IsDirectory, NoEntry, TooManyLinks, Reply, Call, Node, NodeKind, Directory, File, Device, Hold, Action, Inherit, StepAnswer, Done, Failed, Act, next_of, reply_of, had_room, first_cause, count_limit, hart_count, root, Name, Tree, put, elements, hold_names, is_absolute, is_directory, is_live, live_directory, look, settle, start_of, IsInPlace, node_at, node_or, raised, Row, key_names, row_of, settle_again, settled_row, IsThere, raised_at, either, eq_is, same_or, put_same, put_other, look_live, not_raised, live_some, well_hold, look_same, Deed, Walk, Stage, Step, MayEnd, Begin, Look, Desk, Mark, Note, World, stage_of, Take, UpStart, OfDirectory, AtNothing, face_of, face_or, is_directory_type, seen_in, type_of, type_of_kind, counted_up, is_at, with_walk, Made, acts, begun, made_by, marked, new_id, places, Held, Own, key_in, own_names, own_of, Idle, Inv, machine, ThisP as P, WalkStop, NoMemory, failed, give_up, makes, own_step, start, stopped, tail, walk, walk_step, bump_refused, bumps_if, is_refused, link_at, link_program, link_raise, limit, covered_calls}
 use Rattle.plain_tree.specs.declared.call.Call.TheVariants as calls
 use Rattle.plain_tree.specs.declared.step.Action.TheVariants as steps
-use Rattle.inode_machine.proofs.Basics.{AllNames, Fair, fair, fair_same, fair_then, has_inode, quiet, has_node, locked_held, my_refs, noted_sort, sort_there, moves_good, own_walk, stage_walk, walk_did, fails, less_is, s-join, KeepsHold, MoveFine, mends, note_of, s-take-then, one_at, listed_among, listed_beside, directory_sort, At, Gone, Lost, On, Ready, Stays, names_stay, stays_same, s-arrive, s-walk, Finding, finding, found_world, last_made, last_takes, refused_made, start_made, start_takes, MayRest, Walked, follows_begin, follows_look, follows_lost, follows_quit, gone_at, home, joined_own, looks, may_rest, may_stay, missed, ready_at, s-lost, s-refuse, tells, walked_begun, walked_tells, Joins, begun_walking, written_by, Rehold, bumps, held_tree, held_world, high, low, reholds}
-use Rattle.inode_machine.proofs.Beginnings.{Begun as StartsAt, root_sort, s-begin, s-start}
+use Rattle.inode_machine.proofs.Basics.{AllNames, Fair, fair, fair_same, fair_then, has_inode, quiet, has_node, locked_held, my_refs, noted_type, type_there, moves_good, own_walk, stage_walk, walk_did, fails, less_is, s-join, KeepsHold, MoveFine, mends, note_of, s-take-then, one_at, listed_among, listed_beside, type_of_directory, At, Gone, Lost, On, Ready, Stays, names_stay, stays_same, s-arrive, s-walk, Finding, finding, found_world, last_made, last_takes, refused_made, start_made, start_takes, MayRest, Walked, follows_begin, follows_look, follows_lost, follows_quit, gone_at, home, joined_own, looks, may_rest, may_stay, missed, ready_at, s-lost, s-refuse, tells, walked_begun, walked_tells, HasJoined, begun_walking, written_by, Rehold, bumps, held_tree, held_world, high, low, reholds}
+use Rattle.inode_machine.proofs.Beginnings.{Begun as StartsAt, root_type, s-begin, s-start}
 use Rattle.inode_machine.proofs.Chdirs.{kind_directory}
 use Rattle.inode_machine.proofs.Endings.{Follows}
 use Rattle.inode_machine.proofs.Finds.{find_finder, find_made, find_missing, find_place, find_refused, find_refused_step, find_step, mends_held}
 use Rattle.inode_machine.proofs.Raises.{Plain, bump_stopped, done_step, s-store-move}
 use Rattle.inode_machine.proofs.LinkNames.{bumped, enter_follows, follows, found, more_base, names_but, names_fewer}
-use Rattle.inode_machine.proofs.ChdirCalls.{sort_directory}
+use Rattle.inode_machine.proofs.ChdirCalls.{type_directory}
 
 -- What the call is told.
 
@@ -43,10 +43,10 @@ plain_bump = record { follows = refl; path = refl; makes = λ t q. refl; inherit
 
 -- Types.
 
-sort_is : (k : Kind) → is_directory_sort (sort_of_kind k) ≡ is_directory k
-sort_is (Directory slots) = refl
-sort_is (File bytes) = refl
-sort_is (Device major minor size) = refl
+type_is : (k : NodeKind) → is_directory_type (type_of_kind k) ≡ is_directory k
+type_is (Directory slots) = refl
+type_is (File bytes) = refl
+type_is (Device major minor size) = refl
 
 -- what the call has once its hold stands, which isn't raised
 abbrev low_own : ℕ → Own → Own
@@ -81,7 +81,7 @@ module _ (h : ℕ) (old new : List ℕ) (w : World) (free : (w.desks h).lender �
   may : MayRest O0 base
   may = may_rest h w idle
 
-  joins : Joins base O0
+  joins : HasJoined base O0
   joins = record { ready = ready; may = may }
 
   -- it holds nothing again
@@ -188,25 +188,25 @@ module _ (h : ℕ) (old new : List ℕ) (w : World) (free : (w.desks h).lender �
 
       by : (u1 : World) (x : Option Node) → Inv u1 → own_of h u1 ≡ O1 x
           → Fine machine h (places h (Take j AtNothing) (seen_in j AtNothing x) (bumps_if (face_or (face_of x))) u1) 3 n B es u1 (marked h (bumps_if (face_or (face_of x))) u1)
-          (λ l. Wp machine h B Q (if is_directory_sort (face_or (face_of x)).sort then give_up j (tail ns (failed c IsDirectory)) else link_raise old new j ns (face_or (face_of x)) (bump_refused (face_or (face_of x)))) l (onto (own h (places h (Take j AtNothing) (seen_in j AtNothing x) (bumps_if (face_or (face_of x))) u1)) es) (marked h (bumps_if (face_or (face_of x))) u1))
+          (λ l. Wp machine h B Q (if is_directory_type (face_or (face_of x)).inode_type then give_up j (tail ns (failed c IsDirectory)) else link_raise old new j ns (face_or (face_of x)) (bump_refused (face_or (face_of x)))) l (onto (own h (places h (Take j AtNothing) (seen_in j AtNothing x) (bumps_if (face_or (face_of x))) u1)) es) (marked h (bumps_if (face_or (face_of x))) u1))
       by u1 None inv own1 = absurd (
           let a : IsThere u1.all.nodes j false = inv.well.holds h (low j) lt (ap (λ (o : Own). o.row.hold) own1 ∙ holds_r) in
           let b = a.is in
           let d = has_node h j u1 (O1 None) (locked_held None) own1 (isj None) in
           cc (b, d))
       by u1 (Some X) inv own1 =
-          subst (λ (b : Bool). Seen j ns n es u1 X b (nat_lt X.count count_limit)) (sym (sort_is X.kind ∙ plain)) (by_count u1 X inv own1 (nat_lt X.count count_limit) refl)
+          subst (λ (b : Bool). Seen j ns n es u1 X b (nat_lt X.count count_limit)) (sym (type_is X.kind ∙ plain)) (by_count u1 X inv own1 (nat_lt X.count count_limit) refl)
         where
           there : IsThere u1.all.nodes j false
           there = inv.well.holds h (low j) lt (ap (λ (o : Own). o.row.hold) own1 ∙ holds_r)
 
           plain : is_directory X.kind ≡ false
-          plain = ap (λ (o : Option Node). is_directory (node_or o).kind) (sym (has_node h j u1 (O1 (Some X)) (locked_held (Some X)) own1 (isj (Some X))) ∙ there.is) ∙ there.sort
+          plain = ap (λ (o : Option Node). is_directory (node_or o).kind) (sym (has_node h j u1 (O1 (Some X)) (locked_held (Some X)) own1 (isj (Some X))) ∙ there.is) ∙ there.inode_type
 
   -- What was found is a directory, and is given up.
-  s-directory : (j : ℕ) (ns : List ℕ) (t : Option Note) (n : ℕ) (es : List Step) (u : World) (R : Own) → 971 * length ns + 2000 ≤ n → At h j base ns None t O0 R u → ((v : World) → Inv v → own_of h v ≡ R → v.all.nodes j ≢ None) → ((v : World) (x : Option Node) → Inv v → own_of h v ≡ record R { inodes = put R.inodes j (Some (locked_held x)) } → sort_of (v.all.nodes j) ≡ Some OfDirectory) → Walked c (not_found old ∷ []) es
+  s-directory : (j : ℕ) (ns : List ℕ) (t : Option Note) (n : ℕ) (es : List Step) (u : World) (R : Own) → 971 * length ns + 2000 ≤ n → At h j base ns None t O0 R u → ((v : World) → Inv v → own_of h v ≡ R → v.all.nodes j ≢ None) → ((v : World) (x : Option Node) → Inv v → own_of h v ≡ record R { inodes = put R.inodes j (Some (locked_held x)) } → type_of (v.all.nodes j) ≡ Some OfDirectory) → Walked c (not_found old ∷ []) es
       → Safe machine h B Q (link_at old new j ns) n es u
-  s-directory j ns t n es u R few at there typed told = s-take-then at.owns free_r lt (omega (arith, few)) at.out refers there tt (λ u1 x inv own1. by u1 x inv own1 (sort_at u1 x inv own1))
+  s-directory j ns t n es u R few at there typed told = s-take-then at.owns free_r lt (omega (arith, few)) at.out refers there tt (λ u1 x inv own1. by u1 x inv own1 (inode_type_at u1 x inv own1))
     where
       free_r : R.desk.lender ≡ None
       free_r = at.stays.lender ∙ free
@@ -217,29 +217,29 @@ module _ (h : ℕ) (old new : List ℕ) (w : World) (free : (w.desks h).lender �
       O1 : Option Node → Own
       O1 x = record R { inodes = put R.inodes j (Some (locked_held x)) }
 
-      sort_at : (u1 : World) (x : Option Node) → Inv u1 → own_of h u1 ≡ O1 x → sort_of x ≡ Some OfDirectory
-      sort_at u1 x inv own1 = ap (λ (o : Option Node). sort_of o) (sym (has_node h j u1 (O1 x) (locked_held x) own1 (put_same R.inodes j (Some (locked_held x))))) ∙ typed u1 x inv own1
+      inode_type_at : (u1 : World) (x : Option Node) → Inv u1 → own_of h u1 ≡ O1 x → type_of x ≡ Some OfDirectory
+      inode_type_at u1 x inv own1 = ap (λ (o : Option Node). type_of o) (sym (has_node h j u1 (O1 x) (locked_held x) own1 (put_same R.inodes j (Some (locked_held x))))) ∙ typed u1 x inv own1
 
       ends : (u1 : World) (x : Option Node) (l : ℕ) → own_of h u1 ≡ O1 x → l + 4 ≡ n → Safe machine h B Q (give_up j (tail ns (failed c IsDirectory))) l es u1
       ends u1 x l own1 q = s-refuse h c (failed c IsDirectory) j x base ns l es u1 R own1 free_r lt (omega (arith, few, q)) at.stays.joined at.listed at.out at.refs at.walk at.pending (λ y. ready.spare j (sym (names_stay R O0 at.stays j) ∙ y)) (may_stay R O0 base at.stays may)
           (inr (written_by c (not_found old ∷ []) es (failed c IsDirectory) told (link_not old new)))
 
-      by : (u1 : World) (x : Option Node) → Inv u1 → own_of h u1 ≡ O1 x → sort_of x ≡ Some OfDirectory
+      by : (u1 : World) (x : Option Node) → Inv u1 → own_of h u1 ≡ O1 x → type_of x ≡ Some OfDirectory
           → Fine machine h (places h (Take j AtNothing) (seen_in j AtNothing x) (bumps_if (face_or (face_of x))) u1) 3 n B es u1 (marked h (bumps_if (face_or (face_of x))) u1)
-          (λ l. Wp machine h B Q (if is_directory_sort (face_or (face_of x)).sort then give_up j (tail ns (failed c IsDirectory)) else link_raise old new j ns (face_or (face_of x)) (bump_refused (face_or (face_of x)))) l (onto (own h (places h (Take j AtNothing) (seen_in j AtNothing x) (bumps_if (face_or (face_of x))) u1)) es) (marked h (bumps_if (face_or (face_of x))) u1))
+          (λ l. Wp machine h B Q (if is_directory_type (face_or (face_of x)).inode_type then give_up j (tail ns (failed c IsDirectory)) else link_raise old new j ns (face_or (face_of x)) (bump_refused (face_or (face_of x)))) l (onto (own h (places h (Take j AtNothing) (seen_in j AtNothing x) (bumps_if (face_or (face_of x))) u1)) es) (marked h (bumps_if (face_or (face_of x))) u1))
       by u1 None inv own1 q = absurd cc
       by u1 (Some X) inv own1 q =
-          subst (λ (b : Bool). Seen j ns n es u1 X b (nat_lt X.count count_limit)) (sym (sort_is X.kind ∙ kind_directory (Some X) q)) (quiet (fair_same inv) refl (omega (arith, few)) (λ l q2. (ends u1 (Some X) l own1 q2).wp))
+          subst (λ (b : Bool). Seen j ns n es u1 X b (nat_lt X.count count_limit)) (sym (type_is X.kind ∙ kind_directory (Some X) q)) (quiet (fair_same inv) refl (omega (arith, few)) (λ l q2. (ends u1 (Some X) l own1 q2).wp))
 
   -- The last element is found.
 
   abbrev deed_of : StepAnswer → Deed
   deed_of a = record { act = record { step = s; answer = a }; new = 0 }
 
-  abbrev lost : Stop → List ℕ → P Reply
+  abbrev lost : WalkStop → List ℕ → P Reply
   lost why ns = tail ns (stopped c why)
 
-  loses : (why : Stop) (ms : List ℕ) (l : ℕ) (es : List Step) (u : World) (R : Own) → 971 * length ms + K ≤ l → Gone h base ms O0 R u → Lost (Walked c (missed s ∷ [])) why es R → Safe machine h B Q (lost why ms) l es u
+  loses : (why : WalkStop) (ms : List ℕ) (l : ℕ) (es : List Step) (u : World) (R : Own) → 971 * length ms + K ≤ l → Gone h base ms O0 R u → Lost (Walked c (missed s ∷ [])) why es R → Safe machine h B Q (lost why ms) l es u
   loses why ms l es u R few gone told = s-lost h c s K base O0 lt ready may (link_follows old new) (omega arith) why ms l es u R few gone told
 
   place : (t : Tree) → row_of t h ≡ O0.row → IsInPlace t h s
@@ -311,7 +311,7 @@ module _ (h : ℕ) (old new : List ℕ) (w : World) (free : (w.desks h).lender �
           (λ v inv2 ov. let m = mends h v O2 ov free_o lt inv2 (on.stays.opening ∙ ready.opening) (on.stays.left ∙ ready.left) (subst (λ (r : Row). KeepsHold r.hold) (sym on.stays.row) ready.hold) names0 in record { fair = m.fair; bad = m.bad; owned = m.owned })
           (record { stays = mended_stays; inodes = refl; refs = refl; walk = refl; pending = refl; full = refl })
           (λ ms l2 u2 R few2 at2. s-directory j ms (Some (note_of u.all j)) l2 (tells (Look 0) (deed_of (Failed IsDirectory)) ∷ es) u2 R (omega (arith, few2)) at2
-          (λ v inv2 ov. sort_there (v.all.nodes j) OfDirectory (noted_sort h j R (note_of u.all j) at2.noted refl at2.out (let r = at2.refs j in let o = one_at j in omega (arith, r, o)) lt v inv2 ov ∙ sort_directory (u.all.nodes j) isa))
+          (λ v inv2 ov. type_there (v.all.nodes j) OfDirectory (noted_type h j R (note_of u.all j) at2.noted refl at2.out (let r = at2.refs j in let o = one_at j in omega (arith, r, o)) lt v inv2 ov ∙ type_directory (u.all.nodes j) isa))
           (λ v x2 inv2 ov. typed v x2 R u2 ms at2 inv2 ov) written)).wp)
         where
           written : Walked c (not_found old ∷ []) (tells (Look 0) (deed_of (Failed IsDirectory)) ∷ es)
@@ -326,11 +326,11 @@ module _ (h : ℕ) (old new : List ℕ) (w : World) (free : (w.desks h).lender �
           mended_stays : Stays M O0
           mended_stays = record { row = on.stays.row; ninodes = on.stays.ninodes; fds = on.stays.fds; hand = on.stays.hand; joined = on.stays.joined; directory = on.stays.directory; lent = on.stays.lent; lender = on.stays.lender; opening = sym ready.opening; left = sym ready.left }
 
-          typed : (v : World) (x2 : Option Node) (R : Own) (u2 : World) (ms : List ℕ) → At h j base ms None (Some (note_of u.all j)) O0 R u2 → Inv v → own_of h v ≡ record R { inodes = put R.inodes j (Some (locked_held x2)) } → sort_of (v.all.nodes j) ≡ Some OfDirectory
+          typed : (v : World) (x2 : Option Node) (R : Own) (u2 : World) (ms : List ℕ) → At h j base ms None (Some (note_of u.all j)) O0 R u2 → Inv v → own_of h v ≡ record R { inodes = put R.inodes j (Some (locked_held x2)) } → type_of (v.all.nodes j) ≡ Some OfDirectory
           typed v x2 R u2 ms at2 inv2 ov =
               inv2.noted h (note_of u.all j) lt (ap (λ (o : Own). o.desk.noted) ov ∙ at2.noted) (inl (let a = my_refs h v (record R { inodes = put R.inodes j (Some (locked_held x2)) }) j ov in let r = at2.refs j in let o = one_at j in omega (arith, a, r, o)))
               (ap (λ (z : Held). z.alone) (has_inode h j v (record R { inodes = put R.inodes j (Some (locked_held x2)) }) (locked_held x2) ov (put_same R.inodes j (Some (locked_held x2)))).1)
-              ∙ sort_directory (u.all.nodes j) isa
+              ∙ type_directory (u.all.nodes j) isa
 
       goes_at : is_directory (node_at u.all j).kind ≡ false → MoveFine h 1611 n B Q es u (Look 0) (walk_step d ns (link_at old new) lost (Some j))
       goes_at isnt =
@@ -357,7 +357,7 @@ module _ (h : ℕ) (old new : List ℕ) (w : World) (free : (w.desks h).lender �
           r = reholds h (Some (low j)) (found_world h j u) O2 f.owned free_o on.stays.joined lt f.fair.inv
               (λ i q. inr (ap (λ (o : Own). o.mine.pending) f.owned ∙ ap (λ (z : ℕ). Some z) (eq_is j i q)))
               (well_hold u.all h (Some (low j)) inv.well lt (λ i. not_raised (low j) i refl) (λ i. ap (λ (z : Option Hold). raised_at z i) unheld)
-              (λ q p. let a : low j ≡ q = hold_is p in subst (λ (z : Hold). IsThere u.all.nodes z.number false) a (record { node = node_or (u.all.nodes j); is = there; sort = isnt })))
+              (λ q p. let a : low j ≡ q = hold_is p in subst (λ (z : Hold). IsThere u.all.nodes z.number false) a (record { node = node_or (u.all.nodes j); is = there; inode_type = isnt })))
             where
               hold_is : {m k : Hold} → ◌≡◌ {A = Option Hold} (Some m) (Some k) → m ≡ k
               hold_is q = cc
@@ -397,7 +397,7 @@ module _ (h : ℕ) (old new : List ℕ) (w : World) (free : (w.desks h).lender �
         refs = at.refs;
         listed = listed_among O O2 base [] gone.listed (λ j. refl) (λ j t. put_other O.mine.refs i (O.mine.refs i + 1) j (at.apart j t)) (λ j t p. p);
         out = at.out;
-      }) (λ v2 inv2 ov2. sort_there (v2.all.nodes i) OfDirectory (typed v2 inv2 (ap (λ (o : Own). o.row.cwd) ov2))) (λ v2 x inv2 ov2. typed v2 inv2 (ap (λ (o : Own). o.row.cwd) ov2)) written).wp)
+      }) (λ v2 inv2 ov2. type_there (v2.all.nodes i) OfDirectory (typed v2 inv2 (ap (λ (o : Own). o.row.cwd) ov2))) (λ v2 x inv2 ov2. typed v2 inv2 (ap (λ (o : Own). o.row.cwd) ov2)) written).wp)
     where
       p0 : ℕ
       p0 = start_of v.all h old
@@ -415,7 +415,7 @@ module _ (h : ℕ) (old new : List ℕ) (w : World) (free : (w.desks h).lender �
       unheld = ap (λ (o : Own). o.row.hold) ov ∙ ap (λ (r : Row). r.hold) gone.stays.row ∙ idle.hold
 
       isa : is_directory (node_at v.all p0).kind ≡ true
-      isa = kind_directory (v.all.nodes p0) (ap (λ (z : ℕ). sort_of (v.all.nodes z)) (sym at.start) ∙ at.sort)
+      isa = kind_directory (v.all.nodes p0) (ap (λ (z : ℕ). type_of (v.all.nodes z)) (sym at.start) ∙ at.inode_type)
 
       written : Walked c (not_found old ∷ []) (tells (Begin s 0) (deed_of (Failed IsDirectory)) ∷ [])
       written rest r p = ((link_follows old new).first, p)
@@ -427,14 +427,14 @@ module _ (h : ℕ) (old new : List ℕ) (w : World) (free : (w.desks h).lender �
       own2 = own_walk h None None u1 (record O { mine = record { refs = put O.mine.refs i (O.mine.refs i + 1); walk = O.mine.walk; pending = None } }) at.up.owned
 
       -- the start is a directory still
-      typed : (v2 : World) → Inv v2 → v2.all.cwd h ≡ O.row.cwd → sort_of (v2.all.nodes i) ≡ Some OfDirectory
+      typed : (v2 : World) → Inv v2 → v2.all.cwd h ≡ O.row.cwd → type_of (v2.all.nodes i) ≡ Some OfDirectory
       typed v2 inv2 same = by_start (is_absolute old) at.start
         where
-          by_start : (b : Bool) → i ≡ (if b then root else v.all.cwd h) → sort_of (v2.all.nodes i) ≡ Some OfDirectory
-          by_start true q = ap (λ (z : ℕ). sort_of (v2.all.nodes z)) q ∙ root_sort v2.all inv2.well
+          by_start : (b : Bool) → i ≡ (if b then root else v.all.cwd h) → type_of (v2.all.nodes i) ≡ Some OfDirectory
+          by_start true q = ap (λ (z : ℕ). type_of (v2.all.nodes z)) q ∙ root_type v2.all inv2.well
           by_start false q =
               let r : i ≡ v2.all.cwd h = q ∙ ap (λ (o : Own). o.row.cwd) ov ∙ sym same in
-              ap (λ (z : ℕ). sort_of (v2.all.nodes z)) r ∙ directory_sort v2.all h inv2.well lt
+              ap (λ (z : ℕ). type_of (v2.all.nodes z)) r ∙ type_of_directory v2.all h inv2.well lt
 
   notes : (m : Note) → O0.desk.noted ≡ Some m → 0 < O0.mine.refs m.number
   notes m q = absurd (let a = idle.noted in cc (a, q))

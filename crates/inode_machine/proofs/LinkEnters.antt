@@ -1,8 +1,8 @@
 -- Link's name is entered: at this moment its hold goes, and the link stands.
-use Rattle.inode_machine.proofs.Vocabulary.{◌≡◌, ℕ, ◌+◌, ◌<◌, ◌≤◌, true, false, List, [], ◌∷◌, Option, Some, None, refl, sym, ◌∙◌, ap, subst, Do, P, Safe, Exists, NoEntry, Node, EnterStep, Done, hart_count, Name, Tree, put, is_directory, live_directory, look, settle, answer_with, drop_hold, effect_with, enter_hold, holds_raised, name_taken, node_or, place_of, refusal_with, IsInPlace, Row, IsWellFormed, and_true, put_same, look_same, effect_well, Step, Look, World, EntryResult, InPlace, NoBlock, NoSlot, Enter, Sort, sort_of, with_entry, with_walk, Made, new_id, Own, Held, own_of, Inv, machine, IsName, makes, enters}
+use Rattle.inode_machine.proofs.Vocabulary.{◌≡◌, ℕ, ◌+◌, ◌<◌, ◌≤◌, true, false, List, [], ◌∷◌, Option, Some, None, refl, sym, ◌∙◌, ap, subst, Do, P, Safe, Exists, NoEntry, Node, EnterStep, Done, hart_count, Name, Tree, put, is_directory, live_directory, look, settle, answer_with, drop_hold, effect_with, enter_hold, holds_raised, name_taken, node_or, place_of, refusal_with, IsInPlace, Row, IsWellFormed, and_true, put_same, look_same, effect_well, Step, Look, World, EntryResult, InPlace, NoBlock, NoSlot, Enter, InodeType, type_of, with_entry, with_walk, Made, new_id, Own, Held, own_of, Inv, machine, IsName, makes, enters}
 use Rattle.inode_machine.proofs.Basics.{Fair, fair, fair_then, has_node, below_is, Writes, writes, own_walk, stage_walk, walk_did, Mendable, mended_own, act_good, told_step, Turned, gone_made, held_tree, held_world, high, turned}
 use Rattle.inode_machine.proofs.Writings.{put_twice}
-use Rattle.inode_machine.proofs.Removes.{directory_sort}
+use Rattle.inode_machine.proofs.Removes.{type_of_directory}
 use Rattle.inode_machine.proofs.Enters.{EnterFine, s-enter-with}
 use Rattle.inode_machine.proofs.Namings.{Leads}
 
@@ -108,7 +108,7 @@ s-enter-name {A} {h} d j {x} X e path {k} {B} {Q} {n} {es} {w} {O} owns free lt 
 
         t : Turned h d E None (record x { disk = Some E }) u1 O1
         t = turned h d E None (record x { disk = Some E }) u1 O1 wr.owned free joined lt wr.fair.inv none (put_same O.inodes d (Some (record x { disk = Some E }))) shared
-            (sym (ap (λ (z : Option Node). sort_of z) nd ∙ ap (λ (s : Sort). Some s) (directory_sort X live))) (λ i q. absurd cc) well
+            (sym (ap (λ (z : Option Node). type_of z) nd ∙ ap (λ (s : InodeType). Some s) (type_of_directory X live))) (λ i q. absurd cc) well
 
         u2 : World
         u2 = held_world (put v.all.nodes d (Some E)) h None u1

@@ -1,9 +1,9 @@
 -- Link once its count is raised: the new name's directory is walked to, and the name entered; or the count is lowered again.
-use Rattle.inode_machine.proofs.Vocabulary.{◌≡◌, ◌≢◌, ◌⊎◌, inl, inr, ℕ, ◌+◌, ◌-◌, ◌*◌, ◌<◌, ◌≤◌, Bool, true, false, ◌==◌, ◌||◌, List, [], ◌∷◌, length, Option, Some, None, refl, sym, ◌∙◌, ap, subst, arith, if◌then◌else◌, Do, own, onto, oldest_first, Fine, Safe, Wp, Begun, Ends, Cause, NoEntry, Exists, Blocks, DirectoryFull as Directory, Reply, Node, Hold, Action, Done, Failed, Act, next_of, reply_of, had_room, first_cause, Row, key_names, lowered, path_of, Name, put, look, elements, hold_names, live_directory, hart_count, IsThere, one_if, either, same_or, put_same, put_other, one_yes, Step, MayEnd, IsWholeCall, Begin, Desk, Note, World, Give, Store, face_of, face_or, is_at, unlocked, with_entry, marked, places, Held, Own, key_in, own_names, own_of, nothing, Inv, machine, ThisP as P, Stop, NotThere, NoMemory, done, drop, failed, full, give_up, is_some, is_there, makes, own_step, start, stopped, tail, walk_parent, link_found, link_in, link_name, lower, covered_calls}
+use Rattle.inode_machine.proofs.Vocabulary.{◌≡◌, ◌≢◌, ◌⊎◌, inl, inr, ℕ, ◌+◌, ◌-◌, ◌*◌, ◌<◌, ◌≤◌, Bool, true, false, ◌==◌, ◌||◌, List, [], ◌∷◌, length, Option, Some, None, refl, sym, ◌∙◌, ap, subst, arith, if◌then◌else◌, Do, own, onto, oldest_first, Fine, Safe, Wp, Begun, Ends, Cause, NoEntry, Exists, Blocks, DirectoryFull as Directory, Reply, Node, Hold, Action, Done, Failed, Act, next_of, reply_of, had_room, first_cause, Row, key_names, lowered, path_of, Name, put, look, elements, hold_names, live_directory, hart_count, IsThere, one_if, either, same_or, put_same, put_other, one_yes, Step, MayEnd, IsWholeCall, Begin, Desk, Note, World, UnlockInode, Store, face_of, face_or, is_at, unlocked, with_entry, marked, places, Held, Own, key_in, own_names, own_of, nothing, Inv, machine, ThisP as P, WalkStop, NotThere, NoMemory, done, drop, failed, full, give_up, is_some, is_there, makes, own_step, start, stopped, tail, walk_parent, link_found, link_in, link_name, lower, covered_calls}
 use Rattle.atomic_programs.specs.Logic as logic
 use Rattle.plain_tree.specs.declared.call.Call.TheVariants as calls
 use Rattle.plain_tree.specs.declared.step.Action.TheVariants as steps
-use Rattle.inode_machine.proofs.Basics.{AllNames, has_inode, fine_after, s-owned, s-take, locked_held, locks_it, has_node, gives, one_most, s-give, s-drop, live_face, Listed, times, one_at, one_else, Lost, On, Ready, Stays, names_stay, stays_same, Walked, mended_own, told_step, Holding, Joins, holding_on, holding_same, holding_set, holding_to, mendable, stays_mended, unlisted, unlisted_refs, s-end, s-give-end, s-give-up, Follows, agrees_look, begun_by, begun_refused, quit_step, s-see, walking_quit, walking_told, written_by, high, unbumps}
+use Rattle.inode_machine.proofs.Basics.{AllNames, has_inode, fine_after, s-owned, s-take, locked_held, locks_it, has_node, gives, one_most, s-give, s-drop, live_face, Listed, times, one_at, one_else, Lost, On, Ready, Stays, names_stay, stays_same, Walked, mended_own, told_step, Holding, HasJoined, holding_on, holding_same, holding_set, holding_to, mendable, stays_mended, unlisted, unlisted_refs, s-end, s-give-end, s-give-up, Follows, agrees_look, begun_by, begun_refused, quit_step, s-see, walking_quit, walking_told, written_by, high, unbumps}
 use Rattle.inode_machine.proofs.Writings.{put_twice}
 use Rattle.inode_machine.proofs.Namings.{Leads, begin_good, begin_refused, s-follow}
 use Rattle.inode_machine.proofs.Raises.{Plain, done_step, s-store-move}
@@ -63,13 +63,13 @@ names_fewer r d i q = fewer (r.cwd == i) (hold_names r.hold i) (key_names (key_i
 s-give-begin : {A : Type 0} {h i : ℕ} {x : Held} (s : Action) {k : Unit {0} → logic.P machine A} {B : List Step → Type 0} {Q : A → List Step → World → Type 0} {n : ℕ} {es : List Step} {w : World} {O : Own} (O0 : Own)
     → own_of h w ≡ O → O.desk.lender ≡ None → h < hart_count → 0 < n → O.inodes i ≡ Some x → x.locked ≡ true → x.alone ≡ false → x.disk ≡ x.node → O.mine.walk ≡ None → O.mine.pending ≡ None → O.row ≡ O0.row → Leads h s O0 → elements (path_of s) ≡ [] → B (begin_refused s ∷ es)
     → ((l : ℕ) (u : World) → l + 1 ≡ n → own_of h u ≡ record O { inodes = put O.inodes i None; mine = record { refs = O.mine.refs; walk = None; pending = None } } → Safe machine h B Q (k tt) l (begin_refused s ∷ es) u)
-    → Safe machine h B Q (Do (Give i) (λ _. makes (Begin s 0)) k) n es w
+    → Safe machine h B Q (Do (UnlockInode i) (λ _. makes (Begin s 0)) k) n es w
 s-give-begin {A} {h} {i} {x} s {k} {B} {Q} {n} {es} {w} {O} O0 owns free lt pos isi has shared whole walks pending row leads path b rest = s-owned owns free pos (λ v inv ov. (
   locks_it h i v O x ov isi has,
   (λ _ _.
       let a : v.alone i ≡ false = ap (λ (y : Held). y.alone) (has_inode h i v O x ov isi).1 ∙ shared in
       let g = gives h i x O v free lt inv ov isi shared whole pending in
-      subst (λ (c : Bool). Fine machine h (places h (Give i) tt (makes (Begin s 0)) v) 0 n B es v (marked h (makes (Begin s 0)) (unlocked i v c)) (λ l. Wp machine h B Q (k tt) l (onto (own h (places h (Give i) tt (makes (Begin s 0)) v)) es) (marked h (makes (Begin s 0)) (unlocked i v c)))) (sym a)
+      subst (λ (c : Bool). Fine machine h (places h (UnlockInode i) tt (makes (Begin s 0)) v) 0 n B es v (marked h (makes (Begin s 0)) (unlocked i v c)) (λ l. Wp machine h B Q (k tt) l (onto (own h (places h (UnlockInode i) tt (makes (Begin s 0)) v)) es) (marked h (makes (Begin s 0)) (unlocked i v c)))) (sym a)
       (fine_after g.fair refl (begin_good h 0 n B Q es (unlocked i v false) (record O { inodes = put O.inodes i None }) O0 s (k tt) g.owned free lt g.fair.inv walks pending row leads path b pos rest))),
 ))
 
@@ -91,7 +91,7 @@ more_base base j i = base i + one_if (j == i)
 plain_unbump : Plain steps.Unbump
 plain_unbump = record { follows = refl; path = refl; makes = λ t q. refl; inherits = λ g q. absurd cc }
 
-module _ (h : ℕ) (old new : List ℕ) (lt : h < hart_count) {base : ℕ → ℕ} {O0 : Own} (joins : Joins base O0) (j : ℕ) where
+module _ (h : ℕ) (old new : List ℕ) (lt : h < hart_count) {base : ℕ → ℕ} {O0 : Own} (joins : HasJoined base O0) (j : ℕ) where
   -- with its hold raised a walk may begin again
   ready_high : Ready (more_base base j) (high_own j O0)
   ready_high = record {
@@ -356,7 +356,7 @@ module _ (h : ℕ) (old new : List ℕ) (lt : h < hart_count) {base : ℕ → �
       told rest r p = walking (begin_refused (steps.Enter new) ∷ rest) r (enters_next old new, p)
 
       -- where its walk ended
-      after : (why : Stop) (fs : List Step) (M : Own) → Lost (Walked (calls.Link old new) (found old ∷ bumped ∷ not_entered new NoEntry ∷ [])) why fs M → Lowers old new (stopped (calls.Link old new) why) fs M
+      after : (why : WalkStop) (fs : List Step) (M : Own) → Lost (Walked (calls.Link old new) (found old ∷ bumped ∷ not_entered new NoEntry ∷ [])) why fs M → Lowers old new (stopped (calls.Link old new) why) fs M
       after NotThere fs M t = inr (NoEntry, refl, t)
       after NoMemory fs M t = inl t
 

@@ -1,17 +1,17 @@
 -- The moves of a walk: it begins, looks on, is refused at its last lookup, is given up; and a call that finds no room.
-use Rattle.inode_machine.proofs.Vocabulary.{◌≡◌, ◌≢◌, inl, inr, ℕ, ◌+◌, ◌-◌, ◌<◌, Bool, true, false, List, [], ◌∷◌, Option, Some, None, refl, sym, ◌∙◌, ap, subst, arith, nat_lt, ◌&&◌, Do, P, own, onto, Good, Fine, Safe, Wp, Node, Kind, Directory, File, Device, Hold, Action, Inherit, Cause, Failed, hart_count, Name, Tree, put, look, is_live, live_directory, settle, refusal_with, refused, IsInPlace, row_of, settle_live, settle_dead, settled_row, put_same, look_live, settle_at, look_same, Walk, Deed, Stage, Step, Move, Acts, Looks, fail, Look, Quit, Desk, Note, World, Mark, stage_of, Makes, Frees, Orphans, Fills, Mends, Spoils, Take, Query, Sight, sort_of, seen_in, face_of, is_live_face, is_directory_face, locked, lock_if, with_walk, marked, with_mark, with_made, mended, made_by, look_made, looked, acts, found_by, places, new_id, unopened, unmoved, unheld, Own, Held, own_of, Inv, IsOut, looking_cost, machine, own_names, Sought}
+use Rattle.inode_machine.proofs.Vocabulary.{◌≡◌, ◌≢◌, inl, inr, ℕ, ◌+◌, ◌-◌, ◌<◌, Bool, true, false, List, [], ◌∷◌, Option, Some, None, refl, sym, ◌∙◌, ap, subst, arith, nat_lt, ◌&&◌, Do, P, own, onto, Good, Fine, Safe, Wp, Node, NodeKind, Directory, File, Device, Hold, Action, Inherit, Cause, Failed, hart_count, Name, Tree, put, look, is_live, live_directory, settle, refusal_with, refused, IsInPlace, row_of, settle_live, settle_dead, settled_row, put_same, look_live, settle_at, look_same, Walk, Deed, Stage, Step, Move, Acts, LookupLeadsTo, fail, Look, GiveUpWalk, Desk, Note, World, Mark, stage_of, Makes, Frees, Orphans, Fills, Mends, Spoils, Take, Query, Sight, type_of, seen_in, face_of, is_live_face, is_directory_face, locked, lock_if, with_walk, marked, with_mark, with_made, mended, made_by, look_made, looked, acts, found_by, places, new_id, unopened, unmoved, unheld, Own, Held, own_of, Inv, IsOut, looking_cost, machine, own_names, Sought}
 use Rattle.inode_machine.proofs.Frame.{Fair, fair, fair_then, has_inode}
 use Rattle.inode_machine.proofs.Rules.{s-owned, others, fine_after, locking, is_out, live_typed, locks_not, locked_held, my_refs, has_node}
 use Rattle.inode_machine.proofs.Walking.{walk_named_did, walk_did, own_walk, stage_walk, moves_good}
 use Rattle.inode_machine.proofs.Dups.{with_new, Flagging, flagging}
-use Rattle.inode_machine.proofs.Shops.{names_less}
+use Rattle.inode_machine.proofs.FileTablesSteps.{names_less}
 
 -- a face says whether anything may be found
 pub live_face : (v : Option Node) → is_live_face (face_of v) ≡ live_directory v
 live_face None = refl
 live_face (Some v) = by_kind v.kind
   where
-    by_kind : (k : Kind) → is_live_face (face_of (Some (record { count = v.count; kind = k }))) ≡ live_directory (Some (record { count = v.count; kind = k }))
+    by_kind : (k : NodeKind) → is_live_face (face_of (Some (record { count = v.count; kind = k }))) ≡ live_directory (Some (record { count = v.count; kind = k }))
     by_kind (Directory slots) = refl
     by_kind (File bytes) = refl
     by_kind (Device major minor size) = refl
@@ -21,7 +21,7 @@ pub no_directory : (v : Option Node) → is_directory_face (face_of v) ≡ false
 no_directory None e = refl
 no_directory (Some v) e = by_kind v.kind e
   where
-    by_kind : (k : Kind) → is_directory_face (face_of (Some (record { count = v.count; kind = k }))) ≡ false → live_directory (Some (record { count = v.count; kind = k })) ≡ false
+    by_kind : (k : NodeKind) → is_directory_face (face_of (Some (record { count = v.count; kind = k }))) ≡ false → live_directory (Some (record { count = v.count; kind = k })) ≡ false
     by_kind (Directory slots) q = absurd cc
     by_kind (File bytes) q = none (nat_lt 0 v.count)
       where
@@ -78,12 +78,12 @@ MoveFine h more n B Q es v mv p = Fine machine h (told_by h v mv) more n B es v 
 -- A walk whose directory has died, or is none, is given up.
 pub quit_good : {A : Type 0} (h more n d : ℕ) (B : List Step → Type 0) (Q : A → List Step → World → Type 0) (es : List Step) (v : World) (O : Own) (x : Held) (y : Walk) (p : P machine A)
     → own_of h v ≡ O → O.desk.lender ≡ None → h < hart_count → Inv v → O.mine.walk ≡ Some y → O.mine.pending ≡ None → y.at ≡ d → O.inodes d ≡ Some x → live_directory x.node ≡ false
-    → B (record { move = Quit y.step; told = Some (fail y.step) } ∷ es) → more < n
-    → ((l : ℕ) (u : World) → l + (more + 1) ≡ n → own_of h u ≡ record O { mine = record { refs = O.mine.refs; walk = None; pending = None } } → Safe machine h B Q p l (record { move = Quit y.step; told = Some (fail y.step) } ∷ es) u)
-    → MoveFine h more n B Q es v (Quit y.step) p
+    → B (record { move = GiveUpWalk y.step; told = Some (fail y.step) } ∷ es) → more < n
+    → ((l : ℕ) (u : World) → l + (more + 1) ≡ n → own_of h u ≡ record O { mine = record { refs = O.mine.refs; walk = None; pending = None } } → Safe machine h B Q p l (record { move = GiveUpWalk y.step; told = Some (fail y.step) } ∷ es) u)
+    → MoveFine h more n B Q es v (GiveUpWalk y.step) p
 quit_good h more n d B Q es v O x y p ov free lt inv walks none at isd dead b pos then_ =
     let node_at : v.all.nodes y.at ≡ x.node = ap v.all.nodes at ∙ has_node h d v O x ov isd in
-    moves_good h more n B Q es v v (Quit y.step) p (made_by v.all h (new_id v) (v.harts h).walk (Quit y.step)) (record { all = v.all; walk = None; found = None; opened = None; entered = None; left = None; told = Some (fail y.step) }) refl
+    moves_good h more n B Q es v v (GiveUpWalk y.step) p (made_by v.all h (new_id v) (v.harts h).walk (GiveUpWalk y.step)) (record { all = v.all; walk = None; found = None; opened = None; entered = None; left = None; told = Some (fail y.step) }) refl
     (fair inv (walk_did h None None v (ap (λ (o : Own). o.desk.lender) ov ∙ free) lt inv (ap (λ (o : Own). o.mine.pending) ov ∙ none) (λ m q e. absurd cc) (λ z q. absurd cc) (λ i q. absurd cc)))
     (record { walk = y; is = ap (λ (o : Own). o.mine.walk) ov ∙ walks; step = refl; lost = settle_dead v.all y.at (ap (λ (z : Option Node). live_directory z) node_at ∙ dead); deed = refl; stage = stage_walk h None None v })
     b pos
@@ -92,26 +92,26 @@ quit_good h more n d B Q es v O x y p ov free lt inv walks none at isd dead b po
 -- What was found is noted, with its type.
 
 abbrev pub note_of : Tree → ℕ → Note
-note_of t j = record { number = j; sort = sort_of (t.nodes j) }
+note_of t j = record { number = j; inode_type = type_of (t.nodes j) }
 
 pub noting : (h j : ℕ) (v : World) (O : Own) → own_of h v ≡ O → O.desk.lender ≡ None → h < hart_count → Inv v → Flagging h v O (record (v.desks h) { noted = Some (note_of v.all j) }) (record (O.desk) { noted = Some (note_of v.all j) }) v.clean
 noting h j v O ov free lt inv = flagging h v O (record (v.desks h) { noted = Some (note_of v.all j) }) (record (O.desk) { noted = Some (note_of v.all j) }) v.clean ov free lt inv (ap (λ (o : Own). record (o.desk) { noted = Some (note_of v.all j) }) ov)
     (record { fds = refl; hand = refl; lent = refl; opening = refl; left = refl; directory = refl }) (ap (λ (o : Own). o.desk.lender) ov ∙ free) (λ f i is. inv.quiet i h is f) (inv.raised h lt)
-    (λ m q r s. let a : note_of v.all j ≡ m = cc in (λ z. sort_of (v.all.nodes (sym a z).number)) ∙ (λ z. (a z).sort))
+    (λ m q r s. let a : note_of v.all j ≡ m = cc in (λ z. type_of (v.all.nodes (sym a z).number)) ∙ (λ z. (a z).inode_type))
     (λ q. inv.tied.spoiled h q) (λ q. q) (λ q. q)
 
 -- The walk goes on to what was found.
 pub look_on_good : {A : Type 0} (h more n d : ℕ) (B : List Step → Type 0) (Q : A → List Step → World → Type 0) (es : List Step) (v : World) (O : Own) (x : Held) (y : Walk) (e : Name) (r : List Name) (j : ℕ) (p : P machine A)
     → own_of h v ≡ O → O.desk.lender ≡ None → h < hart_count → Inv v → O.mine.walk ≡ Some y → O.mine.pending ≡ None → y.at ≡ d → O.inodes d ≡ Some x → live_directory x.node ≡ true → y.rest ≡ e ∷ r → look (λ z. x.node) d y.next ≡ Some j
     → B (record { move = Look 0; told = None } ∷ es) → more < n
-    → ((l : ℕ) (t : Option Note) (u : World) → l + (more + 1) ≡ n → ((z : Held) → O.inodes j ≡ Some z → is_live z.node ≡ true) → own_of h u ≡ record O { mine = record { refs = O.mine.refs; walk = Some (record { step = y.step; at = j; next = e; rest = r }); pending = Some j }; desk = record (O.desk) { noted = t } } → ((m : Note) → t ≡ Some m → m.number ≡ j) → ((m : Note) × (t ≡ Some m) × (m.number ≡ j) × (m.sort ≢ None))
+    → ((l : ℕ) (t : Option Note) (u : World) → l + (more + 1) ≡ n → ((z : Held) → O.inodes j ≡ Some z → is_live z.node ≡ true) → own_of h u ≡ record O { mine = record { refs = O.mine.refs; walk = Some (record { step = y.step; at = j; next = e; rest = r }); pending = Some j }; desk = record (O.desk) { noted = t } } → ((m : Note) → t ≡ Some m → m.number ≡ j) → ((m : Note) × (t ≡ Some m) × (m.number ≡ j) × (m.inode_type ≢ None))
     → Safe machine h B Q p l (record { move = Look 0; told = None } ∷ es) u)
     → MoveFine h more n B Q es v (Look 0) p
 look_on_good {A} h more n d B Q es v O x y e r j p ov free lt inv walks none at isd live rest finds b pos then_ =
     moves_good h more n B Q es v v (Look 0) p (made_by v.all h (new_id v) (v.harts h).walk (Look 0)) (record { all = v.all; walk = Some to; found = Some j; opened = None; entered = None; left = None; told = None })
     (ap (λ (z : Option Walk). look_made v.all h z 0 (new_id v)) mine ∙ (λ i. looked v.all h y (rest i) (look_is i) 0 (new_id v)))
     (fair_then note.fair (fair note.fair.inv (walk_did h (Some to) (Some j) u1 (ap (λ (o : Own). o.desk.lender) note.owned ∙ free) lt note.fair.inv idle
-    (λ m q s. let a : note_of v.all j ≡ m = some_is (sym (ap (λ (z : Desk). z.noted) (put_same v.desks h (record (v.desks h) { noted = Some (note_of v.all j) }))) ∙ q) in (λ z. sort_of (v.all.nodes (sym a z).number)) ∙ (λ z. (a z).sort))
+    (λ m q s. let a : note_of v.all j ≡ m = some_is (sym (ap (λ (z : Desk). z.noted) (put_same v.desks h (record (v.desks h) { noted = Some (note_of v.all j) }))) ∙ q) in (λ z. type_of (v.all.nodes (sym a z).number)) ∙ (λ z. (a z).inode_type))
     (λ z q. inr (let s : to ≡ z = cc in ap (λ (o : Walk). Some o.at) s))
     (λ i q. let s : j ≡ i = cc in record { directory = d; name = y.next; keeps = (has_inode h d v O x ov isd).0; finds = subst (λ (z : ℕ). look v.all.nodes z y.next ≡ Some j) at look_is ∙ ap (λ (z : ℕ). Some z) s }))))
     (record { walk = y; is = mine; live = ap (λ (z : Option Node). live_directory z) settled ∙ live_at; looks = plays })
@@ -149,12 +149,12 @@ look_on_good {A} h more n d B Q es v O x y e r j p ov free lt inv walks none at 
     look_is : look v.all.nodes y.at y.next ≡ Some j
     look_is = look_same (λ z. x.node) v.all.nodes y.at y.next node_at ∙ subst (λ (z : ℕ). look (λ i. x.node) z y.next ≡ Some j) (sym at) finds
 
-    goes : Looks (stage_of v) h y (e ∷ r) (Some j) 0 None (stage_of (record u1 { harts = with_walk v.harts h (Some to) (Some j) }))
+    goes : LookupLeadsTo (stage_of v) h y (e ∷ r) (Some j) 0 None (stage_of (record u1 { harts = with_walk v.harts h (Some to) (Some j) }))
     goes = (refl, stage_walk h (Some to) (Some j) v)
 
-    plays : Looks (stage_of v) h y y.rest (look (settle v.all).nodes y.at y.next) 0 None (stage_of (record u1 { harts = with_walk v.harts h (Some to) (Some j) }))
-    plays = subst (λ (z : List Name). Looks (stage_of v) h y z (look (settle v.all).nodes y.at y.next) 0 None (stage_of (record u1 { harts = with_walk v.harts h (Some to) (Some j) }))) (sym rest)
-        (subst (λ (z : Option ℕ). Looks (stage_of v) h y (e ∷ r) z 0 None (stage_of (record u1 { harts = with_walk v.harts h (Some to) (Some j) }))) (sym (look_same v.all.nodes (settle v.all).nodes y.at y.next settled ∙ look_is)) goes)
+    plays : LookupLeadsTo (stage_of v) h y y.rest (look (settle v.all).nodes y.at y.next) 0 None (stage_of (record u1 { harts = with_walk v.harts h (Some to) (Some j) }))
+    plays = subst (λ (z : List Name). LookupLeadsTo (stage_of v) h y z (look (settle v.all).nodes y.at y.next) 0 None (stage_of (record u1 { harts = with_walk v.harts h (Some to) (Some j) }))) (sym rest)
+        (subst (λ (z : Option ℕ). LookupLeadsTo (stage_of v) h y (e ∷ r) z 0 None (stage_of (record u1 { harts = with_walk v.harts h (Some to) (Some j) }))) (sym (look_same v.all.nodes (settle v.all).nodes y.at y.next settled ∙ look_is)) goes)
 
 -- what a tree must have to agree with what the hart keeps
 abbrev pub Agrees : Own → Tree → Type 0
@@ -179,7 +179,7 @@ acts_refused b h s res par new id c r f = rw r (λ i. record { all = b; walk = N
 pub look_refused_good : {A : Type 0} (h more n d : ℕ) (B : List Step → Type 0) (Q : A → List Step → World → Type 0) (es : List Step) (v : World) (O : Own) (x : Held) (y : Walk) (f : Option ℕ) (c : Cause) (res : Option ℕ) (par : Option (ℕ × Name)) (p : P machine A)
     → own_of h v ≡ O → O.desk.lender ≡ None → h < hart_count → Inv v → O.mine.walk ≡ Some y → O.mine.pending ≡ None → y.at ≡ d → O.inodes d ≡ Some x → live_directory x.node ≡ true → look (λ z. x.node) d y.next ≡ f
     → ((b : Tree) (id : ℕ) → looked b h y y.rest f 0 id ≡ acts b h y.step res par 0 id)
-    → ((m m' : Stage) (t : Option Deed) → Acts m h y.step res par 0 t m' → Looks m h y y.rest f 0 t m')
+    → ((m m' : Stage) (t : Option Deed) → Acts m h y.step res par 0 t m' → LookupLeadsTo m h y y.rest f 0 t m')
     → ((b : Tree) → Agrees O b → refusal_with b h y.step res par ≡ Some c) → ((b : Tree) → refused b h y.step ≡ b)
     → ((t : Tree) → row_of t h ≡ O.row → IsInPlace t h y.step) → ((g : ℕ) → y.step ≡ Inherit g → ⊥) → found_by y.step res ≡ None
     → B (record { move = Look 0; told = Some (record { act = record { step = y.step; answer = Failed c }; new = 0 }) } ∷ es) → more < n
@@ -189,7 +189,7 @@ look_refused_good {A} h more n d B Q es v O x y f c res par p ov free lt inv wal
     moves_good h more n B Q es v v (Look 0) p (made_by v.all h (new_id v) (v.harts h).walk (Look 0)) (record { all = v.all; walk = None; found = None; opened = None; entered = None; left = None; told = Some (record { act = record { step = y.step; answer = Failed c }; new = 0 }) })
     (ap (λ (z : Option Walk). look_made v.all h z 0 (new_id v)) walk_is ∙ (λ i. looked v.all h y y.rest (look_is i) 0 (new_id v)) ∙ same v.all (new_id v) ∙ acts_refused v.all h y.step res par 0 (new_id v) c (refusal v.all (agrees_all h v O ov)) found)
     (fair inv (walk_did h None None v (ap (λ (o : Own). o.desk.lender) ov ∙ free) lt inv (ap (λ (o : Own). o.mine.pending) ov ∙ none) (λ m q e. absurd cc) (λ z q. absurd cc) (λ i q. absurd cc)))
-    (record { walk = y; is = walk_is; live = ap (λ (z : Option Node). live_directory z) settled ∙ live_at; looks = subst (λ (z : Option ℕ). Looks (stage_of v) h y y.rest z 0 (Some (record { act = record { step = y.step; answer = Failed c }; new = 0 })) (stage_of (record v { harts = with_walk v.harts h None None }))) (sym look_settled) (plays (stage_of v) (stage_of (record v { harts = with_walk v.harts h None None })) (Some (record { act = record { step = y.step; answer = Failed c }; new = 0 })) takes) })
+    (record { walk = y; is = walk_is; live = ap (λ (z : Option Node). live_directory z) settled ∙ live_at; looks = subst (λ (z : Option ℕ). LookupLeadsTo (stage_of v) h y y.rest z 0 (Some (record { act = record { step = y.step; answer = Failed c }; new = 0 })) (stage_of (record v { harts = with_walk v.harts h None None }))) (sym look_settled) (plays (stage_of v) (stage_of (record v { harts = with_walk v.harts h None None })) (Some (record { act = record { step = y.step; answer = Failed c }; new = 0 })) takes) })
     b pos
     (λ l q. (then_ l (record v { harts = with_walk v.harts h None None }) q (own_walk h None None v O ov)).wp)
   where

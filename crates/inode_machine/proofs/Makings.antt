@@ -2,7 +2,7 @@
 use Rattle.inode_machine.proofs.Vocabulary.{◌≡◌, ◌≢◌, ◌⊎◌, inl, inr, ℕ, ◌+◌, ◌-◌, ◌*◌, ◌<◌, ◌≤◌, Bool, true, false, ◌==◌, ◌&&◌, ◌||◌, List, [], ◌∷◌, length, Option, Some, None, refl, sym, ◌∙◌, ap, subst, arith, if◌then◌else◌, Do, unmarked, oldest_first, Safe, Begun, Ends, Full, Blocks, Descriptors, MemInodes, DirectoryFull, OpenFiles, Reply, Node, Opened, Done, NoRoom, Act, Key, Row, key_is, key_names, creates, empty_it, has, has_room, lowest, new_file, Name, put, look, hold_names, live_directory, hart_count, one_if, either, eq_not, or_none, same_or, put_same, put_other, Step, IsWholeCall, OwnMove, Desk, Note, World, New, Forget, Install, OfFile, blank, is_at, with_entry, Held, Own, key_in, own_names, own_of, machine, IsName, ThisP as P, full, give_up, own_step, tail, file_for, installed_on, installs, make_other, make_with, open_end, open_made, opened_reply, truncates, unmake, covered_calls}
 use Rattle.plain_tree.specs.declared.call.Call.TheVariants as calls
 use Rattle.plain_tree.specs.declared.step.Action.TheVariants as steps
-use Rattle.inode_machine.proofs.Basics.{locked_held, s-give, s-take-kept, KeepsHold, mends, times, one_at, one_else, Listed, Stays, names_stay, Walked, names_plain, s-ends, walked_tells, Mendable, claimed_held, mended_own, s-store, told_step, Holding, IsWhole, Joins, holding_same, holding_to, mendable, stays_mended, unlisted_refs, s-give-end, s-give-up-in, begun_by, walking_told, written_by, opened_row, row_back, unopened_row}
+use Rattle.inode_machine.proofs.Basics.{locked_held, s-give, s-take-kept, KeepsHold, mends, times, one_at, one_else, Listed, Stays, names_stay, Walked, names_plain, s-ends, walked_tells, Mendable, claimed_held, mended_own, s-store, told_step, Holding, IsWhole, HasJoined, holding_same, holding_to, mendable, stays_mended, unlisted_refs, s-give-end, s-give-up-in, begun_by, walking_told, written_by, opened_row, row_back, unopened_row}
 use Rattle.inode_machine.proofs.Creates.{created_inodes, s-enter-file}
 use Rattle.inode_machine.proofs.Pairs.{Pair, pair_same, pair_set, pair_set_first, s-unmake}
 use Rattle.inode_machine.proofs.Unopens.{mends_opened}
@@ -30,7 +30,7 @@ went_own O0 i flags fd id = record O0 { row = opened_row O0.row fd id (key_is (f
 abbrev fresh_held : Node → Held
 fresh_held y = record { disk = Some y; node = None; alone = true; locked = true }
 
-module _ (h : ℕ) (path : List ℕ) (flags : ℕ) (lt : h < hart_count) {base : ℕ → ℕ} {O0 : Own} (joins : Joins base O0) (ns : List ℕ) where
+module _ (h : ℕ) (path : List ℕ) (flags : ℕ) (lt : h < hart_count) {base : ℕ → ℕ} {O0 : Own} (joins : HasJoined base O0) (ns : List ℕ) where
   -- What it names without its new descriptor it named at the beginning.
   names_home : (i fd id : ℕ) (R : Own) → Stays R (went_own O0 i flags fd id) → (j : ℕ) → own_names R.row (record (R.desk) { opening = None }) j ≡ own_names O0.row O0.desk j
   names_home i fd id R s j =

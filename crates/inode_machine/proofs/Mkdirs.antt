@@ -1,7 +1,7 @@
 -- Mkdir is right, whatever the other harts do.
 use Rattle.inode_machine.proofs.Vocabulary.{◌≡◌, ◌≢◌, inl, inr, ℕ, ◌+◌, ◌*◌, ◌<◌, ◌≤◌, Bool, true, false, ◌==◌, nat_lt, List, [], ◌∷◌, length, Option, Some, None, refl, sym, ◌∙◌, ap, subst, arith, if◌then◌else◌, Do, unmarked, Safe, Begun, Ends, IsBeginning, Cause, NoEntry, TooManyLinks, Blocks, DiskInodes, MemInodes, DirectoryFull, Reply, Node, Mkdir, Done, Failed, hart_count, count_limit, Name, Tree, put, look, live_directory, elements, node_or, name_taken, new_directory, or_else, raised, refusal_with, Act, next_of, reply_of, had_room, one_if, eq_not, put_same, put_other, Step, MayEnd, Note, World, New, InPlace, Enter, Forget, OfDirectory, Face, face_of, face_or, blank, with_count, with_dots, with_entry, Held, Own, own_of, nothing, Idle, Inv, machine, IsName, ThisP as P, done, failed, full, give_up, tail, entered_file, unmake, is_refused, mkdir_in, mkdir_on, mkdir_other, mkdir_program, mkdir_refused, mkdir_with, name_directory, path_cost, rest_cost, covered_calls}
 use Rattle.plain_tree.specs.declared.call.Call.TheVariants as calls
-use Rattle.inode_machine.proofs.Basics.{AllNames, locked_held, live_face, Agrees, s-take-kept, one_at, On, stays_same, claimed_held, mended_own, s-claim, s-fill, s-store, told_step, Walked, joined_own, Holding, Joins, Told, holding_on, holding_same, holding_set, mendable, stays_mended, unlisted, s-give-end, Follows, agrees_look, begun_by, quit_step, s-see, walking_quit, walking_told, written_by}
+use Rattle.inode_machine.proofs.Basics.{AllNames, locked_held, live_face, Agrees, s-take-kept, one_at, On, stays_same, claimed_held, mended_own, s-claim, s-fill, s-store, told_step, Walked, joined_own, Holding, HasJoined, IsAnswerable, holding_on, holding_same, holding_set, mendable, stays_mended, unlisted, s-give-end, Follows, agrees_look, begun_by, quit_step, s-see, walking_quit, walking_told, written_by}
 use Rattle.inode_machine.proofs.Tables.{less_is}
 use Rattle.inode_machine.proofs.Enters.{mkdir_place, s-enter-directory}
 use Rattle.inode_machine.proofs.Pairs.{Pair, pair_new, pair_same, pair_set, pair_set_first, s-end-pair, s-unmake}
@@ -71,7 +71,7 @@ by_face path d e ns x b = if b then mkdir_on path d e ns (face_or (face_of x)) (
 abbrev fresh_held : Node → Held
 fresh_held y = record { disk = Some y; node = None; alone = true; locked = true }
 
-module _ (h : ℕ) (path : List ℕ) (lt : h < hart_count) {base : ℕ → ℕ} {O0 : Own} (joins : Joins base O0) (d : ℕ) (e : Name) (ns : List ℕ) where
+module _ (h : ℕ) (path : List ℕ) (lt : h < hart_count) {base : ℕ → ℕ} {O0 : Own} (joins : HasJoined base O0) (d : ℕ) (e : Name) (ns : List ℕ) where
   -- the directory alone is locked
   locked_one : {w : World} {O R : Own} (x : Option Node) → On h (Mkdir path) d e [] base ns O0 O w → R.inodes ≡ put O.inodes d (Some (locked_held x)) → R.row ≡ O.row → R.ninodes ≡ O.ninodes → R.desk ≡ O.desk → R.mine.refs ≡ O.mine.refs → Holding base ns O0 R (put nothing d (Some (locked_held x))) (λ i. 0 + one_if (d == i))
   locked_one {w} {O} {R} x on inodes row ninodes desk refs =
@@ -79,12 +79,12 @@ module _ (h : ℕ) (path : List ℕ) (lt : h < hart_count) {base : ℕ → ℕ} 
       holding_set R d (Some (locked_held x)) (λ i. 0 + one_if (d == i)) k (unlisted k d on.out) inodes (stays_same R O O0 row ninodes desk on.stays) (λ i ne. ap (λ (f : ℕ → ℕ). f i) refs) (λ i. ap (λ (f : ℕ → ℕ). f i) refs ∙ k.refs i)
 
   -- it is given up, and the call ends
-  ends_one : (r : Reply) (x : Option Node) (n : ℕ) (es : List Step) (w : World) (R : Own) → 971 * length ns + 970 < n → own_of h w ≡ R → Holding base ns O0 R (put nothing d (Some (locked_held x))) (λ i. 0 + one_if (d == i)) → R.mine.walk ≡ None → R.mine.pending ≡ None → Told (calls.Mkdir path) r es R → Goes h path (give_up d (tail ns r)) n es w
+  ends_one : (r : Reply) (x : Option Node) (n : ℕ) (es : List Step) (w : World) (R : Own) → 971 * length ns + 970 < n → own_of h w ≡ R → Holding base ns O0 R (put nothing d (Some (locked_held x))) (λ i. 0 + one_if (d == i)) → R.mine.walk ≡ None → R.mine.pending ≡ None → IsAnswerable (calls.Mkdir path) r es R → Goes h path (give_up d (tail ns r)) n es w
   ends_one r x n es w R few held k walk none told =
       s-give-end h (calls.Mkdir path) r ns (put nothing d (Some (locked_held x))) d n es w R lt joins held few k (put_same nothing d (Some (locked_held x))) (record { locked = refl; shared = refl; same = refl }) (λ i ne. put_other nothing d (Some (locked_held x)) i ne) walk none told
 
   -- The name is there: the parent's count is stored, and both are given up.
-  named : (X : Node) (i l : ℕ) (es : List Step) (u : World) (R : Own) → 971 * length ns + 1890 < l → own_of h u ≡ R → Pair base ns O0 R d i (record (locked_held (Some X)) { disk = Some (with_entry e i X); node = Some (raised (with_entry e i X)) }) (locked_held (Some (new_directory i d))) → nat_lt X.count count_limit ≡ true → R.mine.walk ≡ None → R.mine.pending ≡ None → Told (calls.Mkdir path) (done (calls.Mkdir path)) es R
+  named : (X : Node) (i l : ℕ) (es : List Step) (u : World) (R : Own) → 971 * length ns + 1890 < l → own_of h u ≡ R → Pair base ns O0 R d i (record (locked_held (Some X)) { disk = Some (with_entry e i X); node = Some (raised (with_entry e i X)) }) (locked_held (Some (new_directory i d))) → nat_lt X.count count_limit ≡ true → R.mine.walk ≡ None → R.mine.pending ≡ None → IsAnswerable (calls.Mkdir path) (done (calls.Mkdir path)) es R
       → Goes h path (name_directory path d (face_or (face_of (Some X))) i ns InPlace) l es u
   named X i l es u R few held p room walk none told =
       s-store d (X.count + 1) (with_entry e i X) held (p.hold.stays.lender ∙ joins.ready.free) lt (omega (arith, few)) (p.hold.stays.joined ∙ joins.ready.joined) (p.hold.has d _ p.at_d) refl refl (inl (let a = less_is X.count count_limit room in omega (arith, a))) (λ l2 u2 q2 held2.

@@ -1,5 +1,5 @@
 -- All calls of a run over a machine of moves as one list of tree steps: each event is one of moves on the tree.
-use Rattle.inode_machine.proofs.Vocabulary.{◌≡◌, ◌≢◌, ◌⊎◌, inl, inr, ℕ, suc, ◌<◌, ◌≤◌, Bool, true, false, List, [], ◌∷◌, ◌++◌, map, length, Option, Some, None, refl, sym, ◌∙◌, ap, subst, arith, append_assoc, Reply, Call, Act, Shown, Chain, Explains, trace_of, TreeData, Tree, put, tree_of, hart_count, eq_self, eq_not, put_same, put_other, Deed, Move, Stage, Step as MoveStep, IsNext, MayEnd, Takes, IsWholeCall, after, begins, told_by, starts, passes, Busy, Told, Turn, Happens, BeginsNext, PlaysAny, Goings, Calm, Lone, IsStartBy, climbing, opened, shown_of, stepped, Starts, Steps, Nothing, Tells, runs_more, runs_none, NeverClimbs, IsHart, apart_alone, apart_calm, opened_ok, run_explained, run_ok, starts_alone, starts_calm, AllMayStart, Apart, event_tells, played_end, played_next, told_more, Prog, Ret, Do, Came as Did, Waits, Ran, Stops, asks, OfNext, OpWithAnswer, Goes, Good, Grown, PlacesOne, Wp, onto, oldest_first, own, Theory, Began, Begins, Begun, CameOf as Came, Refuses, busy_in, Ends, Event, Start, StepOf as Step, HonestStep, IsHonest, Run, Sound, State, AllHonest, all_told, fresh, moved, next, run, start_run, step_prog, step_run, step_unless, told, tried, unchanged, append_nil, oldest_first_more, Keeps, changed_tells, inv_of, sound_keeps, leads, sound_fresh, sound_run, MoveMachine, IsMoving, HasOneHistory, RunsFrom, Alone, NoneClimbs, StartsBy, climbs_at, machine_of, shown_by, shows, theory_of}
+use Rattle.inode_machine.proofs.Vocabulary.{◌≡◌, ◌≢◌, ◌⊎◌, inl, inr, ℕ, suc, ◌<◌, ◌≤◌, Bool, true, false, List, [], ◌∷◌, ◌++◌, map, length, Option, Some, None, refl, sym, ◌∙◌, ap, subst, arith, append_assoc, Reply, Call, Act, Shown, Chain, Explains, trace_of, TreeData, Tree, put, tree_of, hart_count, eq_self, eq_not, put_same, put_other, Deed, Move, Stage, Step as MoveStep, IsNext, MayEnd, PlaysStep, IsWholeCall, after, begins, told_by, starts, passes, Busy, Told, Turn, Happens, BeginsNext, PlaysAny, Goings, Calm, Lone, IsStartBy, climbing, opened, shown_of, stepped, Starts, Steps, Nothing, Tells, runs_more, runs_none, NeverClimbs, IsHart, apart_alone, apart_calm, opened_ok, run_explained, run_ok, starts_alone, starts_calm, AllMayStart, Apart, event_tells, played_end, played_next, told_more, Prog, Ret, Do, ExecResult, Waits, Ran, Stops, asks, OfNext, OpWithAnswer, Goes, Good, Grown, PlacesOne, Wp, onto, oldest_first, own, Theory, Began, Begins, Begun, EventOutcome, Refuses, busy_in, Ends, Event, Start, StepOf as Step, HonestStep, IsHonest, Run, Sound, State, AllHonest, all_told, fresh, moved, next, run, start_run, step_prog, step_run, step_unless, told, tried, unchanged, append_nil, oldest_first_more, Keeps, changed_tells, inv_of, sound_keeps, leads, sound_fresh, sound_run, MoveMachine, IsMoving, HasOneHistory, RunsFrom, Alone, NoneClimbs, StartsBy, climbs_at, machine_of, shown_by, shows, theory_of}
 use Rattle.tree_laws.specs.History.HartStanding.{Free}
 use Rattle.atomic_programs.specs.Calls.{begun, makes}
 
@@ -18,7 +18,7 @@ module _ (N : MoveMachine) (moving : IsMoving N) where
     pub harts : (h : ℕ) (r : Run L) → s.running h ≡ Some r → h < hart_count
 
   -- An event that led to s2, as one of moves.
-  pub record Turns (e : Event Call N.Outside) (came : Came L) (s2 : State L) (t : Told) : Type 0 where
+  pub record Turns (e : Event Call N.Outside) (came : EventOutcome L) (s2 : State L) (t : Told) : Type 0 where
     pub event : Turn
     pub then_ : Told
     pub happens : Happens t event then_
@@ -27,7 +27,7 @@ module _ (N : MoveMachine) (moving : IsMoving N) where
     pub calm : climbs_at e ≡ false → climbing event ≡ false
     pub alone : (h : ℕ) → StartsBy h e → IsStartBy h event
 
-  nothing_turns : (e : Event Call N.Outside) (came : Came L) (s s2 : State L) (t : Told) → Beside s t → s2.running ≡ s.running → N.tree s2.world ≡ N.tree s.world → Shown.Other ≡ shown_by e came → Turns e came s2 t
+  nothing_turns : (e : Event Call N.Outside) (came : EventOutcome L) (s s2 : State L) (t : Told) → Beside s t → s2.running ≡ s.running → N.tree s2.world ≡ N.tree s.world → Shown.Other ≡ shown_by e came → Turns e came s2 t
   nothing_turns e came s s2 t b same stage shown = record {
     event = Nothing;
     then_ = record { stage = t.stage; history = passes t.history };
@@ -123,7 +123,7 @@ module _ (N : MoveMachine) (moving : IsMoving N) where
   one_move h s r ps w t stage (inr p) goes grown = record {
     move = Some e.move;
     deed = e.told;
-    plays = subst (λ (z : Stage). Takes z h e (N.tree w)) (sym stage) (subst (λ (z : Stage). Takes (N.tree s.world) h e z) (sym went.2) went.1);
+    plays = subst (λ (z : Stage). PlaysStep z h e (N.tree w)) (sym stage) (subst (λ (z : Stage). PlaysStep (N.tree s.world) h e z) (sym went.2) went.1);
     next = begins_next;
     acts = sym (told_more [] (oldest_first r.done) e) ∙ ap (told_by []) (sym (oldest_first_more e r.done)) ∙ (λ z. told_by [] (oldest_first (onto (sym mine z) r.done)));
   }
@@ -134,7 +134,7 @@ module _ (N : MoveMachine) (moving : IsMoving N) where
       mine : own h ps ≡ e ∷ []
       mine = ap (own h) p.1 ∙ rw (eq_self h) refl
 
-      went : (mid : Stage) × Takes (N.tree s.world) h e mid × (N.tree w ≡ mid)
+      went : (mid : Stage) × PlaysStep (N.tree s.world) h e mid × (N.tree w ≡ mid)
       went = subst (λ (z : List (ℕ × MoveStep)). Goes (machine_of N) (N.tree s.world) z (N.tree w)) p.1 goes
 
       begins_next : IsNext r.call (told_by [] (oldest_first r.done)) (begins e.move)
@@ -211,7 +211,7 @@ module _ (N : MoveMachine) (moving : IsMoving N) where
   ends_so h n r ps (Ret reply) w g clean = (g.0 clean, moving.rests h w g.1)
   ends_so h n r ps (Do op m k) w g clean = tt
 
-  tried_turns : (h n more : ℕ) (x : N.Outside) (s : State L) (t : Told) (r : Run L) (op : N.Op) (m : N.Answer op → Option N.Mark) (k : N.Answer op → P Reply) (wait : Type 0) (d : Did (N.Answer op) N.World) → Beside s t → s.running h ≡ Some r
+  tried_turns : (h n more : ℕ) (x : N.Outside) (s : State L) (t : Told) (r : Run L) (op : N.Op) (m : N.Answer op → Option N.Mark) (k : N.Answer op → P Reply) (wait : Type 0) (d : ExecResult (N.Answer op) N.World) → Beside s t → s.running h ≡ Some r
       → Good (machine_of N) (N.Answer op) h (λ a. N.places h op a (m a) s.world) more n (Begun L r.call) r.done s.world wait d (λ l a u. Wp (machine_of N) h (Begun L r.call) (Ends L h r.call) (k a) l (onto (own h (N.places h op a (m a) s.world)) r.done) u)
       → N.Clean (tried L h s r op (λ a. N.places h op a (m a) s.world) k d).after.world
       → Turns (Step h x) (tried L h s r op (λ a. N.places h op a (m a) s.world) k d).came (tried L h s r op (λ a. N.places h op a (m a) s.world) k d).after t

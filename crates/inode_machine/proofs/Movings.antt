@@ -1,5 +1,5 @@
 -- The directory is handed on: the child refers to it, and the hart to what was the child's.
-use Rattle.inode_machine.proofs.Vocabulary.{◌≡◌, ◌≢◌, inl, ℕ, ◌+◌, ◌<◌, ◌≤◌, ◌==◌, Option, Some, None, refl, sym, ◌∙◌, ap, subst, arith, descriptor_count, put, settle, one_if, IsWellFormed, put_same, put_other, well_inherit, Stage, Takes, Mine, Desk, World, stage_of, with_walk, moved_in, serving, Own, Rests, own_of, shop_of, IsTied, Has, Inv}
+use Rattle.inode_machine.proofs.Vocabulary.{◌≡◌, ◌≢◌, inl, ℕ, ◌+◌, ◌<◌, ◌≤◌, ◌==◌, Option, Some, None, refl, sym, ◌∙◌, ap, subst, arith, descriptor_count, put, settle, one_if, IsWellFormed, put_same, put_other, well_inherit, Stage, PlaysStep, Mine, Desk, World, stage_of, with_walk, moved_in, serving, Own, Rests, own_of, file_tables_of, IsTied, Has, Inv}
 use Rattle.inode_machine.proofs.Basics.{put_elim, has_none, FairTo, my_refs, refs_walk, stage_walk, one_most, SameTied, same_tied, tied_as, HandsAll, tied_handed, both_world}
 use Rattle.inode_machine.proofs.Turnings.{Server, Kid, kid, Turns, turned_fair, turned_own, moved_refs, moved_hart, moved_child, moved_child_walk, moved_child_pending, moved_mine, moved_others, moved_walks, moved_counts, moved_apart, serving_child, serving_given, serving_none}
 use Rattle.inode_machine.proofs.Lendings.{at_home, inherited, inherit_takes, tree_empty}
@@ -78,7 +78,7 @@ module _ (h c : ℕ) (v : World) (O : Own) (inv : Inv v) (ov : own_of h v ≡ O)
       cwd = cwd;
       numbers = λ l d q. (d, q, refl, refl);
       tied = tied;
-      sorts = inv.sorts;
+      inode_types = inv.inode_types;
       well = well;
       counts = moved_counts v H h c home old inv srv.hart k.below k.apart child_rests.refs his_refs mine_refs (λ g nh nc j. refs g j ∙ ap (λ (m : Mine). m.refs j) (moved_others v.harts h c home old k.apart g nh nc));
       apart = λ i g kept q. moved_apart v h home i g inv srv.hart (inv.refers h srv.hart).home (λ e. not_mine i g e kept) kept q;
@@ -95,7 +95,7 @@ module _ (h c : ℕ) (v : World) (O : Own) (inv : Inv v) (ov : own_of h v ≡ O)
       opening = child_rests.opening;
       left = refl;
       noted = child_rests.noted;
-      sort = (inv.directory h srv.hart).sort;
+      inode_type = (inv.directory h srv.hart).inode_type;
       phase = inl (serving_child c (Some 1), k.lender, subst (λ (z : Option ℕ). Has z y.fds (C c) y.directory (v.desks h).directory) (sym (serving_given c (Some 1))) at);
     }
       where
@@ -120,10 +120,10 @@ module _ (h c : ℕ) (v : World) (O : Own) (inv : Inv v) (ov : own_of h v ≡ O)
   -- after the descriptors
   module _ (at : v.all.cwd c ≡ home) where
     pub moved_fair : FairTo h v (moved_in v h c)
-    moved_fair = turns_fair M v.all.fds v.all.cwd (λ g i. refl) (λ g ne. refl) moved_hart_is (λ g ne. refl) (λ g ne. refl) (tied_as (shop_of v) D same inv.tied) inv.well at
+    moved_fair = turns_fair M v.all.fds v.all.cwd (λ g i. refl) (λ g ne. refl) moved_hart_is (λ g ne. refl) (λ g ne. refl) (tied_as (file_tables_of v) D same inv.tied) inv.well at
 
     pub moved_owns : own_of h (moved_in v h c) ≡ moved_own c old O
-    moved_owns = turns_own M v.all.fds v.all.cwd (λ g i. refl) (λ g ne. refl) moved_hart_is (λ g ne. refl) (λ g ne. refl) (tied_as (shop_of v) D same inv.tied) inv.well at
+    moved_owns = turns_own M v.all.fds v.all.cwd (λ g i. refl) (λ g ne. refl) moved_hart_is (λ g ne. refl) (λ g ne. refl) (tied_as (file_tables_of v) D same inv.tied) inv.well at
 
     pub moved_stage : stage_of (moved_in v h c) ≡ stage_of v
     moved_stage = λ z. record { tree = settle v.all; walk = moved_walks v.harts h c home old k.apart z }
@@ -139,7 +139,7 @@ module _ (h c : ℕ) (v : World) (O : Own) (inv : Inv v) (ov : own_of h v ≡ O)
     abbrev H : ℕ → Mine
     H = with_walk M h None None
 
-    hands : HandsAll (shop_of v) h c x y
+    hands : HandsAll (file_tables_of v) h c x y
     hands = record {
       hart = srv.hart;
       below = k.below;
@@ -174,11 +174,11 @@ module _ (h c : ℕ) (v : World) (O : Own) (inv : Inv v) (ov : own_of h v ≡ O)
     given_world = both_world v v.files D R H X C
 
     pub given_fair : FairTo h v given_world
-    given_fair = turns_fair H X C (refs_walk M h None None) others ended (λ g nc. put_other v.all.fds c (v.all.fds h) g nc) (λ g nc. put_other v.all.cwd c (v.all.cwd h) g nc) (tied_handed (shop_of v) h c x y inv.tied hands) (well_inherit v.all h c inv.well srv.hart) home_is
+    given_fair = turns_fair H X C (refs_walk M h None None) others ended (λ g nc. put_other v.all.fds c (v.all.fds h) g nc) (λ g nc. put_other v.all.cwd c (v.all.cwd h) g nc) (tied_handed (file_tables_of v) h c x y inv.tied hands) (well_inherit v.all h c inv.well srv.hart) home_is
 
     pub given_owns : own_of h given_world ≡ moved_own c old O
-    given_owns = turns_own H X C (refs_walk M h None None) others ended (λ g nc. put_other v.all.fds c (v.all.fds h) g nc) (λ g nc. put_other v.all.cwd c (v.all.cwd h) g nc) (tied_handed (shop_of v) h c x y inv.tied hands) (well_inherit v.all h c inv.well srv.hart) home_is
+    given_owns = turns_own H X C (refs_walk M h None None) others ended (λ g nc. put_other v.all.fds c (v.all.fds h) g nc) (λ g nc. put_other v.all.cwd c (v.all.cwd h) g nc) (tied_handed (file_tables_of v) h c x y inv.tied hands) (well_inherit v.all h c inv.well srv.hart) home_is
 
-    pub given_takes : Takes (stage_of v) h (inherited c) (stage_of given_world)
+    pub given_takes : PlaysStep (stage_of v) h (inherited c) (stage_of given_world)
     given_takes = inherit_takes h c v given_world srv.hart k walk (tree_empty h c v inv k his) refl
         (ap (λ (m : Stage). m.walk) (stage_walk h None None (record v { harts = M })) ∙ (λ z. put (moved_walks v.harts h c home old k.apart z) h None))

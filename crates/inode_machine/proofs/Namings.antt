@@ -1,8 +1,8 @@
 -- A call follows its path to the last name's directory, or loses its walk, or has no elements to follow.
-use Rattle.inode_machine.proofs.Vocabulary.{◌≡◌, inl, inr, ℕ, ◌+◌, ◌*◌, ◌<◌, ◌≤◌, true, false, List, [], ◌∷◌, ◌++◌, length, Option, Some, None, refl, sym, ◌∙◌, ap, subst, arith, Do, own, Fine, Safe, Begun, Ends, NoEntry, Reply, Call, Action, Inherit, Failed, hart_count, Name, Tree, elements, start_of, settle, path_of, follows_path, refusal_with, refused, IsInPlace, Act, row_of, settled_row, Stage, Step, MayEnd, fail, Begin, Look, Note, World, stage_of, Join, with_joined, with_walk, begun, found_by, new_id, Held, Own, own_of, nothing, Idle, Inv, machine, ThisP as P, Stop, NotThere, NoMemory, makes, failed, stopped, start, tail, walk_parent, in_parent, covered_calls}
+use Rattle.inode_machine.proofs.Vocabulary.{◌≡◌, inl, inr, ℕ, ◌+◌, ◌*◌, ◌<◌, ◌≤◌, true, false, List, [], ◌∷◌, ◌++◌, length, Option, Some, None, refl, sym, ◌∙◌, ap, subst, arith, Do, own, Fine, Safe, Begun, Ends, NoEntry, Reply, Call, Action, Inherit, Failed, hart_count, Name, Tree, elements, start_of, settle, path_of, follows_path, refusal_with, refused, IsInPlace, Act, row_of, settled_row, Stage, Step, MayEnd, fail, Begin, Look, Note, World, stage_of, Join, with_joined, with_walk, begun, found_by, new_id, Held, Own, own_of, nothing, Idle, Inv, machine, ThisP as P, WalkStop, NotThere, NoMemory, makes, failed, stopped, start, tail, walk_parent, in_parent, covered_calls}
 use Rattle.atomic_programs.specs.Logic as logic
-use Rattle.tree_laws.specs.Moves.{Begins}
-use Rattle.inode_machine.proofs.Basics.{AllNames, fair, s-owned, fine_after, locks_none, UnlocksAll, walk_did, own_walk, stage_walk, moves_good, s-join, flagging, MoveFine, On, Gone, Ready, Lost, s-walk-parent, Follows, walking_begun, walking_on, walking_told, walking_quit, begun_refused, begun_walking, written_by, quit_step, told_step, Walked, gone_at, home, joined_own, may_rest, ready_at, Joins, Told, s-end}
+use Rattle.tree_laws.specs.Moves.{StartLeadsTo}
+use Rattle.inode_machine.proofs.Basics.{AllNames, fair, s-owned, fine_after, locks_none, UnlocksAll, walk_did, own_walk, stage_walk, moves_good, s-join, flagging, MoveFine, On, Gone, Ready, Lost, s-walk-parent, Follows, walking_begun, walking_on, walking_told, walking_quit, begun_refused, begun_walking, written_by, quit_step, told_step, Walked, gone_at, home, joined_own, may_rest, ready_at, HasJoined, IsAnswerable, s-end}
 use Rattle.inode_machine.proofs.Beginnings.{s-start}
 
 -- What a step that is made at a path's last name is like.
@@ -15,10 +15,10 @@ pub record Leads (h : ℕ) (s : Action) (O0 : Own) : Type 0 where
   pub finds : found_by s None ≡ None
 
 -- A walk to the last name's directory.
-pub s-follow : {h : ℕ} (c : Call) (acts : List Act) (s : Action) {Q : Reply → List Step → World → Type 0} {base : ℕ → ℕ} {O0 : Own} (K : ℕ) (e : Name) (r : List Name) (ns : List ℕ) (found : ℕ → Name → List ℕ → P Reply) (lost : Stop → List ℕ → P Reply) {n : ℕ} {es : List Step} {w : World} {O : Own}
+pub s-follow : {h : ℕ} (c : Call) (acts : List Act) (s : Action) {Q : Reply → List Step → World → Type 0} {base : ℕ → ℕ} {O0 : Own} (K : ℕ) (e : Name) (r : List Name) (ns : List ℕ) (found : ℕ → Name → List ℕ → P Reply) (lost : WalkStop → List ℕ → P Reply) {n : ℕ} {es : List Step} {w : World} {O : Own}
     → h < hart_count → Ready base O0 → Leads h s O0 → Follows c acts s → Walked c acts es → elements (path_of s) ≡ e ∷ r → AllNames (elements (path_of s)) → Gone h base ns O0 O w → ((m : Note) → O.desk.noted ≡ Some m → 0 < O.mine.refs m.number) → 2600 * length r + 2601 + 971 * length ns + K ≤ n
     → ((d : ℕ) (e2 : Name) (ms : List ℕ) (l : ℕ) (fs : List Step) (u : World) (R : Own) → 971 * length ms + K ≤ l → On h s d e2 [] base ms O0 R u → Walked c acts fs → Safe machine h (Begun covered_calls c) Q (found d e2 ms) l fs u)
-    → ((why : Stop) (ms : List ℕ) (l : ℕ) (fs : List Step) (u : World) (R : Own) → 971 * length ms + K ≤ l → Gone h base ms O0 R u → Lost (Walked c (acts ++ record { step = s; answer = Failed NoEntry } ∷ [])) why fs R → Safe machine h (Begun covered_calls c) Q (lost why ms) l fs u)
+    → ((why : WalkStop) (ms : List ℕ) (l : ℕ) (fs : List Step) (u : World) (R : Own) → 971 * length ms + K ≤ l → Gone h base ms O0 R u → Lost (Walked c (acts ++ record { step = s; answer = Failed NoEntry } ∷ [])) why fs R → Safe machine h (Begun covered_calls c) Q (lost why ms) l fs u)
     → Safe machine h (Begun covered_calls c) Q (start s (path_of s) ns (λ d. walk_parent s d e r ns found lost) lost) n es w
 s-follow {h} c acts s {Q} {base} {O0} K e r ns found lost {n} {es} {w} {O} lt ready leads follows walking path named gone notes few arrives loses =
     s-start h s (Begun covered_calls c) Q base O0 e r ns n es w O (λ d. walk_parent s d e r ns found lost) lost lt ready gone (omega (arith, few)) leads.follows path named leads.place notes
@@ -48,7 +48,7 @@ begin_good h more n B Q es v O O0 s p ov free lt inv walks none row leads path b
       follows = leads.follows;
       rests = ap (λ (o : Own). o.mine.walk) ov ∙ walks;
       place = place;
-      begins = subst (λ (z : List Name). Begins (stage_of v) h s z 0 (Some (fail s)) (stage_of (record v { harts = with_walk v.harts h None None }))) (sym path) (record {
+      begins = subst (λ (z : List Name). StartLeadsTo (stage_of v) h s z 0 (Some (fail s)) (stage_of (record v { harts = with_walk v.harts h None None }))) (sym path) (record {
         answer = Failed NoEntry;
         id = new_id v;
         deed = refl;
@@ -83,20 +83,20 @@ pub record EndsAfter (c : Call) (s : Action) : Type 0 where
   pub ends : MayEnd c (record { step = s; answer = Failed NoEntry } ∷ []) (failed c NoEntry)
 
 -- The call ends where its walk was lost.
-s-lost : (h : ℕ) (c : Call) (s : Action) {base : ℕ → ℕ} {O0 : Own} (why : Stop) (ms : List ℕ) (l : ℕ) (fs : List Step) (u : World) (R : Own) → h < hart_count → Joins base O0 → EndsAfter c s → 971 * length ms + 63 < l → Gone h base ms O0 R u → Lost (Walked c (record { step = s; answer = Failed NoEntry } ∷ [])) why fs R
+s-lost : (h : ℕ) (c : Call) (s : Action) {base : ℕ → ℕ} {O0 : Own} (why : WalkStop) (ms : List ℕ) (l : ℕ) (fs : List Step) (u : World) (R : Own) → h < hart_count → HasJoined base O0 → EndsAfter c s → 971 * length ms + 63 < l → Gone h base ms O0 R u → Lost (Walked c (record { step = s; answer = Failed NoEntry } ∷ [])) why fs R
     → Safe machine h (Begun covered_calls c) (Ends covered_calls h c) (tail ms (stopped c why)) l fs u
 s-lost h c s {base} {O0} why ms l fs u R lt joins ends few gone lost =
     s-end h c (stopped c why) ms nothing (λ i. 0) l fs u R lt joins gone.owns few
     (record { stays = gone.stays; refs = λ i. (let r = gone.refs i in omega (arith, r)); all = gone.listed.all; once = gone.listed.once; has = λ i x q. absurd cc; only = λ i x q. inl (gone.listed.only i x q) })
     (λ i. refl) (λ i. refl) gone.walk gone.pending (told why lost)
   where
-    told : (why : Stop) → Lost (Walked c (record { step = s; answer = Failed NoEntry } ∷ [])) why fs R → Told c (stopped c why) fs R
+    told : (why : WalkStop) → Lost (Walked c (record { step = s; answer = Failed NoEntry } ∷ [])) why fs R → IsAnswerable c (stopped c why) fs R
     told NotThere v = inr (written_by c (record { step = s; answer = Failed NoEntry } ∷ []) fs (failed c NoEntry) v ends.ends)
     told NoMemory f = inl f
 
 -- A call that is made at its path's last name. k: what it does there.
 pub s-naming : (h : ℕ) (c : Call) (s : Action) (k : ℕ → Name → List ℕ → P Reply) (n : ℕ) (w : World) → Inv w → (w.desks h).lender ≡ None → h < hart_count → Idle h w → EndsAfter c s → Leads h s (joined_own (own_of h w)) → AllNames (elements (path_of s)) → 2600 * (length (elements (path_of s)) + 1) + 24000 ≤ n
-    → ((d : ℕ) (e : Name) (ms : List ℕ) (l : ℕ) (fs : List Step) (u : World) (R : Own) → 971 * length ms + 24000 ≤ l → Joins (home (own_of h w)) (joined_own (own_of h w)) → On h s d e [] (home (own_of h w)) ms (joined_own (own_of h w)) R u → Walked c [] fs
+    → ((d : ℕ) (e : Name) (ms : List ℕ) (l : ℕ) (fs : List Step) (u : World) (R : Own) → 971 * length ms + 24000 ≤ l → HasJoined (home (own_of h w)) (joined_own (own_of h w)) → On h s d e [] (home (own_of h w)) ms (joined_own (own_of h w)) R u → Walked c [] fs
     → Safe machine h (Begun covered_calls c) (Ends covered_calls h c) (k d e ms) l fs u)
     → Safe machine h (Begun covered_calls c) (Ends covered_calls h c) (in_parent c s (path_of s) k (elements (path_of s))) n [] w
 s-naming h c s k n w inv free lt idle ends leads named few arrives = by_path (elements (path_of s)) refl few
@@ -107,7 +107,7 @@ s-naming h c s k n w inv free lt idle ends leads named few arrives = by_path (el
     unlocks : UnlocksAll (own_of h w)
     unlocks i x q = absurd (let a = ap (λ (f : ℕ → Option Held). f i) idle.inodes in cc (a, q))
 
-    joins : Joins (home (own_of h w)) O0
+    joins : HasJoined (home (own_of h w)) O0
     joins = record { ready = ready_at h w free lt inv idle; may = may_rest h w idle }
 
     by_path : (p : List Name) → elements (path_of s) ≡ p → 2600 * (length p + 1) + 24000 ≤ n → Safe machine h (Begun covered_calls c) (Ends covered_calls h c) (in_parent c s (path_of s) k p) n [] w

@@ -1,5 +1,5 @@
 -- What stands of an inode that is counted up, for the layer below: its number is one, and its count has room.
-use Rattle.inode_machine.proofs.Vocabulary.{◌≡◌, inl, inr, ℕ, zero, suc, ◌+◌, ◌*◌, ◌^◌, ◌<◌, ◌≤◌, Bool, true, false, ◌==◌, Option, Some, None, refl, ◌∙◌, ap, arith, nat_tests, Node, hart_count, root, is_live, sum_below, look_live, Entry, World, OfDirectory, sort_of, file_count, is_dead, start_number, number_is, Found, Inv}
+use Rattle.inode_machine.proofs.Vocabulary.{◌≡◌, inl, inr, ℕ, zero, suc, ◌+◌, ◌*◌, ◌^◌, ◌<◌, ◌≤◌, Bool, true, false, ◌==◌, Option, Some, None, refl, ◌∙◌, ap, arith, nat_tests, Node, hart_count, root, is_live, sum_below, look_live, Entry, World, OfDirectory, type_of, file_count, is_dead, start_number, number_is, Found, Inv}
 use Rattle.inode_machine.proofs.Basics.{one_refs, opens_slots, root_live, one_most}
 
 sum_most : (n c : ℕ) (f : ℕ → ℕ) → ((k : ℕ) → k < n → f k ≤ c) → sum_below n f ≤ n * c
@@ -65,7 +65,7 @@ pub start_is_number : (h : ℕ) (absolute : Bool) (w : World) → h < hart_count
 start_is_number h true w lt inv = live_number w root inv (root_live w.all inv.well)
 start_is_number h false w lt inv =
     let d : ℕ = (w.desks h).directory in
-    let there = sort_there (w.all.nodes d) (inv.directory h lt).sort in
+    let there = type_there (w.all.nodes d) (inv.directory h lt).inode_type in
     let range = inv.well.range d there.0 there.1 in
     record {
       low = range.0;
@@ -74,6 +74,6 @@ start_is_number h false w lt inv =
       live = λ q. absurd (let o = one_refs w h d inv lt in let p = (inv.refers h lt).home in omega (arith, o, p, q));
     }
   where
-    sort_there : (o : Option Node) → sort_of o ≡ Some OfDirectory → (v : Node) × (o ≡ Some v)
-    sort_there None e = absurd cc
-    sort_there (Some v) e = (v, refl)
+    type_there : (o : Option Node) → type_of o ≡ Some OfDirectory → (v : Node) × (o ≡ Some v)
+    type_there None e = absurd cc
+    type_there (Some v) e = (v, refl)

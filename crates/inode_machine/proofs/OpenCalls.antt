@@ -1,11 +1,11 @@
 -- An open without CREATE is right, whatever the other harts do.
-use Rattle.inode_machine.proofs.Vocabulary.{◌≡◌, ◌⊎◌, inl, inr, ℕ, ◌+◌, ◌*◌, ◌<◌, ◌≤◌, Bool, true, false, ◌==◌, ◌||◌, nat_lt, List, [], ◌∷◌, length, Option, Some, None, refl, sym, ◌∙◌, ap, subst, arith, if◌then◌else◌, own, onto, Fine, Safe, Wp, Begun, Ends, Cause, Descriptors, Reply, Call, Node, Action, StepAnswer, Failed, Opened, NoRoom, hart_count, descriptor_count, root, Name, Tree, put, elements, hold_names, is_absolute, is_live, live_directory, look, settle, start_of, creates, has_room, is_file, lowest, node_at, node_or, open_kind, IsInPlace, Key, Row, key_is, key_names, row_of, settle_again, look_live, either, eq_is, put_same, put_other, live_some, look_same, Deed, Walk, Move, Stage, Step, IsNext, begins, Begin, Look, Desk, Note, World, stage_of, UpStart, Sort, OfDirectory, open_refusal, sort_of, sort_of_kind, counted_up, is_at, with_walk, Made, acts, begun, made_by, marked, new_id, places, Held, Own, key_in, own_names, own_of, Idle, Inv, machine, ThisP as P, Stop, NoMemory, failed, makes, start, stopped, tail, walk, walk_step, file_for, open_at, open_new, open_old, open_program, limit, covered_calls}
+use Rattle.inode_machine.proofs.Vocabulary.{◌≡◌, ◌⊎◌, inl, inr, ℕ, ◌+◌, ◌*◌, ◌<◌, ◌≤◌, Bool, true, false, ◌==◌, ◌||◌, nat_lt, List, [], ◌∷◌, length, Option, Some, None, refl, sym, ◌∙◌, ap, subst, arith, if◌then◌else◌, own, onto, Fine, Safe, Wp, Begun, Ends, Cause, Descriptors, Reply, Call, Node, Action, StepAnswer, Failed, Opened, NoRoom, hart_count, descriptor_count, root, Name, Tree, put, elements, hold_names, is_absolute, is_live, live_directory, look, settle, start_of, creates, has_room, is_file, lowest, node_at, node_or, open_kind, IsInPlace, Key, Row, key_is, key_names, row_of, settle_again, look_live, either, eq_is, put_same, put_other, live_some, look_same, Deed, Walk, Move, Stage, Step, IsNext, begins, Begin, Look, Desk, Note, World, stage_of, UpStart, InodeType, OfDirectory, open_refusal, type_of, type_of_kind, counted_up, is_at, with_walk, Made, acts, begun, made_by, marked, new_id, places, Held, Own, key_in, own_names, own_of, Idle, Inv, machine, ThisP as P, WalkStop, NoMemory, failed, makes, start, stopped, tail, walk, walk_step, file_for, open_at, open_new, open_old, open_program, limit, covered_calls}
 use Rattle.plain_tree.specs.declared.call.Call.TheVariants as calls
 use Rattle.plain_tree.specs.declared.step.Action.TheVariants as steps
-use Rattle.inode_machine.proofs.Basics.{AllNames, Fair, fair, fair_then, has_inode, has_node, locked_held, my_refs, noted_sort, moves_good, own_walk, stage_walk, walk_did, lowest_same, Flagging, not_at, s-join, KeepsHold, MoveFine, mends, note_of, noting, one_at, listed_among, directory_sort, At, Gone, Lost, On, Ready, Stays, names_stay, stays_same, s-arrive, s-walk, Finding, finding, found_world, last_made, last_takes, refused_made, start_made, start_takes, MayRest, Walked, follows_begin, follows_look, follows_lost, follows_quit, gone_at, home, joined_own, looks, may_rest, missed, ready_at, s-lost, tells, times_none, walked_begun, walked_tells, Opening, fresh_id, opened_row, opened_tree, opened_world, opening, row_back, unopened_row}
-use Rattle.inode_machine.proofs.Beginnings.{Begun as StartsAt, root_sort, s-begin, s-start}
+use Rattle.inode_machine.proofs.Basics.{AllNames, Fair, fair, fair_then, has_inode, has_node, locked_held, my_refs, noted_type, moves_good, own_walk, stage_walk, walk_did, lowest_same, Flagging, not_at, s-join, KeepsHold, MoveFine, mends, note_of, noting, one_at, listed_among, type_of_directory, At, Gone, Lost, On, Ready, Stays, names_stay, stays_same, s-arrive, s-walk, Finding, finding, found_world, last_made, last_takes, refused_made, start_made, start_takes, MayRest, Walked, follows_begin, follows_look, follows_lost, follows_quit, gone_at, home, joined_own, looks, may_rest, missed, ready_at, s-lost, tells, times_none, walked_begun, walked_tells, Opening, fresh_id, opened_row, opened_tree, opened_world, opening, row_back, unopened_row}
+use Rattle.inode_machine.proofs.Beginnings.{Begun as StartsAt, root_type, s-begin, s-start}
 use Rattle.inode_machine.proofs.Unopens.{mends_opened}
-use Rattle.inode_machine.proofs.Opens.{dirties, moves_full, open_finder, open_full, open_kind_is, open_made, open_missing, open_place, open_refused_step, open_step, refusal_by_sort, file_by_sort}
+use Rattle.inode_machine.proofs.Opens.{dirties, moves_full, open_finder, open_full, open_kind_is, open_made, open_missing, open_place, open_refused_step, open_step, refusal_by_type, file_by_type}
 use Rattle.inode_machine.proofs.OpenEnds.{open_follows, opened_begins, open_refused, opened_act, s-open-full, s-open-refused, s-opened}
 
 -- what it names with a new descriptor it named, or has opened
@@ -50,10 +50,10 @@ module _ (h : ℕ) (path : List ℕ) (flags : ℕ) (w : World) (free : (w.desks 
   begun_opened : (v : Move) (fd id : ℕ) (b : Bool) (es : List Step) → IsNext c [] (begins v) → Walked c [] es → Walked c (opened_act path flags fd id b ∷ []) (tells v (deed_of (Opened fd id b)) ∷ es) × B (tells v (deed_of (Opened fd id b)) ∷ es)
   begun_opened v fd id b es next told = let a = walked_tells c [] v (deed_of (Opened fd id b)) es next told in (a, opened_begins path flags fd id b (tells v (deed_of (Opened fd id b)) ∷ es) a)
 
-  abbrev lost : Stop → List ℕ → P Reply
+  abbrev lost : WalkStop → List ℕ → P Reply
   lost why ns = tail ns (stopped c why)
 
-  loses : (why : Stop) (ms : List ℕ) (l : ℕ) (es : List Step) (u : World) (R : Own) → 971 * length ms + 2000 ≤ l → Gone h base ms O0 R u → Lost (Walked c (missed s ∷ [])) why es R → Safe machine h B Q (lost why ms) l es u
+  loses : (why : WalkStop) (ms : List ℕ) (l : ℕ) (es : List Step) (u : World) (R : Own) → 971 * length ms + 2000 ≤ l → Gone h base ms O0 R u → Lost (Walked c (missed s ∷ [])) why es R → Safe machine h B Q (lost why ms) l es u
   loses why ms l es u R few gone told = s-lost h c s 2000 base O0 lt ready may (open_follows path flags) (omega arith) why ms l es u R few gone told
 
   place : (t : Tree) → row_of t h ≡ O0.row → IsInPlace t h s
@@ -95,14 +95,14 @@ module _ (h : ℕ) (path : List ℕ) (flags : ℕ) (w : World) (free : (w.desks 
       there : u.all.nodes j ≡ Some (node_or (u.all.nodes j))
       there = live_some (u.all.nodes j) live_j
 
-      sort : Sort
-      sort = sort_of_kind (node_at u.all j).kind
+      inode_type : InodeType
+      inode_type = type_of_kind (node_at u.all j).kind
 
-      sort_is : sort_of (u.all.nodes j) ≡ Some sort
-      sort_is = ap (λ (o : Option Node). sort_of o) there
+      type_is : type_of (u.all.nodes j) ≡ Some inode_type
+      type_is = ap (λ (o : Option Node). type_of o) there
 
-      refusal : open_refusal (flags == 0) sort ≡ open_kind flags (node_at u.all j).kind
-      refusal = sym (refusal_by_sort (u.all.nodes j) flags sort sort_is)
+      refusal : open_refusal (flags == 0) inode_type ≡ open_kind flags (node_at u.all j).kind
+      refusal = sym (refusal_by_type (u.all.nodes j) flags inode_type type_is)
 
       f : Finding h j u O1
       f = finding h d j e u O1 own1 free_o lt inv on.pending (has_inode h d u O1 (locked_held x) own1 isd).0 found
@@ -123,8 +123,8 @@ module _ (h : ℕ) (path : List ℕ) (flags : ℕ) (w : World) (free : (w.desks 
       keeps_hold = subst (λ (r : Row). KeepsHold r.hold) (sym on.stays.row) ready.hold
 
       -- its type is what it was at the lookup
-      typed : (P0 R : Own) (ms : List ℕ) (u2 : World) → At h j base ms None (Some (note_of u.all j)) P0 R u2 → (v : World) → Inv v → own_of h v ≡ R → sort_of (v.all.nodes j) ≡ Some sort
-      typed P0 R ms u2 at v inv2 ov = noted_sort h j R (note_of u.all j) at.noted refl at.out (let r = at.refs j in let o = one_at j in omega (arith, r, o)) lt v inv2 ov ∙ sort_is
+      typed : (P0 R : Own) (ms : List ℕ) (u2 : World) → At h j base ms None (Some (note_of u.all j)) P0 R u2 → (v : World) → Inv v → own_of h v ≡ R → type_of (v.all.nodes j) ≡ Some inode_type
+      typed P0 R ms u2 at v inv2 ov = noted_type h j R (note_of u.all j) at.noted refl at.out (let r = at.refs j in let o = one_at j in omega (arith, r, o)) lt v inv2 ov ∙ type_is
 
       noted_stays : (R : Own) → R.row ≡ O.row → R.ninodes ≡ O.ninodes → R.desk ≡ record (O.desk) { noted = Some (note_of u.all j) } → Stays R O0
       noted_stays R row size desk = stays_same R (record O { desk = record (O.desk) { noted = Some (note_of u.all j) } }) O0 row size desk (record { row = on.stays.row; ninodes = on.stays.ninodes; fds = on.stays.fds; hand = on.stays.hand; joined = on.stays.joined; directory = on.stays.directory; lent = on.stays.lent; lender = on.stays.lender; opening = on.stays.opening; left = on.stays.left })
@@ -154,7 +154,7 @@ module _ (h : ℕ) (path : List ℕ) (flags : ℕ) (w : World) (free : (w.desks 
           (last_takes h d u (found_world h j u) O1 (locked_held x) y j (Failed k) (new_id u) u.all (open_finder path flags plain) own1 inv on.walk refl isd live refl found (open_refused_step u.all h j (new_id u) path flags (Some (d, e)) k lt plain why) refl walks_are)
           b.1 (omega (arith, few))
           (λ l q. (arrives_same l (tells (Look 0) (deed_of (Failed k)) ∷ es) (found_world h j u) (omega (arith, q, few)) f.owned (λ ms l2 u2 R few2 at2.
-          s-open-refused h path flags w free lt holds idle j ms (Some (note_of u.all j)) sort k l2 (tells (Look 0) (deed_of (Failed k)) ∷ es) u2 R (omega (arith, few2)) at2 (typed O0 R ms u2 at2) (refusal ∙ why) b.0)).wp)
+          s-open-refused h path flags w free lt holds idle j ms (Some (note_of u.all j)) inode_type k l2 (tells (Look 0) (deed_of (Failed k)) ∷ es) u2 R (omega (arith, few2)) at2 (typed O0 R ms u2 at2) (refusal ∙ why) b.0)).wp)
 
       full_at : open_kind flags (node_at u.all j).kind ≡ None → has_room (u.all.fds h) ≡ false → MoveFine h 1611 n B Q es u (Look 0) (walk_step d ns (open_at path flags) lost (Some j))
       full_at goes room =
@@ -163,7 +163,7 @@ module _ (h : ℕ) (path : List ℕ) (flags : ℕ) (w : World) (free : (w.desks 
           (made _ (open_full u.all h j 0 (new_id u) path flags (Some (d, e)) plain goes room))
           (fair_then f.fair dirty) refl (omega (arith, few))
           (λ l q. (arrives_same l (tells (Look 0) (deed_of (NoRoom Descriptors)) ∷ es) (record (found_world h j u) { clean = false }) (omega (arith, q, few)) f.owned (λ ms l2 u2 R few2 at2.
-          s-open-full h path flags w free lt holds idle j ms (Some (note_of u.all j)) sort l2 (tells (Look 0) (deed_of (NoRoom Descriptors)) ∷ es) u2 R (omega (arith, few2)) at2 (typed O0 R ms u2 at2) (refusal ∙ goes)
+          s-open-full h path flags w free lt holds idle j ms (Some (note_of u.all j)) inode_type l2 (tells (Look 0) (deed_of (NoRoom Descriptors)) ∷ es) u2 R (omega (arith, few2)) at2 (typed O0 R ms u2 at2) (refusal ∙ goes)
           ((λ z. has_room (at2.stays.fds z)) ∙ sym (λ z. has_room (on.stays.fds z)) ∙ ap (λ (z : ℕ). nat_lt z descriptor_count) (sym (low_is u O1 inv own1 (on.stays.opening ∙ ready.opening))) ∙ room))).wp)
 
       goes_at : open_kind flags (node_at u.all j).kind ≡ None → has_room (u.all.fds h) ≡ true → MoveFine h 1611 n B Q es u (Look 0) (walk_step d ns (open_at path flags) lost (Some j))
@@ -179,9 +179,9 @@ module _ (h : ℕ) (path : List ℕ) (flags : ℕ) (w : World) (free : (w.desks 
           (record { row = ap (λ (r : Row). opened_row r fd (new_id u) key) on.stays.row; ninodes = on.stays.ninodes; fds = on.stays.fds; hand = on.stays.hand; joined = on.stays.joined; directory = on.stays.directory; lent = on.stays.lent; lender = on.stays.lender; opening = refl; left = on.stays.left }) free
           (λ v inv2 ov. mends_opened h fd v O3 ov free_o lt inv2 refl (on.stays.left ∙ ready.left) keeps_hold (λ i p. names0 i (bare i p)))
           (record { stays = record { row = row_back O.row fd (new_id u) key none_fd none_key ∙ on.stays.row; ninodes = on.stays.ninodes; fds = on.stays.fds; hand = on.stays.hand; joined = on.stays.joined; directory = on.stays.directory; lent = on.stays.lent; lender = on.stays.lender; opening = sym ready.opening; left = sym ready.left }; inodes = refl; refs = refl; walk = refl; pending = refl; full = refl })
-          (λ ms l2 u2 R few2 at2. s-opened h path flags w free lt holds idle j fd (new_id u) isf ms (Some (note_of u.all j)) sort l2 (tells (Look 0) (deed_of (Opened fd (new_id u) isf)) ∷ es) u2 R (omega (arith, few2)) at2 (typed P0 R ms u2 at2) (refusal ∙ goes)
+          (λ ms l2 u2 R few2 at2. s-opened h path flags w free lt holds idle j fd (new_id u) isf ms (Some (note_of u.all j)) inode_type l2 (tells (Look 0) (deed_of (Opened fd (new_id u) isf)) ∷ es) u2 R (omega (arith, few2)) at2 (typed P0 R ms u2 at2) (refusal ∙ goes)
           ((λ z. has_room (at2.stays.fds z)) ∙ sym (λ z. has_room (on.stays.fds z)) ∙ ap (λ (z : ℕ). nat_lt z descriptor_count) (sym low) ∙ room)
-          ((λ z. lowest (at2.stays.fds z)) ∙ sym (λ z. lowest (on.stays.fds z)) ∙ sym low) (file_by_sort (u.all.nodes j) sort sort_is) b.0)).wp)
+          ((λ z. lowest (at2.stays.fds z)) ∙ sym (λ z. lowest (on.stays.fds z)) ∙ sym low) (file_by_type (u.all.nodes j) inode_type type_is) b.0)).wp)
         where
           fd : ℕ
           fd = lowest (u.all.fds h)
@@ -202,7 +202,7 @@ module _ (h : ℕ) (path : List ℕ) (flags : ℕ) (w : World) (free : (w.desks 
           low = low_is u O1 inv own1 (on.stays.opening ∙ ready.opening)
 
           -- what was noted before has the type that it had
-          notes : (m : Note) → (u.desks h).noted ≡ Some m → Some j ≡ Some m.number → sort_of (u.all.nodes m.number) ≡ m.sort
+          notes : (m : Note) → (u.desks h).noted ≡ Some m → Some j ≡ Some m.number → type_of (u.all.nodes m.number) ≡ m.inode_type
           notes m is q =
               let g : j ≡ m.number = cc in
               let r = my_refs h u O1 m.number own1 in
@@ -280,11 +280,11 @@ module _ (h : ℕ) (path : List ℕ) (flags : ℕ) (w : World) (free : (w.desks 
       O2 : Own
       O2 = record O { mine = record { refs = put O.mine.refs i (O.mine.refs i + 1); walk = None; pending = None } }
 
-      sort_is : sort_of (v.all.nodes i) ≡ Some OfDirectory
-      sort_is = at.sort
+      type_is : type_of (v.all.nodes i) ≡ Some OfDirectory
+      type_is = at.inode_type
 
       refusal : open_refusal (flags == 0) OfDirectory ≡ open_kind flags (node_at v.all p0).kind
-      refusal = sym (refusal_by_sort (v.all.nodes p0) flags OfDirectory (ap (λ (z : ℕ). sort_of (v.all.nodes z)) (sym at.start) ∙ at.sort))
+      refusal = sym (refusal_by_type (v.all.nodes p0) flags OfDirectory (ap (λ (z : ℕ). type_of (v.all.nodes z)) (sym at.start) ∙ at.inode_type))
 
       stills : Fair h u1 u2
       stills = fair at.up.fair.inv (walk_did h None None u1 (ap (λ (o : Own). o.desk.lender) at.up.owned ∙ gone.stays.lender ∙ free) lt at.up.fair.inv (ap (λ (o : Own). o.mine.pending) at.up.owned) (λ m q x. absurd cc) (λ z q. absurd cc) (λ z q. absurd cc))
@@ -299,14 +299,14 @@ module _ (h : ℕ) (path : List ℕ) (flags : ℕ) (w : World) (free : (w.desks 
       made m q = start_made v.all h s 0 (new_id v) none ∙ ap (λ (z : Made). record z { found = None }) q
 
       -- the start is a directory still
-      typed : (P0 R : Own) (v2 : World) → P0.row.cwd ≡ O0.row.cwd → R.row ≡ P0.row → Inv v2 → own_of h v2 ≡ R → sort_of (v2.all.nodes i) ≡ Some OfDirectory
+      typed : (P0 R : Own) (v2 : World) → P0.row.cwd ≡ O0.row.cwd → R.row ≡ P0.row → Inv v2 → own_of h v2 ≡ R → type_of (v2.all.nodes i) ≡ Some OfDirectory
       typed P0 R v2 same row inv2 ov2 = by_start (is_absolute path) (at.start)
         where
-          by_start : (b : Bool) → i ≡ (if b then root else v.all.cwd h) → sort_of (v2.all.nodes i) ≡ Some OfDirectory
-          by_start true q = ap (λ (z : ℕ). sort_of (v2.all.nodes z)) q ∙ root_sort v2.all inv2.well
+          by_start : (b : Bool) → i ≡ (if b then root else v.all.cwd h) → type_of (v2.all.nodes i) ≡ Some OfDirectory
+          by_start true q = ap (λ (z : ℕ). type_of (v2.all.nodes z)) q ∙ root_type v2.all inv2.well
           by_start false q =
               let r : i ≡ v2.all.cwd h = q ∙ ap (λ (o : Own). o.row.cwd) ov ∙ ap (λ (r : Row). r.cwd) gone.stays.row ∙ sym same ∙ sym (ap (λ (r : Row). r.cwd) row) ∙ sym (ap (λ (o : Own). o.row.cwd) ov2) in
-              ap (λ (z : ℕ). sort_of (v2.all.nodes z)) r ∙ directory_sort v2.all h inv2.well lt
+              ap (λ (z : ℕ). type_of (v2.all.nodes z)) r ∙ type_of_directory v2.all h inv2.well lt
 
       low : lowest (v.all.fds h) ≡ lowest O.desk.fds
       low = low_is v O inv ov (gone.stays.opening ∙ ready.opening)
@@ -363,7 +363,7 @@ module _ (h : ℕ) (path : List ℕ) (flags : ℕ) (w : World) (free : (w.desks 
             listed = listed_among O O3 base [] gone.listed (λ j. refl) (λ j t. put_other O.mine.refs i (O.mine.refs i + 1) j (at.apart j t)) (λ j t p. absurd (let z = times_none j in omega (arith, z, t)));
             out = at.out;
           }) (λ v2 inv2 ov2. typed (record O0 { row = opened_row O0.row fd (new_id v) key }) O3 v2 refl (ap (λ (r : Row). opened_row r fd (new_id v) key) gone.stays.row) inv2 ov2) (refusal ∙ goes)
-          (ap (λ (z : ℕ). nat_lt z descriptor_count) (sym low) ∙ room) (sym low) (file_by_sort (v.all.nodes p0) OfDirectory (ap (λ (z : ℕ). sort_of (v.all.nodes z)) (sym at.start) ∙ at.sort)) b.0).wp)
+          (ap (λ (z : ℕ). nat_lt z descriptor_count) (sym low) ∙ room) (sym low) (file_by_type (v.all.nodes p0) OfDirectory (ap (λ (z : ℕ). type_of (v.all.nodes z)) (sym at.start) ∙ at.inode_type)) b.0).wp)
         where
           fd : ℕ
           fd = lowest (v.all.fds h)
@@ -381,9 +381,9 @@ module _ (h : ℕ) (path : List ℕ) (flags : ℕ) (w : World) (free : (w.desks 
           refers = let a = my_refs h u2 O2 i own2 in let p = put_same O.mine.refs i (O.mine.refs i + 1) in omega (arith, a, p)
 
           there : v.all.nodes i ≡ Some (node_or (v.all.nodes i))
-          there = some_there (v.all.nodes i) at.sort
+          there = some_there (v.all.nodes i) at.inode_type
             where
-              some_there : (o : Option Node) → sort_of o ≡ Some OfDirectory → o ≡ Some (node_or o)
+              some_there : (o : Option Node) → type_of o ≡ Some OfDirectory → o ≡ Some (node_or o)
               some_there None q = absurd cc
               some_there (Some x) q = refl
 

@@ -1,19 +1,19 @@
 -- An open without CREATE, from what was found to its reply.
-use Rattle.inode_machine.proofs.Vocabulary.{◌≡◌, ◌≢◌, ◌⊎◌, inl, inr, ℕ, ◌+◌, ◌-◌, ◌*◌, ◌<◌, ◌≤◌, Bool, true, false, ◌&&◌, ◌==◌, ◌||◌, List, [], ◌∷◌, length, Option, Some, None, refl, sym, ◌∙◌, ap, subst, arith, if◌then◌else◌, Do, oldest_first, Safe, Begun, Ends, IsBeginning, Cause, NoEntry, Descriptors, OpenFiles, Reply, Call, Node, Done, Failed, Opened, Act, next_of, reply_of, had_room, hart_count, put, hold_names, empty_it, has, has_room, lowest, node_or, Key, Row, key_is, key_names, one_if, and_true, either, eq_is, or_none, same_or, put_same, put_other, Step, MayEnd, IsWholeCall, Begin, OwnMove, Desk, Note, World, Empty, is_file_sort, OfDirectory, Sort, open_refusal, sort_of, is_at, Own, key_in, own_names, own_of, Idle, Inv, machine, failed, full, own_step, empties, file_for, open_at, open_end, open_face, opened_reply, covered_calls}
+use Rattle.inode_machine.proofs.Vocabulary.{◌≡◌, ◌≢◌, ◌⊎◌, inl, inr, ℕ, ◌+◌, ◌-◌, ◌*◌, ◌<◌, ◌≤◌, Bool, true, false, ◌&&◌, ◌==◌, ◌||◌, List, [], ◌∷◌, length, Option, Some, None, refl, sym, ◌∙◌, ap, subst, arith, if◌then◌else◌, Do, oldest_first, Safe, Begun, Ends, IsBeginning, Cause, NoEntry, Descriptors, OpenFiles, Reply, Call, Node, Done, Failed, Opened, Act, next_of, reply_of, had_room, hart_count, put, hold_names, empty_it, has, has_room, lowest, node_or, Key, Row, key_is, key_names, one_if, and_true, either, eq_is, or_none, same_or, put_same, put_other, Step, MayEnd, IsWholeCall, Begin, OwnMove, Desk, Note, World, Empty, is_file_type, OfDirectory, InodeType, open_refusal, type_of, is_at, Own, key_in, own_names, own_of, Idle, Inv, machine, failed, full, own_step, empties, file_for, open_at, open_end, open_face, opened_reply, covered_calls}
 use Rattle.plain_tree.specs.declared.call.Call.TheVariants as calls
 use Rattle.plain_tree.specs.declared.step.Action.TheVariants as steps
-use Rattle.inode_machine.proofs.Basics.{locked_held, s-take, sort_there, s-give, KeepsHold, mends, times, one_at, one_else, Listed, listed_among, At, Ready, MayRest, Walked, back_at, home, joined_own, missed, names_plain, ready_at, s-ends, s-refuse, tells, walked_begun, walked_tells, opened_row, unopened_row}
+use Rattle.inode_machine.proofs.Basics.{locked_held, s-take, type_there, s-give, KeepsHold, mends, times, one_at, one_else, Listed, listed_among, At, Ready, MayRest, Walked, back_at, home, joined_own, missed, names_plain, ready_at, s-ends, s-refuse, tells, walked_begun, walked_tells, opened_row, unopened_row}
 use Rattle.inode_machine.proofs.Endings.{Follows}
 use Rattle.inode_machine.proofs.Unopens.{mends_opened}
 use Rattle.inode_machine.proofs.Installs.{own_installed, s-install}
 use Rattle.inode_machine.proofs.Slots.{s-slot, s-install-full}
-use Rattle.inode_machine.proofs.Opens.{face_or_sort, file_by_sort}
+use Rattle.inode_machine.proofs.Opens.{face_or_type, file_by_type}
 use Rattle.inode_machine.proofs.Writings.{put_twice}
 use Rattle.inode_machine.proofs.Empties.{empty_step, emptied_node, s-empty}
 
 -- A directory opens to read alone.
-writes_no_directory : (flags n : ℕ) (s : Sort) → open_refusal (flags == 0) s ≡ None → (file_for n flags).writable ≡ true → s ≢ OfDirectory
-writes_no_directory flags n s goes writes is = at (flags == 0) refl (subst (λ (z : Sort). open_refusal (flags == 0) z ≡ None) is goes)
+writes_no_directory : (flags n : ℕ) (s : InodeType) → open_refusal (flags == 0) s ≡ None → (file_for n flags).writable ≡ true → s ≢ OfDirectory
+writes_no_directory flags n s goes writes is = at (flags == 0) refl (subst (λ (z : InodeType). open_refusal (flags == 0) z ≡ None) is goes)
   where
     at : (b : Bool) → (flags == 0) ≡ b → open_refusal b OfDirectory ≡ None → ⊥
     at true e q = absurd (let a : (file_for n 0).writable ≡ true = subst (λ (z : ℕ). (file_for n z).writable ≡ true) (eq_is flags 0 e) writes in cc)
@@ -88,13 +88,13 @@ module _ (h : ℕ) (path : List ℕ) (flags : ℕ) (w : World) (free : (w.desks 
   spare i q = ready.spare i (names_home O0.row O0.desk i idle.hold idle.opening idle.left ∙ q)
 
   -- What was found is of another type than is asked for, and is given up.
-  pub s-open-refused : (j : ℕ) (ns : List ℕ) (t : Option Note) (sort : Sort) (k : Cause) (n : ℕ) (es : List Step) (u : World) (R : Own) → 2000 + 971 * length ns ≤ n → At h j base ns None t O0 R u → ((v : World) → Inv v → own_of h v ≡ R → sort_of (v.all.nodes j) ≡ Some sort) → open_refusal (flags == 0) sort ≡ Some k
+  pub s-open-refused : (j : ℕ) (ns : List ℕ) (t : Option Note) (inode_type : InodeType) (k : Cause) (n : ℕ) (es : List Step) (u : World) (R : Own) → 2000 + 971 * length ns ≤ n → At h j base ns None t O0 R u → ((v : World) → Inv v → own_of h v ≡ R → type_of (v.all.nodes j) ≡ Some inode_type) → open_refusal (flags == 0) inode_type ≡ Some k
       → Walked c (record { step = steps.Open path flags; answer = Failed k } ∷ []) es → Safe machine h B Q (open_at path flags j ns) n es u
-  s-open-refused j ns t sort k n es u R few at typed refusal told =
-      s-take (λ o. sort_of o ≡ Some sort) (λ o q. sort_there o sort q) tt at.owns (at.stays.lender ∙ free) lt (omega (arith, few)) at.out (let r = at.refs j in let o = one_at j in omega (arith, r, o)) typed
+  s-open-refused j ns t inode_type k n es u R few at typed refusal told =
+      s-take (λ o. type_of o ≡ Some inode_type) (λ o q. type_there o inode_type q) tt at.owns (at.stays.lender ∙ free) lt (omega (arith, few)) at.out (let r = at.refs j in let o = one_at j in omega (arith, r, o)) typed
       (λ l1 x u1 q1 is own1.
-      subst (λ (z : Sort). Safe machine h B Q (open_face path flags j ns z (open_refusal (flags == 0) z)) l1 es u1) (sym (face_or_sort x sort is))
-      (subst (λ (z : Option Cause). Safe machine h B Q (open_face path flags j ns sort z) l1 es u1) (sym refusal)
+      subst (λ (z : InodeType). Safe machine h B Q (open_face path flags j ns z (open_refusal (flags == 0) z)) l1 es u1) (sym (face_or_type x inode_type is))
+      (subst (λ (z : Option Cause). Safe machine h B Q (open_face path flags j ns inode_type z) l1 es u1) (sym refusal)
       (s-refuse h c (failed c k) j x base ns l1 es u1 R own1 (at.stays.lender ∙ free) lt (omega (arith, q1, few)) at.stays.joined at.listed at.out at.refs at.walk at.pending (λ q. spare j (names q)) may (inr (told [] (failed c k) (open_refused path flags k))))))
     where
       hold : R.row.hold ≡ None
@@ -107,18 +107,18 @@ module _ (h : ℕ) (path : List ℕ) (flags : ℕ) (w : World) (free : (w.desks 
       may = record { hold = hold; hand = at.stays.hand ∙ idle.hand; lent = at.stays.lent ∙ idle.lent; opening = at.stays.opening ∙ idle.opening; left = at.stays.left ∙ idle.left; counts = λ i. λ z. one_if (sym at.stays.directory z == i) }
 
   -- No descriptor is free, as the step found.
-  pub s-open-full : (j : ℕ) (ns : List ℕ) (t : Option Note) (sort : Sort) (n : ℕ) (es : List Step) (u : World) (R : Own) → 2000 + 971 * length ns ≤ n → At h j base ns None t O0 R u → ((v : World) → Inv v → own_of h v ≡ R → sort_of (v.all.nodes j) ≡ Some sort) → open_refusal (flags == 0) sort ≡ None
+  pub s-open-full : (j : ℕ) (ns : List ℕ) (t : Option Note) (inode_type : InodeType) (n : ℕ) (es : List Step) (u : World) (R : Own) → 2000 + 971 * length ns ≤ n → At h j base ns None t O0 R u → ((v : World) → Inv v → own_of h v ≡ R → type_of (v.all.nodes j) ≡ Some inode_type) → open_refusal (flags == 0) inode_type ≡ None
       → has_room R.desk.fds ≡ false → Safe machine h B Q (open_at path flags j ns) n es u
-  s-open-full j ns t sort n es u R few at typed refusal room =
-      s-take (λ o. sort_of o ≡ Some sort) (λ o q. sort_there o sort q) tt at.owns (at.stays.lender ∙ free) lt (omega (arith, few)) at.out (let r = at.refs j in let o = one_at j in omega (arith, r, o)) typed
+  s-open-full j ns t inode_type n es u R few at typed refusal room =
+      s-take (λ o. type_of o ≡ Some inode_type) (λ o q. type_there o inode_type q) tt at.owns (at.stays.lender ∙ free) lt (omega (arith, few)) at.out (let r = at.refs j in let o = one_at j in omega (arith, r, o)) typed
       (λ l1 x u1 q1 is own1.
-      subst (λ (z : Sort). Safe machine h B Q (open_face path flags j ns z (open_refusal (flags == 0) z)) l1 es u1) (sym (face_or_sort x sort is))
-      (subst (λ (z : Option Cause). Safe machine h B Q (open_face path flags j ns sort z) l1 es u1) (sym refusal)
+      subst (λ (z : InodeType). Safe machine h B Q (open_face path flags j ns z (open_refusal (flags == 0) z)) l1 es u1) (sym (face_or_type x inode_type is))
+      (subst (λ (z : Option Cause). Safe machine h B Q (open_face path flags j ns inode_type z) l1 es u1) (sym refusal)
       (s-slot (record (M hand0) { inodes = put R.inodes j (Some (locked_held x)) }) own1 (at.stays.lender ∙ free) lt (omega (arith, q1, few)) (at.stays.hand ∙ idle.hand) refl refl
       (λ v inv ov. let m = mends h v (record R { inodes = put R.inodes j (Some (locked_held x)) }) ov (at.stays.lender ∙ free) lt inv opening left keeps (λ i q. refers i q) in record { fair = m.fair; bad = m.bad; owned = m.owned })
       (λ l2 u2 q2 own2. s-refuse h c (full c OpenFiles) j x base ns l2 es u2 (M hand0) own2 (at.stays.lender ∙ free) lt (omega (arith, q1, q2, few)) at.stays.joined (listed hand0) at.out at.refs refl refl (λ q. spare j (names hand0 q)) (may hand0 (at.stays.hand ∙ idle.hand)) (inl refl))
       (λ l2 s u2 q2 own2.
-      s-install-full s (file_for j flags) sort (record (M None) { inodes = put R.inodes j (Some (locked_held x)) }) own2 (at.stays.lender ∙ free) lt (omega (arith, q1, q2, few)) refl room refl in_hand refl
+      s-install-full s (file_for j flags) inode_type (record (M None) { inodes = put R.inodes j (Some (locked_held x)) }) own2 (at.stays.lender ∙ free) lt (omega (arith, q1, q2, few)) refl room refl in_hand refl
       (λ v inv ov. let m = mends h v (record R { inodes = put R.inodes j (Some (locked_held x)); desk = record (R.desk) { hand = None } }) ov (at.stays.lender ∙ free) lt inv opening left keeps (λ i q. refers i q) in record { fair = m.fair; bad = m.bad; owned = m.owned })
       (λ l3 u3 q3 own3. s-refuse h c (full c Descriptors) j x base ns l3 es u3 (M None) own3 (at.stays.lender ∙ free) lt (omega (arith, q1, q2, q3, few)) at.stays.joined (listed None) at.out at.refs refl refl (λ q. spare j (names None q)) (may None refl) (inl refl))))))
     where
@@ -183,10 +183,10 @@ module _ (h : ℕ) (path : List ℕ) (flags : ℕ) (w : World) (free : (w.desks 
       ]
 
   -- A file is emptied, where that is asked for.
-  s-open-then : (j fd s id : ℕ) (is_file : Bool) (ns : List ℕ) (t : Option Note) (sort : Sort) (x : Option Node) (n : ℕ) (es : List Step) (u u0 : World) (R : Own) → 1950 + 971 * length ns ≤ n → At h j base ns None t (went fd id (key_is (file_for j flags))) R u0 → sort_of x ≡ Some sort
-      → own_of h u ≡ record (own_installed R j fd s) { inodes = put R.inodes j (Some (locked_held x)) } → is_file ≡ is_file_sort sort → Walked c (opened_act path flags fd id is_file ∷ []) es
-      → Safe machine h B Q (if empties flags sort then Do (Empty j) (λ _. own_step (steps.Truncate fd)) (λ _. open_end path flags j ns fd) else open_end path flags j ns fd) n es u
-  s-open-then j fd s id is_file ns t sort x n es u u0 R few at typed own kind told = by (empties flags sort) refl
+  s-open-then : (j fd s id : ℕ) (is_file : Bool) (ns : List ℕ) (t : Option Note) (inode_type : InodeType) (x : Option Node) (n : ℕ) (es : List Step) (u u0 : World) (R : Own) → 1950 + 971 * length ns ≤ n → At h j base ns None t (went fd id (key_is (file_for j flags))) R u0 → type_of x ≡ Some inode_type
+      → own_of h u ≡ record (own_installed R j fd s) { inodes = put R.inodes j (Some (locked_held x)) } → is_file ≡ is_file_type inode_type → Walked c (opened_act path flags fd id is_file ∷ []) es
+      → Safe machine h B Q (if empties flags inode_type then Do (Empty j) (λ _. own_step (steps.Truncate fd)) (λ _. open_end path flags j ns fd) else open_end path flags j ns fd) n es u
+  s-open-then j fd s id is_file ns t inode_type x n es u u0 R few at typed own kind told = by (empties flags inode_type) refl
     where
       key : Key
       key = key_is (file_for j flags)
@@ -194,46 +194,46 @@ module _ (h : ℕ) (path : List ℕ) (flags : ℕ) (w : World) (free : (w.desks 
       keyed : R.row.keys fd ≡ Some key
       keyed = ap (λ (r : Row). r.keys fd) at.stays.row ∙ put_same (own_of h w).row.keys fd (Some key)
 
-      asked : (b : Bool) → empties flags sort ≡ b → (has flags empty_it && is_file) ≡ b
+      asked : (b : Bool) → empties flags inode_type ≡ b → (has flags empty_it && is_file) ≡ b
       asked b e = (λ z. has flags empty_it && kind z) ∙ e
 
-      some : (o : Option Node) → sort_of o ≡ Some sort → o ≡ Some (node_or o)
+      some : (o : Option Node) → type_of o ≡ Some inode_type → o ≡ Some (node_or o)
       some None q = absurd cc
       some (Some v) q = refl
 
-      file : empties flags sort ≡ true → is_file_sort sort ≡ true
-      file e = (and_true (has flags empty_it) (is_file_sort sort) e).1
+      file : empties flags inode_type ≡ true → is_file_type inode_type ≡ true
+      file e = (and_true (has flags empty_it) (is_file_type inode_type) e).1
 
       y : Node
       y = emptied_node (node_or x)
 
-      by : (b : Bool) → empties flags sort ≡ b → Safe machine h B Q (if empties flags sort then Do (Empty j) (λ _. own_step (steps.Truncate fd)) (λ _. open_end path flags j ns fd) else open_end path flags j ns fd) n es u
+      by : (b : Bool) → empties flags inode_type ≡ b → Safe machine h B Q (if empties flags inode_type then Do (Empty j) (λ _. own_step (steps.Truncate fd)) (λ _. open_end path flags j ns fd) else open_end path flags j ns fd) n es u
       by false e = subst (λ (b : Bool). Safe machine h B Q (if b then Do (Empty j) (λ _. own_step (steps.Truncate fd)) (λ _. open_end path flags j ns fd) else open_end path flags j ns fd) n es u) (sym e)
           (s-open-end j fd s id key ns t x n es u u0 R (omega (arith, few)) at own (told [] (opened_reply path flags fd) (open_done path flags fd id is_file (asked false e))))
       by true e = subst (λ (b : Bool). Safe machine h B Q (if b then Do (Empty j) (λ _. own_step (steps.Truncate fd)) (λ _. open_end path flags j ns fd) else open_end path flags j ns fd) n es u) (sym e)
-          (s-empty j fd key (node_or x) own (at.stays.lender ∙ free) lt (omega (arith, few)) at.stays.joined (put_same R.inodes j (Some (locked_held x)) ∙ (λ z. Some (locked_held (some x typed z)))) (file_by_sort x sort typed ∙ file e) keyed refl at.walk at.pending
+          (s-empty j fd key (node_or x) own (at.stays.lender ∙ free) lt (omega (arith, few)) at.stays.joined (put_same R.inodes j (Some (locked_held x)) ∙ (λ z. Some (locked_held (some x typed z)))) (file_by_type x inode_type typed ∙ file e) keyed refl at.walk at.pending
           (walked_begun c (opened_act path flags fd id is_file ∷ record { step = steps.Truncate fd; answer = Done } ∷ []) (empty_step fd ∷ es) [] (opened_reply path flags fd) (emptied_told e) (trunc_done path flags fd id is_file))
           (λ l2 u2 q2 own2. s-open-end j fd s id key ns t (Some y) l2 (empty_step fd ∷ es) u2 u0 R (omega (arith, q2, few)) at (own2 ∙ (λ z. record (own_installed R j fd s) {
             inodes = put_twice R.inodes j (Some (locked_held x)) (Some (locked_held (Some y))) z;
             mine = record { refs = put R.mine.refs j (R.mine.refs j - 1); walk = sym at.walk z; pending = sym at.pending z };
           })) (emptied_told e [] (opened_reply path flags fd) (trunc_done path flags fd id is_file))))
         where
-          emptied_told : empties flags sort ≡ true → Walked c (opened_act path flags fd id is_file ∷ record { step = steps.Truncate fd; answer = Done } ∷ []) (empty_step fd ∷ es)
+          emptied_told : empties flags inode_type ≡ true → Walked c (opened_act path flags fd id is_file ∷ record { step = steps.Truncate fd; answer = Done } ∷ []) (empty_step fd ∷ es)
           emptied_told e = walked_tells c (opened_act path flags fd id is_file ∷ []) (OwnMove (steps.Truncate fd) 0) (record { act = record { step = steps.Truncate fd; answer = Done }; new = 0 }) es (trunc_next path flags fd id is_file (asked true e)) told
 
   -- What was found is opened: a slot, a descriptor.
-  pub s-opened : (j fd id : ℕ) (is_file : Bool) (ns : List ℕ) (t : Option Note) (sort : Sort) (n : ℕ) (es : List Step) (u : World) (R : Own) → 2000 + 971 * length ns ≤ n → At h j base ns None t (went fd id (key_is (file_for j flags))) R u → ((v : World) → Inv v → own_of h v ≡ R → sort_of (v.all.nodes j) ≡ Some sort) → open_refusal (flags == 0) sort ≡ None
-      → has_room R.desk.fds ≡ true → lowest R.desk.fds ≡ fd → is_file ≡ is_file_sort sort → Walked c (opened_act path flags fd id is_file ∷ []) es → Safe machine h B Q (open_at path flags j ns) n es u
-  s-opened j fd id is_file ns t sort n es u R few at typed refusal room low kind told =
-      s-take (λ o. sort_of o ≡ Some sort) (λ o q. sort_there o sort q) tt at.owns (at.stays.lender ∙ free) lt (omega (arith, few)) at.out here typed
+  pub s-opened : (j fd id : ℕ) (is_file : Bool) (ns : List ℕ) (t : Option Note) (inode_type : InodeType) (n : ℕ) (es : List Step) (u : World) (R : Own) → 2000 + 971 * length ns ≤ n → At h j base ns None t (went fd id (key_is (file_for j flags))) R u → ((v : World) → Inv v → own_of h v ≡ R → type_of (v.all.nodes j) ≡ Some inode_type) → open_refusal (flags == 0) inode_type ≡ None
+      → has_room R.desk.fds ≡ true → lowest R.desk.fds ≡ fd → is_file ≡ is_file_type inode_type → Walked c (opened_act path flags fd id is_file ∷ []) es → Safe machine h B Q (open_at path flags j ns) n es u
+  s-opened j fd id is_file ns t inode_type n es u R few at typed refusal room low kind told =
+      s-take (λ o. type_of o ≡ Some inode_type) (λ o q. type_there o inode_type q) tt at.owns (at.stays.lender ∙ free) lt (omega (arith, few)) at.out here typed
       (λ l1 x u1 q1 is own1.
-      subst (λ (z : Sort). Safe machine h B Q (open_face path flags j ns z (open_refusal (flags == 0) z)) l1 es u1) (sym (face_or_sort x sort is))
-      (subst (λ (z : Option Cause). Safe machine h B Q (open_face path flags j ns sort z) l1 es u1) (sym refusal)
+      subst (λ (z : InodeType). Safe machine h B Q (open_face path flags j ns z (open_refusal (flags == 0) z)) l1 es u1) (sym (face_or_type x inode_type is))
+      (subst (λ (z : Option Cause). Safe machine h B Q (open_face path flags j ns inode_type z) l1 es u1) (sym refusal)
       (s-slot (record (M R.desk.hand) { inodes = put R.inodes j (Some (locked_held x)) }) own1 (at.stays.lender ∙ free) lt (omega (arith, q1, few)) (at.stays.hand ∙ idle.hand) refl refl
       (λ v inv ov. mends_opened h fd v (record R { inodes = put R.inodes j (Some (locked_held x)) }) ov (at.stays.lender ∙ free) lt inv at.stays.opening left (subst KeepsHold (sym hold) tt) (λ i q. refers i q))
       (λ l2 u2 q2 own2. s-refuse h c (full c OpenFiles) j x base ns l2 es u2 (M R.desk.hand) own2 (at.stays.lender ∙ free) lt (omega (arith, q1, q2, few)) at.stays.joined listed at.out at.refs refl refl (λ q. spare j ((λ z. (sym (ap (λ (r : Row). r.cwd) at.stays.row) z == j) || false) ∙ sym (names_home (M R.desk.hand).row (M R.desk.hand).desk j hold refl refl) ∙ q)) may (inl refl))
       (λ l2 s u2 q2 own2.
-      s-install fd s (file_for j flags) sort own2 (at.stays.lender ∙ free) lt (omega (arith, q1, q2, few)) at.stays.opening refl room low keyed refl refl at.walk at.pending (put_same R.inodes j (Some (locked_held x))) refl is (writes_no_directory flags j sort refusal) here twice (λ l3 u3 q3 own3. s-open-then j fd s id is_file ns t sort x l3 es u3 u R (omega (arith, q1, q2, q3, few)) at is own3 kind told)))))
+      s-install fd s (file_for j flags) inode_type own2 (at.stays.lender ∙ free) lt (omega (arith, q1, q2, few)) at.stays.opening refl room low keyed refl refl at.walk at.pending (put_same R.inodes j (Some (locked_held x))) refl is (writes_no_directory flags j inode_type refusal) here twice (λ l3 u3 q3 own3. s-open-then j fd s id is_file ns t inode_type x l3 es u3 u R (omega (arith, q1, q2, q3, few)) at is own3 kind told)))))
     where
       here : 0 < R.mine.refs j
       here = let r = at.refs j in let o = one_at j in omega (arith, r, o)

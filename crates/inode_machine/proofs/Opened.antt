@@ -1,13 +1,13 @@
 -- A world at rest with one open file meets the invariant.
-use Rattle.inode_machine.proofs.Vocabulary.{◌≡◌, ◌≢◌, ◌⊎◌, inl, inr, ℕ, ◌<◌, true, false, ◌==◌, ◌||◌, Option, Some, None, refl, sym, ◌∙◌, ap, subst, arith, Node, OpenFile, hart_count, descriptor_count, Tree, put, hold_names, key_names, row_of, Hold, holds_raised, sum_below, one_if, IsWellFormed, eq_self, either, same_or, put_same, put_other, sum_none, sum_changed, one_yes, one_no, Desk, Entry, World, sort_of, sort_of_kind, file_count, is_at, at_rest, open_at_rest, HasOneOpen, number_is, users, id_at, key_in, left_or, own_names, Inv, Idle, HasType}
-use Rattle.inode_machine.proofs.Basics.{put_elim, directory_sort, users_put, one_most}
+use Rattle.inode_machine.proofs.Vocabulary.{◌≡◌, ◌≢◌, ◌⊎◌, inl, inr, ℕ, ◌<◌, true, false, ◌==◌, ◌||◌, Option, Some, None, refl, sym, ◌∙◌, ap, subst, arith, Node, OpenFile, hart_count, descriptor_count, Tree, put, hold_names, key_names, row_of, Hold, holds_raised, sum_below, one_if, IsWellFormed, eq_self, either, same_or, put_same, put_other, sum_none, sum_changed, one_yes, one_no, Desk, Entry, World, type_of, type_of_kind, file_count, is_at, at_rest, open_at_rest, HasOneOpen, number_is, users, id_at, key_in, left_or, own_names, Inv, Idle, HasType}
+use Rattle.inode_machine.proofs.Basics.{put_elim, type_of_directory, users_put, one_most}
 
 module _ (t : Tree) (f : OpenFile) (v : Node) (well : IsWellFormed t) (has : HasOneOpen t f v) where
   abbrev entry : Entry
-  entry = record { file = f; sort = sort_of_kind v.kind; references = 1 }
+  entry = record { file = f; inode_type = type_of_kind v.kind; references = 1 }
 
   abbrev pub w : World
-  w = open_at_rest t f (sort_of_kind v.kind)
+  w = open_at_rest t f (type_of_kind v.kind)
 
   abbrev resting : ℕ → Desk
   resting = (at_rest t).desks
@@ -114,13 +114,13 @@ module _ (t : Tree) (f : OpenFile) (v : Node) (well : IsWellFormed t) (has : Has
           omega (arith, a, b, c);
       spoiled = λ g q. absurd (let a = full g in cc (a, q));
     };
-    sorts = λ k e q. subst (λ (z : Entry). HasType t.nodes z) (file_at k e q).1 (record { sort = ap (λ (z : Option Node). sort_of z) has.node; written = has.written });
+    inode_types = λ k e q. subst (λ (z : Entry). HasType t.nodes z) (file_at k e q).1 (record { inode_type = ap (λ (z : Option Node). type_of z) has.node; written = has.written });
     named = λ g i lt free is. inl (here g i (cwd g i is));
     pending = λ g i lt e. absurd cc;
     walks = λ g k lt e. absurd cc;
     noted = λ g n lt e. absurd (let a = noted g in cc (a, e));
     refers = λ g lt. record { few = λ i. let a = one_most (t.cwd g == i) in omega (arith, a); home = here g (D g).directory ((λ z. t.cwd g == directory g z) ∙ eq_self (t.cwd g)) };
-    directory = λ g lt. record { at = λ _. directory g ∙ (λ z. left_or (sym (left g) z) (t.cwd g)); sort = ap (λ (z : ℕ). sort_of (t.nodes z)) (directory g) ∙ directory_sort t g well lt };
+    directory = λ g lt. record { at = λ _. directory g ∙ (λ z. left_or (sym (left g) z) (t.cwd g)); inode_type = ap (λ (z : ℕ). type_of (t.nodes z)) (directory g) ∙ type_of_directory t g well lt };
     raised = λ g lt q. absurd (let a = ap (λ (o : Option Hold). holds_raised true o) (has.holds g) in cc (a, q));
     lent = λ g c lt is. absurd (let a = lender g in cc (a, is));
     serves = λ c g lt is. absurd (let a = ap (λ (f : ℕ → Option ℕ). f descriptor_count) (lent c) in cc (a, is));

@@ -1,10 +1,10 @@
 -- The tree's step of an open, on the table's side: the tree has a new descriptor and a new open file, and the table has neither yet.
-use Rattle.inode_machine.proofs.Vocabulary.{◌≡◌, ◌≢◌, ◌⊎◌, inl, inr, ℕ, zero, suc, ◌+◌, ◌<◌, ◌≤◌, Bool, true, false, ◌==◌, ◌&&◌, ◌||◌, nat_lt, Option, Some, None, refl, sym, ◌∙◌, ap, subst, arith, if◌then◌else◌, Node, OpenFile, hart_count, descriptor_count, Tree, put, hold_names, IsLeastUnused, has_room, lowest, Key, Row, key_at, key_is, key_names, key_of, row_of, key_from, sum_below, one_if, IsWellFormed, either, eq_self, eq_is, same_or, put_same, put_other, sum_same, well_opened, Desk, World, first_from, is_at, is_nothing, or_zero, new_id, file_for, id_at, key_in, own_names, own_of, shop_of, users, Own, Inv, IsReached, Shop, IsTied}
-use Rattle.inode_machine.proofs.Frame.{bond_of, put_elim, is_put, stands_on, Did, refers_on}
+use Rattle.inode_machine.proofs.Vocabulary.{◌≡◌, ◌≢◌, ◌⊎◌, inl, inr, ℕ, zero, suc, ◌+◌, ◌<◌, ◌≤◌, Bool, true, false, ◌==◌, ◌&&◌, ◌||◌, nat_lt, Option, Some, None, refl, sym, ◌∙◌, ap, subst, arith, if◌then◌else◌, Node, OpenFile, hart_count, descriptor_count, Tree, put, hold_names, IsLeastUnused, has_room, lowest, Key, Row, key_at, key_is, key_names, key_of, row_of, key_from, sum_below, one_if, IsWellFormed, either, eq_self, eq_is, same_or, put_same, put_other, sum_same, well_opened, Desk, World, first_from, is_at, is_nothing, or_zero, new_id, file_for, id_at, key_in, own_names, own_of, file_tables_of, users, Own, Inv, IsReached, FileTables, IsTied}
+use Rattle.inode_machine.proofs.Frame.{bond_of, put_elim, is_put, stands_on, HartStep, refers_on}
 use Rattle.inode_machine.proofs.Tables.{less_is, lowest_free, lowest_same}
 use Rattle.inode_machine.proofs.Dups.{not_at}
 
-pub record OpensIn (s : Shop) (h fd id : ℕ) (f : OpenFile) : Type 0 where
+pub record OpensIn (s : FileTables) (h fd id : ℕ) (f : OpenFile) : Type 0 where
   pub hart : h < hart_count
   pub below : fd < descriptor_count
   pub idle : (s.desks h).opening ≡ None
@@ -14,10 +14,10 @@ pub record OpensIn (s : Shop) (h fd id : ℕ) (f : OpenFile) : Type 0 where
   pub stands : (j l k : ℕ) → j < hart_count → l < descriptor_count → s.tree_fds j l ≡ Some k → s.tree_files k ≢ None
   pub offset : f.offset ≡ 0
 
-abbrev pub opened_shop : Shop → ℕ → ℕ → ℕ → OpenFile → Shop
-opened_shop s h fd id f = record { files = s.files; desks = put s.desks h (record (s.desks h) { opening = Some fd }); ids = s.ids; slots = s.slots; clean = s.clean; tree_fds = put s.tree_fds h (put (s.tree_fds h) fd (Some id)); tree_files = put s.tree_files id (Some f) }
+abbrev pub opened_file_tables : FileTables → ℕ → ℕ → ℕ → OpenFile → FileTables
+opened_file_tables s h fd id f = record { files = s.files; desks = put s.desks h (record (s.desks h) { opening = Some fd }); ids = s.ids; slots = s.slots; clean = s.clean; tree_fds = put s.tree_fds h (put (s.tree_fds h) fd (Some id)); tree_files = put s.tree_files id (Some f) }
 
-pub opens_tied : (s : Shop) (h fd id : ℕ) (f : OpenFile) → IsTied s → OpensIn s h fd id f → IsTied (opened_shop s h fd id f)
+pub opens_tied : (s : FileTables) (h fd id : ℕ) (f : OpenFile) → IsTied s → OpensIn s h fd id f → IsTied (opened_file_tables s h fd id f)
 opens_tied s h fd id f tied a =
     record {
       fds = λ g i lg li q. elim (same_or g h) [
@@ -193,7 +193,7 @@ row_back r fd id k none key = λ z. record { cwd = r.cwd; hold = r.hold; fds = b
         ]
 
 pub record Opening (h fd j flags : ℕ) (v : World) (O : Own) : Type 0 where
-  pub did : Did h v (opened_world h fd j flags v)
+  pub did : HartStep h v (opened_world h fd j flags v)
   pub owned : own_of h (opened_world h fd j flags v) ≡ record O { row = opened_row O.row fd (new_id v) (key_is (file_for j flags)); desk = record (O.desk) { opening = Some fd } }
   pub below : fd < descriptor_count
   pub free : (v.desks h).fds fd ≡ None
@@ -209,12 +209,12 @@ opening h fd j flags x v O ov free lt inv idle low room is reached = record {
     rows = λ g ne. λ z. record { cwd = v.all.cwd g; hold = v.all.holds g; fds = put_other v.all.fds h (put (v.all.fds h) fd (Some id)) g ne z; keys = λ i. keys g ne i z };
     size = refl;
     ids = λ k le. put_other v.all.files id (Some (file_for j flags)) k (λ e. absurd (let b = fresh.below in omega (arith, b, le, e))) ∙ inv.ids k (omega (arith, le));
-    shop = record { tied = opens_tied (shop_of v) h fd id (file_for j flags) inv.tied (record { hart = lt; below = below; idle = opening_v; free = free_fd; unused = fresh.least.unused; stands = λ g l k lg ll q e. absurd (let o = inv.well.descriptors g l k lg ll q in let a = o.is in cc (a, e)); offset = refl }); desks = λ g ne. put_other v.desks h new g ne; numbers = λ g i k e lg ne li q a. (e, a, refl, inl refl); clean = λ c. c; bond = ap (λ (d : Desk). bond_of d) here; stays = inl (ap (λ (d : Desk). d.directory) here) };
+    file_tables = record { tied = opens_tied (file_tables_of v) h fd id (file_for j flags) inv.tied (record { hart = lt; below = below; idle = opening_v; free = free_fd; unused = fresh.least.unused; stands = λ g l k lg ll q e. absurd (let o = inv.well.descriptors g l k lg ll q in let a = o.is in cc (a, e)); offset = refl }); desks = λ g ne. put_other v.desks h new g ne; numbers = λ g i k e lg ne li q a. (e, a, refl, inl refl); clean = λ c. c; bond = ap (λ (d : Desk). bond_of d) here; stays = inl (ap (λ (d : Desk). d.directory) here) };
     free = ap (λ (d : Desk). d.lender) here ∙ ap (λ (o : Own). o.desk.lender) ov ∙ free;
     raised = λ q. ap (λ (d : Desk). d.joined) here ∙ inv.raised h lt q;
     quiet = λ i is2 f. inv.quiet i h is2 (sym (ap (λ (d : Desk). d.joined) here) ∙ f);
-    sort = λ i. inl refl;
-    sorts = inv.sorts;
+    inode_type = λ i. inl refl;
+    inode_types = inv.inode_types;
     noted = λ m q r s. inv.noted h m lt (sym (ap (λ (d : Desk). d.noted) here) ∙ q) r s;
     directory = stands_on (v.desks h) (put v.desks h new h) (v.all.cwd h) v.all.nodes (ap (λ (o : Own). o.desk.lender) ov ∙ free) (ap (λ (d : Desk). d.directory) here) (ap (λ (d : Desk). d.left) here) (inv.directory h lt);
     refers = refers_on (v.harts h) (v.harts h) (v.desks h) (put v.desks h new h) (λ j. refl) (ap (λ (d : Desk). d.directory) here) (inv.refers h lt);

@@ -1,5 +1,5 @@
 -- The tree's step of an open without CREATE, and what it leaves where it acts.
-use Rattle.inode_machine.proofs.Vocabulary.{◌≡◌, inl, ℕ, ◌+◌, ◌-◌, ◌<◌, true, false, ◌==◌, List, [], ◌∷◌, Option, Some, None, refl, sym, ◌∙◌, ap, subst, arith, P, own, onto, Fine, Wp, Cause, NoEntry, Descriptors, Node, Kind, Directory, File, Device, Open, Failed, Opened, NoRoom, hart_count, Name, Tree, settle, IsLeastUnused, answer_with, creates, effect_with, has_room, is_file, lowest, makes_node, node_at, node_or, open_kind, place_of, refusal_with, IsInPlace, StepWith, eq_not, eq_self, Step, Move, World, Sort, face_of, face_or, is_file_sort, open_refusal, sort_of, sort_of_kind, Made, acts, with_made, Inv, Others, IsTied, shop_of, machine}
+use Rattle.inode_machine.proofs.Vocabulary.{◌≡◌, inl, ℕ, ◌+◌, ◌-◌, ◌<◌, true, false, ◌==◌, List, [], ◌∷◌, Option, Some, None, refl, sym, ◌∙◌, ap, subst, arith, P, own, onto, Fine, Wp, Cause, NoEntry, Descriptors, Node, NodeKind, Directory, File, Device, Open, Failed, Opened, NoRoom, hart_count, Name, Tree, settle, IsLeastUnused, answer_with, creates, effect_with, has_room, is_file, lowest, makes_node, node_at, node_or, open_kind, place_of, refusal_with, IsInPlace, StepWith, eq_not, eq_self, Step, Move, World, InodeType, face_of, face_or, is_file_type, open_refusal, type_of, type_of_kind, Made, acts, with_made, Inv, Others, IsTied, file_tables_of, machine}
 use Rattle.inode_machine.proofs.Basics.{Fair, fair, others, below_is, Finder, opened_tree}
 
 pub open_finder : (path : List ℕ) (flags : ℕ) → creates flags ≡ false → Finder (Open path flags)
@@ -54,36 +54,36 @@ open_full t h j new id path flags par plain goes room = rw (open_kind_is t h j p
 
 -- The type tells the cause.
 
-pub refusal_by_sort : (o : Option Node) (flags : ℕ) (sort : Sort) → sort_of o ≡ Some sort → open_kind flags (node_or o).kind ≡ open_refusal (flags == 0) sort
-refusal_by_sort None flags sort e = absurd cc
-refusal_by_sort (Some v) flags sort e = at v.kind ∙ ap (λ (z : Sort). open_refusal (flags == 0) z) (some_is e)
+pub refusal_by_type : (o : Option Node) (flags : ℕ) (inode_type : InodeType) → type_of o ≡ Some inode_type → open_kind flags (node_or o).kind ≡ open_refusal (flags == 0) inode_type
+refusal_by_type None flags inode_type e = absurd cc
+refusal_by_type (Some v) flags inode_type e = at v.kind ∙ ap (λ (z : InodeType). open_refusal (flags == 0) z) (some_is e)
   where
-    some_is : {a b : Sort} → ◌≡◌ {A = Option Sort} (Some a) (Some b) → a ≡ b
+    some_is : {a b : InodeType} → ◌≡◌ {A = Option InodeType} (Some a) (Some b) → a ≡ b
     some_is q = cc
 
-    at : (k : Kind) → open_kind flags k ≡ open_refusal (flags == 0) (sort_of_kind k)
+    at : (k : NodeKind) → open_kind flags k ≡ open_refusal (flags == 0) (type_of_kind k)
     at (Directory slots) = refl
     at (File bytes) = refl
     at (Device major minor size) = refl
 
-pub file_by_sort : (o : Option Node) (sort : Sort) → sort_of o ≡ Some sort → is_file (node_or o).kind ≡ is_file_sort sort
-file_by_sort None sort e = absurd cc
-file_by_sort (Some v) sort e = at v.kind ∙ ap (λ (z : Sort). is_file_sort z) (some_is e)
+pub file_by_type : (o : Option Node) (inode_type : InodeType) → type_of o ≡ Some inode_type → is_file (node_or o).kind ≡ is_file_type inode_type
+file_by_type None inode_type e = absurd cc
+file_by_type (Some v) inode_type e = at v.kind ∙ ap (λ (z : InodeType). is_file_type z) (some_is e)
   where
-    some_is : {a b : Sort} → ◌≡◌ {A = Option Sort} (Some a) (Some b) → a ≡ b
+    some_is : {a b : InodeType} → ◌≡◌ {A = Option InodeType} (Some a) (Some b) → a ≡ b
     some_is q = cc
 
-    at : (k : Kind) → is_file k ≡ is_file_sort (sort_of_kind k)
+    at : (k : NodeKind) → is_file k ≡ is_file_type (type_of_kind k)
     at (Directory slots) = refl
     at (File bytes) = refl
     at (Device major minor size) = refl
 
-pub face_or_sort : (o : Option Node) (sort : Sort) → sort_of o ≡ Some sort → (face_or (face_of o)).sort ≡ sort
-face_or_sort None sort e = absurd cc
-face_or_sort (Some v) sort e = cc
+pub face_or_type : (o : Option Node) (inode_type : InodeType) → type_of o ≡ Some inode_type → (face_or (face_of o)).inode_type ≡ inode_type
+face_or_type None inode_type e = absurd cc
+face_or_type (Some v) inode_type e = cc
 
-pub sort_there : (o : Option Node) → o ≡ Some (node_or o) → sort_of o ≡ Some (sort_of_kind (node_or o).kind)
-sort_there o e = ap (λ (z : Option Node). sort_of z) e
+pub type_there : (o : Option Node) → o ≡ Some (node_or o) → type_of o ≡ Some (type_of_kind (node_or o).kind)
+type_there o e = ap (λ (z : Option Node). type_of z) e
 
 -- The step found no room: no list explains the run from here.
 
@@ -95,12 +95,12 @@ dirties h v free lt inv = fair inv (record {
   rows = λ g ne. refl;
   size = refl;
   ids = inv.ids;
-  shop = record { tied = record { fds = t.fds; fresh = λ g i lg o. let f = t.fresh g i lg o in record { below = f.below; free = f.free; id = f.id; is = f.is; file = f.file; at = f.at; offset = f.offset; only = f.only }; used = t.used; lends = t.lends; hand = t.hand; hands = t.hands; within = t.within; files = t.files; apart = t.apart; counted = t.counted; slots = t.slots; spoiled = λ g q. refl }; desks = λ g ne. refl; numbers = λ g i k e lg ne li q a. (e, a, refl, inl refl); clean = λ c. absurd cc; bond = refl; stays = inl refl };
+  file_tables = record { tied = record { fds = t.fds; fresh = λ g i lg o. let f = t.fresh g i lg o in record { below = f.below; free = f.free; id = f.id; is = f.is; file = f.file; at = f.at; offset = f.offset; only = f.only }; used = t.used; lends = t.lends; hand = t.hand; hands = t.hands; within = t.within; files = t.files; apart = t.apart; counted = t.counted; slots = t.slots; spoiled = λ g q. refl }; desks = λ g ne. refl; numbers = λ g i k e lg ne li q a. (e, a, refl, inl refl); clean = λ c. absurd cc; bond = refl; stays = inl refl };
   free = free;
   raised = inv.raised h lt;
   quiet = λ j is f. inv.quiet j h is f;
-  sort = λ j. inl refl;
-  sorts = inv.sorts;
+  inode_type = λ j. inl refl;
+  inode_types = inv.inode_types;
   noted = λ m q r s. inv.noted h m lt q r s;
   directory = inv.directory h lt;
   refers = inv.refers h lt;
@@ -114,7 +114,7 @@ dirties h v free lt inv = fair inv (record {
   walks = λ x is. inv.walks h x lt is;
 })
   where
-    t : IsTied (shop_of v)
+    t : IsTied (file_tables_of v)
     t = inv.tied
 
 pub moves_full : {A : Type 0} (h more n : ℕ) (B : List Step → Type 0) (Q : A → List Step → World → Type 0) (es : List Step) (v u : World) (mv : Move) (p : P machine A) (made x : Made)

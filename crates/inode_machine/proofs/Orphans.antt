@@ -1,6 +1,6 @@
 -- A new inode that gets no name: from then on it is a dead node of the tree before that settles, as any other.
-use Rattle.inode_machine.proofs.Vocabulary.{◌≡◌, ◌≢◌, inl, inr, ℕ, ◌+◌, ◌<◌, ◌≤◌, true, false, List, [], Option, Some, None, refl, sym, ◌∙◌, ap, subst, arith, Do, P, Fine, Safe, Wp, Node, hart_count, Tree, put, is_live, is_named, settle, row_of, node_or, settle_nodes, links_of, folders_of, links_in, raises, Folders, IsForest, IsWellFormed, same_or, put_same, put_other, folder_dead, dead_links, no_node, cwd_named, hold_named, file_named, folders_put, put_self, map_put, Step, with_count, sort_of, Note, World, Orphans, Store, Own, shop_of, own_names, Held, view, is_hart, own_of, Inv, machine}
-use Rattle.inode_machine.proofs.Basics.{shop_same, ours_some, kept_here, Did, fair, fair_then, own_inodes, has_inode, stands_in, directory_named, type_on, s-owned, quiet, has_disk, has_node, locks_it, locked_held, Writes, writes, lone_file, unnamed}
+use Rattle.inode_machine.proofs.Vocabulary.{◌≡◌, ◌≢◌, inl, inr, ℕ, ◌+◌, ◌<◌, ◌≤◌, true, false, List, [], Option, Some, None, refl, sym, ◌∙◌, ap, subst, arith, Do, P, Fine, Safe, Wp, Node, hart_count, Tree, put, is_live, is_named, settle, row_of, node_or, settle_nodes, links_of, folders_of, links_in, raises, Folders, IsForest, IsWellFormed, same_or, put_same, put_other, folder_dead, dead_links, no_node, cwd_named, hold_named, file_named, folders_put, put_self, map_put, Step, with_count, type_of, Note, World, Orphans, Store, Own, file_tables_of, own_names, Held, view, is_hart, own_of, Inv, machine}
+use Rattle.inode_machine.proofs.Basics.{file_tables_same, ours_some, kept_here, HartStep, fair, fair_then, own_inodes, has_inode, stands_in, directory_named, type_on, s-owned, quiet, has_disk, has_node, locks_it, locked_held, Writes, writes, lone_file, unnamed}
 
 -- A dead node that nothing names may stand in the tree before it settles.
 well_orphan : (t : Tree) (i : ℕ) (v : Node) → IsWellFormed t → t.nodes i ≡ None → is_live (Some v) ≡ false → 1 ≤ i → i < t.ninodes → is_named t i ≡ false → IsWellFormed (record t { nodes = put t.nodes i (Some v) })
@@ -12,9 +12,9 @@ well_orphan t i v k none dead low below unnamed = record {
   depth = k.depth;
   forest = subst (λ (F : Folders). IsForest F (links_in (put t.nodes i (Some v))) (raises t.holds) t.ninodes k.depth) (sym folders)
       (subst (λ (C : ℕ → ℕ). IsForest (folders_of t.nodes) C (raises t.holds) t.ninodes k.depth) (sym links) k.forest);
-  holds = λ h o lt is. let th = k.holds h o lt is in record { node = th.node; is = other o.number (λ q. named o.number q (hold_named t h o lt is)) ∙ th.is; sort = th.sort };
+  holds = λ h o lt is. let th = k.holds h o lt is in record { node = th.node; is = other o.number (λ q. named o.number q (hold_named t h o lt is)) ∙ th.is; inode_type = th.inode_type };
   descriptors = λ h j id lh lj is. let th = k.descriptors h j id lh lj is in record { file = th.file; is = th.is; node = th.node; there = other th.file.number (λ q. named th.file.number q (file_named t h j id th.file lh lj is th.is)) ∙ th.there };
-  directories = λ h lt. let th = k.directories h lt in record { node = th.node; is = other (t.cwd h) (λ q. named (t.cwd h) q (cwd_named t h lt)) ∙ th.is; sort = th.sort };
+  directories = λ h lt. let th = k.directories h lt in record { node = th.node; is = other (t.cwd h) (λ q. named (t.cwd h) q (cwd_named t h lt)) ∙ th.is; inode_type = th.inode_type };
 }
   where
     was : is_live (t.nodes i) ≡ false
@@ -95,7 +95,7 @@ s-orphan {A} {h} {i} {x} y {k} {B} {Q} {n} {es} {w} {O} owns free lt pos joined 
         number : i < v.all.ninodes
         number = let a = ap (λ (o : Own). o.ninodes) ov in omega (arith, a, below)
 
-        did : Did h u1 u
+        did : HartStep h u1 u
         did =
             record {
               hart = lt;
@@ -112,20 +112,20 @@ s-orphan {A} {h} {i} {x} y {k} {B} {Q} {n} {es} {w} {O} owns free lt pos joined 
               rows = λ g ne. refl;
               size = refl;
               ids = inv.ids;
-              shop = shop_same h (shop_of v) inv.tied;
+              file_tables = file_tables_same h (file_tables_of v) inv.tied;
               free = ap (λ (o : Own). o.desk.lender) ov ∙ free;
               raised = inv.raised h lt;
               quiet = λ j is f. absurd (let e : (v.desks h).joined ≡ true = ap (λ (o : Own). o.desk.joined) ov ∙ joined in cc (e, f));
-              sort = λ j. elim (same_or j i) [
+              inode_type = λ j. elim (same_or j i) [
                 | inl q ↦ inr (ap v.keeper q ∙ kept, ap v.alone q ∙ lone_at)
-                | inr ne ↦ inl (ap (λ (z : Option Node). sort_of z) (put_other v.all.nodes i (Some y1) j ne))
+                | inr ne ↦ inl (ap (λ (z : Option Node). type_of z) (put_other v.all.nodes i (Some y1) j ne))
               ];
-              sorts = λ k e is. type_on v.all.nodes (put v.all.nodes i (Some y1)) e (ap (λ (z : Option Node). sort_of z) (put_other v.all.nodes i (Some y1) e.file.number (lone_file h i k e v inv lt lone_at kept is))) (inv.sorts k e is);
+              inode_types = λ k e is. type_on v.all.nodes (put v.all.nodes i (Some y1)) e (ap (λ (z : Option Node). type_of z) (put_other v.all.nodes i (Some y1) e.file.number (lone_file h i k e v inv lt lone_at kept is))) (inv.inode_types k e is);
               noted = λ m is r s. elim (same_or m.number i) [
                 | inl q ↦ absurd (notes m (ap (λ (o : Own). o.desk.noted) (sym ov) ∙ is) q)
-                | inr ne ↦ ap (λ (z : Option Node). sort_of z) (put_other v.all.nodes i (Some y1) m.number ne) ∙ inv.noted h m lt is r (sym (put_other v.alone i false m.number ne) ∙ s)
+                | inr ne ↦ ap (λ (z : Option Node). type_of z) (put_other v.all.nodes i (Some y1) m.number ne) ∙ inv.noted h m lt is r (sym (put_other v.alone i false m.number ne) ∙ s)
               ];
-              directory = stands_in (v.desks h) (v.all.cwd h) v.all.nodes (put v.all.nodes i (Some y1)) (ap (λ (z : Option Node). sort_of z) (put_other v.all.nodes i (Some y1) (v.desks h).directory not_directory)) (inv.directory h lt);
+              directory = stands_in (v.desks h) (v.all.cwd h) v.all.nodes (put v.all.nodes i (Some y1)) (ap (λ (z : Option Node). type_of z) (put_other v.all.nodes i (Some y1) (v.desks h).directory not_directory)) (inv.directory h lt);
               refers = inv.refers h lt;
               well = well_orphan v.all i y1 inv.well gone refl low number out;
               counts = inv.counts;

@@ -1,5 +1,5 @@
 -- Calls that follow a path to its last name: what their walks write, and what is seen at the name's directory.
-use Rattle.inode_machine.proofs.Vocabulary.{◌≡◌, ℕ, ◌+◌, ◌<◌, Bool, true, false, List, [], ◌∷◌, ◌++◌, Option, Some, None, refl, sym, ◌∙◌, subst, if◌then◌else◌, Do, P, own, onto, oldest_first, Fine, Safe, Wp, Begun, onto_is, Cause, NoEntry, Reply, Call, Node, Action, Inherit, StepAnswer, Failed, hart_count, Name, Tree, put, look, live_directory, refusal_with, refused, IsInPlace, Act, next_of, row_of, put_same, live_is, look_same, Walk, Step, MayEnd, IsPlayed, IsWholeCall, fail, Begin, Look, Quit, World, Mark, Take, Query, Sight, seen_in, found_by, marked, places, Own, own_of, Inv, looking_cost, machine, Sought, looks_if, looks_where, makes, covered_calls}
+use Rattle.inode_machine.proofs.Vocabulary.{◌≡◌, ℕ, ◌+◌, ◌<◌, Bool, true, false, List, [], ◌∷◌, ◌++◌, Option, Some, None, refl, sym, ◌∙◌, subst, if◌then◌else◌, Do, P, own, onto, oldest_first, Fine, Safe, Wp, Begun, onto_is, Cause, NoEntry, Reply, Call, Node, Action, Inherit, StepAnswer, Failed, hart_count, Name, Tree, put, look, live_directory, refusal_with, refused, IsInPlace, Act, next_of, row_of, put_same, live_is, look_same, Walk, Step, MayEnd, IsPlayed, IsWholeCall, fail, Begin, Look, GiveUpWalk, World, Mark, Take, Query, Sight, seen_in, found_by, marked, places, Own, own_of, Inv, looking_cost, machine, Sought, looks_if, looks_where, makes, covered_calls}
 use Rattle.inode_machine.proofs.Frame.{fair_same}
 use Rattle.inode_machine.proofs.Rules.{quiet, locked_held}
 use Rattle.inode_machine.proofs.Looks.{live_face, s-take-then, quit_good, look_refused_good, Agrees}
@@ -32,7 +32,7 @@ pub walking_told : (c : Call) (acts : List Act) (s : Action) (a : StepAnswer) (n
 walking_told c acts s a new es w rest r p = w (told_step new s a ∷ rest) r (tt, p)
 
 abbrev pub quit_step : Action → Step
-quit_step s = record { move = Quit s; told = Some (fail s) }
+quit_step s = record { move = GiveUpWalk s; told = Some (fail s) }
 
 pub walking_quit : (c : Call) (acts : List Act) (s : Action) (es : List Step) → Walked c acts es → Walked c (acts ++ record { step = s; answer = Failed NoEntry } ∷ []) (quit_step s ∷ es)
 walking_quit c acts s es w rest r p = w (quit_step s ∷ rest) r (tt, p)
@@ -72,8 +72,8 @@ s-see {h} c acts s {looking} refuses {k} {Q} {base} {O0} d e {ns} {n} {es} {w} {
     Goal : World → Option Node → Option Mark → Type 0
     Goal u x m = Fine machine h (places h (Take d looking) (seen_in d looking x) m u) (looking_cost looking) n (Begun covered_calls c) es u (marked h m u) (λ l. Wp machine h (Begun covered_calls c) Q (k (seen_in d looking x)) l (onto (own h (places h (Take d looking) (seen_in d looking x) m u)) es) (marked h m u))
 
-    mark_is : (x : Option Node) (a b : Bool) → live_directory x ≡ a → refuses (seen_in d looking x) ≡ b → looks_where s refuses (seen_in d looking x) ≡ (if a then looks_if b else makes (Quit s))
-    mark_is x a b q r = λ z. if (live_face x ∙ q) z then looks_if (r z) else makes (Quit s)
+    mark_is : (x : Option Node) (a b : Bool) → live_directory x ≡ a → refuses (seen_in d looking x) ≡ b → looks_where s refuses (seen_in d looking x) ≡ (if a then looks_if b else makes (GiveUpWalk s))
+    mark_is x a b q r = λ z. if (live_face x ∙ q) z then looks_if (r z) else makes (GiveUpWalk s)
 
     seen : (u : World) (x : Option Node) → Inv u → own_of h u ≡ record O { inodes = put O.inodes d (Some (locked_held x)) } → (a : Bool) → live_directory x ≡ a → (b : Bool) → refuses (seen_in d looking x) ≡ b → Goal u x (looks_where s refuses (seen_in d looking x))
     seen u x inv own1 false q b r = subst (λ (m : Option Mark). Goal u x m) (sym (mark_is x false b q r))

@@ -1,5 +1,5 @@
 -- Write: what a piece does to a tree, and how a descriptor's offset and its inode change.
-use Rattle.inode_machine.proofs.Vocabulary.{◌≡◌, inl, inr, ℕ, ◌+◌, ◌<◌, ◌≤◌, true, false, nat_lt, List, [], ◌∷◌, ◌++◌, take, length, Option, Some, None, refl, sym, ◌∙◌, ap, subst, arith, if◌then◌else◌, Bool, nat_tests, append-nil, take-append-drop, length-take, Cause, BadDescriptor, BadMode, BadOffset, TooBig, Node, Kind, Directory, File, Device, OpenFile, WritePart, Done, hart_count, largest_size, Name, Tree, put, and_then, is_directory, is_live, settle, node_or, node_at, file_at, refusal_with, effect_with, answer_with, place_of, IsInPlace, with_nodes, written, written_kind, wrote, write_kind, part_refusal, IsWellFormed, either, same_or, put_same, put_other, put_self, well_content, well_same, written_sort, written_dir, Sort, no_driver_for, sort_of, sort_of_kind, mode_refusal, with_bytes, write_refused, Entry, World, with_open, NamesLess, named_less, settle_nodes, settle_or, file_settled}
+use Rattle.inode_machine.proofs.Vocabulary.{◌≡◌, inl, inr, ℕ, ◌+◌, ◌<◌, ◌≤◌, true, false, nat_lt, List, [], ◌∷◌, ◌++◌, take, length, Option, Some, None, refl, sym, ◌∙◌, ap, subst, arith, if◌then◌else◌, Bool, nat_tests, append-nil, take-append-drop, length-take, Cause, BadDescriptor, BadMode, BadOffset, TooBig, Node, NodeKind, Directory, File, Device, OpenFile, WritePart, Done, hart_count, largest_size, Name, Tree, put, and_then, is_directory, is_live, settle, node_or, node_at, file_at, refusal_with, effect_with, answer_with, place_of, IsInPlace, with_nodes, written, written_kind, wrote, write_kind, part_refusal, IsWellFormed, either, same_or, put_same, put_other, put_self, well_content, well_same, type_written, written_dir, InodeType, no_driver_for, type_of, type_of_kind, mode_refusal, with_bytes, write_refused, Entry, World, with_open, NamesLess, named_less, settle_nodes, settle_or, file_settled}
 use Rattle.std.proofs.Common.{drop}
 use Rattle.plain_tree.specs.Steps.{moved}
 use Rattle.inode_machine.proofs.Basics.{below_is, Refused}
@@ -41,38 +41,38 @@ pub write_refused_none : (h fd : ℕ) (b : List ℕ) (v : World) → h < hart_co
 write_refused_none h fd b v lt e = write_refused_at h fd b BadDescriptor v lt (λ res par. write_none v.all h fd b res par e) (λ res par. write_none (settle v.all) h fd b res par (file_settled v.all h fd ∙ e))
 
 -- a device takes no piece, and anything else an empty one
-device_stops : (x : Option Node) (s : Sort) (offset : ℕ) (b : List ℕ) (c : Cause) → sort_of x ≡ Some s → no_driver_for s ≡ Some c → write_kind (node_or x).kind offset b ≡ Some c
+device_stops : (x : Option Node) (s : InodeType) (offset : ℕ) (b : List ℕ) (c : Cause) → type_of x ≡ Some s → no_driver_for s ≡ Some c → write_kind (node_or x).kind offset b ≡ Some c
 device_stops None s offset b c e q = absurd cc
-device_stops (Some v) s offset b c e q = let a : sort_of_kind v.kind ≡ s = cc in by_kind v.kind s a q
+device_stops (Some v) s offset b c e q = let a : type_of_kind v.kind ≡ s = cc in by_kind v.kind s a q
   where
-    by_kind : (k : Kind) (s : Sort) → sort_of_kind k ≡ s → no_driver_for s ≡ Some c → write_kind k offset b ≡ Some c
-    by_kind (Directory slots) s e q = absurd (let a : None ≡ Some c = ap (λ (z : Sort). no_driver_for z) e ∙ q in cc)
-    by_kind (File bytes) s e q = absurd (let a : None ≡ Some c = ap (λ (z : Sort). no_driver_for z) e ∙ q in cc)
-    by_kind (Device major minor size) s e q = ap (λ (z : Sort). no_driver_for z) e ∙ q
+    by_kind : (k : NodeKind) (s : InodeType) → type_of_kind k ≡ s → no_driver_for s ≡ Some c → write_kind k offset b ≡ Some c
+    by_kind (Directory slots) s e q = absurd (let a : None ≡ Some c = ap (λ (z : InodeType). no_driver_for z) e ∙ q in cc)
+    by_kind (File bytes) s e q = absurd (let a : None ≡ Some c = ap (λ (z : InodeType). no_driver_for z) e ∙ q in cc)
+    by_kind (Device major minor size) s e q = ap (λ (z : InodeType). no_driver_for z) e ∙ q
 
-empty_goes : (x : Option Node) (s : Sort) (offset : ℕ) → sort_of x ≡ Some s → no_driver_for s ≡ None → write_kind (node_or x).kind offset [] ≡ None
+empty_goes : (x : Option Node) (s : InodeType) (offset : ℕ) → type_of x ≡ Some s → no_driver_for s ≡ None → write_kind (node_or x).kind offset [] ≡ None
 empty_goes None s offset e q = absurd cc
-empty_goes (Some v) s offset e q = let a : sort_of_kind v.kind ≡ s = cc in by_kind v.kind s a q
+empty_goes (Some v) s offset e q = let a : type_of_kind v.kind ≡ s = cc in by_kind v.kind s a q
   where
-    by_kind : (k : Kind) (s : Sort) → sort_of_kind k ≡ s → no_driver_for s ≡ None → write_kind k offset [] ≡ None
+    by_kind : (k : NodeKind) (s : InodeType) → type_of_kind k ≡ s → no_driver_for s ≡ None → write_kind k offset [] ≡ None
     by_kind (Directory slots) s e q = refl
     by_kind (File bytes) s e q = refl
-    by_kind (Device major minor size) s e q = ap (λ (z : Sort). no_driver_for z) e ∙ q
+    by_kind (Device major minor size) s e q = ap (λ (z : InodeType). no_driver_for z) e ∙ q
 
 -- what the table refuses the tree does, whatever the piece
-pub write_stops : (t : Tree) (h fd : ℕ) (b : List ℕ) (e : Entry) (c : Cause) (res : Option ℕ) (par : Option (ℕ × Name)) → file_at t h fd ≡ Some e.file → sort_of (t.nodes e.file.number) ≡ Some e.sort → write_refused (Some e) ≡ Some c → refusal_with t h (WritePart fd b) res par ≡ Some c
-write_stops t h fd b e c res par file sort stops = go e.file.writable refl
+pub write_stops : (t : Tree) (h fd : ℕ) (b : List ℕ) (e : Entry) (c : Cause) (res : Option ℕ) (par : Option (ℕ × Name)) → file_at t h fd ≡ Some e.file → type_of (t.nodes e.file.number) ≡ Some e.inode_type → write_refused (Some e) ≡ Some c → refusal_with t h (WritePart fd b) res par ≡ Some c
+write_stops t h fd b e c res par file inode_type stops = go e.file.writable refl
   where
     go : (w : Bool) → e.file.writable ≡ w → refusal_with t h (WritePart fd b) res par ≡ Some c
-    go false q = write_mode t h fd b e.file res par file q ∙ (λ i. mode_refusal (sym q i) e.sort) ∙ stops
-    go true q = write_by_kind t h fd b e.file (Some c) res par file q (device_stops (t.nodes e.file.number) e.sort e.file.offset b c sort ((λ i. mode_refusal (sym q i) e.sort) ∙ stops))
+    go false q = write_mode t h fd b e.file res par file q ∙ (λ i. mode_refusal (sym q i) e.inode_type) ∙ stops
+    go true q = write_by_kind t h fd b e.file (Some c) res par file q (device_stops (t.nodes e.file.number) e.inode_type e.file.offset b c inode_type ((λ i. mode_refusal (sym q i) e.inode_type) ∙ stops))
 
-pub empty_piece_goes : (t : Tree) (h fd : ℕ) (e : Entry) (res : Option ℕ) (par : Option (ℕ × Name)) → file_at t h fd ≡ Some e.file → sort_of (t.nodes e.file.number) ≡ Some e.sort → write_refused (Some e) ≡ None → refusal_with t h (WritePart fd []) res par ≡ None
-empty_piece_goes t h fd e res par file sort goes = go e.file.writable refl
+pub empty_piece_goes : (t : Tree) (h fd : ℕ) (e : Entry) (res : Option ℕ) (par : Option (ℕ × Name)) → file_at t h fd ≡ Some e.file → type_of (t.nodes e.file.number) ≡ Some e.inode_type → write_refused (Some e) ≡ None → refusal_with t h (WritePart fd []) res par ≡ None
+empty_piece_goes t h fd e res par file inode_type goes = go e.file.writable refl
   where
     go : (w : Bool) → e.file.writable ≡ w → refusal_with t h (WritePart fd []) res par ≡ None
-    go false q = absurd (let a : Some BadMode ≡ None = (λ i. mode_refusal (sym q i) e.sort) ∙ goes in cc)
-    go true q = write_by_kind t h fd [] e.file None res par file q (empty_goes (t.nodes e.file.number) e.sort e.file.offset sort ((λ i. mode_refusal (sym q i) e.sort) ∙ goes))
+    go false q = absurd (let a : Some BadMode ≡ None = (λ i. mode_refusal (sym q i) e.inode_type) ∙ goes in cc)
+    go true q = write_by_kind t h fd [] e.file None res par file q (empty_goes (t.nodes e.file.number) e.inode_type e.file.offset inode_type ((λ i. mode_refusal (sym q i) e.inode_type) ∙ goes))
 
 -- who may write so many bytes may write fewer
 
@@ -96,7 +96,7 @@ part_less offset size (x ∷ xs) (y ∷ ys) le q = by_offset (nat_lt size offset
         by_end true e true g q = q
         by_end true e false g q = absurd (reaches largest_size offset (length (x ∷ xs)) (length (y ∷ ys)) le e g)
 
-pub fewer_go : (k : Kind) (offset n : ℕ) (b : List ℕ) → write_kind k offset b ≡ None → write_kind k offset (take n b) ≡ None
+pub fewer_go : (k : NodeKind) (offset n : ℕ) (b : List ℕ) → write_kind k offset b ≡ None → write_kind k offset (take n b) ≡ None
 fewer_go (Directory slots) offset n b q = part_less offset _ b (take n b) (take_less n b) q
 fewer_go (File bytes) offset n b q = part_less offset (length bytes) b (take n b) (take_less n b) q
 fewer_go (Device major minor size) offset n b q = absurd cc
@@ -106,7 +106,7 @@ fewer_go (Device major minor size) offset n b q = absurd cc
 abbrev pub with_written : Tree → (ℕ → Option Node) → (ℕ → Option OpenFile) → Tree
 with_written t N F = record t { nodes = N; files = F }
 
-no_bytes : (k : Kind) (offset : ℕ) → written_kind k offset [] ≡ k
+no_bytes : (k : NodeKind) (offset : ℕ) → written_kind k offset [] ≡ k
 no_bytes (Directory slots) offset = refl
 no_bytes (File bytes) offset = (λ i. File (append-nil (take offset bytes) i ++ drop (plus_none offset i) bytes)) ∙ ap (λ (z : List ℕ). File z) (take-append-drop offset bytes)
   where
@@ -163,10 +163,10 @@ settle_wrote t h fd id n b f x is at file number node less = settle_written t n 
 pub well_wrote : (t : Tree) (i offset : ℕ) (b : List ℕ) (x : Node) → IsWellFormed t → t.nodes i ≡ Some x → IsWellFormed (with_nodes t (put t.nodes i (Some (with_bytes offset b x))))
 well_wrote t i offset b x k is = elim (either (is_directory x.kind)) [
   | inl y ↦ subst (λ (w : Node). IsWellFormed (with_nodes t (put t.nodes i (Some w)))) (λ j. record x { kind = sym (written_dir x.kind offset b y) j }) (well_same t i x k is)
-  | inr y ↦ well_content t i x (with_bytes offset b x) k is refl y (written_sort x.kind offset b y)
+  | inr y ↦ well_content t i x (with_bytes offset b x) k is refl y (type_written x.kind offset b y)
 ]
 
-pub written_type : (k : Kind) (offset : ℕ) (b : List ℕ) → sort_of_kind (written_kind k offset b) ≡ sort_of_kind k
+pub written_type : (k : NodeKind) (offset : ℕ) (b : List ℕ) → type_of_kind (written_kind k offset b) ≡ type_of_kind k
 written_type (Directory slots) offset b = refl
 written_type (File bytes) offset b = refl
 written_type (Device major minor size) offset b = refl

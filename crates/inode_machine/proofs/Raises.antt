@@ -1,5 +1,5 @@
 -- A link's count is raised at its record's put, and lowered again where its name can't be entered; or it has all the links that it may have.
-use Rattle.inode_machine.proofs.Vocabulary.{◌≡◌, ◌⊎◌, inl, inr, ℕ, ◌+◌, ◌<◌, ◌≤◌, true, false, nat_lt, List, [], ◌∷◌, Option, Some, None, refl, sym, ◌∙◌, ap, subst, arith, Do, P, own, onto, Fine, Safe, Wp, TooManyLinks, Node, Hold, Action, Bump, Inherit, Done, Failed, count_limit, hart_count, Name, Tree, put, hold_names, settle, resolve, parent, follows_path, makes_node, node_or, path_of, put_same, Stage, Step, Takes, OwnMove, World, stage_of, Store, sort_of, with_count, with_walk, Made, made_by, marked, new_id, places, Own, Held, own_of, Inv, machine, own_step}
+use Rattle.inode_machine.proofs.Vocabulary.{◌≡◌, ◌⊎◌, inl, inr, ℕ, ◌+◌, ◌<◌, ◌≤◌, true, false, nat_lt, List, [], ◌∷◌, Option, Some, None, refl, sym, ◌∙◌, ap, subst, arith, Do, P, own, onto, Fine, Safe, Wp, TooManyLinks, Node, Hold, Action, Bump, Inherit, Done, Failed, count_limit, hart_count, Name, Tree, put, hold_names, settle, resolve, parent, follows_path, makes_node, node_or, path_of, put_same, Stage, Step, PlaysStep, OwnMove, World, stage_of, Store, type_of, with_count, with_walk, Made, made_by, marked, new_id, places, Own, Held, own_of, Inv, machine, own_step}
 use Rattle.inode_machine.proofs.Basics.{Fair, fair, fair_then, s-owned, has_disk, has_node, locks_it, my_refs, Writes, writes, moves_good, own_walk, stage_walk, walk_did, own_takes, fails, MoveFine, Moves, Rehold, Turned, bump_stops, held_tree, held_world, low, reholds, turned}
 use Rattle.inode_machine.proofs.Writings.{put_twice}
 use Rattle.inode_machine.proofs.Opens.{moves_full}
@@ -48,7 +48,7 @@ s-store-move {A} {h} i c s o {x} y {k} {B} {Q} {n} {es} {w} {O} owns free lt pos
 
         t : Turned h i y2 o (record x { disk = Some y2 }) u1 O1
         t = turned h i y2 o (record x { disk = Some y2 }) u1 O1 wr.owned free joined lt wr.fair.inv none (put_same O.inodes i (Some (record x { disk = Some y2 }))) shared
-            (ap (λ (z : Option Node). sort_of z) (sym (has_node h i v O x ov isi ∙ xn)))
+            (ap (λ (z : Option Node). type_of z) (sym (has_node h i v O x ov isi ∙ xn)))
             (λ j q. inl (let a = names j q in let r = my_refs h v O j ov in omega (arith, a, r))) m.well
 
         u2 : World
@@ -67,7 +67,7 @@ s-store-move {A} {h} i c s o {x} y {k} {B} {Q} {n} {es} {w} {O} owns free lt pos
         made : Made
         made = record { all = held_tree v.all (put v.all.nodes i (Some y2)) h o; walk = None; found = None; opened = None; entered = None; left = None; told = (done_step s).told }
 
-        takes : Takes (stage_of v) h (done_step s) (stage_of u3)
+        takes : PlaysStep (stage_of v) h (done_step s) (stage_of u3)
         takes = own_takes h v u3 s Done plain.follows plain.path (ap (λ (z : Own). z.mine.walk) ov ∙ walks) (plain.makes (settle v.all)) plain.inherits (m.steps (resolve (settle v.all) h (path_of s)) (parent (settle v.all) h (path_of s))) (ap (λ (z : Stage). z.walk) (stage_walk h None None u2))
 
         next : (l : ℕ) → l + 3 ≡ n → Wp machine h B Q (k tt) l (done_step s ∷ es) u3

@@ -1,8 +1,8 @@
 -- Read: a descriptor's inode is locked, a part read at the offset, and the offset moves, with the lock given up.
-use Rattle.inode_machine.proofs.Vocabulary.{◌≡◌, inl, inr, ℕ, ◌+◌, ◌<◌, ◌≤◌, true, false, ◌==◌, ◌&&◌, nat_lt, List, [], ◌∷◌, take, length, Option, Some, None, refl, sym, ◌∙◌, ap, subst, arith, if◌then◌else◌, Bool, Do, Ran, Came, P, own, onto, Good, Fine, Safe, Wp, Cause, BadDescriptor, BadMode, Node, Kind, Directory, File, Device, own_step, Sort, no_driver_for, sort_of, sort_of_kind, OpenFile, Read, Bytes, hart_count, descriptor_count, Name, Tree, put, fd_names, file_names, and_then, settle, resolve, parent, node_or, node_at, content, part, no_driver, file_at, refusal_with, effect_with, answer_with, place_of, IsInPlace, Key, key_of, Row, key_at, row_of, key_is, key_from, with_open, NamesLess, settle_less, file_settled, IsWellFormed, same_or, put_same, put_other, sum_same, well_moved, Stage, Step, OwnMove, Mine, Entry, World, LockResult as Lockup, NotLocked, LocksIt, places, with_mark, made_by, new_id, with_made, refused_read, with_walk, slot_at, entry_at, entry_moved, part_of, entry_of, lock_at, offset_of, lock_if, locked, mode_refusal, read_at, read_refused, unlocked, with_offset, Own, own_names, Held, own_of, Inv, machine, EntryOut, asked_limit, KeepsFiles, StandsAt, LockFile, ReadFile}
+use Rattle.inode_machine.proofs.Vocabulary.{◌≡◌, inl, inr, ℕ, ◌+◌, ◌<◌, ◌≤◌, true, false, ◌==◌, ◌&&◌, nat_lt, List, [], ◌∷◌, take, length, Option, Some, None, refl, sym, ◌∙◌, ap, subst, arith, if◌then◌else◌, Bool, Do, Ran, ExecResult, P, own, onto, Good, Fine, Safe, Wp, Cause, BadDescriptor, BadMode, Node, NodeKind, Directory, File, Device, own_step, InodeType, no_driver_for, type_of, type_of_kind, OpenFile, Read, Bytes, hart_count, descriptor_count, Name, Tree, put, fd_names, file_names, and_then, settle, resolve, parent, node_or, node_at, content, part, no_driver, file_at, refusal_with, effect_with, answer_with, place_of, IsInPlace, Key, key_of, Row, key_at, row_of, key_is, key_from, with_open, NamesLess, settle_less, file_settled, IsWellFormed, same_or, put_same, put_other, sum_same, well_moved, Stage, Step, OwnMove, Mine, Entry, World, LockResult as Lockup, NotLocked, LocksIt, places, with_mark, made_by, new_id, with_made, refused_read, with_walk, slot_at, entry_at, entry_moved, part_of, entry_of, lock_at, offset_of, lock_if, locked, mode_refusal, read_at, read_refused, unlocked, with_offset, Own, own_names, Held, own_of, Inv, machine, EntryOut, asked_limit, KeepsFiles, StandsAt, LockFile, ReadFile}
 use Rattle.std.proofs.Common.{drop}
 use Rattle.plain_tree.specs.Steps.{moved}
-use Rattle.inode_machine.proofs.Basics.{Ours, ours_none, put_elim, Fair, fair, has_inode, s-owned, s-owned-from, quiet, has_disk, has_node, fine_after, is_out, locked_held, locking, locks_it, locks_none, after_unlock, gives, below_is, refs_walk, stage_walk, moves_good, Sells, sells_did, own_takes, Behind, behind, behind_none, Refused, renewed_slots, renewed_at, fails, refused_good, renewed_sorts}
+use Rattle.inode_machine.proofs.Basics.{Ours, ours_none, put_elim, Fair, fair, has_inode, s-owned, s-owned-from, quiet, has_disk, has_node, fine_after, is_out, locked_held, locking, locks_it, locks_none, after_unlock, gives, below_is, refs_walk, stage_walk, moves_good, Sells, sells_did, own_takes, Behind, behind, behind_none, Refused, renewed_slots, renewed_at, fails, refused_good, renewed_types}
 use Rattle.inode_machine.proofs.Frame.{Stays}
 use Rattle.inode_machine.proofs.Stats.{behind_opens, entry_is, node_settled}
 
@@ -121,12 +121,12 @@ moving h fd s by e v O ov free lt inv none hit ours = record { fair = fair inv (
     ]
 
     -- another open file is as it was; this one is of an inode that no other hart keeps
-    moved_stays : (j : ℕ) (d : Entry) → v.files j ≡ Some d → (c : Entry) × (F j ≡ Some c) × (c.sort ≡ d.sort) × Stays (λ n. Ours h (v.keeper n)) d c
+    moved_stays : (j : ℕ) (d : Entry) → v.files j ≡ Some d → (c : Entry) × (F j ≡ Some c) × (c.inode_type ≡ d.inode_type) × Stays (λ n. Ours h (v.keeper n)) d c
     moved_stays j d q = elim (same_or j s) [
       | inl r ↦
           let a : Some e ≡ Some d = sym hit.at ∙ ap v.files (sym r) ∙ q in
           let c : e ≡ d = cc in
-          (entry_moved e by, ap F r ∙ put_same v.files s (Some (entry_moved e by)), ap (λ (z : Entry). z.sort) c, inr (subst (λ (z : Entry). Ours h (v.keeper z.file.number) × (e.file.number ≡ z.file.number)) c (ours, refl)))
+          (entry_moved e by, ap F r ∙ put_same v.files s (Some (entry_moved e by)), ap (λ (z : Entry). z.inode_type) c, inr (subst (λ (z : Entry). Ours h (v.keeper z.file.number) × (e.file.number ≡ z.file.number)) c (ours, refl)))
       | inr ne ↦ (d, put_other v.files s (Some (entry_moved e by)) j ne ∙ q, refl, inl refl)
     ]
 
@@ -173,7 +173,7 @@ moving h fd s by e v O ov free lt inv none hit ours = record { fair = fair inv (
       unlent = ap (λ (o : Own). o.desk.lender) ov ∙ free;
       joined = refl;
       holds = refl;
-      sorts = λ j d q. renewed_sorts v s e (entry_moved e by) inv hit.at refl refl refl j d q;
+      inode_types = λ j d q. renewed_types v s e (entry_moved e by) inv hit.at refl refl refl j d q;
       noted = λ m q. (q, (λ z. let r = refs_walk v.harts h None None h m.number in omega (arith, r, z)));
       directory = inv.directory h lt;
       home = refl;
@@ -253,21 +253,21 @@ part_good {A} h more n B Q es v O fd count s e b p ov free lt inv walks none hit
 
 -- What the table says of a descriptor is what the tree does.
 
-sort_driver : (x : Option Node) (s : Sort) → sort_of x ≡ Some s → no_driver (node_or x).kind ≡ no_driver_for s
-sort_driver None s e = absurd cc
-sort_driver (Some v) s e = by_kind v.kind s cc
+type_driver : (x : Option Node) (s : InodeType) → type_of x ≡ Some s → no_driver (node_or x).kind ≡ no_driver_for s
+type_driver None s e = absurd cc
+type_driver (Some v) s e = by_kind v.kind s cc
   where
-    by_kind : (k : Kind) (s : Sort) → sort_of_kind k ≡ s → no_driver k ≡ no_driver_for s
-    by_kind (Directory slots) s e = ap (λ (z : Sort). no_driver_for z) e
-    by_kind (File bytes) s e = ap (λ (z : Sort). no_driver_for z) e
-    by_kind (Device major minor size) s e = ap (λ (z : Sort). no_driver_for z) e
+    by_kind : (k : NodeKind) (s : InodeType) → type_of_kind k ≡ s → no_driver k ≡ no_driver_for s
+    by_kind (Directory slots) s e = ap (λ (z : InodeType). no_driver_for z) e
+    by_kind (File bytes) s e = ap (λ (z : InodeType). no_driver_for z) e
+    by_kind (Device major minor size) s e = ap (λ (z : InodeType). no_driver_for z) e
 
-read_as_table : (t : Tree) (h fd n : ℕ) (e : Entry) (res : Option ℕ) (par : Option (ℕ × Name)) → file_at t h fd ≡ Some e.file → sort_of (t.nodes e.file.number) ≡ Some e.sort → refusal_with t h (Read fd n) res par ≡ read_refused (Some e)
-read_as_table t h fd n e res par file sort = go e.file.readable refl
+read_as_table : (t : Tree) (h fd n : ℕ) (e : Entry) (res : Option ℕ) (par : Option (ℕ × Name)) → file_at t h fd ≡ Some e.file → type_of (t.nodes e.file.number) ≡ Some e.inode_type → refusal_with t h (Read fd n) res par ≡ read_refused (Some e)
+read_as_table t h fd n e res par file inode_type = go e.file.readable refl
   where
-    go : (b : Bool) → e.file.readable ≡ b → refusal_with t h (Read fd n) res par ≡ mode_refusal e.file.readable e.sort
-    go false q = read_mode t h fd n e.file res par file q ∙ (λ i. mode_refusal (sym q i) e.sort)
-    go true q = read_kind t h fd n e.file (no_driver_for e.sort) res par file q (sort_driver (t.nodes e.file.number) e.sort sort) ∙ (λ i. mode_refusal (sym q i) e.sort)
+    go : (b : Bool) → e.file.readable ≡ b → refusal_with t h (Read fd n) res par ≡ mode_refusal e.file.readable e.inode_type
+    go false q = read_mode t h fd n e.file res par file q ∙ (λ i. mode_refusal (sym q i) e.inode_type)
+    go true q = read_kind t h fd n e.file (no_driver_for e.inode_type) res par file q (type_driver (t.nodes e.file.number) e.inode_type inode_type) ∙ (λ i. mode_refusal (sym q i) e.inode_type)
 
 -- A descriptor of the hart's own, with its inode.
 pub record IsOpenAt (O : Own) (fd n : ℕ) : Type 0 where
@@ -315,13 +315,13 @@ stands_still h fd n offset x w v O k ow ov lt isn keeps s =
 pub record IsReadable (O : Own) (fd n : ℕ) (x : Option Node) : Type 0 where
   pub opened : IsOpenAt O fd n
   pub readable : opened.key.readable ≡ true
-  pub read : (s : Sort) → sort_of x ≡ Some s → no_driver_for s ≡ None
+  pub read : (s : InodeType) → type_of x ≡ Some s → no_driver_for s ≡ None
 
-some_node : (x : Option Node) (s : Sort) → sort_of x ≡ Some s → (y : Node) × (x ≡ Some y)
+some_node : (x : Option Node) (s : InodeType) → type_of x ≡ Some s → (y : Node) × (x ≡ Some y)
 some_node None s e = absurd cc
 some_node (Some y) s e = (y, refl)
 
-pub reads_from : (r : Bool) (s : Sort) → mode_refusal r s ≡ None → (r ≡ true) × (no_driver_for s ≡ None)
+pub reads_from : (r : Bool) (s : InodeType) → mode_refusal r s ≡ None → (r ≡ true) × (no_driver_for s ≡ None)
 reads_from true s e = (refl, e)
 reads_from false s e = absurd cc
 
@@ -334,7 +334,7 @@ pub s-lock-file : {A : Type 0} {h : ℕ} (fd count : ℕ) {k : Lockup → P mach
     → Safe machine h B Q (Do (LockFile fd) (refused_read fd count) k) n es w
 s-lock-file {A} {h} fd count {k} {B} {Q} {n} {es} {w} {O} owns free lt pos walks none idle empty bf bad then_ = s-owned owns free pos (λ v inv ov. (locks_none h v O inv ov (λ i x q. absurd (let a = empty i in cc (a, q))), (λ _ _. at v inv ov (slot_at v h fd) refl)))
   where
-    Goal : World → Came Lockup World → Type 0
+    Goal : World → ExecResult Lockup World → Type 0
     Goal v z = Good machine Lockup h (λ a. places h (LockFile fd) a (refused_read fd count a) v) 3 n B es v (EntryOut h v (entry_of v h fd)) (with_mark h (refused_read fd count) z) (λ l a u. Wp machine h B Q (k a) l (onto (own h (places h (LockFile fd) a (refused_read fd count a) v)) es) u)
 
     opening_none : (v : World) → own_of h v ≡ O → (v.desks h).opening ≡ None
@@ -345,12 +345,12 @@ s-lock-file {A} {h} fd count {k} {B} {Q} {n} {es} {w} {O} owns free lt pos walks
     had v inv ov s e q hit goes (Some g) r = subst (λ (z : Option Entry). EntryOut h v z) (sym (entry_is h fd s e v q hit)) (is_out h e.file.number g v O inv ov (empty e.file.number) r)
     had v inv ov s e q hit goes None r =
         let a = locking h e.file.number v O ov free lt inv (empty e.file.number) (inl (behind_opens h fd s e v hit)) r in
-        let m = reads_from e.file.readable e.sort goes in
+        let m = reads_from e.file.readable e.inode_type goes in
         quiet a.fair refl pos (λ l p. (then_ l e.file.number e.file.offset (v.all.nodes e.file.number) (locked h e.file.number v) p
         (record {
           opened = open_from h fd s e v O inv ov lt hit;
           readable = m.0;
-          read = λ z is. let same : Some z ≡ Some e.sort = sym is ∙ (inv.sorts s e hit.at).sort in let eq : z ≡ e.sort = cc in ap no_driver_for eq ∙ m.1;
+          read = λ z is. let same : Some z ≡ Some e.inode_type = sym is ∙ (inv.inode_types s e hit.at).inode_type in let eq : z ≡ e.inode_type = cc in ap no_driver_for eq ∙ m.1;
         })
         (record { entry = e; at = hit.at; number = refl; offset_is = refl }) a.owned).wp)
 
@@ -359,8 +359,8 @@ s-lock-file {A} {h} fd count {k} {B} {Q} {n} {es} {w} {O} owns free lt pos walks
     by_cause v inv ov s e q hit (Some c) stops =
         refused_good h 3 n B Q es v O (Read fd count) c (k (NotLocked c)) ov free lt inv walks none
         (read_refused_at h fd count c v lt
-        (λ res par. read_as_table v.all h fd count e res par hit.file (inv.sorts s e hit.at).sort ∙ stops)
-        (λ res par. read_as_table (settle v.all) h fd count e res par (file_settled v.all h fd ∙ hit.file) (ap (λ (z : Option Node). sort_of z) (node_settled h fd v e s inv lt hit) ∙ (inv.sorts s e hit.at).sort) ∙ stops))
+        (λ res par. read_as_table v.all h fd count e res par hit.file (inv.inode_types s e hit.at).inode_type ∙ stops)
+        (λ res par. read_as_table (settle v.all) h fd count e res par (file_settled v.all h fd ∙ hit.file) (ap (λ (z : Option Node). type_of z) (node_settled h fd v e s inv lt hit) ∙ (inv.inode_types s e hit.at).inode_type) ∙ stops))
         (bf c) pos (λ l u p own2. bad l c u p own2)
 
     at : (v : World) → Inv v → own_of h v ≡ O → (o : Option ℕ) → slot_at v h fd ≡ o → Goal v (lock_at h v (entry_at v.files o) (read_refused (entry_at v.files o)))
@@ -380,14 +380,14 @@ s-read-file {A} {h} fd i offset count x {k} {B} {Q} {n} {es} {w} {O} owns free l
     let e : Entry = z.0 in
     let number : e.file.number ≡ i = ap (λ (q : Key). q.number) z.2 ∙ key.opened.number in
     let readable : e.file.readable ≡ true = ap (λ (q : Key). q.readable) z.2 ∙ key.readable in
-    let sort : sort_of (v.all.nodes e.file.number) ≡ Some e.sort = (inv.sorts key.opened.slot e z.1.at).sort in
-    let typed : sort_of x ≡ Some e.sort = ap (λ (o : Option Node). sort_of o) (sym (ap v.all.nodes number ∙ has_node h i v O (locked_held x) ov isi)) ∙ sort in
-    let y = some_node x e.sort typed in
-    let plain : no_driver_for e.sort ≡ None = key.read e.sort typed in
-    let goes : read_refused (Some e) ≡ None = (λ r. mode_refusal (readable r) e.sort) ∙ plain in
-    ((locks_it h i v O (locked_held x) ov isi refl, record { entry = e; at = entry_is h fd key.opened.slot e v (slot_is h fd i v O key.opened ov) z.1; number = number; readable = goes }, stands_still h fd i offset (locked_held x) w v O key.opened owns ov lt isi keeps stands, record { node = y.0; is = has_disk h i v O (locked_held x) ov isi ∙ y.1; fits = sort_driver (Some y.0) e.sort (ap (λ (o : Option Node). sort_of o) (sym y.1) ∙ typed) ∙ plain }, asked), (λ _ _. at v inv ov e z.1 number goes)))
+    let inode_type : type_of (v.all.nodes e.file.number) ≡ Some e.inode_type = (inv.inode_types key.opened.slot e z.1.at).inode_type in
+    let typed : type_of x ≡ Some e.inode_type = ap (λ (o : Option Node). type_of o) (sym (ap v.all.nodes number ∙ has_node h i v O (locked_held x) ov isi)) ∙ inode_type in
+    let y = some_node x e.inode_type typed in
+    let plain : no_driver_for e.inode_type ≡ None = key.read e.inode_type typed in
+    let goes : read_refused (Some e) ≡ None = (λ r. mode_refusal (readable r) e.inode_type) ∙ plain in
+    ((locks_it h i v O (locked_held x) ov isi refl, record { entry = e; at = entry_is h fd key.opened.slot e v (slot_is h fd i v O key.opened ov) z.1; number = number; readable = goes }, stands_still h fd i offset (locked_held x) w v O key.opened owns ov lt isi keeps stands, record { node = y.0; is = has_disk h i v O (locked_held x) ov isi ∙ y.1; fits = type_driver (Some y.0) e.inode_type (ap (λ (o : Option Node). type_of o) (sym y.1) ∙ typed) ∙ plain }, asked), (λ _ _. at v inv ov e z.1 number goes)))
   where
-    Goal : World → Came (List ℕ) World → Type 0
+    Goal : World → ExecResult (List ℕ) World → Type 0
     Goal v z = Good machine (List ℕ) h (λ a. places h (ReadFile fd i offset count) a (own_step (Read fd count)) v) 1608 n B es v ⊥ (with_mark h (λ (_ : List ℕ). own_step (Read fd count)) z) (λ l a u. Wp machine h B Q (k a) l (onto (own h (places h (ReadFile fd i offset count) a (own_step (Read fd count)) v)) es) u)
 
     O1 : Own
@@ -402,7 +402,7 @@ s-read-file {A} {h} fd i offset count x {k} {B} {Q} {n} {es} {w} {O} owns free l
         (part_good h 1608 n B Q es (after_unlock i v) O1 fd count key.opened.slot e (part_of (v.disk i) e.file.offset count) (k (part_of (v.disk i) e.file.offset count))
         g.owned free lt g.fair.inv walks none
         (record { below = hit.below; is = hit.is; at = hit.at; tree = hit.tree; file = hit.file }) (ours_none h (put v.keeper i None e.file.number) (ap (put v.keeper i None) number ∙ put_same v.keeper i None)) (ap v.disk number ∙ here ∙ sym (ap v.all.nodes number)) (λ r. part_of (v.disk (sym number r)) e.file.offset count)
-        (λ t file nodes res par. read_as_table t h fd count e res par file (ap (λ (z : Option Node). sort_of z) nodes ∙ (inv.sorts key.opened.slot e hit.at).sort) ∙ goes)
+        (λ t file nodes res par. read_as_table t h fd count e res par file (ap (λ (z : Option Node). type_of z) nodes ∙ (inv.inode_types key.opened.slot e hit.at).inode_type) ∙ goes)
         (bd (part_of (v.disk i) e.file.offset count)) pos
         (λ l u p own2. then_ l (part_of (v.disk i) e.file.offset count) u p own2))
 

@@ -1,5 +1,5 @@
 -- A child that has all of its lender's starts again.
-use Rattle.inode_machine.proofs.Vocabulary.{◌≡◌, ◌+◌, ℕ, inr, Option, Some, None, refl, sym, ◌∙◌, ap, subst, arith, descriptor_count, put, put_same, put_other, Desk, World, released, serving, Own, own_of, shop_of, Has, Inv, nothing}
+use Rattle.inode_machine.proofs.Vocabulary.{◌≡◌, ◌+◌, ℕ, inr, Option, Some, None, refl, sym, ◌∙◌, ap, subst, arith, descriptor_count, put, put_same, put_other, Desk, World, released, serving, Own, own_of, file_tables_of, Has, Inv, nothing}
 use Rattle.inode_machine.proofs.Basics.{FairTo, put_elim, SameTied, same_tied, tied_as}
 use Rattle.inode_machine.proofs.Turnings.{Server, Kid, kid, Turns, turned_fair, turned_own, serving_given, serving_none}
 
@@ -39,8 +39,8 @@ module _ (h c : ℕ) (v : World) (O : Own) (inv : Inv v) (ov : own_of h v ≡ O)
     fds = λ g nc. refl;
     cwd = λ g nc. refl;
     numbers = λ l d q. (d, q, refl, refl);
-    tied = tied_as (shop_of v) D same inv.tied;
-    sorts = inv.sorts;
+    tied = tied_as (file_tables_of v) D same inv.tied;
+    inode_types = inv.inode_types;
     well = inv.well;
     counts = inv.counts;
     apart = λ i g kept q. refl;
@@ -57,7 +57,7 @@ module _ (h c : ℕ) (v : World) (O : Own) (inv : Inv v) (ov : own_of h v ≡ O)
     opening = k.lends.rests.opening;
     left = k.lends.rests.left;
     noted = k.lends.rests.noted;
-    sort = (inv.directory c k.below).sort;
+    inode_type = (inv.directory c k.below).inode_type;
     phase = inr (refl, refl, at);
   }
 

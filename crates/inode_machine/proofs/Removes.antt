@@ -1,6 +1,6 @@
 -- Unlink's act: a name is cleared, and what it named loses a link.
-use Rattle.inode_machine.proofs.Vocabulary.{◌≡◌, ◌≢◌, inl, inr, ℕ, ◌+◌, ◌-◌, ◌<◌, true, false, List, [], ◌∷◌, Option, Some, None, IsSome, refl, sym, ◌∙◌, ap, subst, arith, if◌then◌else◌, nat_tests, Do, P, own, onto, Fine, Safe, Wp, Node, Kind, Directory, File, Device, Unlink, Done, hart_count, Name, Tree, put, look, same_name, dot, dotdot, is_directory, slots_of, is_live, live_directory, settle, node_or, node_at, with_nodes, cleared, lowered, not_empty, refusal_with, effect_with, answer_with, place_of, IsInPlace, IsWellFormed, same_or, put_same, put_other, and_true, live_some, look_same, look_in, look_live, can_go, effect_well, Step, Look, World, Clear, Sort, OfDirectory, sort_of, sort_of_kind, with_walk, without_entry, Made, new_id, marked, places, Own, Held, view, is_hart, if_kept, own_of, shop_of, Inv, machine, makes}
-use Rattle.inode_machine.proofs.Basics.{shop_same, stands_in, kept_here, fair, fair_then, has_inode, s-owned, locks_it, has_disk, has_node, Writes, writes, stage_walk, Fits, acts_did, acts_gone, act_good, told_step, two_put}
+use Rattle.inode_machine.proofs.Vocabulary.{◌≡◌, ◌≢◌, inl, inr, ℕ, ◌+◌, ◌-◌, ◌<◌, true, false, List, [], ◌∷◌, Option, Some, None, IsSome, refl, sym, ◌∙◌, ap, subst, arith, if◌then◌else◌, nat_tests, Do, P, own, onto, Fine, Safe, Wp, Node, NodeKind, Directory, File, Device, Unlink, Done, hart_count, Name, Tree, put, look, same_name, dot, dotdot, is_directory, slots_of, is_live, live_directory, settle, node_or, node_at, with_nodes, cleared, lowered, not_empty, refusal_with, effect_with, answer_with, place_of, IsInPlace, IsWellFormed, same_or, put_same, put_other, and_true, live_some, look_same, look_in, look_live, can_go, effect_well, Step, Look, World, Clear, InodeType, OfDirectory, type_of, type_of_kind, with_walk, without_entry, Made, new_id, marked, places, Own, Held, view, is_hart, if_kept, own_of, file_tables_of, Inv, machine, makes}
+use Rattle.inode_machine.proofs.Basics.{file_tables_same, stands_in, kept_here, fair, fair_then, has_inode, s-owned, locks_it, has_disk, has_node, Writes, writes, stage_walk, Fits, acts_did, acts_gone, act_good, told_step, two_put}
 
 -- The directory x without the name, and one link less where that was a directory's: z is what the name stood for.
 abbrev pub less : Node → Node → Name → Node
@@ -32,10 +32,10 @@ unfolding answer_with
 unlink_answer t h id path res par = refl
 
 -- a live directory's type
-pub directory_sort : (x : Node) → live_directory (Some x) ≡ true → sort_of_kind x.kind ≡ OfDirectory
-directory_sort x live = by_kind x.kind (and_true _ _ live).1
+pub type_of_directory : (x : Node) → live_directory (Some x) ≡ true → type_of_kind x.kind ≡ OfDirectory
+type_of_directory x live = by_kind x.kind (and_true _ _ live).1
   where
-    by_kind : (k : Kind) → is_directory k ≡ true → sort_of_kind k ≡ OfDirectory
+    by_kind : (k : NodeKind) → is_directory k ≡ true → type_of_kind k ≡ OfDirectory
     by_kind (Directory slots) q = refl
     by_kind (File bytes) q = absurd cc
     by_kind (Device major minor size) q = absurd cc
@@ -129,12 +129,12 @@ s-clear {A} {h} d c {x} {z} X Z e path {k} {B} {Q} {n} {es} {w} {O} owns free lt
         put_c : all.nodes c ≡ Some (lowered Z)
         put_c = put_same (put v.all.nodes d (Some (less X Z e))) c (Some (lowered Z))
 
-        sorts : (j : ℕ) → sort_of (all.nodes j) ≡ sort_of (v.all.nodes j)
-        sorts j = elim (same_or j c) [
-          | inl q ↦ ap (λ (i : ℕ). sort_of (all.nodes i)) q ∙ ap (λ (o : Option Node). sort_of o) put_c ∙ sym (ap (λ (i : ℕ). sort_of (v.all.nodes i)) q ∙ ap (λ (o : Option Node). sort_of o) nc)
+        inode_types : (j : ℕ) → type_of (all.nodes j) ≡ type_of (v.all.nodes j)
+        inode_types j = elim (same_or j c) [
+          | inl q ↦ ap (λ (i : ℕ). type_of (all.nodes i)) q ∙ ap (λ (o : Option Node). type_of o) put_c ∙ sym (ap (λ (i : ℕ). type_of (v.all.nodes i)) q ∙ ap (λ (o : Option Node). type_of o) nc)
           | inr o ↦ elim (same_or j d) [
-            | inl q ↦ ap (λ (i : ℕ). sort_of (all.nodes i)) q ∙ ap (λ (o : Option Node). sort_of o) put_d ∙ sym (ap (λ (i : ℕ). sort_of (v.all.nodes i)) q ∙ ap (λ (o : Option Node). sort_of o) nd ∙ ap (λ (s : Sort). Some s) (directory_sort X live))
-            | inr a ↦ ap (λ (p : Option Node). sort_of p) (node_else j a o)
+            | inl q ↦ ap (λ (i : ℕ). type_of (all.nodes i)) q ∙ ap (λ (o : Option Node). type_of o) put_d ∙ sym (ap (λ (i : ℕ). type_of (v.all.nodes i)) q ∙ ap (λ (o : Option Node). type_of o) nd ∙ ap (λ (s : InodeType). Some s) (type_of_directory X live))
+            | inr a ↦ ap (λ (p : Option Node). type_of p) (node_else j a o)
           ]
         ]
 
@@ -144,12 +144,12 @@ s-clear {A} {h} d c {x} {z} X Z e path {k} {B} {Q} {n} {es} {w} {O} owns free lt
         fits : Fits h u1 all None v.alone v.next v.desks v.clean
         fits = record {
           ids = inv.ids;
-          shop = shop_same h (shop_of v) inv.tied;
+          file_tables = file_tables_same h (file_tables_of v) inv.tied;
           fds = refl;
           free = ap (λ (o : Own). o.desk.lender) ov ∙ free;
           unlent = ap (λ (o : Own). o.desk.lender) ov ∙ free;
           joined = ap (λ (o : Own). o.desk.joined) ov ∙ joined;
-          directory = stands_in (v.desks h) (v.all.cwd h) v.all.nodes all.nodes (sorts (v.desks h).directory) (inv.directory h lt);
+          directory = stands_in (v.desks h) (v.all.cwd h) v.all.nodes all.nodes (inode_types (v.desks h).directory) (inv.directory h lt);
           home = refl;
           well = subst (λ (t : Tree). IsWellFormed t) effect (effect_well v.all h (Unlink path) (Some c) (Some (d, e)) 0 (new_id v) inv.well lt (unlink_placed v.all h path)
               (λ j q. let s : c ≡ j = cc in subst (λ (i : ℕ). v.all.nodes i ≡ Some (node_or (v.all.nodes i))) s (live_some (v.all.nodes c) child_live))
@@ -161,8 +161,8 @@ s-clear {A} {h} d c {x} {z} X Z e path {k} {B} {Q} {n} {es} {w} {O} owns free lt
             | inl q ↦ inr (ap v.keeper q ∙ (has_inode h d v O x ov isd).0)
             | inr a ↦ elim (same_or j c) [ inl q ↦ inr (ap v.keeper q ∙ (has_inode h c v O z ov isc).0) | inr o ↦ inl (node_else j a o, refl) ]
           ];
-          sort = λ j. inl (sorts j);
-          noted = λ m is r s. sorts m.number ∙ inv.noted h m lt is (elim r [ inl a ↦ inl a | inr a ↦ absurd cc ]) s;
+          inode_type = λ j. inl (inode_types j);
+          noted = λ m is r s. inode_types m.number ∙ inv.noted h m lt is (elim r [ inl a ↦ inl a | inr a ↦ absurd cc ]) s;
           lone = λ j is. (is, ap (λ (o : Option Node). is_live o) (node_else j (λ q. not_lone j d x q isd shared is) (λ q. not_lone j c z q isc shared2 is)) ∙ (inv.alone j is).dead);
           held = λ j is. inv.held j h is;
           named = λ j is. inl is;

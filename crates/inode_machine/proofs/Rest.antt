@@ -1,12 +1,12 @@
 -- A world at rest meets the invariant, also one with orphans.
-use Rattle.inode_machine.proofs.Vocabulary.{◌≡◌, inl, inr, ℕ, ◌<◌, true, false, ◌==◌, ◌||◌, Option, Some, None, refl, sym, ◌∙◌, ap, arith, hart_count, Node, Kind, Directory, File, Device, Tree, is_directory, hold_names, row_of, Hold, holds_raised, one_if, IsWellFormed, eq_self, either, sum_none, one_yes, OfDirectory, sort_of, sort_of_kind, file_count, at_rest, number_is, own_names, Inv, Idle}
+use Rattle.inode_machine.proofs.Vocabulary.{◌≡◌, inl, inr, ℕ, ◌<◌, true, false, ◌==◌, ◌||◌, Option, Some, None, refl, sym, ◌∙◌, ap, arith, hart_count, Node, NodeKind, Directory, File, Device, Tree, is_directory, hold_names, row_of, Hold, holds_raised, one_if, IsWellFormed, eq_self, either, sum_none, one_yes, OfDirectory, type_of, type_of_kind, file_count, at_rest, number_is, own_names, Inv, Idle}
 use Rattle.inode_machine.proofs.Counting.{one_most}
 
 -- a current directory is one
-pub directory_sort : (t : Tree) (g : ℕ) → IsWellFormed t → g < hart_count → sort_of (t.nodes (t.cwd g)) ≡ Some OfDirectory
-directory_sort t g well lt = let d = well.directories g lt in ap (λ (z : Option Node). sort_of z) d.is ∙ directory_of d.node.kind d.sort
+pub type_of_directory : (t : Tree) (g : ℕ) → IsWellFormed t → g < hart_count → type_of (t.nodes (t.cwd g)) ≡ Some OfDirectory
+type_of_directory t g well lt = let d = well.directories g lt in ap (λ (z : Option Node). type_of z) d.is ∙ directory_of d.node.kind d.inode_type
   where
-    directory_of : (k : Kind) → is_directory k ≡ true → Some (sort_of_kind k) ≡ Some OfDirectory
+    directory_of : (k : NodeKind) → is_directory k ≡ true → Some (type_of_kind k) ≡ Some OfDirectory
     directory_of (Directory slots) e = refl
     directory_of (File bytes) e = absurd cc
     directory_of (Device major minor size) e = absurd cc
@@ -37,13 +37,13 @@ rests t well files holds fds =
         slots = λ n. sym (sum_none file_count (λ k. number_is None n) (λ k lk. refl));
         spoiled = λ g q. absurd cc;
       };
-      sorts = λ k e q. absurd cc;
+      inode_types = λ k e q. absurd cc;
       named = λ g i lt free is. inl (here g i (cwd g i lt is));
       pending = λ g i lt e. absurd cc;
       walks = λ g k lt e. absurd cc;
       noted = λ g n lt e. absurd cc;
       refers = λ g lt. record { few = λ i. let a = one_most (t.cwd g == i) in omega (arith, a); home = here g (t.cwd g) (eq_self (t.cwd g)) };
-      directory = λ g lt. record { at = λ _. refl; sort = directory_sort t g well lt };
+      directory = λ g lt. record { at = λ _. refl; inode_type = type_of_directory t g well lt };
       raised = λ g lt q. absurd (let a = ap (λ (o : Option Hold). holds_raised true o) (holds g) in cc (a, q));
       lent = λ g c lt is. absurd cc;
       serves = λ c g lt is. absurd cc;

@@ -1,7 +1,7 @@
 -- The rules of the operations that place nothing.
-use Rattle.inode_machine.proofs.Vocabulary.{◌≡◌, ◌≢◌, ◌⊎◌, inl, inr, ℕ, ◌+◌, ◌<◌, true, false, ◌==◌, List, [], ◌∷◌, Option, Some, None, refl, sym, ◌∙◌, ap, subst, arith, ◌-◌, Bool, Do, unmarked, P, own, onto, Good, Fine, Safe, Wp, Goes, Node, hart_count, root, Tree, put, look, is_live, settle, sum_below, one_if, folders_of, links_in, raises, IsWellFormed, eq_self, eq_is, eq_not, either, same_or, put_same, put_other, one_yes, sum_same, sum_changed, sum_part, look_live, folder_linked, linked_live, look_same, Walk, Step, Takes, Stage, Mine, Entry, World, Op, Answer, Mark, stage_of, Note, Outside, file_count, with_refs, lock_if, counted_up, locked, up_if, has_place, marked, go, places, with_mark, Up, Own, shop_of, Opens, number_is, Held, view, is_hart, own_of, Found, IsReferredTo, IsReached, IsAlone, reference_limit, Inv, IsOut, MayWait, machine, more, Others, LocksNone, Asks, Rests, looking_cost, Honest, KeepsFiles, Sought, Query, Sight, Sort, seen_in, sort_of}
+use Rattle.inode_machine.proofs.Vocabulary.{◌≡◌, ◌≢◌, ◌⊎◌, inl, inr, ℕ, ◌+◌, ◌<◌, true, false, ◌==◌, List, [], ◌∷◌, Option, Some, None, refl, sym, ◌∙◌, ap, subst, arith, ◌-◌, Bool, Do, unmarked, P, own, onto, Good, Fine, Safe, Wp, Goes, Node, hart_count, root, Tree, put, look, is_live, settle, sum_below, one_if, folders_of, links_in, raises, IsWellFormed, eq_self, eq_is, eq_not, either, same_or, put_same, put_other, one_yes, sum_same, sum_changed, sum_part, look_live, folder_linked, linked_live, look_same, Walk, Step, PlaysStep, Stage, Mine, Entry, World, Op, Answer, Mark, stage_of, Note, Outside, file_count, with_refs, lock_if, counted_up, locked, up_if, has_place, marked, go, places, with_mark, Up, Own, file_tables_of, Opens, number_is, Held, view, is_hart, own_of, Found, IsReferredTo, IsReached, IsAlone, reference_limit, Inv, IsOut, MayWait, machine, more, Others, LocksNone, Asks, Rests, looking_cost, Honest, KeepsFiles, Sought, Query, Sight, InodeType, seen_in, type_of}
 use Rattle.inode_machine.specs.World.{Take}
-use Rattle.inode_machine.proofs.Frame.{shop_same, put_elim, ours_none, ours_some, kept_here, Did, Fair, fair, files_then, own_inodes, has_inode, has_none, found_more, two_refs, refers_put}
+use Rattle.inode_machine.proofs.Frame.{file_tables_same, put_elim, ours_none, ours_some, kept_here, HartStep, Fair, fair, files_then, own_inodes, has_inode, has_none, found_more, two_refs, refers_put}
 
 -- an operation: what the hart owns stays until it runs, and what it has open of an inode that it keeps
 pub s-owned-from : {A : Type 0} {h : ℕ} {op : Op} {m : Answer op → Option Mark} {k : Answer op → P machine A} {B : List Step → Type 0} {Q : A → List Step → World → Type 0} {n : ℕ} {es : List Step} {w : World} {O : Own}
@@ -47,7 +47,7 @@ pub quiet : {h more n : ℕ} {B : List Step → Type 0} {es : List Step} {v u : 
 quiet f same pos next = quiet_to (fair_to f) same pos next
 
 -- it made a move
-pub acted_to : {h more n : ℕ} {B : List Step → Type 0} {es : List Step} {v u : World} {e : Step} {Next : ℕ → Type 0} → FairTo h v u → Takes (stage_of v) h e (stage_of u) → B (e ∷ es) → more < n
+pub acted_to : {h more n : ℕ} {B : List Step → Type 0} {es : List Step} {v u : World} {e : Step} {Next : ℕ → Type 0} → FairTo h v u → PlaysStep (stage_of v) h e (stage_of u) → B (e ∷ es) → more < n
     → ((l : ℕ) → l + (more + 1) ≡ n → Next l) → Fine machine h ((h, e) ∷ []) more n B es v u Next
 acted_to {h} {more} {n} {B} {es} {v} {u} {e} f takes b pos next =
     record {
@@ -61,7 +61,7 @@ acted_to {h} {more} {n} {B} {es} {v} {u} {e} f takes b pos next =
       next = next (n - (more + 1)) (omega (arith, pos));
     }
 
-pub acted : {h more n : ℕ} {B : List Step → Type 0} {es : List Step} {v u : World} {e : Step} {Next : ℕ → Type 0} → Fair h v u → Takes (stage_of v) h e (stage_of u) → B (e ∷ es) → more < n
+pub acted : {h more n : ℕ} {B : List Step → Type 0} {es : List Step} {v u : World} {e : Step} {Next : ℕ → Type 0} → Fair h v u → PlaysStep (stage_of v) h e (stage_of u) → B (e ∷ es) → more < n
     → ((l : ℕ) → l + (more + 1) ≡ n → Next l) → Fine machine h ((h, e) ∷ []) more n B es v u Next
 acted f takes b pos next = acted_to (fair_to f) takes b pos next
 
@@ -157,18 +157,18 @@ not_alone h g i v inv lt ne pos is kept =
     elim pos [ inl o ↦ (let p = opens_slots v h i inv o in omega (arith, c, two, p)) | inr p ↦ omega (arith, c, two, p) ]
 
 -- what has a type is there
-pub sort_there : (o : Option Node) (s : Sort) → sort_of o ≡ Some s → o ≢ None
-sort_there o s q e = let a : sort_of o ≡ None = ap (λ (z : Option Node). sort_of z) e in cc (a, q)
+pub type_there : (o : Option Node) (s : InodeType) → type_of o ≡ Some s → o ≢ None
+type_there o s q e = let a : type_of o ≡ None = ap (λ (z : Option Node). type_of z) e in cc (a, q)
 
 -- and what is live has one
-pub live_typed : (o : Option Node) → is_live o ≡ true → sort_of o ≢ None
+pub live_typed : (o : Option Node) → is_live o ≡ true → type_of o ≢ None
 live_typed None q e = cc
 live_typed (Some v) q e = cc
 
 -- What was found has the type that it had then.
-pub noted_sort : (h j : ℕ) (R : Own) (m : Note) → R.desk.noted ≡ Some m → m.number ≡ j → R.inodes j ≡ None → 0 < R.mine.refs j → h < hart_count → (v : World) → Inv v → own_of h v ≡ R → sort_of (v.all.nodes j) ≡ m.sort
-noted_sort h j R m is number out refers lt v inv ov =
-    ap (λ (z : ℕ). sort_of (v.all.nodes z)) (sym number)
+pub noted_type : (h j : ℕ) (R : Own) (m : Note) → R.desk.noted ≡ Some m → m.number ≡ j → R.inodes j ≡ None → 0 < R.mine.refs j → h < hart_count → (v : World) → Inv v → own_of h v ≡ R → type_of (v.all.nodes j) ≡ m.inode_type
+noted_type h j R m is number out refers lt v inv ov =
+    ap (λ (z : ℕ). type_of (v.all.nodes z)) (sym number)
     ∙ inv.noted h m lt (ap (λ (o : Own). o.desk.noted) ov ∙ is) (inl (let r = my_refs h v R j ov in let e : (v.harts h).refs m.number ≡ (v.harts h).refs j = ap (v.harts h).refs number in omega (arith, r, e, refers))) (ap v.alone number ∙ shared)
   where
     mine : 0 < (v.harts h).refs j
@@ -211,7 +211,7 @@ locking h i v O ov free lt inv out mine e = record { fair = fair inv did; whole 
     more_kept : (d : ℕ) → v.keeper d ≡ Some h → (put v.keeper i (Some h) d ≡ Some h) × (v.all.nodes d ≡ v.all.nodes d)
     more_kept d q = (put_elim v.keeper i (Some h) d (λ z. z ≡ Some h) (λ y. refl) (λ y. q), refl)
 
-    did : Did h v u
+    did : HartStep h v u
     did =
         record {
           hart = lt;
@@ -228,12 +228,12 @@ locking h i v O ov free lt inv out mine e = record { fair = fair inv did; whole 
           rows = λ g ne. refl;
           size = refl;
           ids = inv.ids;
-          shop = shop_same h (shop_of v) inv.tied;
+          file_tables = file_tables_same h (file_tables_of v) inv.tied;
           free = ap (λ (o : Own). o.desk.lender) ov ∙ free;
           raised = inv.raised h lt;
           quiet = λ j. put_elim v.keeper i (Some h) j (λ z. z ≡ Some h → (v.desks h).joined ≡ false → v.disk j ≡ v.all.nodes j) (λ q is f. inv.whole j (ap v.keeper q ∙ nobody)) (λ q is f. inv.quiet j h is f);
-          sort = λ j. inl refl;
-          sorts = inv.sorts;
+          inode_type = λ j. inl refl;
+          inode_types = inv.inode_types;
           noted = λ n is r s. inv.noted h n lt is r s;
           directory = inv.directory h lt;
           refers = inv.refers h lt;
@@ -396,7 +396,7 @@ ups h i O v0 inv0 ov0 free0 lt may only notes room = record { fair = fair inv0 (
       ]
     ]
 
-    did : (v : World) → Inv v → own_of h v ≡ O → Did h v (after v)
+    did : (v : World) → Inv v → own_of h v ≡ O → HartStep h v (after v)
     did v inv ov =
         record {
           hart = lt;
@@ -405,12 +405,12 @@ ups h i O v0 inv0 ov0 free0 lt may only notes room = record { fair = fair inv0 (
           rows = λ g ne. refl;
           size = refl;
           ids = inv.ids;
-          shop = shop_same h (shop_of v) inv.tied;
+          file_tables = file_tables_same h (file_tables_of v) inv.tied;
           free = ap (λ (o : Own). o.desk.lender) ov ∙ free0;
           raised = inv.raised h lt;
           quiet = λ j is f. inv.quiet j h is f;
-          sort = λ j. inl refl;
-          sorts = inv.sorts;
+          inode_type = λ j. inl refl;
+          inode_types = inv.inode_types;
           noted = λ n is r s. inv.noted h n lt is (back v n is ov r) s;
           directory = inv.directory h lt;
           refers = refers_put (v.harts h) (put v.harts h (new v) h) (v.desks h) (v.desks h) i ((v.harts h).refs i + 1) (ap (λ (m : Mine). m.refs) (put_same v.harts h (new v))) refl (let r = my_refs h v O i ov in omega (arith, r, room)) (λ q. omega arith) (inv.refers h lt);

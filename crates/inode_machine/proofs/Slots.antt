@@ -1,5 +1,5 @@
 -- A slot of the open-file table is taken in hand, and given back.
-use Rattle.inode_machine.proofs.Vocabulary.{◌≡◌, ◌≢◌, ◌⊎◌, inl, inr, ℕ, ◌+◌, ◌<◌, Bool, true, false, ◌==◌, not, List, Option, Some, None, refl, sym, ◌∙◌, ap, subst, arith, Do, Came, P, own, onto, Good, Fine, Safe, Wp, OpenFile, hart_count, descriptor_count, put, any_below, has_room, row_of, sum_below, one_if, and_true, any_none, eq_self, same_or, put_same, put_other, sum_same, Step, Desk, Mark, World, Slot, Install, Mends, Sort, file_count, first_from, install_if, is_at, is_empty_slot, is_nothing, slot_if, marked, mended, places, with_mark, id_at, own_names, own_of, shop_of, users, Own, Inv, IsTied, machine}
+use Rattle.inode_machine.proofs.Vocabulary.{◌≡◌, ◌≢◌, ◌⊎◌, inl, inr, ℕ, ◌+◌, ◌<◌, Bool, true, false, ◌==◌, not, List, Option, Some, None, refl, sym, ◌∙◌, ap, subst, arith, Do, ExecResult, P, own, onto, Good, Fine, Safe, Wp, OpenFile, hart_count, descriptor_count, put, any_below, has_room, row_of, sum_below, one_if, and_true, any_none, eq_self, same_or, put_same, put_other, sum_same, Step, Desk, Mark, World, Slot, Install, Mends, InodeType, file_count, first_from, install_if, is_at, is_empty_slot, is_nothing, slot_if, marked, mended, places, with_mark, id_at, own_names, own_of, file_tables_of, users, Own, Inv, IsTied, machine}
 use Rattle.inode_machine.proofs.Basics.{bond_of, put_elim, stands_on, Fair, fair, refers_on, s-owned, fine_after, quiet, with_new, spoilt, Mending, FirstOf, first_is}
 
 pub nothing_is : {A : Type 0} (o : Option A) → is_nothing o ≡ true → o ≡ None
@@ -25,12 +25,12 @@ handing h o v O ov free lt inv empty = record {
     rows = λ g ne. refl;
     size = refl;
     ids = inv.ids;
-    shop = record { tied = tied; desks = λ g ne. put_other v.desks h new g ne; numbers = λ g i j e lg ne li r a. (e, a, refl, inl refl); clean = λ c. c; bond = ap (λ (d : Desk). bond_of d) here; stays = inl (ap (λ (d : Desk). d.directory) here) };
+    file_tables = record { tied = tied; desks = λ g ne. put_other v.desks h new g ne; numbers = λ g i j e lg ne li r a. (e, a, refl, inl refl); clean = λ c. c; bond = ap (λ (d : Desk). bond_of d) here; stays = inl (ap (λ (d : Desk). d.directory) here) };
     free = ap (λ (d : Desk). d.lender) here ∙ ap (λ (p : Own). p.desk.lender) ov ∙ free;
     raised = λ q. ap (λ (d : Desk). d.joined) here ∙ inv.raised h lt q;
     quiet = λ j is f. inv.quiet j h is (sym (ap (λ (d : Desk). d.joined) here) ∙ f);
-    sort = λ j. inl refl;
-    sorts = inv.sorts;
+    inode_type = λ j. inl refl;
+    inode_types = inv.inode_types;
     noted = λ m q r s. inv.noted h m lt (sym (ap (λ (d : Desk). d.noted) here) ∙ q) r s;
     directory = stands_on (v.desks h) (D h) (v.all.cwd h) v.all.nodes (ap (λ (o : Own). o.desk.lender) ov ∙ free) (ap (λ (d : Desk). d.directory) here) (ap (λ (d : Desk). d.left) here) (inv.directory h lt);
     refers = refers_on (v.harts h) (v.harts h) (v.desks h) (D h) (λ j. refl) (ap (λ (d : Desk). d.directory) here) (inv.refers h lt);
@@ -89,7 +89,7 @@ handing h o v O ov free lt inv empty = record {
     hands g i j lg li (inr a) (inl b) = absurd ((empty j b.1).2 g lg a.0 a.1)
     hands g i j lg li (inr a) (inr b) = inv.tied.hands g i j lg li a.1 b.1
 
-    tied : IsTied (shop_of (with_new v h new v.clean))
+    tied : IsTied (file_tables_of (with_new v h new v.clean))
     tied = record {
       fds = λ g i lg li q. inv.tied.fds g i lg li (ap (λ (z : Option ℕ). is_at z i) (sym (opening_is g)) ∙ q) ∙ ap (λ (z : Option ℕ). id_at v.ids z) (sym (fds_is g i));
       fresh = λ g i lg q. let f = inv.tied.fresh g i lg (sym (opening_is g) ∙ q) in record { below = f.below; free = fds_is g i ∙ f.free; id = f.id; is = f.is; file = f.file; at = f.at; offset = f.offset; only = f.only };
@@ -137,23 +137,23 @@ s-slot {A} {h} {m} {k} {B} {Q} {n} {es} {w} {O} M owns free lt pos none unmarked
         nobody g lg e = let a = any_none hart_count (λ g. is_at (v.desks g).hand s) (not_false (any_below hart_count (λ g. is_at (v.desks g).hand s)) two.1) g lg in let b : is_at (v.desks g).hand s ≡ true = ap (λ (z : Option ℕ). is_at z s) e ∙ eq_self s in absurd (cc (a, b))
 
 -- No descriptor is free: the slot is given back.
-pub s-install-full : {A : Type 0} {h : ℕ} (s : ℕ) (f : OpenFile) (sort : Sort) {m : Option ℕ → Option Mark} {k : Option ℕ → P machine A} {B : List Step → Type 0} {Q : A → List Step → World → Type 0} {n : ℕ} {es : List Step} {w : World} {O : Own} (M : Own)
+pub s-install-full : {A : Type 0} {h : ℕ} (s : ℕ) (f : OpenFile) (inode_type : InodeType) {m : Option ℕ → Option Mark} {k : Option ℕ → P machine A} {B : List Step → Type 0} {Q : A → List Step → World → Type 0} {n : ℕ} {es : List Step} {w : World} {O : Own} (M : Own)
     → own_of h w ≡ O → O.desk.lender ≡ None → h < hart_count → 0 < n → O.desk.hand ≡ Some s → has_room O.desk.fds ≡ false → f.offset ≡ 0 → one_if (O.desk.directory == f.number) < O.mine.refs f.number → m None ≡ Some Mends
     → ((v : World) → Inv v → own_of h v ≡ record O { desk = record (O.desk) { hand = None } } → Mending h v (mended h v) M)
     → ((l : ℕ) (u : World) → l + 1 ≡ n → own_of h u ≡ M → Safe machine h B Q (k None) l es u)
-    → Safe machine h B Q (Do (Install f sort) m k) n es w
-s-install-full {A} {h} s f sort {m} {k} {B} {Q} {n} {es} {w} {O} M owns free lt pos hand room start spare mark mends rest = s-owned owns free pos (λ v inv ov.
+    → Safe machine h B Q (Do (Install f inode_type) m k) n es w
+s-install-full {A} {h} s f inode_type {m} {k} {B} {Q} {n} {es} {w} {O} M owns free lt pos hand room start spare mark mends rest = s-owned owns free pos (λ v inv ov.
     let a : (v.desks h).hand ≡ Some s = ap (λ (o : Own). o.desk.hand) ov ∙ hand in
     let b : has_room (v.desks h).fds ≡ false = ap (λ (o : Own). has_room o.desk.fds) ov ∙ room in (
       ((λ q. cc (a, q)), start, subst (λ (o : Own). one_if (o.desk.directory == f.number) < o.mine.refs f.number) (sym ov) spare),
-      (λ _ _. subst (λ (z : Came (Option ℕ) World). Good machine (Option ℕ) h (λ a. places h (Install f sort) a (m a) v) 0 n B es v ⊥ (with_mark h m z) (λ l a u. Wp machine h B Q (k a) l (onto (own h (places h (Install f sort) a (m a) v)) es) u))
-          (sym (λ i. install_if h v f sort (a i) (b i))) (good v inv ov)),
+      (λ _ _. subst (λ (z : ExecResult (Option ℕ) World). Good machine (Option ℕ) h (λ a. places h (Install f inode_type) a (m a) v) 0 n B es v ⊥ (with_mark h m z) (λ l a u. Wp machine h B Q (k a) l (onto (own h (places h (Install f inode_type) a (m a) v)) es) u))
+          (sym (λ i. install_if h v f inode_type (a i) (b i))) (good v inv ov)),
     ))
   where
     good : (v : World) → Inv v → own_of h v ≡ O
-        → Fine machine h (places h (Install f sort) None (m None) v) 0 n B es v (marked h (m None) (with_new v h (record (v.desks h) { hand = None }) v.clean)) (λ l. Wp machine h B Q (k None) l (onto (own h (places h (Install f sort) None (m None) v)) es) (marked h (m None) (with_new v h (record (v.desks h) { hand = None }) v.clean)))
+        → Fine machine h (places h (Install f inode_type) None (m None) v) 0 n B es v (marked h (m None) (with_new v h (record (v.desks h) { hand = None }) v.clean)) (λ l. Wp machine h B Q (k None) l (onto (own h (places h (Install f inode_type) None (m None) v)) es) (marked h (m None) (with_new v h (record (v.desks h) { hand = None }) v.clean)))
     good v inv ov =
         let x = handing h None v O ov free lt inv (λ j e. absurd cc) in
         let y = mends (with_new v h (record (v.desks h) { hand = None }) v.clean) x.fair.inv x.owned in
-        subst (λ (z : Option Mark). Fine machine h (places h (Install f sort) None z v) 0 n B es v (marked h z (with_new v h (record (v.desks h) { hand = None }) v.clean)) (λ l. Wp machine h B Q (k None) l (onto (own h (places h (Install f sort) None z v)) es) (marked h z (with_new v h (record (v.desks h) { hand = None }) v.clean)))) (sym mark)
+        subst (λ (z : Option Mark). Fine machine h (places h (Install f inode_type) None z v) 0 n B es v (marked h z (with_new v h (record (v.desks h) { hand = None }) v.clean)) (λ l. Wp machine h B Q (k None) l (onto (own h (places h (Install f inode_type) None z v)) es) (marked h z (with_new v h (record (v.desks h) { hand = None }) v.clean)))) (sym mark)
         (fine_after x.fair refl (spoilt y.fair y.bad pos (λ l r. (rest l (mended h (with_new v h (record (v.desks h) { hand = None }) v.clean)) r y.owned).wp)))

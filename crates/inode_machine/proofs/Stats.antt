@@ -1,5 +1,5 @@
 -- Fstat: a descriptor's inode is locked, and its state told.
-use Rattle.inode_machine.proofs.Vocabulary.{◌≡◌, inl, inr, ℕ, ◌+◌, ◌<◌, List, [], ◌∷◌, Option, Some, None, refl, sym, ◌∙◌, ap, subst, arith, nat_tests, Do, Came, P, own, onto, Good, Safe, Wp, BadDescriptor, Node, Kind, Directory, File, Device, OpenFile, Fstat, Status, hart_count, Name, Tree, put, settle, resolve, parent, node_or, node_at, stat_of, file_at, refusal_with, effect_with, answer_with, place_of, IsInPlace, file_settled, settle_or, settle_again, file_named, Deed, Stage, Step, OwnMove, World, Entry, Mark, Face, face_of, face_or, sort_of, stat_of_face, Own, Opens, EntryOut, Inv, machine, own_of, own_step, entry_at, entry_of, lock_if, locked, slot_at, stat_at, with_walk, made_by, new_id, places, with_mark, StatFile}
+use Rattle.inode_machine.proofs.Vocabulary.{◌≡◌, inl, inr, ℕ, ◌+◌, ◌<◌, List, [], ◌∷◌, Option, Some, None, refl, sym, ◌∙◌, ap, subst, arith, nat_tests, Do, ExecResult, P, own, onto, Good, Safe, Wp, BadDescriptor, Node, NodeKind, Directory, File, Device, OpenFile, Fstat, Status, hart_count, Name, Tree, put, settle, resolve, parent, node_or, node_at, stat_of, file_at, refusal_with, effect_with, answer_with, place_of, IsInPlace, file_settled, settle_or, settle_again, file_named, Deed, Stage, Step, OwnMove, World, Entry, Mark, Face, face_of, face_or, type_of, stat_of_face, Own, Opens, EntryOut, Inv, machine, own_of, own_step, entry_at, entry_of, lock_if, locked, slot_at, stat_at, with_walk, made_by, new_id, places, with_mark, StatFile}
 use Rattle.inode_machine.proofs.Basics.{Locking, fine_after, is_out, locked_held, locking, locks_none, s-owned, moves_good, own_walk, stage_walk, walk_did, Behind, behind, behind_none, fails, refused_good, Refused, fair}
 
 -- an open file of the hart keeps its node where the tree settles
@@ -50,7 +50,7 @@ stat_step fd i v = record { move = OwnMove (Fstat fd) 0; told = Some (record { a
 pub stat_face : (i : ℕ) (v : Node) → stat_of_face i (face_or (face_of (Some v))) ≡ stat_of i v
 stat_face i v = by_kind v.kind
   where
-    by_kind : (k : Kind) → stat_of_face i (face_or (face_of (Some (record { count = v.count; kind = k })))) ≡ stat_of i (record { count = v.count; kind = k })
+    by_kind : (k : NodeKind) → stat_of_face i (face_or (face_of (Some (record { count = v.count; kind = k })))) ≡ stat_of i (record { count = v.count; kind = k })
     by_kind (Directory slots) = refl
     by_kind (File bytes) = refl
     by_kind (Device major minor size) = refl
@@ -60,7 +60,7 @@ pub node_there : (v : World) (s : ℕ) (e : Entry) → Inv v → v.files s ≡ S
 node_there v s e inv at = go (v.all.nodes e.file.number) refl
   where
     go : (o : Option Node) → v.all.nodes e.file.number ≡ o → (x : Node) × (v.all.nodes e.file.number ≡ Some x)
-    go None q = absurd (let a = (inv.sorts s e at).sort in let b : sort_of (v.all.nodes e.file.number) ≡ None = ap (λ (z : Option Node). sort_of z) q in cc (a, b))
+    go None q = absurd (let a = (inv.inode_types s e at).inode_type in let b : type_of (v.all.nodes e.file.number) ≡ None = ap (λ (z : Option Node). type_of z) q in cc (a, b))
     go (Some x) q = (x, q)
 
 -- what stands behind a descriptor has the hart's reference
@@ -81,7 +81,7 @@ s-stat-file {A} {h} fd {k} {B} {Q} {n} {es} {w} {O} owns free lt pos walks none 
     m : Option (ℕ × Face) → Option Mark
     m a = own_step (Fstat fd)
 
-    Goal : World → Came (Option (ℕ × Face)) World → Type 0
+    Goal : World → ExecResult (Option (ℕ × Face)) World → Type 0
     Goal v z = Good machine (Option (ℕ × Face)) h (λ a. places h (StatFile fd) a (own_step (Fstat fd)) v) 3 n B es v (EntryOut h v (entry_of v h fd)) (with_mark h (λ (_ : Option (ℕ × Face)). own_step (Fstat fd)) z) (λ l a u. Wp machine h B Q (k a) l (onto (own h (places h (StatFile fd) a (own_step (Fstat fd)) v)) es) u)
 
     opening_none : (v : World) → own_of h v ≡ O → (v.desks h).opening ≡ None

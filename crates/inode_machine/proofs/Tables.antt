@@ -1,5 +1,5 @@
 -- The open-file table beside the tree's open files, where one descriptor changes.
-use Rattle.inode_machine.proofs.Vocabulary.{◌≡◌, ◌≢◌, inl, inr, ℕ, zero, suc, ◌+◌, ◌<◌, true, false, ◌==◌, nat_lt, Option, Some, None, refl, sym, ◌∙◌, ap, subst, arith, nat_tests, OpenFile, hart_count, descriptor_count, Tree, put, lowest, lowest_from, has_room, closed, sum_below, one_if, eq_self, either, same_or, put_same, put_other, sum_changed, sum_part, one_yes, one_no, is_at, file_count, Entry, Desk, id_at, number_is, uses, users, Shop, IsTied}
+use Rattle.inode_machine.proofs.Vocabulary.{◌≡◌, ◌≢◌, inl, inr, ℕ, zero, suc, ◌+◌, ◌<◌, true, false, ◌==◌, nat_lt, Option, Some, None, refl, sym, ◌∙◌, ap, subst, arith, nat_tests, OpenFile, hart_count, descriptor_count, Tree, put, lowest, lowest_from, has_room, closed, sum_below, one_if, eq_self, either, same_or, put_same, put_other, sum_changed, sum_part, one_yes, one_no, is_at, file_count, Entry, Desk, id_at, number_is, uses, users, FileTables, IsTied}
 use Rattle.inode_machine.proofs.Frame.{put_elim}
 use Rattle.inode_machine.proofs.Rows.{is_at_some}
 use Rattle.tree_laws.proofs.Opened.{has_it}
@@ -91,7 +91,7 @@ pub lowest_free : (f : ℕ → Option ℕ) → has_room f ≡ true → (lowest f
 lowest_free f room = let l = less_is (lowest f) descriptor_count room in (l, lowest_from_free descriptor_count 0 f (omega (arith, l)))
 
 -- One descriptor changes, and the table with it.
-pub record Changes (s : Shop) (h fd : ℕ) (y x : Option ℕ) (F : ℕ → Option Entry) (S : ℕ → ℕ) : Type 0 where
+pub record Changes (s : FileTables) (h fd : ℕ) (y x : Option ℕ) (F : ℕ → Option Entry) (S : ℕ → ℕ) : Type 0 where
   pub hart : h < hart_count
   pub below : fd < descriptor_count
   pub opening : (s.desks h).opening ≡ None
@@ -102,10 +102,10 @@ pub record Changes (s : Shop) (h fd : ℕ) (y x : Option ℕ) (F : ℕ → Optio
   pub slots : (n : ℕ) → S n ≡ sum_below file_count (λ k. number_is (F k) n)
   pub lent : (k : ℕ) → (s.desks h).lent fd ≡ Some k → y ≡ Some k
 
-abbrev pub changed_shop : Shop → ℕ → ℕ → Option ℕ → Option ℕ → (ℕ → Option Entry) → (ℕ → ℕ) → Shop
-changed_shop s h fd y x F S = record { files = F; desks = with_fd s.desks h fd y; ids = s.ids; slots = S; clean = s.clean; tree_fds = put s.tree_fds h (put (s.tree_fds h) fd x); tree_files = s.tree_files }
+abbrev pub changed_file_tables : FileTables → ℕ → ℕ → Option ℕ → Option ℕ → (ℕ → Option Entry) → (ℕ → ℕ) → FileTables
+changed_file_tables s h fd y x F S = record { files = F; desks = with_fd s.desks h fd y; ids = s.ids; slots = S; clean = s.clean; tree_fds = put s.tree_fds h (put (s.tree_fds h) fd x); tree_files = s.tree_files }
 
-pub changes : (s : Shop) (h fd : ℕ) (y x : Option ℕ) (F : ℕ → Option Entry) (S : ℕ → ℕ) → IsTied s → Changes s h fd y x F S → IsTied (changed_shop s h fd y x F S)
+pub changes : (s : FileTables) (h fd : ℕ) (y x : Option ℕ) (F : ℕ → Option Entry) (S : ℕ → ℕ) → IsTied s → Changes s h fd y x F S → IsTied (changed_file_tables s h fd y x F S)
 changes s h fd y x F S tied c =
     record {
       fds = λ g i lg li o. elim (same_or g h) [
@@ -205,10 +205,10 @@ changes s h fd y x F S tied c =
 pub kept_open : (t : Tree) (h i id : ℕ) → h < hart_count → i < descriptor_count → t.fds h i ≡ Some id → (closed t).files id ≡ t.files id
 kept_open t h i id lh li is = rw (has_it t h i id lh li is) refl
 
-abbrev pub closed_shop : Shop → (ℕ → Option OpenFile) → Shop
-closed_shop s f = record { files = s.files; desks = s.desks; ids = s.ids; slots = s.slots; clean = s.clean; tree_fds = s.tree_fds; tree_files = f }
+abbrev pub closed_file_tables : FileTables → (ℕ → Option OpenFile) → FileTables
+closed_file_tables s f = record { files = s.files; desks = s.desks; ids = s.ids; slots = s.slots; clean = s.clean; tree_fds = s.tree_fds; tree_files = f }
 
-pub tied_closed : (s : Shop) (t : Tree) → IsTied s → t.fds ≡ s.tree_fds → t.files ≡ s.tree_files → IsTied (closed_shop s (closed t).files)
+pub tied_closed : (s : FileTables) (t : Tree) → IsTied s → t.fds ≡ s.tree_fds → t.files ≡ s.tree_files → IsTied (closed_file_tables s (closed t).files)
 tied_closed s t tied fds files =
     record {
       fds = tied.fds;

@@ -1,5 +1,5 @@
 -- What a step of a hart that serves another one shows: what the hart has then, and what the child has.
-use Rattle.inode_machine.proofs.Vocabulary.{◌≡◌, ◌≢◌, ◌⊎◌, inl, inr, ℕ, ◌+◌, ◌-◌, ◌<◌, ◌≤◌, false, ◌==◌, Option, Some, None, refl, sym, ◌∙◌, ap, subst, arith, hart_count, descriptor_count, put, sum_below, one_if, IsWellFormed, eq_self, same_or, put_same, put_other, one_yes, Walk, Mine, Entry, Desk, World, child_of, given_of, serving, with_refs, OfDirectory, sort_of, Own, Held, IsTied, own_of, reference_limit, Has, Inv, Lends, nothing, HasType}
+use Rattle.inode_machine.proofs.Vocabulary.{◌≡◌, ◌≢◌, ◌⊎◌, inl, inr, ℕ, ◌+◌, ◌-◌, ◌<◌, ◌≤◌, false, ◌==◌, Option, Some, None, refl, sym, ◌∙◌, ap, subst, arith, hart_count, descriptor_count, put, sum_below, one_if, IsWellFormed, eq_self, same_or, put_same, put_other, one_yes, Walk, Mine, Entry, Desk, World, child_of, given_of, serving, with_refs, OfDirectory, type_of, Own, Held, IsTied, own_of, reference_limit, Has, Inv, Lends, nothing, HasType}
 use Rattle.inode_machine.proofs.Basics.{put_elim, has_none, two_refs, FairTo, walks_refs, not_one, sum_twice, both_world, Serves, both, row_same}
 
 -- What hart h owns while it serves hart c.
@@ -41,9 +41,9 @@ pub record Turns (h c : ℕ) (v : World) (F : ℕ → Option Entry) (D : ℕ →
   pub others : (g : ℕ) → g ≢ h → g ≢ c → H g ≡ v.harts g
   pub fds : (g : ℕ) → g ≢ c → X g ≡ v.all.fds g
   pub cwd : (g : ℕ) → g ≢ c → C g ≡ v.all.cwd g
-  pub numbers : (k : ℕ) (e : Entry) → v.files k ≡ Some e → (f : Entry) × (F k ≡ Some f) × (f.sort ≡ e.sort) × (f.file ≡ e.file)
+  pub numbers : (k : ℕ) (e : Entry) → v.files k ≡ Some e → (f : Entry) × (F k ≡ Some f) × (f.inode_type ≡ e.inode_type) × (f.file ≡ e.file)
   pub tied : IsTied (record { files = F; desks = D; ids = v.ids; slots = v.slots; clean = v.clean; tree_fds = X; tree_files = v.all.files })
-  pub sorts : (k : ℕ) (e : Entry) → F k ≡ Some e → HasType v.all.nodes e
+  pub inode_types : (k : ℕ) (e : Entry) → F k ≡ Some e → HasType v.all.nodes e
   pub well : IsWellFormed (record (v.all) { fds = X; cwd = C })
   pub counts : (i : ℕ) → R i ≡ v.slots i + sum_below hart_count (λ g. (H g).refs i)
   pub apart : (i : ℕ) (g : ℕ) → v.keeper i ≡ Some g → v.refs i ≡ (v.harts g).refs i → R i ≡ v.refs i
@@ -60,7 +60,7 @@ pub record Turns (h c : ℕ) (v : World) (F : ℕ → Option Entry) (D : ℕ →
   pub opening : y.opening ≡ None
   pub left : y.left ≡ None
   pub noted : y.noted ≡ None
-  pub sort : sort_of (v.all.nodes y.directory) ≡ Some OfDirectory
+  pub inode_type : type_of (v.all.nodes y.directory) ≡ Some OfDirectory
   -- the hart still serves it, or does no more
   pub phase : ((L descriptor_count ≡ Some c) × (y.lender ≡ Some h) × Has (L (descriptor_count + 1)) y.fds (C c) y.directory (v.desks h).directory)
       ⊎ ((L descriptor_count ≡ None) × (y.lender ≡ None) × (C c ≡ y.directory))
@@ -91,7 +91,7 @@ module _ (h c : ℕ) (v : World) (O : Own) (F : ℕ → Option Entry) (D : ℕ �
     cwd = t.cwd;
     numbers = t.numbers;
     tied = t.tied;
-    sorts = t.sorts;
+    inode_types = t.inode_types;
     well = t.well;
     counts = t.counts;
     lone = λ i a.
@@ -121,7 +121,7 @@ module _ (h c : ℕ) (v : World) (O : Own) (F : ℕ → Option Entry) (D : ℕ �
       left = ap (λ (d : Desk). d.left) t.his ∙ t.left;
       noted = ap (λ (d : Desk). d.noted) t.his ∙ t.noted;
     };
-    sort = ap (λ (d : Desk). sort_of (v.all.nodes d.directory)) t.his ∙ t.sort;
+    inode_type = ap (λ (d : Desk). type_of (v.all.nodes d.directory)) t.his ∙ t.inode_type;
     stands = λ free. elim t.phase [
       | inl p ↦ absurd (let a = ap (λ (d : Desk). d.lender) t.his ∙ p.1 in cc (a, free))
       | inr p ↦ p.2 ∙ ap (λ (d : Desk). d.directory) (sym t.his)

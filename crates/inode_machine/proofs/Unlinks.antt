@@ -1,8 +1,8 @@
 -- Unlink is right, whatever the other harts do.
-use Rattle.inode_machine.proofs.Vocabulary.{◌≡◌, ◌≢◌, inl, inr, ℕ, ◌+◌, ◌-◌, ◌*◌, ◌<◌, ◌≤◌, Bool, true, false, ◌||◌, not, ◌==◌, List, [], ◌∷◌, length, Option, Some, None, refl, sym, ◌∙◌, ap, subst, arith, if◌then◌else◌, Do, unmarked, own, onto, Fine, Safe, Wp, Begun, Ends, IsBeginning, Cause, NoEntry, NotEmpty, DotName, MemInodes, Reply, Node, Kind, Directory, File, Device, Unlink, Done, Failed, hart_count, Name, Tree, put, look, same_name, dot, dotdot, is_directory, all_slots, is_live, live_directory, elements, node_or, node_at, lowered, not_empty, any_used, refusal_with, Act, next_of, reply_of, had_room, one_if, folders_of, links_in, raises, IsWellFormed, eq_not, same_or, put_same, put_other, or_none, live_is, look_live, look_folder, entry_found, entry_apart, look_bad, look_same, Step, MayEnd, Desk, World, Take, Store, face_of, face_or, seen_in, AtEntries, is_directory_sort, is_live_face, sort_of_kind, is_empty_kind, is_empty_node, with_count, without_entry, marked, places, Held, Own, own_of, nothing, Idle, Inv, machine, ThisP as P, done, failed, full, give_up, is_some, looks_if, tail, always, clear_name, is_missing, lower_parent, or_missing, unlink_child, unlink_dots, unlink_found, unlink_in, unlink_named, unlink_other, unlink_program, path_cost, rest_cost, covered_calls}
+use Rattle.inode_machine.proofs.Vocabulary.{◌≡◌, ◌≢◌, inl, inr, ℕ, ◌+◌, ◌-◌, ◌*◌, ◌<◌, ◌≤◌, Bool, true, false, ◌||◌, not, ◌==◌, List, [], ◌∷◌, length, Option, Some, None, refl, sym, ◌∙◌, ap, subst, arith, if◌then◌else◌, Do, unmarked, own, onto, Fine, Safe, Wp, Begun, Ends, IsBeginning, Cause, NoEntry, NotEmpty, DotName, MemInodes, Reply, Node, NodeKind, Directory, File, Device, Unlink, Done, Failed, hart_count, Name, Tree, put, look, same_name, dot, dotdot, is_directory, all_slots, is_live, live_directory, elements, node_or, node_at, lowered, not_empty, any_used, refusal_with, Act, next_of, reply_of, had_room, one_if, folders_of, links_in, raises, IsWellFormed, eq_not, same_or, put_same, put_other, or_none, live_is, look_live, look_folder, entry_found, entry_apart, look_bad, look_same, Step, MayEnd, Desk, World, Take, Store, face_of, face_or, seen_in, AtEntries, is_directory_type, is_live_face, type_of_kind, is_empty_kind, is_empty_node, with_count, without_entry, marked, places, Held, Own, own_of, nothing, Idle, Inv, machine, ThisP as P, done, failed, full, give_up, is_some, looks_if, tail, always, clear_name, is_missing, lower_parent, or_missing, unlink_child, unlink_dots, unlink_found, unlink_in, unlink_named, unlink_other, unlink_program, path_cost, rest_cost, covered_calls}
 use Rattle.std.proofs.Common.{drop}
 use Rattle.plain_tree.specs.declared.call.Call.TheVariants as calls
-use Rattle.inode_machine.proofs.Basics.{AllNames, fair_same, quiet, locked_held, has_node, s-up, live_face, s-take-then, look_refused_good, listed_held, times, one_at, one_else, On, stays_same, few_listed, Walked, joined_own, mend_fine, mended_own, s-store, told_step, Holding, IsWhole, Joins, Told, holding_on, holding_set, holding_same, mendable, stays_mended, unlisted, unlisted_refs, s-give-end, s-give-up, Follows, agrees_look, begun_by, begun_refused, s-see, walking_quit, walking_told, written_by}
+use Rattle.inode_machine.proofs.Basics.{AllNames, fair_same, quiet, locked_held, has_node, s-up, live_face, s-take-then, look_refused_good, listed_held, times, one_at, one_else, On, stays_same, few_listed, Walked, joined_own, mend_fine, mended_own, s-store, told_step, Holding, IsWhole, HasJoined, IsAnswerable, holding_on, holding_set, holding_same, mendable, stays_mended, unlisted, unlisted_refs, s-give-end, s-give-up, Follows, agrees_look, begun_by, begun_refused, s-see, walking_quit, walking_told, written_by}
 use Rattle.inode_machine.proofs.Removes.{less, unlink_place, s-clear}
 use Rattle.inode_machine.proofs.Namings.{Leads, s-naming}
 
@@ -44,7 +44,7 @@ has_entries : (t : Tree) (h : ℕ) (path : List ℕ) (res : Option ℕ) (d n : �
 unfolding refusal_with
 has_entries t h path res d n e q is full = rw (q, is) full
 
-emptiness : (k : Kind) → not_empty k ≡ (if is_empty_kind k then None else Some NotEmpty)
+emptiness : (k : NodeKind) → not_empty k ≡ (if is_empty_kind k then None else Some NotEmpty)
 emptiness (Directory slots) = by_use (any_used (drop 2 slots))
   where
     by_use : (b : Bool) → (if b then Some NotEmpty else None) ≡ (if not b then None else Some NotEmpty)
@@ -80,7 +80,7 @@ Goes h path p n es w = Safe machine h (Begun covered_calls (calls.Unlink path)) 
 abbrev both : ℕ → Node → Node → ℕ → ℕ → Option Held
 both d X Z n = put (put nothing d (Some (locked_held (Some X)))) n (Some (locked_held (Some Z)))
 
-module _ (h : ℕ) (path : List ℕ) (lt : h < hart_count) {base : ℕ → ℕ} {O0 : Own} (joins : Joins base O0) (d : ℕ) (e : Name) (ns : List ℕ) where
+module _ (h : ℕ) (path : List ℕ) (lt : h < hart_count) {base : ℕ → ℕ} {O0 : Own} (joins : HasJoined base O0) (d : ℕ) (e : Name) (ns : List ℕ) where
   -- the directory alone is locked
   locked_one : {w : World} {O R : Own} (x : Option Node) → On h (Unlink path) d e [] base ns O0 O w → R.inodes ≡ put O.inodes d (Some (locked_held x)) → R.row ≡ O.row → R.ninodes ≡ O.ninodes → R.desk ≡ O.desk → R.mine.refs ≡ O.mine.refs → Holding base ns O0 R (put nothing d (Some (locked_held x))) (λ i. 0 + one_if (d == i))
   locked_one {w} {O} {R} x on inodes row ninodes desk refs =
@@ -91,7 +91,7 @@ module _ (h : ℕ) (path : List ℕ) (lt : h < hart_count) {base : ℕ → ℕ} 
   else_one x i ne = put_other nothing d x i ne
 
   -- it is given up, and the call ends
-  ends_one : (r : Reply) (x : Option Node) (n : ℕ) (es : List Step) (w : World) (R : Own) → 971 * length ns + 970 < n → own_of h w ≡ R → Holding base ns O0 R (put nothing d (Some (locked_held x))) (λ i. 0 + one_if (d == i)) → R.mine.walk ≡ None → R.mine.pending ≡ None → Told (calls.Unlink path) r es R → Goes h path (give_up d (tail ns r)) n es w
+  ends_one : (r : Reply) (x : Option Node) (n : ℕ) (es : List Step) (w : World) (R : Own) → 971 * length ns + 970 < n → own_of h w ≡ R → Holding base ns O0 R (put nothing d (Some (locked_held x))) (λ i. 0 + one_if (d == i)) → R.mine.walk ≡ None → R.mine.pending ≡ None → IsAnswerable (calls.Unlink path) r es R → Goes h path (give_up d (tail ns r)) n es w
   ends_one r x n es w R few held k walk none told =
       s-give-end h (calls.Unlink path) r ns (put nothing d (Some (locked_held x))) d n es w R lt joins held few k (put_same nothing d (Some (locked_held x))) (record { locked = refl; shared = refl; same = refl }) (λ i ne. else_one (Some (locked_held x)) i ne) walk none told
 
@@ -112,7 +112,7 @@ module _ (h : ℕ) (path : List ℕ) (lt : h < hart_count) {base : ℕ → ℕ} 
   -- The child is locked too: the directory has X, and the child Z.
 
   -- both are given up, the child first
-  ends_both : (r : Reply) (X Z : Node) (n l : ℕ) (es : List Step) (w : World) (R : Own) → n ≢ d → 971 * length ns + 1880 < l → own_of h w ≡ R → Holding base ns O0 R (both d X Z n) (λ i. (0 + one_if (d == i)) + one_if (n == i)) → R.mine.walk ≡ None → R.mine.pending ≡ None → Told (calls.Unlink path) r es R → Goes h path (give_up n (give_up d (tail ns r))) l es w
+  ends_both : (r : Reply) (X Z : Node) (n l : ℕ) (es : List Step) (w : World) (R : Own) → n ≢ d → 971 * length ns + 1880 < l → own_of h w ≡ R → Holding base ns O0 R (both d X Z n) (λ i. (0 + one_if (d == i)) + one_if (n == i)) → R.mine.walk ≡ None → R.mine.pending ≡ None → IsAnswerable (calls.Unlink path) r es R → Goes h path (give_up n (give_up d (tail ns r))) l es w
   ends_both r X Z n l es w R ne few held k walk none told =
       s-give-up n {more = λ i. 0 + one_if (d == i)} held lt joins.ready (omega (arith, few)) k walk none (put_same (put nothing d (Some (locked_held (Some X)))) n (Some (locked_held (Some Z)))) (record { locked = refl; shared = refl; same = refl }) (λ l2 u2 Owned2 q2 own2 desk walk2 none2 k2.
       s-give-end h (calls.Unlink path) r ns (put (both d X Z n) n None) d l2 es u2 Owned2 lt joins own2 (omega (arith, few, q2)) k2
@@ -121,18 +121,18 @@ module _ (h : ℕ) (path : List ℕ) (lt : h < hart_count) {base : ℕ → ℕ} 
       (elim told [ inl f ↦ inl (ap (λ (z : Desk). z.full) desk ∙ f) | inr a ↦ inr a ]))
 
   -- the counts are stored, the directory's where the name was a directory's
-  lowered_end : (X Z : Node) (n l : ℕ) (es : List Step) (w : World) (R : Own) → n ≢ d → 971 * length ns + 1900 < l → own_of h w ≡ R → R.mine.walk ≡ None → R.mine.pending ≡ None → Told (calls.Unlink path) (done (calls.Unlink path)) es R
+  lowered_end : (X Z : Node) (n l : ℕ) (es : List Step) (w : World) (R : Own) → n ≢ d → 971 * length ns + 1900 < l → own_of h w ≡ R → R.mine.walk ≡ None → R.mine.pending ≡ None → IsAnswerable (calls.Unlink path) (done (calls.Unlink path)) es R
       → Holding base ns O0 R (put (put (both d X Z n) d (Some (record (locked_held (Some X)) { disk = Some (without_entry e X); node = Some (less X Z e) }))) n (Some (record (locked_held (Some Z)) { node = Some (lowered Z) }))) (λ i. (0 + one_if (n == i)) + one_if (d == i))
       → Goes h path (lower_parent d (face_or (face_of (Some X))) (face_or (face_of (Some Z))) (give_up d (Do (Store n (Z.count - 1)) unmarked (λ _. give_up n (tail ns (done (calls.Unlink path))))))) l es w
-  lowered_end X Z n l es w R ne few held walk none told k = by_sort (is_directory_sort (sort_of_kind Z.kind)) (sort_is Z.kind)
+  lowered_end X Z n l es w R ne few held walk none told k = by_type (is_directory_type (type_of_kind Z.kind)) (type_is Z.kind)
     where
       F : ℕ → Option Held
       F = put (put (both d X Z n) d (Some (record (locked_held (Some X)) { disk = Some (without_entry e X); node = Some (less X Z e) }))) n (Some (record (locked_held (Some Z)) { node = Some (lowered Z) }))
 
-      sort_is : (y : Kind) → is_directory_sort (sort_of_kind y) ≡ is_directory y
-      sort_is (Directory slots) = refl
-      sort_is (File bytes) = refl
-      sort_is (Device major minor size) = refl
+      type_is : (y : NodeKind) → is_directory_type (type_of_kind y) ≡ is_directory y
+      type_is (Directory slots) = refl
+      type_is (File bytes) = refl
+      type_is (Device major minor size) = refl
 
       at_d : F d ≡ Some (record (locked_held (Some X)) { disk = Some (without_entry e X); node = Some (less X Z e) })
       at_d = put_other (put (both d X Z n) d (Some (record (locked_held (Some X)) { disk = Some (without_entry e X); node = Some (less X Z e) }))) n (Some (record (locked_held (Some Z)) { node = Some (lowered Z) })) d (λ q. ne (sym q)) ∙ put_same (both d X Z n) d (Some (record (locked_held (Some X)) { disk = Some (without_entry e X); node = Some (less X Z e) }))
@@ -156,9 +156,9 @@ module _ (h : ℕ) (path : List ℕ) (lt : h < hart_count) {base : ℕ → ℕ} 
           (λ i nn. put_other (put G d None) n (Some (locked_held (Some (lowered Z)))) i nn ∙ elim (same_or i d) [ inl q ↦ ap (put G d None) q ∙ put_same G d None | inr nd ↦ put_other G d None i nd ∙ rest i nd nn ]) walk3 none3
           (elim told [ inl f ↦ inl (ap (λ (z : Desk). z.full) (desk3 ∙ desk2) ∙ f) | inr a ↦ inr a ])))
 
-      by_sort : (b : Bool) → b ≡ is_directory Z.kind → Goes h path (if b then Do (Store d (X.count - 1)) unmarked (λ _. give_up d (Do (Store n (Z.count - 1)) unmarked (λ _. give_up n (tail ns (done (calls.Unlink path)))))) else give_up d (Do (Store n (Z.count - 1)) unmarked (λ _. give_up n (tail ns (done (calls.Unlink path)))))) l es w
-      by_sort false q = given F l w R (omega (arith, few)) held refl walk none k at_d (record { locked = refl; shared = refl; same = λ z. Some (record { kind = (without_entry e X).kind; count = if q z then X.count - 1 else X.count }) }) at_n others
-      by_sort true q =
+      by_type : (b : Bool) → b ≡ is_directory Z.kind → Goes h path (if b then Do (Store d (X.count - 1)) unmarked (λ _. give_up d (Do (Store n (Z.count - 1)) unmarked (λ _. give_up n (tail ns (done (calls.Unlink path)))))) else give_up d (Do (Store n (Z.count - 1)) unmarked (λ _. give_up n (tail ns (done (calls.Unlink path)))))) l es w
+      by_type false q = given F l w R (omega (arith, few)) held refl walk none k at_d (record { locked = refl; shared = refl; same = λ z. Some (record { kind = (without_entry e X).kind; count = if q z then X.count - 1 else X.count }) }) at_n others
+      by_type true q =
           s-store d (X.count - 1) (without_entry e X) held (k.stays.lender ∙ joins.ready.free) lt (omega (arith, few)) (k.stays.joined ∙ joins.ready.joined) (k.has d _ at_d) refl refl (inr (omega arith)) (λ l2 u2 q2 own2.
           given (put F d (Some (record (locked_held (Some X)) { disk = Some (with_count (X.count - 1) (without_entry e X)); node = Some (less X Z e) }))) l2 u2 _ (omega (arith, few, q2)) own2 refl walk none
           (holding_set (record R { inodes = put R.inodes d (Some (record (locked_held (Some X)) { disk = Some (with_count (X.count - 1) (without_entry e X)); node = Some (less X Z e) })) }) d (Some (record (locked_held (Some X)) { disk = Some (with_count (X.count - 1) (without_entry e X)); node = Some (less X Z e) })) (λ i. (0 + one_if (n == i)) + one_if (d == i)) k

@@ -1,6 +1,6 @@
 -- An open finds no room after its step: its descriptor is taken back from the tree.
-use Rattle.inode_machine.proofs.Vocabulary.{◌≡◌, ◌≢◌, inl, inr, ℕ, ◌+◌, ◌<◌, Bool, true, false, ◌==◌, ◌&&◌, ◌||◌, nat_lt, Option, Some, None, refl, sym, ◌∙◌, ap, subst, arith, if◌then◌else◌, OpenFile, hart_count, descriptor_count, Tree, put, hold_names, closed, key_at, key_names, key_of, row_of, sum_below, one_if, eq_not, same_or, put_same, put_other, sum_same, well_closed, Desk, World, is_at, with_walk, mended, unheld, unmoved, unopened, id_at, key_in, own_names, own_of, shop_of, users, IsOpening, Own, Inv, Shop, IsTied}
-use Rattle.inode_machine.proofs.Basics.{bond_of, put_elim, is_put, stands_on, Fair, fair, fair_then, refers_on, my_refs, walk_named_did, own_walk, closed_shop, kept_open, tied_closed, KeepsHold, unheld_is, Mending, unopened_row}
+use Rattle.inode_machine.proofs.Vocabulary.{◌≡◌, ◌≢◌, inl, inr, ℕ, ◌+◌, ◌<◌, Bool, true, false, ◌==◌, ◌&&◌, ◌||◌, nat_lt, Option, Some, None, refl, sym, ◌∙◌, ap, subst, arith, if◌then◌else◌, OpenFile, hart_count, descriptor_count, Tree, put, hold_names, closed, key_at, key_names, key_of, row_of, sum_below, one_if, eq_not, same_or, put_same, put_other, sum_same, well_closed, Desk, World, is_at, with_walk, mended, unheld, unmoved, unopened, id_at, key_in, own_names, own_of, file_tables_of, users, IsOpening, Own, Inv, FileTables, IsTied}
+use Rattle.inode_machine.proofs.Basics.{bond_of, put_elim, is_put, stands_on, Fair, fair, fair_then, refers_on, my_refs, walk_named_did, own_walk, closed_file_tables, kept_open, tied_closed, KeepsHold, unheld_is, Mending, unopened_row}
 use Rattle.inode_machine.proofs.Tables.{less_is}
 use Rattle.inode_machine.proofs.Closes.{fewer, left_open, without_fd, fewer_same, fewer_gone, rows_stay, closed_or}
 
@@ -55,7 +55,7 @@ mends_opened h fd v O ov free lt inv opens left hold names = subst (λ (z : Worl
     left_v : (v.desks h).left ≡ None
     left_v = ap (λ (o : Own). o.desk.left) ov ∙ left
 
-    o : IsOpening (shop_of v) h fd
+    o : IsOpening (file_tables_of v) h fd
     o = inv.tied.fresh h fd lt opened
 
     new : Desk
@@ -79,8 +79,8 @@ mends_opened h fd v O ov free lt inv opens left hold names = subst (λ (z : Worl
     users_is : (j : ℕ) → users D j ≡ users v.desks j
     users_is j = sum_same hart_count _ _ (λ g lg. λ z. sum_below descriptor_count (λ i. one_if (is_at (fds_is g i z) j)) + sum_below descriptor_count (λ i. one_if (is_at (lent_is g i z) j)))
 
-    shop : Shop
-    shop = record { files = v.files; desks = D; ids = v.ids; slots = v.slots; clean = false; tree_fds = X; tree_files = v.all.files }
+    file_tables : FileTables
+    file_tables = record { files = v.files; desks = D; ids = v.ids; slots = v.slots; clean = false; tree_fds = X; tree_files = v.all.files }
 
     mine : (i : ℕ) → i < descriptor_count → X h i ≡ id_at v.ids ((v.desks h).fds i)
     mine i li = elim (same_or i fd) [
@@ -97,7 +97,7 @@ mends_opened h fd v O ov free lt inv opens left hold names = subst (λ (z : Worl
       ]
     ]
 
-    before : IsTied shop
+    before : IsTied file_tables
     before = record {
       fds = λ g i lg li q. elim (same_or g h) [
         | inl r ↦ subst (λ (z : ℕ). X z i ≡ id_at v.ids ((D z).fds i)) (sym r) (mine i li ∙ ap (λ (z : Option ℕ). id_at v.ids z) (sym (fds_is h i)))
@@ -119,8 +119,8 @@ mends_opened h fd v O ov free lt inv opens left hold names = subst (λ (z : Worl
       spoiled = λ g e. refl;
     }
 
-    tied : IsTied (closed_shop shop (closed (record (v.all) { fds = X })).files)
-    tied = tied_closed shop (record (v.all) { fds = X }) before refl refl
+    tied : IsTied (closed_file_tables file_tables (closed (record (v.all) { fds = X })).files)
+    tied = tied_closed file_tables (record (v.all) { fds = X }) before refl refl
 
     here : D h ≡ new
     here = put_same v.desks h new
@@ -138,12 +138,12 @@ mends_opened h fd v O ov free lt inv opens left hold names = subst (λ (z : Worl
       rows = λ g ne. rows_stay v.all h fd g ne;
       size = refl;
       ids = λ k le. elim (closed_or (record (v.all) { fds = fewer v.all h fd }) k) [ inl q ↦ q ∙ inv.ids k le | inr q ↦ q ];
-      shop = record { tied = tied; desks = λ g ne. put_other v.desks h new g ne; numbers = λ g i k e lg ne li q a. (e, a, refl, inl refl); clean = λ c. absurd cc; bond = ap (λ (d : Desk). bond_of d) here; stays = inl (ap (λ (d : Desk). d.directory) here) };
+      file_tables = record { tied = tied; desks = λ g ne. put_other v.desks h new g ne; numbers = λ g i k e lg ne li q a. (e, a, refl, inl refl); clean = λ c. absurd cc; bond = ap (λ (d : Desk). bond_of d) here; stays = inl (ap (λ (d : Desk). d.directory) here) };
       free = ap (λ (d : Desk). d.lender) here ∙ ap (λ (o : Own). o.desk.lender) ov ∙ free;
       raised = λ q. ap (λ (d : Desk). d.joined) here ∙ inv.raised h lt q;
       quiet = λ j is2 f. inv.quiet j h is2 (sym (ap (λ (d : Desk). d.joined) here) ∙ f);
-      sort = λ j. inl refl;
-      sorts = inv.sorts;
+      inode_type = λ j. inl refl;
+      inode_types = inv.inode_types;
       noted = λ m q r s. inv.noted h m lt (sym (ap (λ (d : Desk). d.noted) here) ∙ q) r s;
       directory = stands_on (v.desks h) (D h) (v.all.cwd h) v.all.nodes (ap (λ (o : Own). o.desk.lender) ov ∙ free) (ap (λ (d : Desk). d.directory) here) (ap (λ (d : Desk). d.left) here ∙ sym left_v) (inv.directory h lt);
       refers = refers_on (v.harts h) (v.harts h) (v.desks h) (D h) (λ j. refl) (ap (λ (d : Desk). d.directory) here) (inv.refers h lt);

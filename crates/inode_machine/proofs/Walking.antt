@@ -1,6 +1,6 @@
 -- A move: what it leaves of the world, and its step of the tree.
-use Rattle.inode_machine.proofs.Vocabulary.{◌≡◌, ◌⊎◌, inl, inr, ℕ, ◌+◌, ◌<◌, List, [], ◌∷◌, Option, Some, None, refl, sym, ◌∙◌, ap, subst, arith, true, P, own, onto, Fine, Wp, hart_count, put, settle, row_of, eq_self, put_same, put_other, sum_same, Walk, Step, Move, Takes, Mine, World, stage_of, Note, Made, with_made, with_walk, Own, shop_of, own_of, Found, IsReferredTo, Inv, machine, own_names, sort_of}
-use Rattle.inode_machine.proofs.Frame.{shop_same, put_elim, is_put, Did, Fair, refers_on}
+use Rattle.inode_machine.proofs.Vocabulary.{◌≡◌, ◌⊎◌, inl, inr, ℕ, ◌+◌, ◌<◌, List, [], ◌∷◌, Option, Some, None, refl, sym, ◌∙◌, ap, subst, arith, true, P, own, onto, Fine, Wp, hart_count, put, settle, row_of, eq_self, put_same, put_other, sum_same, Walk, Step, Move, PlaysStep, Mine, World, stage_of, Note, Made, with_made, with_walk, Own, file_tables_of, own_of, Found, IsReferredTo, Inv, machine, own_names, type_of}
+use Rattle.inode_machine.proofs.Frame.{file_tables_same, put_elim, is_put, HartStep, Fair, refers_on}
 use Rattle.inode_machine.proofs.Rules.{FairTo, acted_to, fair_to}
 
 -- A hart's walk, and what it found, change.
@@ -13,8 +13,8 @@ mine_walk h k p v = record { refs = (v.harts h).refs; walk = k; pending = p }
 pub refs_walk : (harts : ℕ → Mine) (h : ℕ) (k : Option Walk) (p : Option ℕ) (g j : ℕ) → (with_walk harts h k p g).refs j ≡ (harts g).refs j
 refs_walk harts h k p g j = put_elim harts h (record { refs = (harts h).refs; walk = k; pending = p }) g (λ m. m.refs j ≡ (harts g).refs j) (λ e. ap (λ (z : ℕ). (harts z).refs j) (sym e)) (λ q. refl)
 
-pub walk_named_did : (h : ℕ) (k : Option Walk) (p : Option ℕ) (v : World) → (v.desks h).lender ≡ None → h < hart_count → Inv v → ((j : ℕ) → own_names (row_of v.all h) (v.desks h) j ≡ true → 0 < (v.harts h).refs j) → ((m : Note) → (v.desks h).noted ≡ Some m → p ≡ Some m.number → sort_of (v.all.nodes m.number) ≡ m.sort) → ((x : Walk) → k ≡ Some x → (0 < (v.harts h).refs x.at) ⊎ (p ≡ Some x.at))
-    → ((i : ℕ) → p ≡ Some i → Found v.keeper v.all.nodes h i) → Did h v (record v { harts = with_walk v.harts h k p })
+pub walk_named_did : (h : ℕ) (k : Option Walk) (p : Option ℕ) (v : World) → (v.desks h).lender ≡ None → h < hart_count → Inv v → ((j : ℕ) → own_names (row_of v.all h) (v.desks h) j ≡ true → 0 < (v.harts h).refs j) → ((m : Note) → (v.desks h).noted ≡ Some m → p ≡ Some m.number → type_of (v.all.nodes m.number) ≡ m.inode_type) → ((x : Walk) → k ≡ Some x → (0 < (v.harts h).refs x.at) ⊎ (p ≡ Some x.at))
+    → ((i : ℕ) → p ≡ Some i → Found v.keeper v.all.nodes h i) → HartStep h v (record v { harts = with_walk v.harts h k p })
 walk_named_did h k p v free lt inv names notes lands finds =
     record {
       hart = lt;
@@ -23,12 +23,12 @@ walk_named_did h k p v free lt inv names notes lands finds =
       rows = λ g ne. refl;
       size = refl;
       ids = inv.ids;
-      shop = shop_same h (shop_of v) inv.tied;
+      file_tables = file_tables_same h (file_tables_of v) inv.tied;
       free = free;
       raised = inv.raised h lt;
       quiet = λ j is f. inv.quiet j h is f;
-      sort = λ j. inl refl;
-      sorts = inv.sorts;
+      inode_type = λ j. inl refl;
+      inode_types = inv.inode_types;
       noted = λ m is r s. elim r [
         | inl a ↦ inv.noted h m lt is (inl (let e = refs_walk v.harts h k p h m.number in omega (arith, e, a))) s
         | inr a ↦ notes m is (sym (ap (λ (x : Mine). x.pending) (put_same v.harts h new)) ∙ a)
@@ -59,8 +59,8 @@ walk_named_did h k p v free lt inv names notes lands finds =
     pin j (inr a) = inr (grow j a)
 
 -- the same, where nothing that was found is left to be counted up
-pub walk_did : (h : ℕ) (k : Option Walk) (p : Option ℕ) (v : World) → (v.desks h).lender ≡ None → h < hart_count → Inv v → (v.harts h).pending ≡ None → ((m : Note) → (v.desks h).noted ≡ Some m → p ≡ Some m.number → sort_of (v.all.nodes m.number) ≡ m.sort) → ((x : Walk) → k ≡ Some x → (0 < (v.harts h).refs x.at) ⊎ (p ≡ Some x.at))
-    → ((i : ℕ) → p ≡ Some i → Found v.keeper v.all.nodes h i) → Did h v (record v { harts = with_walk v.harts h k p })
+pub walk_did : (h : ℕ) (k : Option Walk) (p : Option ℕ) (v : World) → (v.desks h).lender ≡ None → h < hart_count → Inv v → (v.harts h).pending ≡ None → ((m : Note) → (v.desks h).noted ≡ Some m → p ≡ Some m.number → type_of (v.all.nodes m.number) ≡ m.inode_type) → ((x : Walk) → k ≡ Some x → (0 < (v.harts h).refs x.at) ⊎ (p ≡ Some x.at))
+    → ((i : ℕ) → p ≡ Some i → Found v.keeper v.all.nodes h i) → HartStep h v (record v { harts = with_walk v.harts h k p })
 walk_did h k p v free lt inv none notes lands finds = walk_named_did h k p v free lt inv (λ j is. elim (inv.named h j lt free is) [ inl a ↦ a | inr a ↦ absurd (cc (a, none)) ]) notes lands finds
 
 pub stage_walk : (h : ℕ) (k : Option Walk) (p : Option ℕ) (v : World) → stage_of (record v { harts = with_walk v.harts h k p }) ≡ record { tree = settle v.all; walk = put (λ g. (v.harts g).walk) h k }
@@ -83,7 +83,7 @@ own_walk h k p v O ov = λ z. record {
 
 -- The move as the machine makes it is this one.
 pub moves_to : {A : Type 0} (h more n : ℕ) (B : List Step → Type 0) (Q : A → List Step → World → Type 0) (es : List Step) (v u : World) (mv : Move) (p : P machine A) (made x : Made)
-    → made ≡ x → FairTo h v (with_made h x u) → Takes (stage_of v) h (record { move = mv; told = x.told }) (stage_of (with_made h x u)) → B (record { move = mv; told = x.told } ∷ es) → more < n
+    → made ≡ x → FairTo h v (with_made h x u) → PlaysStep (stage_of v) h (record { move = mv; told = x.told }) (stage_of (with_made h x u)) → B (record { move = mv; told = x.told } ∷ es) → more < n
     → ((l : ℕ) → l + (more + 1) ≡ n → Wp machine h B Q p l (record { move = mv; told = x.told } ∷ es) (with_made h x u))
     → Fine machine h ((h, record { move = mv; told = made.told }) ∷ []) more n B es v (with_made h made u) (λ l. Wp machine h B Q p l (onto (own h ((h, record { move = mv; told = made.told }) ∷ [])) es) (with_made h made u))
 moves_to {A} h more n B Q es v u mv p made x is f takes b pos next =
@@ -91,7 +91,7 @@ moves_to {A} h more n B Q es v u mv p made x is f takes b pos next =
     (acted_to f takes b pos (λ l q. rw (eq_self h) (next l q)))
 
 pub moves_good : {A : Type 0} (h more n : ℕ) (B : List Step → Type 0) (Q : A → List Step → World → Type 0) (es : List Step) (v u : World) (mv : Move) (p : P machine A) (made x : Made)
-    → made ≡ x → Fair h v (with_made h x u) → Takes (stage_of v) h (record { move = mv; told = x.told }) (stage_of (with_made h x u)) → B (record { move = mv; told = x.told } ∷ es) → more < n
+    → made ≡ x → Fair h v (with_made h x u) → PlaysStep (stage_of v) h (record { move = mv; told = x.told }) (stage_of (with_made h x u)) → B (record { move = mv; told = x.told } ∷ es) → more < n
     → ((l : ℕ) → l + (more + 1) ≡ n → Wp machine h B Q p l (record { move = mv; told = x.told } ∷ es) (with_made h x u))
     → Fine machine h ((h, record { move = mv; told = made.told }) ∷ []) more n B es v (with_made h made u) (λ l. Wp machine h B Q p l (onto (own h ((h, record { move = mv; told = made.told }) ∷ [])) es) (with_made h made u))
 moves_good h more n B Q es v u mv p made x is f takes b pos next = moves_to h more n B Q es v u mv p made x is (fair_to f) takes b pos next

@@ -1,8 +1,8 @@
 -- A walk: it begins, goes on from directory to directory, and is lost; what it drops last goes on the call's list.
-use Rattle.inode_machine.proofs.Vocabulary.{◌≡◌, ◌≢◌, ◌⊎◌, inl, inr, ℕ, ◌+◌, ◌-◌, ◌*◌, ◌<◌, ◌≤◌, Bool, true, false, ◌==◌, ◌||◌, List, [], ◌∷◌, ◌++◌, length, Option, Some, None, refl, sym, ◌∙◌, ap, subst, arith, if◌then◌else◌, Do, unmarked, own, onto, Fine, Safe, Wp, NoEntry, Reply, Node, Action, Inherit, hart_count, root, Name, Tree, put, look, is_live, live_directory, hold_names, refusal_with, refused, IsInPlace, Row, key_names, row_of, one_if, either, same_or, put_same, put_other, Walk, Deed, Stage, Step, Acts, Looks, fail, Look, Quit, Desk, Note, World, Mark, Take, Give, AtName, AtNothing, seen_in, face_of, is_directory_face, sort_of, is_at, looked, acts, found_by, marked, mended, places, Own, Held, key_in, own_names, own_of, Inv, machine, reference_limit, ThisP as P, Stop, NotThere, NoMemory, leave_directory, looks_or_quits, walk, walk_step, walk_parent, see_parent, quits_unless, makes}
+use Rattle.inode_machine.proofs.Vocabulary.{◌≡◌, ◌≢◌, ◌⊎◌, inl, inr, ℕ, ◌+◌, ◌-◌, ◌*◌, ◌<◌, ◌≤◌, Bool, true, false, ◌==◌, ◌||◌, List, [], ◌∷◌, ◌++◌, length, Option, Some, None, refl, sym, ◌∙◌, ap, subst, arith, if◌then◌else◌, Do, unmarked, own, onto, Fine, Safe, Wp, NoEntry, Reply, Node, Action, Inherit, hart_count, root, Name, Tree, put, look, is_live, live_directory, hold_names, refusal_with, refused, IsInPlace, Row, key_names, row_of, one_if, either, same_or, put_same, put_other, Walk, Deed, Stage, Step, Acts, LookupLeadsTo, fail, Look, GiveUpWalk, Desk, Note, World, Mark, Take, UnlockInode, AtName, AtNothing, seen_in, face_of, is_directory_face, type_of, is_at, looked, acts, found_by, marked, mended, places, Own, Held, key_in, own_names, own_of, Inv, machine, reference_limit, ThisP as P, WalkStop, NotThere, NoMemory, leave_directory, looks_or_quits, walk, walk_step, walk_parent, see_parent, quits_unless, makes}
 use Rattle.inode_machine.proofs.Names.{AllNames}
 use Rattle.inode_machine.proofs.Frame.{Fair, fair_same}
-use Rattle.inode_machine.proofs.Rules.{quiet, locked_held, s-up, noted_sort, root_live}
+use Rattle.inode_machine.proofs.Rules.{quiet, locked_held, s-up, noted_type, root_live}
 use Rattle.inode_machine.proofs.Counting.{s-give, s-walk-down, MayDrop, one_most}
 use Rattle.inode_machine.proofs.Looks.{live_face, no_directory, s-take-then, MoveFine, quit_good, look_on_good, look_refused_good, spoilt, KeepsHold, mends}
 use Rattle.inode_machine.proofs.Listing.{times, times_last, length_last, one_at, one_else, Listed, listed_held, listed_among, listed_on, listed_more}
@@ -70,7 +70,7 @@ s-leave-directory {A} {h} d ns c x base {k} {B} {Q} {n} {es} {w} {O} {O1} owns f
 
 -- why an inode is known to be there: it is the root, the current directory, or what was noted
 abbrev pub Known : Own → ℕ → Type 0
-Known O d = (d ≡ root) ⊎ ((d ≡ O.row.cwd) ⊎ ((m : Note) × (O.desk.noted ≡ Some m) × (m.number ≡ d) × (m.sort ≢ None)))
+Known O d = (d ≡ root) ⊎ ((d ≡ O.row.cwd) ⊎ ((m : Note) × (O.desk.noted ≡ Some m) × (m.number ≡ d) × (m.inode_type ≢ None)))
 
 pub known_there : (h d : ℕ) (v : World) (O : Own) → Inv v → own_of h v ≡ O → h < hart_count → O.inodes d ≡ None → 0 < O.mine.refs d → Known O d → v.all.nodes d ≢ None
 known_there h d v O inv ov lt out refers (inl q) e = let l = root_live v.all inv.well in let f : is_live (v.all.nodes root) ≡ false = ap (λ (z : Option Node). is_live z) (ap v.all.nodes (sym q) ∙ e) in cc (l, f)
@@ -79,7 +79,7 @@ known_there h d v O inv ov lt out refers (inr (inl q)) e =
     let a = t.is in
     let c : v.all.nodes (v.all.cwd h) ≡ None = ap v.all.nodes (sym (q ∙ ap (λ (o : Own). o.row.cwd) (sym ov))) ∙ e in
     cc (a, c)
-known_there h d v O inv ov lt out refers (inr (inr p)) e = p.3 (sym (noted_sort h d O p.0 p.1 p.2 out refers lt v inv ov) ∙ ap (λ (z : Option Node). sort_of z) e)
+known_there h d v O inv ov lt out refers (inr (inr p)) e = p.3 (sym (noted_type h d O p.0 p.1 p.2 out refers lt v inv ov) ∙ ap (λ (z : Option Node). type_of z) e)
 
 -- Where a call walks. O0: what it had of its own at the beginning; base: its references then.
 pub record On (h : ℕ) (s : Action) (d : ℕ) (e : Name) (r : List Name) (base : ℕ → ℕ) (ns : List ℕ) (O0 O : Own) (w : World) : Type 0 where
@@ -172,7 +172,7 @@ pub few_listed : {base : ℕ → ℕ} {ns : List ℕ} {O0 O : Own} → Ready bas
 few_listed ready l d i = let a = ready.few i in let b = l.once i in let c = one_most (d == i) in omega (arith, a, b, c)
 
 -- a walk was lost by its step, or no place was left in memory
-abbrev pub Lost : (List Step → Type 0) → Stop → List Step → Own → Type 0
+abbrev pub Lost : (List Step → Type 0) → WalkStop → List Step → Own → Type 0
 Lost V NotThere es O = V es
 Lost V NoMemory es O = O.desk.full ≡ true
 
@@ -180,14 +180,14 @@ dead_look : (c : Option Node) (d : ℕ) (e : Name) → live_directory c ≡ fals
 unfolding look
 dead_look c d e q = rw q refl
 
-module _ (h : ℕ) (s : Action) (B : List Step → Type 0) (Q : Reply → List Step → World → Type 0) (W V : List Step → Type 0) (base : ℕ → ℕ) (O0 : Own) (K : ℕ) (lt : h < hart_count) (ready : Ready base O0) (lost : Stop → List ℕ → P Reply)
-    (loses : (why : Stop) (ms : List ℕ) (l : ℕ) (es : List Step) (u : World) (R : Own) → 971 * length ms + K ≤ l → Gone h base ms O0 R u → Lost V why es R → Safe machine h B Q (lost why ms) l es u)
+module _ (h : ℕ) (s : Action) (B : List Step → Type 0) (Q : Reply → List Step → World → Type 0) (W V : List Step → Type 0) (base : ℕ → ℕ) (O0 : Own) (K : ℕ) (lt : h < hart_count) (ready : Ready base O0) (lost : WalkStop → List ℕ → P Reply)
+    (loses : (why : WalkStop) (ms : List ℕ) (l : ℕ) (es : List Step) (u : World) (R : Own) → 971 * length ms + K ≤ l → Gone h base ms O0 R u → Lost V why es R → Safe machine h B Q (lost why ms) l es u)
     (look_more : (es : List Step) → W es → W (record { move = Look 0; told = None } ∷ es) × B (record { move = Look 0; told = None } ∷ es))
     (look_lost : (es : List Step) → W es → V (record { move = Look 0; told = Some (fail s) } ∷ es) × B (record { move = Look 0; told = Some (fail s) } ∷ es))
-    (quit_lost : (es : List Step) → W es → V (record { move = Quit s; told = Some (fail s) } ∷ es) × B (record { move = Quit s; told = Some (fail s) } ∷ es))
+    (quit_lost : (es : List Step) → W es → V (record { move = GiveUpWalk s; told = Some (fail s) } ∷ es) × B (record { move = GiveUpWalk s; told = Some (fail s) } ∷ es))
     (none_refused : (b : Tree) → refusal_with b h s None None ≡ Some NoEntry) (stays : (b : Tree) → refused b h s ≡ b) (place : (t : Tree) → row_of t h ≡ O0.row → IsInPlace t h s) (other : (g : ℕ) → s ≡ Inherit g → ⊥) (finds_none : found_by s None ≡ None) where
   -- the directory where it was lost is given up
-  pub s-lose : (why : Stop) (d : ℕ) (ns : List ℕ) (c : Option Node) (n : ℕ) (es : List Step) (w : World) (O O1 : Own) → own_of h w ≡ O1 → Stays O1 O0 → Stays O O0 → 973 + 971 * length ns + K ≤ n → O1.inodes ≡ put O.inodes d (Some (locked_held c)) → O.inodes d ≡ None → Listed O base ns → O1.mine.pending ≡ None → O1.mine.walk ≡ None
+  pub s-lose : (why : WalkStop) (d : ℕ) (ns : List ℕ) (c : Option Node) (n : ℕ) (es : List Step) (w : World) (O O1 : Own) → own_of h w ≡ O1 → Stays O1 O0 → Stays O O0 → 973 + 971 * length ns + K ≤ n → O1.inodes ≡ put O.inodes d (Some (locked_held c)) → O.inodes d ≡ None → Listed O base ns → O1.mine.pending ≡ None → O1.mine.walk ≡ None
       → ((i : ℕ) → O1.mine.refs i ≡ base i + times i ns + one_if (d == i)) → ((i : ℕ) → 0 < times i ns → O1.mine.refs i ≡ O.mine.refs i) → Lost V why es O1
       → Safe machine h B Q (leave_directory d ns (lost why)) n es w
   s-lose why d ns c n es w O O1 owns st st0 few inodes out l pending walk refs same told =
@@ -205,14 +205,14 @@ module _ (h : ℕ) (s : Action) (B : List Step → Type 0) (Q : Reply → List S
       may : (0 < base d + times d ns) ⊎ ((own_names O1.row O1.desk d ≡ false) × ((y : Walk) → O1.mine.walk ≡ Some y → y.at ≢ d))
       may = elim (either (own_names O1.row O1.desk d)) [ inl y ↦ inl (let a = ready.spare d (sym (names_stay O1 O0 st d) ∙ y) in omega (arith, a)) | inr y ↦ inr (y, λ z q. absurd (cc (q, walk))) ]
 
-      told_on : (why : Stop) (R : Own) → R.desk ≡ O1.desk → Lost V why es O1 → Lost V why es R
+      told_on : (why : WalkStop) (R : Own) → R.desk ≡ O1.desk → Lost V why es O1 → Lost V why es R
       told_on NotThere R e t = t
       told_on NoMemory R e t = ap (λ (z : Desk). z.full) e ∙ t
 
   -- A name is looked up, of which these elements come after: the walk is lost here, or the name is found.
   s-look : (r : List Name) (par : Option (ℕ × Name)) (d : ℕ) (e : Name) (ns : List ℕ) (n : ℕ) (es : List Step) (w : World) (O : Own) (go : ℕ → List ℕ → P Reply) → 2600 + 971 * length ns + K ≤ n → On h s d e r base ns O0 O w → W es
       → ((b : Tree) (id : ℕ) → looked b h (record { step = s; at = d; next = e; rest = r }) r None 0 id ≡ acts b h s None par 0 id)
-      → ((m m' : Stage) (t : Option Deed) → Acts m h s None par 0 t m' → Looks m h (record { step = s; at = d; next = e; rest = r }) r None 0 t m') → ((b : Tree) → refusal_with b h s None par ≡ Some NoEntry)
+      → ((m m' : Stage) (t : Option Deed) → Acts m h s None par 0 t m' → LookupLeadsTo m h (record { step = s; at = d; next = e; rest = r }) r None 0 t m') → ((b : Tree) → refusal_with b h s None par ≡ Some NoEntry)
       → ((u : World) (c : Option Node) (j : ℕ) → Inv u → own_of h u ≡ record O { inodes = put O.inodes d (Some (locked_held c)) } → live_directory c ≡ true → look (λ i. c) d e ≡ Some j → MoveFine h 1611 n B Q es u (Look 0) (walk_step d ns go lost (Some j)))
       → Safe machine h B Q (Do (Take d (AtName e)) (looks_or_quits s) (λ x. walk_step d ns go lost x.found)) n es w
   s-look r par d e ns n es w O go few on told same plays refusal finds =
@@ -233,8 +233,8 @@ module _ (h : ℕ) (s : Action) (B : List Step → Type 0) (Q : Reply → List S
       Goal : World → Option Node → Option Mark → Option ℕ → Type 0
       Goal u c m f = Fine machine h (places h (Take d (AtName e)) (seen_in d (AtName e) c) m u) 1611 n B es u (marked h m u) (λ l. Wp machine h B Q (walk_step d ns go lost f) l (onto (own h (places h (Take d (AtName e)) (seen_in d (AtName e) c) m u)) es) (marked h m u))
 
-      mark_is : (c : Option Node) (b : Bool) → live_directory c ≡ b → looks_or_quits s (seen_in d (AtName e) c) ≡ (if b then makes (Look 0) else makes (Quit s))
-      mark_is c b q = λ z. if (live_face c ∙ q) z then makes (Look 0) else makes (Quit s)
+      mark_is : (c : Option Node) (b : Bool) → live_directory c ≡ b → looks_or_quits s (seen_in d (AtName e) c) ≡ (if b then makes (Look 0) else makes (GiveUpWalk s))
+      mark_is c b q = λ z. if (live_face c ∙ q) z then makes (Look 0) else makes (GiveUpWalk s)
 
       stays_on : (c : Option Node) → Stays (record (O1 c) { mine = record { refs = O.mine.refs; walk = None; pending = None } }) O0
       stays_on c = stays_same (record (O1 c) { mine = record { refs = O.mine.refs; walk = None; pending = None } }) O O0 refl refl refl on.stays
@@ -242,9 +242,9 @@ module _ (h : ℕ) (s : Action) (B : List Step → Type 0) (Q : Reply → List S
       seen : (u : World) (c : Option Node) → Inv u → own_of h u ≡ O1 c → (b : Bool) → live_directory c ≡ b → Goal u c (looks_or_quits s (seen_in d (AtName e) c)) (look (λ j. c) d e)
       seen u c inv own1 false dead =
           subst (λ (m : Option Mark). Goal u c m (look (λ j. c) d e)) (sym (mark_is c false dead))
-          (subst (λ (f : Option ℕ). Goal u c (makes (Quit s)) f) (sym (dead_look c d e dead))
+          (subst (λ (f : Option ℕ). Goal u c (makes (GiveUpWalk s)) f) (sym (dead_look c d e dead))
           (quit_good h 1611 n d B Q es u (O1 c) (locked_held c) y (leave_directory d ns (lost NotThere)) own1 free_o lt inv on.walk on.pending refl (isd c) dead (quit_lost es told).1 (omega (arith, few)) (λ l2 u2 q2 own2.
-          s-lose NotThere d ns c l2 (record { move = Quit s; told = Some (fail s) } ∷ es) u2 O _ own2 (stays_on c) on.stays (omega (arith, q2, few)) refl on.out on.listed refl refl on.refs (λ i t. refl) (quit_lost es told).0)))
+          s-lose NotThere d ns c l2 (record { move = GiveUpWalk s; told = Some (fail s) } ∷ es) u2 O _ own2 (stays_on c) on.stays (omega (arith, q2, few)) refl on.out on.listed refl refl on.refs (λ i t. refl) (quit_lost es told).0)))
       seen u c inv own1 true live =
           subst (λ (m : Option Mark). Goal u c m (look (λ j. c) d e)) (sym (mark_is c true live)) (found u c inv own1 live (look (λ j. c) d e) refl)
         where
@@ -388,12 +388,12 @@ module _ (h : ℕ) (s : Action) (B : List Step → Type 0) (Q : Reply → List S
       isd c = put_same O.inodes d (Some (locked_held c))
 
       Goal : World → Option Node → Bool → Type 0
-      Goal u c b = Fine machine h (places h (Take d AtNothing) (seen_in d AtNothing c) (quits_unless s b) u) 3 n B es u (marked h (quits_unless s b) u) (λ l. Wp machine h B Q (if b then Do (Give d) unmarked (λ _. found ns) else leave_directory d ns (lost NotThere)) l (onto (own h (places h (Take d AtNothing) (seen_in d AtNothing c) (quits_unless s b) u)) es) (marked h (quits_unless s b) u))
+      Goal u c b = Fine machine h (places h (Take d AtNothing) (seen_in d AtNothing c) (quits_unless s b) u) 3 n B es u (marked h (quits_unless s b) u) (λ l. Wp machine h B Q (if b then Do (UnlockInode d) unmarked (λ _. found ns) else leave_directory d ns (lost NotThere)) l (onto (own h (places h (Take d AtNothing) (seen_in d AtNothing c) (quits_unless s b) u)) es) (marked h (quits_unless s b) u))
 
       seen : (u : World) (c : Option Node) → Inv u → own_of h u ≡ O1 c → (b : Bool) → is_directory_face (face_of c) ≡ b → Goal u c (is_directory_face (face_of c))
       seen u c inv own1 false isnt = subst (λ (b : Bool). Goal u c b) (sym isnt)
           (quit_good h 3 n d B Q es u (O1 c) (locked_held c) y (leave_directory d ns (lost NotThere)) own1 free_o lt inv on.walk on.pending refl (isd c) (no_directory c isnt) (quit_lost es told).1 (omega (arith, few)) (λ l2 u2 q2 own2.
-          s-lose NotThere d ns c l2 (record { move = Quit s; told = Some (fail s) } ∷ es) u2 O _ own2 (stays_same (record (O1 c) { mine = record { refs = O.mine.refs; walk = None; pending = None } }) O O0 refl refl refl on.stays) on.stays (omega (arith, q2, few)) refl on.out on.listed refl refl on.refs (λ i t. refl) (quit_lost es told).0))
+          s-lose NotThere d ns c l2 (record { move = GiveUpWalk s; told = Some (fail s) } ∷ es) u2 O _ own2 (stays_same (record (O1 c) { mine = record { refs = O.mine.refs; walk = None; pending = None } }) O O0 refl refl refl on.stays) on.stays (omega (arith, q2, few)) refl on.out on.listed refl refl on.refs (λ i t. refl) (quit_lost es told).0))
       seen u c inv own1 true holds = subst (λ (b : Bool). Goal u c b) (sym holds)
           (quiet (fair_same inv) refl (omega (arith, few)) (λ l q.
           (s-give {k = λ (_ : Unit {0}). found ns} own1 free_o lt (omega (arith, q, few)) (isd c) refl refl refl on.pending (λ l2 u2 q2 own2. arrives l2 u2 _ (omega (arith, q, q2)) (record {

@@ -1,7 +1,7 @@
 -- Write: a descriptor is looked up, its inode locked, a piece written at the offset, and the offset moves, with the lock given up.
-use Rattle.inode_machine.proofs.Vocabulary.{◌≡◌, ◌≢◌, inl, inr, ℕ, ◌+◌, ◌-◌, ◌<◌, ◌≤◌, Bool, true, false, List, [], ◌∷◌, take, length, Option, Some, None, refl, sym, ◌∙◌, ap, subst, arith, Do, Ran, unmarked, Came, P, own, onto, Good, Fine, Safe, Wp, Cause, BadDescriptor, Node, Kind, Directory, File, Device, WritePart, Done, hart_count, descriptor_count, piece_len, Name, Tree, put, is_live, settle, resolve, parent, is_file, node_or, refusal_with, with_nodes, write_kind, IsWellFormed, same_or, put_same, put_other, Stage, Step, Takes, OwnMove, Entry, Desk, World, stage_of, Outside, Room, RoomFor, Picks, JoinResult, NotJoined, Joined, Wrote, Whole, Refused as Stopped, Short, CheckFile, JoinFile, LockOpen, WriteFile, Sort, OfDirectory, OfFile, OfDevice, no_driver_for, sort_of, sort_of_kind, Made, places, with_mark, made_by, new_id, with_made, spoiled, slot_at, entry_moved, entry_at, entry_of, offset_of, lock_if, locked, join_at, unlocked, with_joined, with_bytes, with_offset, with_walk, mode_refusal, write_at, write_if, write_refused, Key, file_settled, settle_again, Own, Held, view, is_hart, own_of, shop_of, Inv, KeepsFiles, machine, IsOut, HonestPiece, own_step, refused_to, writes}
+use Rattle.inode_machine.proofs.Vocabulary.{◌≡◌, ◌≢◌, inl, inr, ℕ, ◌+◌, ◌-◌, ◌<◌, ◌≤◌, Bool, true, false, List, [], ◌∷◌, take, length, Option, Some, None, refl, sym, ◌∙◌, ap, subst, arith, Do, Ran, unmarked, ExecResult, P, own, onto, Good, Fine, Safe, Wp, Cause, BadDescriptor, Node, NodeKind, Directory, File, Device, WritePart, Done, hart_count, descriptor_count, piece_len, Name, Tree, put, is_live, settle, resolve, parent, is_file, node_or, refusal_with, with_nodes, write_kind, IsWellFormed, same_or, put_same, put_other, Stage, Step, PlaysStep, OwnMove, Entry, Desk, World, stage_of, Outside, Room, RoomFor, Picks, JoinResult, NotJoined, Joined, Wrote, Whole, Refused as Stopped, Short, CheckFile, JoinFile, LockOpen, WriteFile, InodeType, OfDirectory, OfFile, OfDevice, no_driver_for, type_of, type_of_kind, Made, places, with_mark, made_by, new_id, with_made, spoiled, slot_at, entry_moved, entry_at, entry_of, offset_of, lock_if, locked, join_at, unlocked, with_joined, with_bytes, with_offset, with_walk, mode_refusal, write_at, write_if, write_refused, Key, file_settled, settle_again, Own, Held, view, is_hart, own_of, file_tables_of, Inv, KeepsFiles, machine, IsOut, HonestPiece, own_step, refused_to, writes}
 use Rattle.inode_machine.specs.Exec.{with_record}
-use Rattle.inode_machine.proofs.Basics.{put_elim, is_put, shop_same, ours_none, ours_some, kept_here, Did, Fair, fair, fair_then, own_inodes, has_inode, stands_in, type_on, s-owned, s-owned-from, quiet, fine_after, has_disk, has_node, others, locking, locked_held, is_out, locks_it, locks_none, UnlocksAll, Gives, after_unlock, gives, stage_walk, moves_good, own_walk, walk_did, own_takes, Behind, behind, behind_none, Flagging, flagging, filling, fails, refused_good, Refused as RefusedStep}
+use Rattle.inode_machine.proofs.Basics.{put_elim, is_put, file_tables_same, ours_none, ours_some, kept_here, HartStep, Fair, fair, fair_then, own_inodes, has_inode, stands_in, type_on, s-owned, s-owned-from, quiet, fine_after, has_disk, has_node, others, locking, locked_held, is_out, locks_it, locks_none, UnlocksAll, Gives, after_unlock, gives, stage_walk, moves_good, own_walk, walk_did, own_takes, Behind, behind, behind_none, Flagging, flagging, filling, fails, refused_good, Refused as RefusedStep}
 use Rattle.inode_machine.proofs.Stats.{entry_is, node_settled, node_there}
 use Rattle.inode_machine.proofs.Readings.{IsOpenAt, StandsBy, reads_from, stands_still, Moving, entry_here, moved_names, moved_world, moving, offset_on, open_from, slot_is}
 use Rattle.inode_machine.proofs.Pieces.{write_by_kind, write_place, write_refused_at, write_refused_none, write_stops, empty_piece_goes, fewer_go, wrote_is, write_effect, write_answer, settle_wrote, well_wrote, written_type}
@@ -19,8 +19,8 @@ pub record Changing (h i : ℕ) (y : Node) (x : Held) (v : World) (O : Own) : Ty
   pub owned : own_of h (changed_world i y v) ≡ record O { inodes = put O.inodes i (Some (record x { disk = Some y; node = Some y })) }
 
 pub changing : (h i : ℕ) (y : Node) (x : Held) (v : World) (O : Own) → own_of h v ≡ O → O.desk.lender ≡ None → h < hart_count → Inv v → O.mine.pending ≡ None → O.inodes i ≡ Some x
-    → sort_of (Some y) ≡ sort_of (v.all.nodes i) → is_live (Some y) ≡ is_live (v.all.nodes i) → IsWellFormed (with_nodes v.all (put v.all.nodes i (Some y))) → Changing h i y x v O
-changing h i y x v O ov free lt inv none isi sort live well = record { fair = fair inv did; owned = owned }
+    → type_of (Some y) ≡ type_of (v.all.nodes i) → is_live (Some y) ≡ is_live (v.all.nodes i) → IsWellFormed (with_nodes v.all (put v.all.nodes i (Some y))) → Changing h i y x v O
+changing h i y x v O ov free lt inv none isi inode_type live well = record { fair = fair inv did; owned = owned }
   where
     u : World
     u = changed_world i y v
@@ -28,13 +28,13 @@ changing h i y x v O ov free lt inv none isi sort live well = record { fair = fa
     kept : v.keeper i ≡ Some h
     kept = (has_inode h i v O x ov isi).0
 
-    sorts : (j : ℕ) → sort_of (put v.all.nodes i (Some y) j) ≡ sort_of (v.all.nodes j)
-    sorts j = put_elim v.all.nodes i (Some y) j (λ z. sort_of z ≡ sort_of (v.all.nodes j)) (λ e. sort ∙ ap (λ (z : ℕ). sort_of (v.all.nodes z)) (sym e)) (λ ne. refl)
+    inode_types : (j : ℕ) → type_of (put v.all.nodes i (Some y) j) ≡ type_of (v.all.nodes j)
+    inode_types j = put_elim v.all.nodes i (Some y) j (λ z. type_of z ≡ type_of (v.all.nodes j)) (λ e. inode_type ∙ ap (λ (z : ℕ). type_of (v.all.nodes z)) (sym e)) (λ ne. refl)
 
     lives : (j : ℕ) → is_live (put v.all.nodes i (Some y) j) ≡ is_live (v.all.nodes j)
     lives j = put_elim v.all.nodes i (Some y) j (λ z. is_live z ≡ is_live (v.all.nodes j)) (λ e. live ∙ ap (λ (z : ℕ). is_live (v.all.nodes z)) (sym e)) (λ ne. refl)
 
-    did : Did h v u
+    did : HartStep h v u
     did =
         record {
           hart = lt;
@@ -51,17 +51,17 @@ changing h i y x v O ov free lt inv none isi sort live well = record { fair = fa
           rows = λ g ne. refl;
           size = refl;
           ids = inv.ids;
-          shop = shop_same h (shop_of v) inv.tied;
+          file_tables = file_tables_same h (file_tables_of v) inv.tied;
           free = ap (λ (o : Own). o.desk.lender) ov ∙ free;
           raised = inv.raised h lt;
           quiet = λ j is f. elim (same_or j i) [
             | inl q ↦ ap (put v.disk i (Some y)) q ∙ put_same v.disk i (Some y) ∙ sym (ap (put v.all.nodes i (Some y)) q ∙ put_same v.all.nodes i (Some y))
             | inr ne ↦ put_other v.disk i (Some y) j ne ∙ inv.quiet j h is f ∙ sym (put_other v.all.nodes i (Some y) j ne)
           ];
-          sort = λ j. inl (sorts j);
-          sorts = λ k e is. type_on v.all.nodes (put v.all.nodes i (Some y)) e (sorts e.file.number) (inv.sorts k e is);
-          noted = λ n is r s. sorts n.number ∙ inv.noted h n lt is r s;
-          directory = stands_in (v.desks h) (v.all.cwd h) v.all.nodes (put v.all.nodes i (Some y)) (sorts (v.desks h).directory) (inv.directory h lt);
+          inode_type = λ j. inl (inode_types j);
+          inode_types = λ k e is. type_on v.all.nodes (put v.all.nodes i (Some y)) e (inode_types e.file.number) (inv.inode_types k e is);
+          noted = λ n is r s. inode_types n.number ∙ inv.noted h n lt is r s;
+          directory = stands_in (v.desks h) (v.all.cwd h) v.all.nodes (put v.all.nodes i (Some y)) (inode_types (v.desks h).directory) (inv.directory h lt);
           refers = inv.refers h lt;
           well = well;
           counts = inv.counts;
@@ -98,7 +98,7 @@ pub record Writing (h fd i s : ℕ) (e : Entry) (x : Node) (b : List ℕ) (v : W
   pub fair : Fair h v (after_piece h i s e (with_bytes e.file.offset b x) b v)
   pub owned : own_of h (after_piece h i s e (with_bytes e.file.offset b x) b v) ≡ record O { inodes = put O.inodes i None; mine = record { refs = O.mine.refs; walk = None; pending = None } }
   pub made : made_by v.all h (new_id v) (v.harts h).walk (OwnMove (WritePart fd b) 0) ≡ record { all = (after_piece h i s e (with_bytes e.file.offset b x) b v).all; walk = None; found = None; opened = None; entered = None; left = None; told = (wrote_step fd b).told }
-  pub takes : Takes (stage_of v) h (wrote_step fd b) (stage_of (after_piece h i s e (with_bytes e.file.offset b x) b v))
+  pub takes : PlaysStep (stage_of v) h (wrote_step fd b) (stage_of (after_piece h i s e (with_bytes e.file.offset b x) b v))
 
 pub writing : (h fd i s : ℕ) (e : Entry) (x : Node) (b : List ℕ) (v : World) (O : Own) → own_of h v ≡ O → O.desk.lender ≡ None → h < hart_count → Inv v → O.mine.walk ≡ None → O.mine.pending ≡ None → Behind h fd s e v
     → e.file.number ≡ i → O.inodes i ≡ Some (locked_held (Some x)) → e.file.writable ≡ true → write_kind x.kind e.file.offset b ≡ None → Writing h fd i s e x b v O
@@ -138,7 +138,7 @@ writing h fd i s e x b v O ov free lt inv walks none hit num isi writable goes =
 
     c : Changing h i y (locked_held (Some x)) v O
     c = changing h i y (locked_held (Some x)) v O ov free lt inv none isi
-        (ap (λ (z : Sort). Some z) (written_type x.kind e.file.offset b) ∙ ap (λ (z : Option Node). sort_of z) (sym node)) (ap (λ (z : Option Node). is_live z) (sym node)) (well_wrote v.all i e.file.offset b x inv.well node)
+        (ap (λ (z : InodeType). Some z) (written_type x.kind e.file.offset b) ∙ ap (λ (z : Option Node). type_of z) (sym node)) (ap (λ (z : Option Node). is_live z) (sym node)) (well_wrote v.all i e.file.offset b x inv.well node)
 
     O1 : Own
     O1 = record O { inodes = put O.inodes i (Some (locked_held (Some y))) }
@@ -165,35 +165,35 @@ writable_here h fd n v O k inv ov lt idle =
     let z = entry_here h fd n v O k.opened inv ov lt idle in
     (z.0, z.1, ap (λ (q : Key). q.number) z.2 ∙ k.opened.number, ap (λ (q : Key). q.writable) z.2 ∙ k.writable)
 
-pub writes_to : (w : Bool) (s : Sort) → mode_refusal w s ≡ None → w ≡ true
+pub writes_to : (w : Bool) (s : InodeType) → mode_refusal w s ≡ None → w ≡ true
 writes_to true s e = refl
 writes_to false s e = absurd cc
 
 abbrev pub writable_from : (h fd s : ℕ) (e : Entry) (v : World) (O : Own) → Inv v → own_of h v ≡ O → h < hart_count → Behind h fd s e v → write_refused (Some e) ≡ None → IsWritable O fd e.file.number
-writable_from h fd s e v O inv ov lt hit goes = record { opened = open_from h fd s e v O inv ov lt hit; writable = writes_to e.file.writable e.sort goes }
+writable_from h fd s e v O inv ov lt hit goes = record { opened = open_from h fd s e v O inv ov lt hit; writable = writes_to e.file.writable e.inode_type goes }
 
 -- What a slot has open is a file.
 pub record OpensFile (w : World) (slot : ℕ) : Type 0 where
   pub entry : Entry
   pub at : w.files slot ≡ Some entry
-  pub sort : entry.sort ≡ OfFile
+  pub inode_type : entry.inode_type ≡ OfFile
 
 -- which stays so behind a descriptor of the hart
 pub file_stays : (h fd s : ℕ) (w v : World) → h < hart_count → fd < descriptor_count → (w.desks h).fds fd ≡ Some s → KeepsFiles h w v → OpensFile w s → OpensFile v s
-file_stays h fd s w v lt below is keeps f = let y = keeps fd s f.entry lt below is f.at in record { entry = y.0; at = y.1; sort = y.2 ∙ f.sort }
+file_stays h fd s w v lt below is keeps f = let y = keeps fd s f.entry lt below is f.at in record { entry = y.0; at = y.1; inode_type = y.2 ∙ f.inode_type }
 
 pub file_same : (s : ℕ) (v u : World) → u.files ≡ v.files → OpensFile v s → OpensFile u s
-file_same s v u same f = record { entry = f.entry; at = (λ z. same z s) ∙ f.at; sort = f.sort }
+file_same s v u same f = record { entry = f.entry; at = (λ z. same z s) ∙ f.at; inode_type = f.inode_type }
 
-only_file : (s : Sort) → no_driver_for s ≡ None → s ≢ OfDirectory → s ≡ OfFile
+only_file : (s : InodeType) → no_driver_for s ≡ None → s ≢ OfDirectory → s ≡ OfFile
 only_file OfDirectory e ne = absurd (ne refl)
 only_file OfFile e ne = refl
 only_file (OfDevice major) e ne = absurd cc
 
 file_from : (s : ℕ) (e : Entry) (v : World) → Inv v → v.files s ≡ Some e → write_refused (Some e) ≡ None → OpensFile v s
-file_from s e v inv at goes = let r = reads_from e.file.writable e.sort goes in record { entry = e; at = at; sort = only_file e.sort r.1 ((inv.sorts s e at).written r.0) }
+file_from s e v inv at goes = let r = reads_from e.file.writable e.inode_type goes in record { entry = e; at = at; inode_type = only_file e.inode_type r.1 ((inv.inode_types s e at).written r.0) }
 
-is_file_kind : (k : Kind) → sort_of_kind k ≡ OfFile → is_file k ≡ true
+is_file_kind : (k : NodeKind) → type_of_kind k ≡ OfFile → is_file k ≡ true
 is_file_kind (Directory slots) e = absurd cc
 is_file_kind (File bytes) e = refl
 is_file_kind (Device major minor size) e = absurd cc
@@ -203,17 +203,17 @@ file_node : (s i : ℕ) (e : Entry) (y : Node) (v : World) → Inv v → v.files
 file_node s i e y v inv at num node f = is_file_kind y.kind (
     let a : Some e ≡ Some f.entry = sym at ∙ f.at in
     let b : e ≡ f.entry = cc in
-    let c : Some (sort_of_kind y.kind) ≡ Some e.sort = ap (λ (z : Option Node). sort_of z) (sym node) ∙ ap (λ (z : ℕ). sort_of (v.all.nodes z)) (sym num) ∙ (inv.sorts s e at).sort in
-    let d : e.sort ≡ OfFile = ap (λ (z : Entry). z.sort) b ∙ f.sort in
-    let g : sort_of_kind y.kind ≡ e.sort = cc in
+    let c : Some (type_of_kind y.kind) ≡ Some e.inode_type = ap (λ (z : Option Node). type_of z) (sym node) ∙ ap (λ (z : ℕ). type_of (v.all.nodes z)) (sym num) ∙ (inv.inode_types s e at).inode_type in
+    let d : e.inode_type ≡ OfFile = ap (λ (z : Entry). z.inode_type) b ∙ f.inode_type in
+    let g : type_of_kind y.kind ≡ e.inode_type = cc in
     g ∙ d
     )
 
 -- what the table refuses is refused in the tree
 pub table_refuses : (h fd s : ℕ) (e : Entry) (b : List ℕ) (c : Cause) (v : World) → Inv v → h < hart_count → Behind h fd s e v → write_refused (Some e) ≡ Some c → RefusedStep h (WritePart fd b) c v
 table_refuses h fd s e b c v inv lt hit stops = write_refused_at h fd b c v lt
-    (λ res par. write_stops v.all h fd b e c res par hit.file (inv.sorts s e hit.at).sort stops)
-    (λ res par. write_stops (settle v.all) h fd b e c res par (file_settled v.all h fd ∙ hit.file) (ap (λ (z : Option Node). sort_of z) (node_settled h fd v e s inv lt hit) ∙ (inv.sorts s e hit.at).sort) stops)
+    (λ res par. write_stops v.all h fd b e c res par hit.file (inv.inode_types s e hit.at).inode_type stops)
+    (λ res par. write_stops (settle v.all) h fd b e c res par (file_settled v.all h fd ∙ hit.file) (ap (λ (z : Option Node). type_of z) (node_settled h fd v e s inv lt hit) ∙ (inv.inode_types s e hit.at).inode_type) stops)
 
 -- The transaction is joined for a descriptor to write to; or the first piece is refused.
 pub s-join-file : {A : Type 0} {h : ℕ} (fd : ℕ) (b : List ℕ) {k : JoinResult → P machine A} {B : List Step → Type 0} {Q : A → List Step → World → Type 0} {n : ℕ} {es : List Step} {w : World} {O : Own}
@@ -224,7 +224,7 @@ pub s-join-file : {A : Type 0} {h : ℕ} (fd : ℕ) (b : List ℕ) {k : JoinResu
     → Safe machine h B Q (Do (JoinFile fd) (refused_to fd b) k) n es w
 s-join-file {A} {h} fd b {k} {B} {Q} {n} {es} {w} {O} owns free lt pos walks none idle unlocks out bf bad then_ = s-owned owns free pos (λ v inv ov. ((locks_none h v O inv ov unlocks, ap (λ (o : Own). o.desk.joined) ov ∙ out), (λ _ _. at v inv ov (slot_at v h fd) refl)))
   where
-    Goal : World → Came JoinResult World → Type 0
+    Goal : World → ExecResult JoinResult World → Type 0
     Goal v z = Good machine JoinResult h (λ a. places h (JoinFile fd) a (refused_to fd b a) v) 0 n B es v ⊥ (with_mark h (refused_to fd b) z) (λ l a u. Wp machine h B Q (k a) l (onto (own h (places h (JoinFile fd) a (refused_to fd b a) v)) es) u)
 
     opening_none : (v : World) → own_of h v ≡ O → (v.desks h).opening ≡ None
@@ -265,11 +265,11 @@ s-check-file {A} {h} fd {k} {B} {Q} {n} {es} {w} {O} owns free lt pos walks none
         refused_good h 0 n B Q es v O (WritePart fd []) c (k (Some c)) ov free lt inv walks none (table_refuses h fd s e [] c v inv lt hit stops) (bf c) pos (λ l u p own2. bad l c u p own2)
     by_cause v inv ov s e hit None goes =
         moves_good h 0 n B Q es v v (OwnMove (WritePart fd []) 0) (k None) (made_by v.all h (new_id v) (v.harts h).walk (OwnMove (WritePart fd []) 0)) (record { all = v.all; walk = None; found = None; opened = None; entered = None; left = None; told = (wrote_step fd []).told })
-        (rw (empty_piece_goes v.all h fd e (resolve v.all h []) (parent v.all h []) hit.file (inv.sorts s e hit.at).sort goes)
+        (rw (empty_piece_goes v.all h fd e (resolve v.all h []) (parent v.all h []) hit.file (inv.inode_types s e hit.at).inode_type goes)
         (λ r. record { all = write_effect v.all h fd 0 (new_id v) [] (resolve v.all h []) (parent v.all h []) r; walk = None; found = None; opened = None; entered = None; left = None; told = Some (record { act = record { step = WritePart fd []; answer = write_answer v.all h fd (new_id v) [] (resolve v.all h []) (parent v.all h []) r }; new = 0 }) }))
         (fair inv (walk_did h None None v (ap (λ (o : Own). o.desk.lender) ov ∙ free) lt inv (ap (λ (o : Own). o.mine.pending) ov ∙ none) (λ m q p. absurd cc) (λ z p. absurd cc) (λ j p. absurd cc)))
         (own_takes h v (record v { harts = with_walk v.harts h None None }) (WritePart fd []) Done refl refl (ap (λ (o : Own). o.mine.walk) ov ∙ walks) (λ z. refl) (λ g z. absurd cc) (
-          empty_piece_goes (settle v.all) h fd e (resolve (settle v.all) h []) (parent (settle v.all) h []) (file_settled v.all h fd ∙ hit.file) (ap (λ (z : Option Node). sort_of z) (node_settled h fd v e s inv lt hit) ∙ (inv.sorts s e hit.at).sort) goes,
+          empty_piece_goes (settle v.all) h fd e (resolve (settle v.all) h []) (parent (settle v.all) h []) (file_settled v.all h fd ∙ hit.file) (ap (λ (z : Option Node). type_of z) (node_settled h fd v e s inv lt hit) ∙ (inv.inode_types s e hit.at).inode_type) goes,
           sym (write_answer (settle v.all) h fd (new_id v) [] (resolve (settle v.all) h []) (parent (settle v.all) h [])),
           record { node = λ z. absurd cc; file = λ z. absurd cc },
           settle_again v.all ∙ ap (λ (z : Tree). settle z) (sym (write_effect (settle v.all) h fd 0 (new_id v) [] (resolve (settle v.all) h []) (parent (settle v.all) h []))),
@@ -324,7 +324,7 @@ s-write-file {A} {h} fd i offset b y {k} {B} {Q} {n} {es} {w} {O} owns free lt p
       (λ x honest. at v inv ov held x honest z.0 z.1 z.2 z.3),
     ))
   where
-    Goal : World → Came Wrote World → Type 0
+    Goal : World → ExecResult Wrote World → Type 0
     Goal v z = Good machine Wrote h (λ a. places h (WriteFile fd i offset b) a (writes fd b a) v) 97 n B es v ⊥ (with_mark h (writes fd b) z) (λ l a u. Wp machine h B Q (k a) l (onto (own h (places h (WriteFile fd i offset b) a (writes fd b a) v)) es) u)
 
     O1 : Own
@@ -391,4 +391,4 @@ s-write-file {A} {h} fd i offset b y {k} {B} {Q} {n} {es} {w} {O} owns free lt p
         let shared : v.alone i ≡ false = ap (λ (z : Held). z.alone) (has_inode h i v O (locked_held (Some y)) ov isi).1 in
         subst (λ (o : Option ℕ). Goal v (write_at v o i b x (entry_at v.files o))) (sym (slot_is h fd i v O key.opened ov))
         (subst (λ (o : Option Entry). Goal v (write_at v (Some key.opened.slot) i b x o)) (sym hit.at)
-        (by_cause v inv ov disk shared x honest key.opened.slot e (record { entry = entry_moved e (length b); at = put_same v.files key.opened.slot (Some (entry_moved e (length b))); sort = (let a : Some e ≡ Some held.entry = sym hit.at ∙ held.at in let q : e ≡ held.entry = cc in ap (λ (z : Entry). z.sort) q ∙ held.sort) }) hit num writable (write_kind (node_or (v.disk i)).kind e.file.offset b) (λ z. write_kind (node_or (sym disk z)).kind e.file.offset b)))
+        (by_cause v inv ov disk shared x honest key.opened.slot e (record { entry = entry_moved e (length b); at = put_same v.files key.opened.slot (Some (entry_moved e (length b))); inode_type = (let a : Some e ≡ Some held.entry = sym hit.at ∙ held.at in let q : e ≡ held.entry = cc in ap (λ (z : Entry). z.inode_type) q ∙ held.inode_type) }) hit num writable (write_kind (node_or (v.disk i)).kind e.file.offset b) (λ z. write_kind (node_or (sym disk z)).kind e.file.offset b)))

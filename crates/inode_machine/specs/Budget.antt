@@ -40,7 +40,7 @@ abbrev pub spent_after : Op → Spent → Spent
 spent_after Join s = unspent
 spent_after (JoinFile fd) s = unspent
 spent_after (Free n) s = with_record n (with_bitmap s)
-spent_after (Claim sort) s = with_contents 1 s
+spent_after (Claim inode_type) s = with_contents 1 s
 spent_after (Store n count) s = with_record n s
 spent_after (Fill n d) s = with_record n (with_bitmap (with_contents 1 s))
 spent_after (Enter d e n) s = with_record d (with_bitmap (with_contents 2 s))

@@ -5,7 +5,7 @@ use Rattle.inode_machine.specs.Vocabulary.{Cause, BadDescriptor, Descriptors, Bl
 use Rattle.plain_tree.specs.declared.call.Call.TheVariants as calls
 use Rattle.plain_tree.specs.declared.step.Action.TheVariants as steps
 use Rattle.inode_machine.specs.Basics.{Face, stat_of_face, Mark, LockResult, NotLocked, LocksIt, JoinResult, NotJoined, Joined, Wrote, Whole, Refused, Short, P, own_step, failed, full, done, say, drop}
-use Rattle.inode_machine.specs.World.Op.{Give, StatFile, LockFile, ReadFile, CheckFile, JoinFile, LockOpen, WriteFile, Double, Shut, Join, Leave}
+use Rattle.inode_machine.specs.World.Op.{UnlockInode, StatFile, LockFile, ReadFile, CheckFile, JoinFile, LockOpen, WriteFile, Double, Shut, Join, Leave}
 use Rattle.inode_machine.specs.World.Mark.{Fills, Spoils}
 
 -- dup: one step for descriptor and count; without an open file the reply alone
@@ -40,7 +40,7 @@ stat_reply fd n f = record { answer = answers.Stat (stat_of_face n f); call = ca
 
 abbrev pub stat_on : ℕ → Option (ℕ × Face) → P Reply
 stat_on fd None = Ret (failed (calls.Fstat fd) BadDescriptor)
-stat_on fd (Some p) = Do (Give p.0) unmarked (λ _. say (stat_reply fd p.0 p.1))
+stat_on fd (Some p) = Do (UnlockInode p.0) unmarked (λ _. say (stat_reply fd p.0 p.1))
 
 abbrev pub stat_program : ℕ → P Reply
 stat_program fd = Do (StatFile fd) (λ a. own_step (steps.Fstat fd)) (stat_on fd)

@@ -1,7 +1,7 @@
 -- Runs in which calls finish, from a fresh tree.
 use Rattle.std.specs.Prelude.{◌≡◌, ℕ, zero, suc, true, false, List, [], ◌∷◌, ◌++◌, replicate, Some, codes}
 use Rattle.plain_tree.specs.declared.answer.Answer.TheVariants as answers
-use Rattle.inode_machine.specs.Vocabulary.{Cause, NoEntry, Exists, IsDirectory, TooManyLinks, Blocks, Descriptors, DiskInodes, DirectorySlots, Reply, Call, Directory, File, node_or, with_nodes, Tree, put, tree_of, count_limit, fresh_tree, Came, Event, Start, Step, Started, Refused, WasIdle, DidWait, DidRun, DidEnd, DidStop, WasStopped, FinishedCall, State, fresh, outcomes, run}
+use Rattle.inode_machine.specs.Vocabulary.{Cause, NoEntry, Exists, IsDirectory, TooManyLinks, Blocks, Descriptors, DiskInodes, DirectorySlots, Reply, Call, Directory, File, node_or, with_nodes, Tree, put, tree_of, count_limit, fresh_tree, EventOutcome, Event, Start, Step, Started, Refused, WasIdle, DidWait, DidRun, DidEnd, DidStop, WasStopped, FinishedCall, State, fresh, outcomes, run}
 use Rattle.plain_tree.specs.declared.answer.NodeType.TheVariants as types
 use Rattle.plain_tree.specs.declared.call.Call.TheVariants as calls
 use Rattle.inode_machine.specs.Basics.{Outside, Room, RoomFor, Picks, slot_limit, with_entry}
@@ -177,7 +177,7 @@ InheritFrees =
 -- Starts that are refused: of no hart; of a child that is none, or is the caller, or has descriptors; of a path that is too long, or has a
 -- zero; of a child
 -- while another hands its own to it, and of it by a third one; of a child that has a call.
-abbrev pub refusals : List (Came covered_calls) → List Refusal
+abbrev pub refusals : List (EventOutcome covered_calls) → List Refusal
 refusals [] = []
 refusals (Refused why ∷ cs) = why ∷ refusals cs
 refusals (Started ∷ cs) = refusals cs

@@ -1,9 +1,9 @@
 -- What each operation makes of the code's part of the world.
 use Rattle.std.specs.Prelude.{ℕ, pos, zero, suc, ◌+◌, ◌-◌, Bool, true, false, ◌&&◌, ◌||◌, not, List, [], ◌∷◌, take, drop, length, ◌==◌, nat_lt, if◌then◌else◌, Option, Some, None}
-use Rattle.inode_machine.specs.Vocabulary.{Cause, BadDescriptor, BadMode, DirectorySlot, Node, Directory, File, Device, OpenFile, hart_count, descriptor_count, root, Name, put, any_below, all_slots, slots_of, content, node_or, is_used, lowest, has_room, first_free, cleared, emptied, new_directory, written_kind, write_kind, sum_below, one_if, Did, Waits, Ran, Walk}
-use Rattle.inode_machine.specs.Inodes.{Sort, OfDirectory, OfFile, OfDevice, Face, face_of, face_or, seen_in, no_driver_for}
+use Rattle.inode_machine.specs.Vocabulary.{Cause, BadDescriptor, BadMode, DirectorySlot, Node, Directory, File, Device, OpenFile, hart_count, descriptor_count, root, Name, put, any_below, all_slots, slots_of, content, node_or, is_used, lowest, has_room, first_free, cleared, emptied, new_directory, written_kind, write_kind, sum_below, one_if, ExecResult, Waits, Ran, Walk}
+use Rattle.inode_machine.specs.Inodes.{InodeType, OfDirectory, OfFile, OfDevice, Face, face_of, face_or, seen_in, no_driver_for}
 use Rattle.inode_machine.specs.World.{Mine, Entry, Desk, World, Op, Answer, ClaimResult, New, NoInode, NoPlace, EntryResult, InPlace, NoBlock, NoSlot, LockResult, NotLocked, LocksIt, JoinResult, NotJoined, Joined, Wrote, Whole, Refused, Short, LoanResult, Lent, Moved, Outside, Room, RoomFor, Picks}
-use Rattle.inode_machine.specs.World.Op.{Take, Give, UpStart, Up, WalkDown, Down, Free, Forget, Claim, Store, Fill, Enter, Clear, Empty, Slot, Install, StatFile, LockFile, ReadFile, CheckFile, JoinFile, LockOpen, WriteFile, Double, Shut, Settle, Lend, LendDirectory, Release, Join, Leave, Say}
+use Rattle.inode_machine.specs.World.Op.{Take, UnlockInode, UpStart, Up, WalkDown, Down, Free, Forget, Claim, Store, Fill, Enter, Clear, Empty, Slot, Install, StatFile, LockFile, ReadFile, CheckFile, JoinFile, LockOpen, WriteFile, Double, Shut, SetDirectory, Lend, LendDirectory, Release, Join, Leave, Say}
 
 abbrev pub is_nothing : {A : Type 0} → Option A → Bool
 is_nothing None = true
@@ -14,7 +14,7 @@ is_nothing (Some x) = false
 abbrev pub locked : ℕ → ℕ → World → World
 locked h n w = record w { lock = put w.lock n (Some h); keeper = put w.keeper n (Some h) }
 
-abbrev pub lock_if : {A : Type 0} → ℕ → ℕ → A → World → World → Option ℕ → Did A World
+abbrev pub lock_if : {A : Type 0} → ℕ → ℕ → A → World → World → Option ℕ → ExecResult A World
 lock_if h n a w u None = Ran a u
 lock_if h n a w u (Some g) = Waits
 
@@ -49,11 +49,11 @@ has_place w n = nat_lt 0 (w.refs n) || nat_lt (referenced w) place_count
 abbrev pub counted_up : ℕ → ℕ → World → World
 counted_up h n w = record w { refs = put w.refs n (w.refs n + 1); harts = with_found w.harts h n ((w.harts h).refs n + 1) }
 
-abbrev pub up_if : ℕ → ℕ → World → Bool → Did Bool World
+abbrev pub up_if : ℕ → ℕ → World → Bool → ExecResult Bool World
 up_if h n w true = Ran true (counted_up h n w)
 up_if h n w false = Ran false w
 
-abbrev pub start_if : ℕ → ℕ → World → Bool → Did (Option ℕ) World
+abbrev pub start_if : ℕ → ℕ → World → Bool → ExecResult (Option ℕ) World
 start_if h n w true = Ran (Some n) (counted_up h n w)
 start_if h n w false = Ran None w
 
@@ -81,11 +81,11 @@ counted_down h n w = record w {
 abbrev pub reserved : ℕ → ℕ → World → World
 reserved h n w = record w { keeper = put w.keeper n (Some h); alone = put w.alone n true }
 
-abbrev pub walk_down_if : ℕ → ℕ → World → Bool → Did Bool World
+abbrev pub walk_down_if : ℕ → ℕ → World → Bool → ExecResult Bool World
 walk_down_if h n w true = Ran true (reserved h n w)
 walk_down_if h n w false = Ran false (counted_down h n w)
 
-abbrev pub down_if : ℕ → ℕ → World → Bool → Did Bool World
+abbrev pub down_if : ℕ → ℕ → World → Bool → ExecResult Bool World
 down_if h n w true = Ran true (record (reserved h n w) { lock = put w.lock n (Some h) })
 down_if h n w false = Ran false (counted_down h n w)
 
@@ -101,24 +101,24 @@ abbrev pub is_free : World → ℕ → Bool
 is_free w n = is_nothing (w.disk n) && (w.refs n == 0)
 
 -- a record with a type alone
-abbrev pub blank : Sort → Node
+abbrev pub blank : InodeType → Node
 blank OfDirectory = record { count = 0; kind = Directory [] }
 blank OfFile = record { count = 0; kind = File [] }
 blank (OfDevice major) = record { count = 0; kind = Device major (pos 0) 0 }
 
-abbrev pub claimed : ℕ → Sort → World → ℕ → World
-claimed h sort w n = record w {
-  disk = put w.disk n (Some (blank sort));
+abbrev pub claimed : ℕ → InodeType → World → ℕ → World
+claimed h inode_type w n = record w {
+  disk = put w.disk n (Some (blank inode_type));
   refs = put w.refs n (w.refs n + 1);
   harts = with_refs w.harts h n ((w.harts h).refs n + 1);
   keeper = put w.keeper n (Some h);
   alone = put w.alone n true;
 }
 
-abbrev pub claim_if : ℕ → Sort → World → Outside → Did ClaimResult World
-claim_if h sort w (Picks n) = if nat_lt (referenced w) place_count then Ran (New n) (claimed h sort w n) else Ran NoPlace w
-claim_if h sort w Room = Ran NoInode w
-claim_if h sort w (RoomFor k) = Ran NoPlace w
+abbrev pub claim_if : ℕ → InodeType → World → Outside → ExecResult ClaimResult World
+claim_if h inode_type w (Picks n) = if nat_lt (referenced w) place_count then Ran (New n) (claimed h inode_type w n) else Ran NoPlace w
+claim_if h inode_type w Room = Ran NoInode w
+claim_if h inode_type w (RoomFor k) = Ran NoPlace w
 
 abbrev pub with_count : ℕ → Node → Node
 with_count c v = record v { count = c }
@@ -126,7 +126,7 @@ with_count c v = record v { count = c }
 abbrev pub with_dots : ℕ → ℕ → Node → Node
 with_dots n d v = record v { kind = (new_directory n d).kind }
 
-abbrev pub fill_if : ℕ → ℕ → World → Outside → Did Bool World
+abbrev pub fill_if : ℕ → ℕ → World → Outside → ExecResult Bool World
 fill_if n d w Room = Ran true (changed_record w n (with_dots n d))
 fill_if n d w (RoomFor k) = Ran false w
 fill_if n d w (Picks k) = Ran false w
@@ -144,12 +144,12 @@ is_full_directory v = (length (all_slots v) == slot_limit) && all_used (all_slot
 abbrev pub with_entry : Name → ℕ → Node → Node
 with_entry e n v = record v { kind = Directory (first_free (slots_of v.kind) (record { name = e; number = n })) }
 
-abbrev pub enter_in : ℕ → Name → ℕ → World → Outside → Did EntryResult World
+abbrev pub enter_in : ℕ → Name → ℕ → World → Outside → ExecResult EntryResult World
 enter_in d e n w Room = Ran InPlace (changed_record w d (with_entry e n))
 enter_in d e n w (RoomFor k) = Ran NoBlock w
 enter_in d e n w (Picks k) = Ran NoBlock w
 
-abbrev pub enter_if : ℕ → Name → ℕ → World → Outside → Bool → Did EntryResult World
+abbrev pub enter_if : ℕ → Name → ℕ → World → Outside → Bool → ExecResult EntryResult World
 enter_if d e n w x true = Ran NoSlot w
 enter_if d e n w x false = enter_in d e n w x
 
@@ -176,15 +176,15 @@ entry_of w h fd = entry_at w.files (slot_at w h fd)
 
 abbrev pub doubled : ℕ → World → ℕ → Entry → ℕ → World
 doubled h w s e fd = record w {
-  files = put w.files s (Some (record { file = e.file; sort = e.sort; references = e.references + 1 }));
+  files = put w.files s (Some (record { file = e.file; inode_type = e.inode_type; references = e.references + 1 }));
   desks = put w.desks h (record (w.desks h) { fds = put (w.desks h).fds fd (Some s) });
 }
 
-abbrev pub double_if : ℕ → World → ℕ → Entry → Bool → Did (Option (Option ℕ)) World
+abbrev pub double_if : ℕ → World → ℕ → Entry → Bool → ExecResult (Option (Option ℕ)) World
 double_if h w s e true = Ran (Some (Some (lowest (w.desks h).fds))) (doubled h w s e (lowest (w.desks h).fds))
 double_if h w s e false = Ran (Some None) w
 
-abbrev pub double_at : ℕ → World → Option ℕ → Option Entry → Did (Option (Option ℕ)) World
+abbrev pub double_at : ℕ → World → Option ℕ → Option Entry → ExecResult (Option (Option ℕ)) World
 double_at h w None e = Ran None w
 double_at h w (Some s) None = Ran None w
 double_at h w (Some s) (Some e) = double_if h w s e (has_room (w.desks h).fds)
@@ -192,7 +192,7 @@ double_at h w (Some s) (Some e) = double_if h w s e (has_room (w.desks h).fds)
 -- another descriptor has the open file still
 abbrev pub close_less : ℕ → World → ℕ → ℕ → Entry → World
 close_less h w fd s e = record w {
-  files = put w.files s (Some (record { file = e.file; sort = e.sort; references = e.references - 1 }));
+  files = put w.files s (Some (record { file = e.file; inode_type = e.inode_type; references = e.references - 1 }));
   desks = put w.desks h (record (w.desks h) { fds = put (w.desks h).fds fd None });
 }
 
@@ -205,11 +205,11 @@ close_last h w fd s e = record w {
   harts = with_refs w.harts h e.file.number ((w.harts h).refs e.file.number + 1);
 }
 
-abbrev pub close_if : ℕ → World → ℕ → ℕ → Entry → Bool → Did (Option (Option ℕ)) World
+abbrev pub close_if : ℕ → World → ℕ → ℕ → Entry → Bool → ExecResult (Option (Option ℕ)) World
 close_if h w fd s e true = Ran (Some (Some e.file.number)) (close_last h w fd s e)
 close_if h w fd s e false = Ran (Some None) (close_less h w fd s e)
 
-abbrev pub close_at : ℕ → World → ℕ → Option ℕ → Option Entry → Did (Option (Option ℕ)) World
+abbrev pub close_at : ℕ → World → ℕ → Option ℕ → Option Entry → ExecResult (Option (Option ℕ)) World
 close_at h w fd None e = Ran None w
 close_at h w fd (Some s) None = Ran None w
 close_at h w fd (Some s) (Some e) = close_if h w fd s e (e.references == 1)
@@ -225,7 +225,7 @@ unfoldable pub first_from : ℕ → ℕ → (ℕ → Bool) → Option ℕ
 first_from zero i p = None
 first_from (suc more) i p = if p i then Some i else first_from more (i + 1) p
 
-abbrev pub slot_if : ℕ → World → Option ℕ → Did Bool World
+abbrev pub slot_if : ℕ → World → Option ℕ → ExecResult Bool World
 slot_if h w None = Ran false w
 slot_if h w (Some s) = Ran true (record w { desks = put w.desks h (record (w.desks h) { hand = Some s }) })
 
@@ -237,9 +237,9 @@ or_zero (Some n) = n
 abbrev pub opening_id : World → ℕ → ℕ
 opening_id w h = or_zero (w.all.fds h (or_zero (w.desks h).opening))
 
-abbrev pub installed : ℕ → World → OpenFile → Sort → ℕ → ℕ → World
-installed h w f sort s fd = record w {
-  files = put w.files s (Some (record { file = f; sort = sort; references = 1 }));
+abbrev pub installed : ℕ → World → OpenFile → InodeType → ℕ → ℕ → World
+installed h w f inode_type s fd = record w {
+  files = put w.files s (Some (record { file = f; inode_type = inode_type; references = 1 }));
   desks = put w.desks h (record (w.desks h) { fds = put (w.desks h).fds fd (Some s); hand = None; opening = None });
   ids = put w.ids s (opening_id w h);
   slots = put w.slots f.number (w.slots f.number + 1);
@@ -247,33 +247,33 @@ installed h w f sort s fd = record w {
 }
 
 -- without room the slot is given back
-abbrev pub install_if : ℕ → World → OpenFile → Sort → Option ℕ → Bool → Did (Option ℕ) World
-install_if h w f sort None b = Ran None w
-install_if h w f sort (Some s) false = Ran None (record w { desks = put w.desks h (record (w.desks h) { hand = None }) })
-install_if h w f sort (Some s) true = Ran (Some (lowest (w.desks h).fds)) (installed h w f sort s (lowest (w.desks h).fds))
+abbrev pub install_if : ℕ → World → OpenFile → InodeType → Option ℕ → Bool → ExecResult (Option ℕ) World
+install_if h w f inode_type None b = Ran None w
+install_if h w f inode_type (Some s) false = Ran None (record w { desks = put w.desks h (record (w.desks h) { hand = None }) })
+install_if h w f inode_type (Some s) true = Ran (Some (lowest (w.desks h).fds)) (installed h w f inode_type s (lowest (w.desks h).fds))
 
 -- Descriptors' inodes.
 
-abbrev pub stat_at : ℕ → World → Option Entry → Did (Option (ℕ × Face)) World
+abbrev pub stat_at : ℕ → World → Option Entry → ExecResult (Option (ℕ × Face)) World
 stat_at h w None = Ran None w
 stat_at h w (Some e) = lock_if h e.file.number (Some (e.file.number, face_or (face_of (w.disk e.file.number)))) w (locked h e.file.number w)
     (w.lock e.file.number)
 
 -- why a descriptor is neither read nor written: it isn't open, it isn't open for that, it is a device
-abbrev pub mode_refusal : Bool → Sort → Option Cause
-mode_refusal true sort = no_driver_for sort
-mode_refusal false sort = Some BadMode
+abbrev pub mode_refusal : Bool → InodeType → Option Cause
+mode_refusal true inode_type = no_driver_for inode_type
+mode_refusal false inode_type = Some BadMode
 
 abbrev pub read_refused : Option Entry → Option Cause
 read_refused None = Some BadDescriptor
-read_refused (Some e) = mode_refusal e.file.readable e.sort
+read_refused (Some e) = mode_refusal e.file.readable e.inode_type
 
 abbrev pub write_refused : Option Entry → Option Cause
 write_refused None = Some BadDescriptor
-write_refused (Some e) = mode_refusal e.file.writable e.sort
+write_refused (Some e) = mode_refusal e.file.writable e.inode_type
 
 abbrev pub entry_moved : Entry → ℕ → Entry
-entry_moved e by = record { file = record (e.file) { offset = e.file.offset + by }; sort = e.sort; references = e.references }
+entry_moved e by = record { file = record (e.file) { offset = e.file.offset + by }; inode_type = e.inode_type; references = e.references }
 
 abbrev pub part_of : Option Node → ℕ → ℕ → List ℕ
 part_of v offset n = take n (drop offset (content (node_or v).kind))
@@ -286,13 +286,13 @@ abbrev pub offset_of : Option Entry → ℕ
 offset_of None = 0
 offset_of (Some e) = e.file.offset
 
-abbrev pub lock_at : ℕ → World → Option Entry → Option Cause → Did LockResult World
+abbrev pub lock_at : ℕ → World → Option Entry → Option Cause → ExecResult LockResult World
 lock_at h w e (Some c) = Ran (NotLocked c) w
 lock_at h w None None = Ran (NotLocked BadDescriptor) w
 lock_at h w (Some e) None =
     lock_if h e.file.number (LocksIt e.file.number e.file.offset) w (locked h e.file.number w) (w.lock e.file.number)
 
-abbrev pub read_at : World → ℕ → ℕ → Option ℕ → Option Entry → Did (List ℕ) World
+abbrev pub read_at : World → ℕ → ℕ → Option ℕ → Option Entry → ExecResult (List ℕ) World
 read_at w n count s None = Ran [] (unlocked n w (w.alone n))
 read_at w n count s (Some e) =
     Ran (part_of (w.disk n) e.file.offset count)
@@ -301,7 +301,7 @@ read_at w n count s (Some e) =
 abbrev pub with_joined : World → ℕ → Bool → World
 with_joined w h b = record w { desks = put w.desks h (record (w.desks h) { joined = b }) }
 
-abbrev pub join_at : ℕ → World → Option Entry → Option Cause → Did JoinResult World
+abbrev pub join_at : ℕ → World → Option Entry → Option Cause → ExecResult JoinResult World
 join_at h w e (Some c) = Ran (NotJoined c) w
 join_at h w None None = Ran (NotJoined BadDescriptor) w
 join_at h w (Some e) None = Ran (Joined e.file.number) (with_joined w h true)
@@ -313,16 +313,16 @@ abbrev pub wrote_in : World → Option ℕ → Entry → ℕ → List ℕ → Wo
 wrote_in w s e n b = with_offset (unlocked n (changed_record w n (with_bytes e.file.offset b)) (w.alone n)) s e (length b)
 
 -- as many bytes as there are blocks for
-abbrev pub write_in : World → Option ℕ → Entry → ℕ → List ℕ → Outside → Did Wrote World
+abbrev pub write_in : World → Option ℕ → Entry → ℕ → List ℕ → Outside → ExecResult Wrote World
 write_in w s e n b Room = Ran Whole (wrote_in w s e n b)
 write_in w s e n b (RoomFor k) = Ran (Short k) (wrote_in w s e n (take k b))
 write_in w s e n b (Picks k) = Ran (Short 0) (wrote_in w s e n [])
 
-abbrev pub write_if : World → Option ℕ → Entry → ℕ → List ℕ → Outside → Option Cause → Did Wrote World
+abbrev pub write_if : World → Option ℕ → Entry → ℕ → List ℕ → Outside → Option Cause → ExecResult Wrote World
 write_if w s e n b x (Some c) = Ran (Refused c) (unlocked n w (w.alone n))
 write_if w s e n b x None = write_in w s e n b x
 
-abbrev pub write_at : World → Option ℕ → ℕ → List ℕ → Outside → Option Entry → Did Wrote World
+abbrev pub write_at : World → Option ℕ → ℕ → List ℕ → Outside → Option Entry → ExecResult Wrote World
 write_at w s n b x None = Ran (Refused BadDescriptor) (unlocked n w (w.alone n))
 write_at w s n b x (Some e) = write_if w s e n b x (write_kind (node_or (w.disk n)).kind e.file.offset b)
 
@@ -337,7 +337,7 @@ next_used from fds = first_from (descriptor_count - from) from (λ i. not (is_no
 -- one more descriptor has the slot's open file
 abbrev pub more_users : Option Entry → Option Entry
 more_users None = None
-more_users (Some e) = Some (record { file = e.file; sort = e.sort; references = e.references + 1 })
+more_users (Some e) = Some (record { file = e.file; inode_type = e.inode_type; references = e.references + 1 })
 
 abbrev pub slot_or : Option ℕ → ℕ
 slot_or None = 0
@@ -389,7 +389,7 @@ abbrev pub lend_last : World → ℕ → ℕ → Option ℕ → World
 lend_last w h child None = handed w h child
 lend_last w h child (Some j) = w
 
-abbrev pub lend_if : ℕ → World → ℕ → Option ℕ → Did LoanResult World
+abbrev pub lend_if : ℕ → World → ℕ → Option ℕ → ExecResult LoanResult World
 lend_if h w child None = Ran (Moved (w.desks child).directory) (moved_in w h child)
 lend_if h w child (Some i) =
     Ran (Lent i (not (is_nothing (next_used (i + 1) (w.desks h).fds))))
@@ -399,23 +399,23 @@ abbrev pub released : World → ℕ → ℕ → World
 released w h child =
     record w { desks = put (put w.desks h (record (w.desks h) { lent = λ i. None })) child (record (w.desks child) { lender = None }) }
 
-abbrev pub exec : ℕ → Outside → (op : Op) → World → Did (Answer op) World
+abbrev pub exec : ℕ → Outside → (op : Op) → World → ExecResult (Answer op) World
 exec h x (Take n looking) w = lock_if h n (seen_in n looking (w.disk n)) w (locked h n w) (w.lock n)
-exec h x (Give n) w = Ran tt (unlocked n w (w.alone n))
+exec h x (UnlockInode n) w = Ran tt (unlocked n w (w.alone n))
 exec h x (UpStart absolute) w = start_if h (start_number (w.desks h) absolute) w (has_place w (start_number (w.desks h) absolute))
 exec h x (Up n) w = up_if h n w (has_place w n)
 exec h x (WalkDown n) w = walk_down_if h n w (is_last w n)
 exec h x (Down n) w = down_if h n w (is_last w n)
 exec h x (Free n) w = Ran tt (with_record w n None)
 exec h x (Forget n) w = Ran tt (counted_down h n w)
-exec h x (Claim sort) w = claim_if h sort w x
+exec h x (Claim inode_type) w = claim_if h inode_type w x
 exec h x (Store n count) w = Ran tt (changed_record w n (with_count count))
 exec h x (Fill n d) w = fill_if n d w x
 exec h x (Enter d e n) w = enter_if d e n w x (is_full_directory (w.disk d))
 exec h x (Clear d e) w = Ran tt (changed_record w d (without_entry e))
 exec h x (Empty n) w = Ran tt (changed_record w n with_no_bytes)
 exec h x Slot w = slot_if h w (first_from file_count 0 (is_empty_slot w))
-exec h x (Install f sort) w = install_if h w f sort (w.desks h).hand (has_room (w.desks h).fds)
+exec h x (Install f inode_type) w = install_if h w f inode_type (w.desks h).hand (has_room (w.desks h).fds)
 exec h x (StatFile fd) w = stat_at h w (entry_of w h fd)
 exec h x (LockFile fd) w = lock_at h w (entry_of w h fd) (read_refused (entry_of w h fd))
 exec h x (ReadFile fd n offset count) w = read_at w n count (slot_at w h fd) (entry_of w h fd)
@@ -425,7 +425,7 @@ exec h x (LockOpen fd n) w = lock_if h n (n, offset_of (entry_of w h fd)) w (loc
 exec h x (WriteFile fd n offset bytes) w = write_at w (slot_at w h fd) n bytes x (entry_of w h fd)
 exec h x (Double fd) w = double_at h w (slot_at w h fd) (entry_of w h fd)
 exec h x (Shut fd) w = close_at h w fd (slot_at w h fd) (entry_of w h fd)
-exec h x (Settle n) w = Ran (w.desks h).directory (with_directory (unlocked n w (w.alone n)) h n)
+exec h x (SetDirectory n) w = Ran (w.desks h).directory (with_directory (unlocked n w (w.alone n)) h n)
 exec h x (Lend child from) w = lend_if h w child (next_used from (w.desks h).fds)
 exec h x (LendDirectory child) w = Ran (w.desks child).directory (moved_in w h child)
 exec h x (Release child) w = Ran tt (released w h child)

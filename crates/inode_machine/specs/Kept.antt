@@ -1,6 +1,6 @@
 -- The history of a run as a function of it: the list that is kept beside the events, to which each event appends.
 use Rattle.std.specs.Prelude.{ℕ, Bool, true, false, List, [], ◌∷◌, Option, Some, None}
-use Rattle.inode_machine.specs.Vocabulary.{Reply, Call, Placed, put, settle, tree_of, TreeData, Chain, Explains, no_calls, trace_of, Prog, Ret, Do, Did, Waits, Ran, Stops, Event, Start, Step, Run, State, Outcome, Started, Refused, WasIdle, DidWait, DidRun, DidEnd, DidStop, WasStopped, fresh, makes, next, run, Deed, Move, Stage, MoveStep, History, starts, passes, Free, finishes, moves_on}
+use Rattle.inode_machine.specs.Vocabulary.{Reply, Call, Placed, put, settle, tree_of, TreeData, Chain, Explains, no_calls, trace_of, Prog, Ret, Do, ExecResult, Waits, Ran, Stops, Event, Start, Step, Run, State, Outcome, Started, Refused, WasIdle, DidWait, DidRun, DidEnd, DidStop, WasStopped, fresh, makes, next, run, Deed, Move, Stage, MoveStep, History, starts, passes, Free, finishes, moves_on}
 use Rattle.tree_laws.specs.Runs as runs
 use Rattle.inode_machine.specs.Marks.{made_by}
 use Rattle.inode_machine.specs.Basics.{MoveMachine, NoneClimbs, RunsFrom, shows, theory_of}
@@ -12,7 +12,7 @@ nothing_yet = record { list = []; trace = no_calls; calls = λ h. Free }
 
 module _ (m : MoveMachine) where
   -- what an event places: as its hart's program ran its operation with this answer
-  abbrev pub placed_tried : {A : Type 0} → (A → List (ℕ × MoveStep)) → Did A m.World → List (ℕ × MoveStep)
+  abbrev pub placed_tried : {A : Type 0} → (A → List (ℕ × MoveStep)) → ExecResult A m.World → List (ℕ × MoveStep)
   placed_tried ps Waits = []
   placed_tried ps (Ran a w) = ps a
   placed_tried ps (Stops w) = []
@@ -40,7 +40,7 @@ module _ (m : MoveMachine) where
 
   -- an event that came to this, and led from this stage to that one, with what it tells: a step that ran is written, with the walks that
   -- are lost by it
-  abbrev pub kept_start : {Did Refusal : Type 0} → ℕ → Call → Outcome Did Reply Refusal → History → History
+  abbrev pub kept_start : {What Refusal : Type 0} → ℕ → Call → Outcome What Reply Refusal → History → History
   kept_start h call Started b = starts b h call
   kept_start h call (Refused why) b = passes b
   kept_start h call WasIdle b = passes b
@@ -50,7 +50,7 @@ module _ (m : MoveMachine) where
   kept_start h call DidStop b = passes b
   kept_start h call WasStopped b = passes b
 
-  abbrev pub kept_step : {Did Refusal : Type 0} → ℕ → Outcome Did Reply Refusal → Stage → Stage → Option Deed → History → History
+  abbrev pub kept_step : {What Refusal : Type 0} → ℕ → Outcome What Reply Refusal → Stage → Stage → Option Deed → History → History
   kept_step h Started n n' d b = passes b
   kept_step h (Refused why) n n' d b = passes b
   kept_step h WasIdle n n' d b = passes b
@@ -60,7 +60,7 @@ module _ (m : MoveMachine) where
   kept_step h DidStop n n' d b = passes b
   kept_step h WasStopped n n' d b = passes b
 
-  abbrev pub kept_by : {Did Refusal : Type 0} → Event Call m.Outside → Outcome Did Reply Refusal → Stage → Stage → Option Deed → History
+  abbrev pub kept_by : {What Refusal : Type 0} → Event Call m.Outside → Outcome What Reply Refusal → Stage → Stage → Option Deed → History
       → History
   kept_by (Start h call) came n n' d b = kept_start h call came b
   kept_by (Step h x) came n n' d b = kept_step h came n n' d b

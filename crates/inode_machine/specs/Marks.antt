@@ -1,7 +1,7 @@
 -- What an operation's mark makes of the tree, and which steps are placed.
 use Rattle.std.specs.Prelude.{ℕ, ◌+◌, Bool, true, false, ◌&&◌, List, [], ◌∷◌, if◌then◌else◌, Option, Some, None}
-use Rattle.inode_machine.specs.Vocabulary.{Cause, Action, OpenStep as Open, Truncate, ReadStep as Read, WritePart, Find, Bump, Enter, Unbump, UnlinkStep as Unlink, MkdirStep as Mkdir, ChdirStep as Chdir, DupStep as Dup, CloseStep as Close, FstatStep as Fstat, InheritStep as Inherit, StepAnswer, Opened, Bytes, Status, NewFd, Done, Failed, NoRoom, Hold, Name, Tree, put, elements, look, start_of, resolve, parent, path_of, refusal, refusal_with, effect_with, answer_with, makes_node, opens_one, lowest, closed, drop_hold, Did, Waits, Ran, Stops, Walk, fail, Deed, Move, MoveStep as Step, Begin, Look, Quit, Own}
-use Rattle.inode_machine.specs.Basics.{sort_of, Desk, World, Op, Answer, Outside, Mark, is_nothing, first_from, or_zero, with_walk, exec}
+use Rattle.inode_machine.specs.Vocabulary.{Cause, Action, OpenStep as Open, Truncate, ReadStep as Read, WritePart, Find, Bump, Enter, Unbump, UnlinkStep as Unlink, MkdirStep as Mkdir, ChdirStep as Chdir, DupStep as Dup, CloseStep as Close, FstatStep as Fstat, InheritStep as Inherit, StepAnswer, Opened, Bytes, Status, NewFd, Done, Failed, NoRoom, Hold, Name, Tree, put, elements, look, start_of, resolve, parent, path_of, refusal, refusal_with, effect_with, answer_with, makes_node, opens_one, lowest, closed, drop_hold, ExecResult, Waits, Ran, Stops, Walk, fail, Deed, Move, MoveStep as Step, Begin, Look, GiveUpWalk, Own}
+use Rattle.inode_machine.specs.Basics.{type_of, Desk, World, Op, Answer, Outside, Mark, is_nothing, first_from, or_zero, with_walk, exec}
 use Rattle.inode_machine.specs.World.Mark.{Makes, Frees, Orphans, Fills, Mends, Spoils}
 
 -- The step acts, or is refused; a tree that isn't settled stays so.
@@ -135,7 +135,8 @@ own_made None b h s m = m
 abbrev pub made_by : Tree → ℕ → ℕ → Option Walk → Move → Made
 made_by b h id k (Begin s new) = begun b h s (elements (path_of s)) new id
 made_by b h id k (Look new) = look_made b h k new id
-made_by b h id k (Quit s) = record { all = b; walk = None; found = None; opened = None; entered = None; left = None; told = Some (fail s) }
+made_by b h id k (GiveUpWalk s) =
+    record { all = b; walk = None; found = None; opened = None; entered = None; left = None; told = Some (fail s) }
 made_by b h id k (Own s new) = own_made (refusal b h s) b h s (acts b h s (resolve b h (path_of s)) (parent b h (path_of s)) new id)
 
 -- the least id that no open file has
@@ -172,7 +173,8 @@ with_opened desks h fd (Some id) = put desks h (record (desks h) { opening = Som
 -- what was found had this type then
 abbrev pub with_noted : Tree → (ℕ → Desk) → ℕ → Option ℕ → ℕ → Desk
 with_noted b desks h None = desks
-with_noted b desks h (Some n) = put desks h (record (desks h) { noted = Some (record { number = n; sort = sort_of (b.nodes n) }) })
+with_noted b desks h (Some n) =
+    put desks h (record (desks h) { noted = Some (record { number = n; inode_type = type_of (b.nodes n) }) })
 
 abbrev pub with_left : (ℕ → Desk) → ℕ → Option ℕ → ℕ → Desk
 with_left desks h None = desks
@@ -224,12 +226,12 @@ marked h (Some Fills) w = spoiled h w
 marked h (Some Mends) w = mended h w
 marked h (Some (Spoils s)) w = spoiled h (with_made h (made_by w.all h (new_id w) (w.harts h).walk (Own s 0)) w)
 
-abbrev pub with_mark : {A : Type 0} → ℕ → (A → Option Mark) → Did A World → Did A World
+abbrev pub with_mark : {A : Type 0} → ℕ → (A → Option Mark) → ExecResult A World → ExecResult A World
 with_mark h m Waits = Waits
 with_mark h m (Ran a w) = Ran a (marked h (m a) w)
 with_mark h m (Stops w) = Stops w
 
-abbrev pub go : ℕ → Outside → (op : Op) → (Answer op → Option Mark) → World → Did (Answer op) World
+abbrev pub go : ℕ → Outside → (op : Op) → (Answer op → Option Mark) → World → ExecResult (Answer op) World
 go h x op m w = with_mark h m (exec h x op w)
 
 abbrev pub places : ℕ → (op : Op) → Answer op → Option Mark → World → List (ℕ × Step)

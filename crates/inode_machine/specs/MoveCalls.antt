@@ -1,7 +1,7 @@
 -- Calls whose steps are moves on the tree, over any machine: what their events show of calls, and that one list of tree steps explains
 -- them.
 use Rattle.std.specs.Prelude.{◌≡◌, ◌⊎◌, ℕ, ◌<◌, Bool, false, List, [], ◌∷◌, Option, None}
-use Rattle.inode_machine.specs.Vocabulary.{Reply, Call, Placed, TreeData, tree_of, call_climbs, Shown, Chain, Explains, trace_of, Begun, Replied, Other, hart_count, IsWellFormed, Prog, Did, Machine, Theory, Began, Begins, Lawful, Event, Start, Step, Outcome, Started, Refused, WasIdle, DidWait, DidRun, DidEnd, DidStop, WasStopped, State, AllHonest, fresh, makes, next, run, Stage, MoveStep, Takes, IsWholeCall}
+use Rattle.inode_machine.specs.Vocabulary.{Reply, Call, Placed, TreeData, tree_of, call_climbs, Shown, Chain, Explains, trace_of, Begun, Replied, Other, hart_count, IsWellFormed, Prog, ExecResult, Machine, Theory, Began, Begins, Lawful, Event, Start, Step, Outcome, Started, Refused, WasIdle, DidWait, DidRun, DidEnd, DidStop, WasStopped, State, AllHonest, fresh, makes, next, run, Stage, MoveStep, PlaysStep, IsWholeCall}
 
 -- a machine whose steps are moves of a call on the tree, and calls over it
 pub record MoveMachine : Type 1 where
@@ -13,7 +13,7 @@ pub record MoveMachine : Type 1 where
   pub Outside : Type 0
   pub Honest : ℕ → Op → World → Outside → Type 0
   pub May : ℕ → Op → World → Type 0
-  pub go : ℕ → Outside → (op : Op) → (Answer op → Option Mark) → World → Did (Answer op) World
+  pub go : ℕ → Outside → (op : Op) → (Answer op → Option Mark) → World → ExecResult (Answer op) World
   pub places : ℕ → (op : Op) → Answer op → Option Mark → World → List (ℕ × MoveStep)
   pub tree : World → Stage
   pub Inv : World → Type 0
@@ -44,7 +44,7 @@ machine_of m =
       go = m.go;
       places = m.places;
       tree = m.tree;
-      Takes = Takes;
+      Takes = PlaysStep;
       Inv = m.Inv;
       Halted = m.Halted;
       Others = m.Others;
@@ -70,7 +70,7 @@ theory_of m =
 -- ---- what events show of calls
 
 -- by what an event came to
-abbrev pub shown_start : {Did Refusal : Type 0} → ℕ → Call → Outcome Did Reply Refusal → Shown
+abbrev pub shown_start : {What Refusal : Type 0} → ℕ → Call → Outcome What Reply Refusal → Shown
 shown_start h call Started = Begun h call
 shown_start h call (Refused why) = Other
 shown_start h call WasIdle = Other
@@ -80,7 +80,7 @@ shown_start h call (DidEnd reply) = Other
 shown_start h call DidStop = Other
 shown_start h call WasStopped = Other
 
-abbrev pub shown_step : {Did Refusal : Type 0} → ℕ → Outcome Did Reply Refusal → Shown
+abbrev pub shown_step : {What Refusal : Type 0} → ℕ → Outcome What Reply Refusal → Shown
 shown_step h Started = Other
 shown_step h (Refused why) = Other
 shown_step h WasIdle = Other
@@ -90,7 +90,7 @@ shown_step h (DidEnd reply) = Replied h reply
 shown_step h DidStop = Other
 shown_step h WasStopped = Other
 
-abbrev pub shown_by : {Outside Did Refusal : Type 0} → Event Call Outside → Outcome Did Reply Refusal → Shown
+abbrev pub shown_by : {Outside What Refusal : Type 0} → Event Call Outside → Outcome What Reply Refusal → Shown
 shown_by (Start h call) came = shown_start h call came
 shown_by (Step h x) came = shown_step h came
 

@@ -4,7 +4,7 @@ use Rattle.inode_machine.specs.Vocabulary.{NotDirectory, Reply, elements, descri
 use Rattle.plain_tree.specs.declared.call.Call.TheVariants as calls
 use Rattle.plain_tree.specs.declared.step.Action.TheVariants as steps
 use Rattle.inode_machine.specs.Basics.{AtNothing, is_directory_face, Mark, LoanResult, Lent, Moved, P, own_step, failed, done, drop, give_up, tail, stopped, walk, start}
-use Rattle.inode_machine.specs.World.Op.{Take, Settle, Lend, LendDirectory, Release, Join, Leave}
+use Rattle.inode_machine.specs.World.Op.{Take, SetDirectory, Lend, LendDirectory, Release, Join, Leave}
 
 -- chdir: the new directory first, then the old one's reference is dropped
 
@@ -12,7 +12,7 @@ abbrev pub chdir_at : List ℕ → ℕ → List ℕ → P Reply
 chdir_at path n ns =
     Do (Take n AtNothing) unmarked (λ a.
     if is_directory_face a.face
-    then Do (Settle n) unmarked (λ old. drop old (tail ns (done (calls.Chdir path))))
+    then Do (SetDirectory n) unmarked (λ old. drop old (tail ns (done (calls.Chdir path))))
     else give_up n (tail ns (failed (calls.Chdir path) NotDirectory)))
 
 abbrev pub chdir_program : List ℕ → P Reply

@@ -3,8 +3,8 @@ use Rattle.std.specs.Prelude.{ℕ, ◌+◌, ◌-◌, Bool, true, false, ◌||◌
 use Rattle.inode_machine.specs.Vocabulary.{Cause, NoEntry, Exists, IsDirectory, NotEmpty, DotName, TooManyLinks, MemInodes, Blocks, DiskInodes, DirectorySlots as Directory, Reply, Call, Action, Name, elements, same_name, dot, dotdot, count_limit, Do, unmarked, Begin, Look}
 use Rattle.plain_tree.specs.declared.call.Call.TheVariants as calls
 use Rattle.plain_tree.specs.declared.step.Action.TheVariants as steps
-use Rattle.inode_machine.specs.Basics.{OfDirectory, Face, face_or, Sight, AtNothing, AtName, AtEntries, is_directory_sort, is_live_face, Mark, ClaimResult, New, NoInode, NoPlace, EntryResult, InPlace, NoBlock, NoSlot, P, makes, own_step, mends_if_full, failed, full, done, drop, give_up, tail, stopped, walk, walk_parent, start, looks_if, looks_where, is_there}
-use Rattle.inode_machine.specs.World.Op.{Take, Give, Up, Forget, Claim, Store, Fill, Enter, Clear, Join}
+use Rattle.inode_machine.specs.Basics.{OfDirectory, Face, face_or, Sight, AtNothing, AtName, AtEntries, is_directory_type, is_live_face, Mark, ClaimResult, New, NoInode, NoPlace, EntryResult, InPlace, NoBlock, NoSlot, P, makes, own_step, mends_if_full, failed, full, done, drop, give_up, tail, stopped, walk, walk_parent, start, looks_if, looks_where, is_there}
+use Rattle.inode_machine.specs.World.Op.{Take, UnlockInode, Up, Forget, Claim, Store, Fill, Enter, Clear, Join}
 use Rattle.inode_machine.specs.World.Mark.{Mends}
 use Rattle.inode_machine.specs.Opening.{entered_file, unmake, mends_unless_new}
 
@@ -24,7 +24,7 @@ in_parent c s path k (e ∷ es) =
 -- Unlink. The name goes, then the counts of its directory and of what it named.
 
 abbrev pub lower_parent : {A : Type 0} → ℕ → Face → Face → P A → P A
-lower_parent d f g k = if is_directory_sort g.sort then Do (Store d (f.count - 1)) unmarked (λ _. k) else k
+lower_parent d f g k = if is_directory_type g.inode_type then Do (Store d (f.count - 1)) unmarked (λ _. k) else k
 
 abbrev pub clear_name : List ℕ → ℕ → Name → List ℕ → Face → ℕ → Face → P Reply
 clear_name path d e ns f n g =
@@ -158,9 +158,9 @@ link_in old new n d e ns =
 
 abbrev pub link_name : List ℕ → List ℕ → ℕ → List ℕ → List Name → P Reply
 link_name old new n ns [] =
-    Do (Give n) (λ _. makes (Begin (steps.Enter new) 0)) (λ _. lower old new n (failed (calls.Link old new) NoEntry) ns)
+    Do (UnlockInode n) (λ _. makes (Begin (steps.Enter new) 0)) (λ _. lower old new n (failed (calls.Link old new) NoEntry) ns)
 link_name old new n ns (e ∷ es) =
-    Do (Give n) unmarked (λ _.
+    Do (UnlockInode n) unmarked (λ _.
     start (steps.Enter new) new ns (λ d.
     walk_parent (steps.Enter new) d e es ns (link_in old new n) (λ why ms. lower old new n (stopped (calls.Link old new) why) ms))
     (λ why ms. lower old new n (stopped (calls.Link old new) why) ms))
@@ -170,7 +170,7 @@ abbrev pub bump_refused : Face → Option Cause
 bump_refused f = if nat_lt f.count count_limit then None else Some TooManyLinks
 
 abbrev pub bumps_if : Face → Option Mark
-bumps_if f = if is_directory_sort f.sort then None else (if is_refused (bump_refused f) then own_step steps.Bump else None)
+bumps_if f = if is_directory_type f.inode_type then None else (if is_refused (bump_refused f) then own_step steps.Bump else None)
 
 abbrev pub link_raise : List ℕ → List ℕ → ℕ → List ℕ → Face → Option Cause → P Reply
 link_raise old new n ns f (Some c) = give_up n (tail ns (failed (calls.Link old new) c))
@@ -179,7 +179,7 @@ link_raise old new n ns f None = Do (Store n (f.count + 1)) (λ _. own_step step
 abbrev pub link_at : List ℕ → List ℕ → ℕ → List ℕ → P Reply
 link_at old new n ns =
     Do (Take n AtNothing) (λ a. bumps_if (face_or a.face)) (λ a.
-    if is_directory_sort (face_or a.face).sort
+    if is_directory_type (face_or a.face).inode_type
     then give_up n (tail ns (failed (calls.Link old new) IsDirectory))
     else link_raise old new n ns (face_or a.face) (bump_refused (face_or a.face)))
 

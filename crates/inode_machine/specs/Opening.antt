@@ -4,8 +4,8 @@ use Rattle.plain_tree.specs.declared.answer.Answer.TheVariants as answers
 use Rattle.inode_machine.specs.Vocabulary.{Cause, NoEntry, MemInodes, OpenFiles, Descriptors, Blocks, DiskInodes, DirectorySlots as Directory, Reply, OpenFile, Name, elements, has, write_only, read_write, empty_it, creates, Do, unmarked, Begin, Look}
 use Rattle.plain_tree.specs.declared.call.Call.TheVariants as calls
 use Rattle.plain_tree.specs.declared.step.Action.TheVariants as steps
-use Rattle.inode_machine.specs.Basics.{Sort, OfFile, face_or, AtNothing, AtName, is_file_sort, is_live_face, open_refusal, Mark, ClaimResult, New, NoInode, NoPlace, EntryResult, InPlace, NoBlock, NoSlot, P, makes, own_step, mends_if_full, failed, full, drop, give_up, tail, stopped, walk, walk_parent, start, looks_where, is_there}
-use Rattle.inode_machine.specs.World.Op.{Take, Give, Up, Forget, Claim, Store, Enter, Empty, Slot, Install, Join}
+use Rattle.inode_machine.specs.Basics.{InodeType, OfFile, face_or, AtNothing, AtName, is_file_type, is_live_face, open_refusal, Mark, ClaimResult, New, NoInode, NoPlace, EntryResult, InPlace, NoBlock, NoSlot, P, makes, own_step, mends_if_full, failed, full, drop, give_up, tail, stopped, walk, walk_parent, start, looks_where, is_there}
+use Rattle.inode_machine.specs.World.Op.{Take, UnlockInode, Up, Forget, Claim, Store, Enter, Empty, Slot, Install, Join}
 use Rattle.inode_machine.specs.World.Mark.{Mends, Orphans}
 
 -- an open file at its beginning
@@ -13,8 +13,8 @@ abbrev pub file_for : ℕ → ℕ → OpenFile
 file_for n flags =
     record { number = n; offset = 0; readable = not (has flags write_only); writable = has flags write_only || has flags read_write }
 
-abbrev pub empties : ℕ → Sort → Bool
-empties flags sort = has flags empty_it && is_file_sort sort
+abbrev pub empties : ℕ → InodeType → Bool
+empties flags inode_type = has flags empty_it && is_file_type inode_type
 
 abbrev pub opened_reply : List ℕ → ℕ → ℕ → Reply
 opened_reply path flags fd = record { answer = answers.Fd fd; call = calls.Open path flags }
@@ -29,29 +29,30 @@ abbrev pub installed_on : List ℕ → ℕ → ℕ → List ℕ → (ℕ → P R
 installed_on path flags n ns k None = give_up n (tail ns (full (calls.Open path flags) Descriptors))
 installed_on path flags n ns k (Some fd) = k fd
 
-abbrev pub take_descriptor : List ℕ → ℕ → ℕ → Sort → List ℕ → (ℕ → Option Mark) → (ℕ → P Reply) → P Reply
-take_descriptor path flags n sort ns mark k =
+abbrev pub take_descriptor : List ℕ → ℕ → ℕ → InodeType → List ℕ → (ℕ → Option Mark) → (ℕ → P Reply) → P Reply
+take_descriptor path flags n inode_type ns mark k =
     Do Slot mends_if_full (λ there.
     if there
-    then Do (Install (file_for n flags) sort) (installs mark) (installed_on path flags n ns k)
+    then Do (Install (file_for n flags) inode_type) (installs mark) (installed_on path flags n ns k)
     else give_up n (tail ns (full (calls.Open path flags) OpenFiles)))
 
 -- What is there is opened. It may be refused by its type, as was decided where it was found.
 
 abbrev pub open_end : List ℕ → ℕ → ℕ → List ℕ → ℕ → P Reply
-open_end path flags n ns fd = Do (Give n) unmarked (λ _. tail ns (opened_reply path flags fd))
+open_end path flags n ns fd = Do (UnlockInode n) unmarked (λ _. tail ns (opened_reply path flags fd))
 
-abbrev pub open_face : List ℕ → ℕ → ℕ → List ℕ → Sort → Option Cause → P Reply
-open_face path flags n ns sort (Some c) = give_up n (tail ns (failed (calls.Open path flags) c))
-open_face path flags n ns sort None =
-    take_descriptor path flags n sort ns (λ fd. None) (λ fd.
-    if empties flags sort
+abbrev pub open_face : List ℕ → ℕ → ℕ → List ℕ → InodeType → Option Cause → P Reply
+open_face path flags n ns inode_type (Some c) = give_up n (tail ns (failed (calls.Open path flags) c))
+open_face path flags n ns inode_type None =
+    take_descriptor path flags n inode_type ns (λ fd. None) (λ fd.
+    if empties flags inode_type
     then Do (Empty n) (λ _. own_step (steps.Truncate fd)) (λ _. open_end path flags n ns fd)
     else open_end path flags n ns fd)
 
 abbrev pub open_at : List ℕ → ℕ → ℕ → List ℕ → P Reply
 open_at path flags n ns =
-    Do (Take n AtNothing) unmarked (λ a. open_face path flags n ns (face_or a.face).sort (open_refusal (flags == 0) (face_or a.face).sort))
+    Do (Take n AtNothing) unmarked
+    (λ a. open_face path flags n ns (face_or a.face).inode_type (open_refusal (flags == 0) (face_or a.face).inode_type))
 
 -- without CREATE
 abbrev pub open_old : List ℕ → ℕ → P Reply
@@ -67,8 +68,8 @@ open_old path flags =
 abbrev pub truncates : ℕ → ℕ → Option Mark
 truncates flags fd = if has flags empty_it then own_step (steps.Truncate fd) else None
 
-abbrev pub open_made : List ℕ → ℕ → ℕ → Sort → List ℕ → P Reply
-open_made path flags n sort ns = take_descriptor path flags n sort ns (truncates flags) (open_end path flags n ns)
+abbrev pub open_made : List ℕ → ℕ → ℕ → InodeType → List ℕ → P Reply
+open_made path flags n inode_type ns = take_descriptor path flags n inode_type ns (truncates flags) (open_end path flags n ns)
 
 abbrev pub entered_file : ℕ → EntryResult → Option Mark
 entered_file n InPlace = makes (Look n)
@@ -79,10 +80,10 @@ entered_file n NoSlot = Some Mends
 abbrev pub unmake : ℕ → ℕ → List ℕ → Reply → P Reply
 unmake n d ns r = Do (Store n 0) (λ _. Some (Orphans n)) (λ _. give_up n (give_up d (tail ns r)))
 
-abbrev pub make_on : List ℕ → ℕ → ℕ → Sort → ℕ → List ℕ → EntryResult → P Reply
-make_on path flags n sort d ns InPlace = Do (Give d) unmarked (λ _. drop d (open_made path flags n sort ns))
-make_on path flags n sort d ns NoBlock = unmake n d ns (full (calls.Open path flags) Blocks)
-make_on path flags n sort d ns NoSlot = unmake n d ns (full (calls.Open path flags) Directory)
+abbrev pub make_on : List ℕ → ℕ → ℕ → InodeType → ℕ → List ℕ → EntryResult → P Reply
+make_on path flags n inode_type d ns InPlace = Do (UnlockInode d) unmarked (λ _. drop d (open_made path flags n inode_type ns))
+make_on path flags n inode_type d ns NoBlock = unmake n d ns (full (calls.Open path flags) Blocks)
+make_on path flags n inode_type d ns NoSlot = unmake n d ns (full (calls.Open path flags) Directory)
 
 abbrev pub mends_unless_new : ClaimResult → Option Mark
 mends_unless_new (New n) = None
@@ -94,7 +95,7 @@ abbrev pub make_other : List ℕ → ℕ → ℕ → Name → List ℕ → ℕ �
 make_other path flags d e ns n =
     Do (Take n AtNothing) unmarked (λ a.
     Do (Store n 1) unmarked (λ _.
-    Do (Enter d e n) (entered_file n) (make_on path flags n (face_or a.face).sort d ns)))
+    Do (Enter d e n) (entered_file n) (make_on path flags n (face_or a.face).inode_type d ns)))
 
 abbrev pub make_with : List ℕ → ℕ → ℕ → Name → List ℕ → ClaimResult → P Reply
 make_with path flags d e ns NoInode = give_up d (tail ns (full (calls.Open path flags) DiskInodes))

@@ -1,9 +1,9 @@
 -- What a hart has, what always holds, and the machine.
 use Rattle.std.specs.Prelude.{◌≡◌, ◌≢◌, ◌⊎◌, ℕ, zero, suc, ◌+◌, ◌<◌, ◌≤◌, Bool, true, false, ◌||◌, List, [], ◌∷◌, length, ◌==◌, nat_lt, if◌then◌else◌, Option, Some, None, IsSome}
-use Rattle.inode_machine.specs.Vocabulary.{Node, OpenFile, Directory, hart_count, descriptor_count, name_len, piece_len, count_limit, is_file, no_driver, holds_raised, Name, hold_names, is_directory, is_live, look, Key, Row, row_of, key_names, sum_below, one_if, IsWellFormed, Walk, Machine, Stage, MoveStep as Step, Takes}
-use Rattle.inode_machine.specs.Basics.{OfDirectory, sort_of, Query, Mine, Entry, Note, Desk, World, Op, Answer, Mark, Outside, stage_of, file_count, is_at, is_free, place_count, referenced, entry_of, offset_of, read_refused, next_used, child_of, given_of}
+use Rattle.inode_machine.specs.Vocabulary.{Node, OpenFile, Directory, hart_count, descriptor_count, name_len, piece_len, count_limit, is_file, no_driver, holds_raised, Name, hold_names, is_directory, is_live, look, Key, Row, row_of, key_names, sum_below, one_if, IsWellFormed, Walk, Machine, Stage, MoveStep as Step, PlaysStep}
+use Rattle.inode_machine.specs.Basics.{OfDirectory, type_of, Query, Mine, Entry, Note, Desk, World, Op, Answer, Mark, Outside, stage_of, file_count, is_at, is_free, place_count, referenced, entry_of, offset_of, read_refused, next_used, child_of, given_of}
 use Rattle.inode_machine.specs.Inodes.Query.{AtNothing, AtName, AtEntries}
-use Rattle.inode_machine.specs.World.Op.{Take, Give, UpStart, Up, WalkDown, Down, Free, Forget, Claim, Store, Fill, Enter, Clear, Empty, Slot, Install, StatFile, LockFile, ReadFile, CheckFile, JoinFile, LockOpen, WriteFile, Double, Shut, Settle, Lend, LendDirectory, Release, Join, Leave, Say}
+use Rattle.inode_machine.specs.World.Op.{Take, UnlockInode, UpStart, Up, WalkDown, Down, Free, Forget, Claim, Store, Fill, Enter, Clear, Empty, Slot, Install, StatFile, LockFile, ReadFile, CheckFile, JoinFile, LockOpen, WriteFile, Double, Shut, SetDirectory, Lend, LendDirectory, Release, Join, Leave, Say}
 use Rattle.inode_machine.specs.World.Outside.{Room, RoomFor, Picks}
 use Rattle.inode_machine.specs.Marks.{go, places}
 
@@ -75,7 +75,7 @@ Idle h w = Rests (own_of h w)
 abbrev pub KeepsFiles : ℕ → World → World → Type 0
 KeepsFiles h v w =
     (i k : ℕ) (e : Entry) → h < hart_count → i < descriptor_count → (v.desks h).fds i ≡ Some k → v.files k ≡ Some e
-    → (f : Entry) × (w.files k ≡ Some f) × (f.sort ≡ e.sort) × (v.keeper e.file.number ≡ Some h → f.file ≡ e.file)
+    → (f : Entry) × (w.files k ≡ Some f) × (f.inode_type ≡ e.inode_type) × (v.keeper e.file.number ≡ Some h → f.file ≡ e.file)
 
 -- What a hart has stays while the others step. A hart to which another one hands its descriptors gets them, and rests still.
 pub record Others (h : ℕ) (v : World) (xs : List Step) (w : World) : Type 0 where
@@ -126,7 +126,7 @@ uses d k = sum_below descriptor_count (λ i. one_if (is_at (d.fds i) k)) + sum_b
 abbrev pub users : (ℕ → Desk) → ℕ → ℕ
 users desks k = sum_below hart_count (λ g. uses (desks g) k)
 
-pub record Shop : Type 0 where
+pub record FileTables : Type 0 where
   pub files : ℕ → Option Entry
   pub desks : ℕ → Desk
   pub ids : ℕ → ℕ
@@ -135,8 +135,8 @@ pub record Shop : Type 0 where
   pub tree_fds : ℕ → ℕ → Option ℕ
   pub tree_files : ℕ → Option OpenFile
 
-abbrev pub shop_of : World → Shop
-shop_of w = record {
+abbrev pub file_tables_of : World → FileTables
+file_tables_of w = record {
   files = w.files;
   desks = w.desks;
   ids = w.ids;
@@ -147,7 +147,7 @@ shop_of w = record {
 }
 
 -- what the tree has opened and the table not yet: nobody else has it, and its offset is 0
-pub record IsOpening (s : Shop) (g i : ℕ) : Type 0 where
+pub record IsOpening (s : FileTables) (g i : ℕ) : Type 0 where
   pub below : i < descriptor_count
   pub free : (s.desks g).fds i ≡ None
   pub id : ℕ
@@ -157,7 +157,7 @@ pub record IsOpening (s : Shop) (g i : ℕ) : Type 0 where
   pub offset : file.offset ≡ 0
   pub only : (j l : ℕ) → j < hart_count → l < descriptor_count → s.tree_fds j l ≡ Some id → (j ≡ g) × (l ≡ i)
 
-pub record IsTied (s : Shop) : Type 0 where
+pub record IsTied (s : FileTables) : Type 0 where
   -- a hart's descriptors are the tree's, but for what it is opening
   pub fds : (g i : ℕ) → g < hart_count → i < descriptor_count → is_at (s.desks g).opening i ≡ false
       → s.tree_fds g i ≡ id_at s.ids ((s.desks g).fds i)
@@ -190,7 +190,7 @@ left_or (Some k) d = k
 -- The directory that the hart refers to is the tree's, or the one that it leaves, unless it gets another's; and is one.
 pub record Stands (d : Desk) (cwd : ℕ) (nodes : ℕ → Option Node) : Type 0 where
   pub at : d.lender ≡ None → d.directory ≡ left_or d.left cwd
-  pub sort : sort_of (nodes d.directory) ≡ Some OfDirectory
+  pub inode_type : type_of (nodes d.directory) ≡ Some OfDirectory
 
 -- how often a hart refers to an inode at most: for its current directory, its walk, its list, and what its call has found or claimed
 abbrev pub reference_limit : ℕ
@@ -219,8 +219,8 @@ pub record Lends (w : World) (c g : ℕ) : Type 0 where
 
 -- An open file has its inode's type, and one to write to is no directory.
 pub record HasType (nodes : ℕ → Option Node) (e : Entry) : Type 0 where
-  pub sort : sort_of (nodes e.file.number) ≡ Some e.sort
-  pub written : e.file.writable ≡ true → e.sort ≢ OfDirectory
+  pub inode_type : type_of (nodes e.file.number) ≡ Some e.inode_type
+  pub written : e.file.writable ≡ true → e.inode_type ≢ OfDirectory
 
 pub record Inv (w : World) : Type 0 where
   -- the tree before it settles is well formed
@@ -240,15 +240,15 @@ pub record Inv (w : World) : Type 0 where
   -- each reference is of a hart or of an open file
   pub counts : (i : ℕ) → w.refs i ≡ w.slots i + sum_below hart_count (λ g. (w.harts g).refs i)
   pub refers : (g : ℕ) → g < hart_count → References (w.harts g) (w.desks g)
-  pub tied : IsTied (shop_of w)
-  pub sorts : (k : ℕ) (e : Entry) → w.files k ≡ Some e → HasType w.all.nodes e
+  pub tied : IsTied (file_tables_of w)
+  pub inode_types : (k : ℕ) (e : Entry) → w.files k ≡ Some e → HasType w.all.nodes e
   -- what a hart itself names it refers to, or it stands in a directory that the hart keeps; unless it gets another's
   pub named : (g i : ℕ) → g < hart_count → (w.desks g).lender ≡ None → own_names (row_of w.all g) (w.desks g) i ≡ true → IsReached w g i
   pub pending : (g i : ℕ) → g < hart_count → (w.harts g).pending ≡ Some i → Found w.keeper w.all.nodes g i
   pub walks : (g : ℕ) (k : Walk) → g < hart_count → (w.harts g).walk ≡ Some k → IsReached w g k.at
   -- while it refers to what it found, and doesn't free it, that has the type that it had
   pub noted : (g : ℕ) (n : Note) → g < hart_count → (w.desks g).noted ≡ Some n → IsReached w g n.number → w.alone n.number ≡ false
-      → sort_of (w.all.nodes n.number) ≡ n.sort
+      → type_of (w.all.nodes n.number) ≡ n.inode_type
   pub directory : (g : ℕ) → g < hart_count → Stands (w.desks g) (w.all.cwd g) w.all.nodes
   -- who has raised a count for a link that is under way is in a transaction
   pub raised : (g : ℕ) → g < hart_count → holds_raised true (w.all.holds g) ≡ true → (w.desks g).joined ≡ true
@@ -365,21 +365,21 @@ HasFreed h n w = (w.keeper n ≡ Some h) × (w.disk n ≡ None)
 
 abbrev pub Asks : ℕ → Op → World → Type 0
 Asks h (Take n looking) w = Refers h n w × (w.lock n ≡ None → w.disk n ≢ None) × Sought looking
-Asks h (Give n) w = Locks h n w
+Asks h (UnlockInode n) w = Locks h n w
 Asks h (UpStart absolute) w = LocksNone h w
 Asks h (Up n) w = Found w.keeper w.all.nodes h n
 Asks h (WalkDown n) w = Spares h n w × (w.keeper n ≢ Some h)
 Asks h (Down n) w = Spares h n w × (w.keeper n ≢ Some h)
 Asks h (Free n) w = Changes h n w
 Asks h (Forget n) w = Spares h n w × (w.lock n ≢ Some h) × HasFreed h n w
-Asks h (Claim sort) w = (w.desks h).joined ≡ true
+Asks h (Claim inode_type) w = (w.desks h).joined ≡ true
 Asks h (Store n count) w = Changes h n w × HasRecord n w (λ v. (count ≤ count_limit) ⊎ (count ≤ v.count))
 Asks h (Fill n d) w = Changes h n w × HasRecord n w (λ v. v.kind ≡ Directory []) × IsNumber d w
 Asks h (Enter d e n) w = Changes h d w × HasRecord d w (λ v. is_directory v.kind ≡ true) × IsNumber n w × IsName e
 Asks h (Clear d e) w = Changes h d w × HasRecord d w (λ v. IsSome (look (λ i. Some v) d e))
 Asks h (Empty n) w = Changes h n w × HasRecord n w (λ v. is_file v.kind ≡ true)
 Asks h Slot w = (w.desks h).hand ≡ None
-Asks h (Install f sort) w = ((w.desks h).hand ≢ None) × (f.offset ≡ 0) × Spares h f.number w
+Asks h (Install f inode_type) w = ((w.desks h).hand ≢ None) × (f.offset ≡ 0) × Spares h f.number w
 Asks h (StatFile fd) w = LocksNone h w
 Asks h (LockFile fd) w = LocksNone h w
 Asks h (ReadFile fd n offset count) w =
@@ -391,7 +391,7 @@ Asks h (WriteFile fd n offset bytes) w =
     Changes h n w × Writes h fd n w × StandsAt h fd offset w × HasRecord n w (λ v. is_file v.kind ≡ true) × (length bytes ≤ piece_len)
 Asks h (Double fd) w = Unit {0}
 Asks h (Shut fd) w = LocksNone h w × ((w.desks h).lent ≡ nothing)
-Asks h (Settle n) w = Locks h n w × Spares h n w
+Asks h (SetDirectory n) w = Locks h n w × Spares h n w
 Asks h (Lend child from) w = Serves h child w × (given_of (w.desks h) ≡ None)
     × ((i : ℕ) → from ≤ i → i < descriptor_count → (w.desks h).lent i ≡ None) × (next_used from (w.desks h).fds ≡ None → from ≡ 0)
 Asks h (LendDirectory child) w = Serves h child w × LendsNone h w
@@ -419,7 +419,7 @@ HonestPiece b (RoomFor k) = k < length b
 HonestPiece b (Picks n) = ⊥
 
 abbrev pub Honest : ℕ → Op → World → Outside → Type 0
-Honest h (Claim sort) w x = HonestClaim w x
+Honest h (Claim inode_type) w x = HonestClaim w x
 Honest h (WriteFile fd n offset bytes) w x = HonestPiece bytes x
 Honest h op w x = Unit {0}
 
@@ -440,7 +440,7 @@ looking_cost AtEntries = 1611
 abbrev pub more : Op → ℕ
 more (Take n looking) = looking_cost looking
 more (Free n) = 900
-more (Claim sort) = 12300
+more (Claim inode_type) = 12300
 more (Store n count) = 2
 more (Fill n d) = 12
 more (Enter d e n) = 1640
@@ -470,7 +470,7 @@ machine =
       go = go;
       places = places;
       tree = stage_of;
-      Takes = Takes;
+      Takes = PlaysStep;
       Inv = Inv;
       Halted = Inv;
       Others = Others;

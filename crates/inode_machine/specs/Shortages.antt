@@ -1,6 +1,6 @@
 -- Runs that fill a table, from a fresh tree: that of open files, and the places for inodes in memory.
 use Rattle.std.specs.Prelude.{◌≡◌, ℕ, zero, suc, ◌+◌, ◌*◌, true, false, List, [], ◌∷◌, ◌++◌, length, Option, Some, None, codes}
-use Rattle.inode_machine.specs.Vocabulary.{MemInodes, OpenFiles, Reply, Call, Node, Kind, Directory, File, Device, OpenFile, tree_of, entries, fresh_tree, hart_count, descriptor_count, one_if, Event, State, fresh, run}
+use Rattle.inode_machine.specs.Vocabulary.{MemInodes, OpenFiles, Reply, Call, Node, NodeKind, Directory, File, Device, OpenFile, tree_of, entries, fresh_tree, hart_count, descriptor_count, one_if, Event, State, fresh, run}
 use Rattle.plain_tree.specs.declared.answer.NodeType.TheVariants as types
 use Rattle.plain_tree.specs.declared.call.Call.TheVariants as calls
 use Rattle.inode_machine.specs.Basics.{Entry, World, Outside, file_count, full}
@@ -36,7 +36,7 @@ abbrev pub number_of : Option ℕ → ℕ
 number_of None = 0
 number_of (Some n) = suc n
 
-abbrev pub told_kind : Kind → List ℕ
+abbrev pub told_kind : NodeKind → List ℕ
 told_kind (Directory slots) = 1 ∷ length slots ∷ entries slots
 told_kind (File bytes) = 2 ∷ length bytes ∷ bytes
 told_kind (Device major minor size) = 3 ∷ []

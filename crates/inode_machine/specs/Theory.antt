@@ -1,7 +1,7 @@
 -- The calls that are shown right, as a theory: what every list of events makes of them.
 use Rattle.std.specs.Prelude.{◌≡◌, ◌≢◌, ◌⊎◌, ◌+◌, Option, Some, ℕ, Bool, true, false, ◌&&◌, ◌||◌, not, nat_lt, ◌==◌, List, [], ◌∷◌, length, if◌then◌else◌, None}
 use Rattle.inode_machine.specs.Vocabulary.{Reply, Call, Open, Read, Write, Link, Unlink, Mkdir, Chdir, Dup, Fstat, Close, Inherit, Tree, put, any_below, hart_count, descriptor_count, one_if, sum_below, IsWellFormed, Theory, Began, Refuses, Begins, Event, AllHonest, run, fresh, IsExplained, IsWholeCall, OpenFile, Node}
-use Rattle.inode_machine.specs.Basics.{Mine, Desk, World, Outside, stage_of, Sort, OfDirectory, sort_of_kind, is_nothing, serving}
+use Rattle.inode_machine.specs.Basics.{Mine, Desk, World, Outside, stage_of, InodeType, OfDirectory, type_of_kind, is_nothing, serving}
 use Rattle.inode_machine.specs.Rules.{Inv, Idle, machine, asked_limit}
 use Rattle.inode_machine.specs.Programs.{program, limit}
 
@@ -195,9 +195,9 @@ WorldsRest = (t : Tree) → IsWellFormed t → ((id : ℕ) → t.files id ≡ No
 
 -- The same, with one open file: hart 0's descriptor 0 has it.
 
-abbrev pub open_at_rest : Tree → OpenFile → Sort → World
-open_at_rest t f sort = record (at_rest t) {
-  files = put (λ k. None) 0 (Some (record { file = f; sort = sort; references = 1 }));
+abbrev pub open_at_rest : Tree → OpenFile → InodeType → World
+open_at_rest t f inode_type = record (at_rest t) {
+  files = put (λ k. None) 0 (Some (record { file = f; inode_type = inode_type; references = 1 }));
   desks = put (at_rest t).desks 0 (record ((at_rest t).desks 0) { fds = put (λ i. None) 0 (Some 0) });
   slots = λ n. one_if (f.number == n);
   refs = λ i. one_if (f.number == i) + (at_rest t).refs i;
@@ -212,8 +212,8 @@ pub record HasOneOpen (t : Tree) (f : OpenFile) (v : Node) : Type 0 where
   pub fds : (h i : ℕ) → (h ≢ 0) ⊎ (i ≢ 0) → t.fds h i ≡ None
   pub holds : (h : ℕ) → t.holds h ≡ None
   pub node : t.nodes f.number ≡ Some v
-  pub written : f.writable ≡ true → sort_of_kind v.kind ≢ OfDirectory
+  pub written : f.writable ≡ true → type_of_kind v.kind ≢ OfDirectory
 
 abbrev pub WorldsWithAFileRest : Type 0
 WorldsWithAFileRest = (t : Tree) (f : OpenFile) (v : Node) → IsWellFormed t → HasOneOpen t f v
-    → Inv (open_at_rest t f (sort_of_kind v.kind)) × ((h : ℕ) → Idle h (open_at_rest t f (sort_of_kind v.kind)))
+    → Inv (open_at_rest t f (type_of_kind v.kind)) × ((h : ℕ) → Idle h (open_at_rest t f (type_of_kind v.kind)))

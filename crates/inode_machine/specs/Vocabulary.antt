@@ -2,14 +2,14 @@
 pub use Rattle.tree_laws.specs.Vocabulary.{Explains, Name, Other, Replied, Shown, Started as Begun, Tree, TreeData, all_slots, call_climbs, closed, creates, descriptor_count, dot, dotdot, drop_hold, elements, fresh as fresh_tree, hart_count, is_directory, is_live, lowest, makes_node, no_calls, parent, path_of, resolve, root, start_of, trace_of, tree_of}
 unfoldable pub use Rattle.tree_laws.specs.Vocabulary.{Chain, answer_with, any_used, effect_with, look, put, refusal_with}
 pub use Rattle.plain_tree.specs.declared.answer.Cause.{Cause}
-pub use Rattle.atomic_programs.specs.Calls.{AllHonest, Began, Begins, Came, DidEnd, DidRun, DidStop, DidWait, Event, FinishedCall, Lawful, Outcome, Refused, Refuses, Run, Start, Started, State, Step, Theory, WasIdle, WasStopped, fresh, makes, next, outcomes, run}
-pub use Rattle.atomic_programs.specs.Prog.{Did, Do, Prog, Ran, Ret, Stops, Waits, unmarked}
-pub use Rattle.plain_tree.specs.declared.node.Kind.TheVariants.{Device, Directory, File}
+pub use Rattle.atomic_programs.specs.Calls.{AllHonest, Began, Begins, EventOutcome, DidEnd, DidRun, DidStop, DidWait, Event, FinishedCall, Lawful, Outcome, Refused, Refuses, Run, Start, Started, State, Step, Theory, WasIdle, WasStopped, fresh, makes, next, outcomes, run}
+pub use Rattle.atomic_programs.specs.Prog.{ExecResult, Do, Prog, Ran, Ret, Stops, Waits, unmarked}
+pub use Rattle.plain_tree.specs.declared.node.NodeKind.TheVariants.{Device, Directory, File}
 pub use Rattle.tree_laws.specs.WellFormed.{IsWellFormed}
 unfoldable pub use Rattle.tree_laws.specs.WellFormed.{one_if, sum_below}
 pub use Rattle.plain_tree.specs.declared.answer.Full.TheVariants.{Blocks, Descriptors, Directory as DirectorySlots, DiskInodes, MemInodes, OpenFiles}
-pub use Rattle.tree_laws.specs.Moves.{Deed, IsWholeCall, Move, Stage, Step as MoveStep, Takes, Walk, fail}
-pub use Rattle.tree_laws.specs.Moves.Move.{Begin, Look, Own, Quit}
+pub use Rattle.tree_laws.specs.Moves.{Deed, IsWholeCall, Move, Stage, Step as MoveStep, PlaysStep, Walk, fail}
+pub use Rattle.tree_laws.specs.Moves.Move.{Begin, Look, Own, GiveUpWalk}
 pub use Rattle.plain_tree.specs.Tree.{hold_names, is_absolute, slots_of}
 unfoldable pub use Rattle.plain_tree.specs.Tree.{any_below, same_name, settle}
 pub use Rattle.plain_tree.specs.Widths.{count_limit, name_len, piece_len, root_device}
@@ -19,7 +19,7 @@ pub use Rattle.plain_tree.specs.Calls.{piece, piece_count}
 pub use Rattle.plain_tree.specs.Steps.{content, emptied, empty_it, has, has_driver, has_room, holds_raised, is_file, is_used, new_directory, no_driver, node_or, opens_one, read_write, refusal, size_of, with_nodes, write_kind, write_only, written_kind}
 unfoldable pub use Rattle.plain_tree.specs.Steps.{cleared, entries, first_free}
 pub use Rattle.plain_tree.specs.declared.answer.NodeType.{NodeType}
-pub use Rattle.plain_tree.specs.declared.node.Kind.{Kind}
+pub use Rattle.plain_tree.specs.declared.node.NodeKind.{NodeKind}
 pub use Rattle.atomic_programs.specs.Explained.{IsExplained}
 pub use Rattle.plain_tree.specs.HartRow.{Key, Row, key_names, row_of}
 pub use Rattle.plain_tree.specs.declared.answer.Full.{Full}

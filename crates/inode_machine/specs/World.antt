@@ -1,7 +1,7 @@
 -- The machine of whole inodes: its state, and its operations.
 use Rattle.std.specs.Prelude.{ℕ, Bool, List, Option}
 use Rattle.inode_machine.specs.Vocabulary.{Node, Cause, Action, Name, Tree, settle, OpenFile, Walk, Stage, Move}
-use Rattle.inode_machine.specs.Inodes.{Sort, Face, Query, Sight}
+use Rattle.inode_machine.specs.Inodes.{InodeType, Face, Query, Sight}
 
 -- a hart's references, counted for it, and its walk
 pub record Mine : Type 0 where
@@ -12,13 +12,13 @@ pub record Mine : Type 0 where
 -- an open file of the table, with its inode's type, and the number of descriptors that have it
 pub record Entry : Type 0 where
   pub file : OpenFile
-  pub sort : Sort
+  pub inode_type : InodeType
   pub references : ℕ
 
 -- the type that an inode had when it was found
 pub record Note : Type 0 where
   pub number : ℕ
-  pub sort : Option Sort
+  pub inode_type : Option InodeType
 
 -- what a hart has of the tables
 pub record Desk : Type 0 where
@@ -65,7 +65,7 @@ stage_of w = record { tree = settle w.all; walk = λ h. (w.harts h).walk }
 pub data Op : Type 0 where
   -- an inode's lock is taken, and the inode looked at; given up
   Take : ℕ → Query → Op
-  Give : ℕ → Op
+  UnlockInode : ℕ → Op
   -- a reference more: to a path's start (true: to the root), to what was found
   UpStart : Bool → Op
   Up : ℕ → Op
@@ -76,7 +76,7 @@ pub data Op : Type 0 where
   Free : ℕ → Op
   Forget : ℕ → Op
   -- an inode of this type, that nobody refers to
-  Claim : Sort → Op
+  Claim : InodeType → Op
   -- an inode's count
   Store : ℕ → ℕ → Op
   -- the two entries of a new directory, which is the first and stands in the second
@@ -87,7 +87,7 @@ pub data Op : Type 0 where
   Empty : ℕ → Op
   -- a slot of the table is taken; and the lowest descriptor for it, with this open file, of an inode of this type
   Slot : Op
-  Install : OpenFile → Sort → Op
+  Install : OpenFile → InodeType → Op
   -- the lock of a descriptor's inode is taken, to tell its state; or to read of it
   StatFile : ℕ → Op
   LockFile : ℕ → Op
@@ -104,7 +104,7 @@ pub data Op : Type 0 where
   Double : ℕ → Op
   Shut : ℕ → Op
   -- an inode's lock is given up, and it is the hart's current directory
-  Settle : ℕ → Op
+  SetDirectory : ℕ → Op
   -- the caller's first descriptor from here on is handed on; the directory is, after the last one; the hart that has them may start again
   Lend : ℕ → ℕ → Op
   LendDirectory : ℕ → Op
@@ -149,21 +149,21 @@ pub data LoanResult : Type 0 where
 
 abbrev pub Answer : Op → Type 0
 Answer (Take n looking) = Sight
-Answer (Give n) = Unit {0}
+Answer (UnlockInode n) = Unit {0}
 Answer (UpStart absolute) = Option ℕ
 Answer (Up n) = Bool
 Answer (WalkDown n) = Bool
 Answer (Down n) = Bool
 Answer (Free n) = Unit {0}
 Answer (Forget n) = Unit {0}
-Answer (Claim sort) = ClaimResult
+Answer (Claim inode_type) = ClaimResult
 Answer (Store n count) = Unit {0}
 Answer (Fill n d) = Bool
 Answer (Enter d e n) = EntryResult
 Answer (Clear d e) = Unit {0}
 Answer (Empty n) = Unit {0}
 Answer Slot = Bool
-Answer (Install f sort) = Option ℕ
+Answer (Install f inode_type) = Option ℕ
 Answer (StatFile fd) = Option (ℕ × Face)
 Answer (LockFile fd) = LockResult
 Answer (ReadFile fd n offset count) = List ℕ
@@ -173,7 +173,7 @@ Answer (LockOpen fd n) = ℕ × ℕ
 Answer (WriteFile fd n offset bytes) = Wrote
 Answer (Double fd) = Option (Option ℕ)
 Answer (Shut fd) = Option (Option ℕ)
-Answer (Settle n) = ℕ
+Answer (SetDirectory n) = ℕ
 Answer (Lend child from) = LoanResult
 Answer (LendDirectory child) = ℕ
 Answer (Release child) = Unit {0}

@@ -1,5 +1,5 @@
 -- Operations that change an inode: each stays amid until it leaves what it says.
-use Rattle.inode_parts.proofs.Vocabulary.{◌≡◌, ℕ, Option, Some, None, refl, sym, ap, subst, ◌∙◌, IsSome, MatchOption, option_map, GuardState, Dinode, Inode, Hand, Place, First, Second, Seat, One, Two, inode_at, recorded, with_buffer, with_record, HasNoBuffer, unloaded, without_content, IsLoadedAt, beside_buffers, note_at, with_note, beside_inode, IsAmid, Changed, Reloaded, StandBeside, having, other, Note, Notes}
+use Rattle.inode_parts.proofs.Vocabulary.{◌≡◌, ℕ, Option, Some, None, refl, sym, ap, subst, ◌∙◌, IsSome, MatchOption, option_map, GuardState, Dinode, Inode, Hand, Place, First, Second, InodePlace, One, Two, inode_at, recorded, with_buffer, with_record, HasNoBuffer, unloaded, without_content, IsLoadedAt, beside_buffers, note_at, with_note, beside_inode, IsAmid, Changed, Reloaded, StandBeside, having, other, Note, Notes}
 
 -- ---- beside the inode at a seat nothing changes
 
@@ -8,30 +8,30 @@ unloaded_set d None = refl
 unloaded_set d (Some g) = refl
 
 -- where its record is set
-pub record_beside : (k : Seat) (d : Dinode) (h : Hand) → beside_inode k (with_record k d h) ≡ beside_inode k h
+pub record_beside : (k : InodePlace) (d : Dinode) (h : Hand) → beside_inode k (with_record k d h) ≡ beside_inode k h
 record_beside One d h = λ i. record (beside_inode One h) { one = unloaded_set d h.one i }
 record_beside Two d h = λ i. record (beside_inode Two h) { two = unloaded_set d h.two i }
 
 -- where buffers change
-pub buffers_beside : (k : Seat) (before h : Hand) → beside_buffers tt h ≡ beside_buffers tt before → beside_inode k h ≡ beside_inode k before
+pub buffers_beside : (k : InodePlace) (before h : Hand) → beside_buffers tt h ≡ beside_buffers tt before → beside_inode k h ≡ beside_inode k before
 buffers_beside One before h same = ap (unloaded One) same
 buffers_beside Two before h same = ap (unloaded Two) same
 
 -- .. and each inode is the same
-pub same_inode : (k : Seat) (before h : Hand) → beside_buffers tt h ≡ beside_buffers tt before → inode_at k h ≡ inode_at k before
+pub same_inode : (k : InodePlace) (before h : Hand) → beside_buffers tt h ≡ beside_buffers tt before → inode_at k h ≡ inode_at k before
 same_inode One before h same = ap (λ (h : Hand). h.one) same
 same_inode Two before h same = ap (λ (h : Hand). h.two) same
 
-pub still_there : (k : Seat) (before h : Hand) → beside_buffers tt h ≡ beside_buffers tt before → IsSome (inode_at k before) → IsSome (inode_at k h)
+pub still_there : (k : InodePlace) (before h : Hand) → beside_buffers tt h ≡ beside_buffers tt before → IsSome (inode_at k before) → IsSome (inode_at k h)
 still_there k before h same there = subst (λ (o : Option (GuardState Inode)). IsSome o) (sym (same_inode k before h same)) there
 
 -- where one of them does
-pub buffer_beside : (p : Place) (k : Seat) (before h : Hand) → with_buffer p None h ≡ with_buffer p None before → beside_inode k h ≡ beside_inode k before
+pub buffer_beside : (p : Place) (k : InodePlace) (before h : Hand) → with_buffer p None h ≡ with_buffer p None before → beside_inode k h ≡ beside_inode k before
 buffer_beside First k before h same = buffers_beside k before h (ap (with_buffer Second None) same)
 buffer_beside Second k before h same = buffers_beside k before h (ap (with_buffer First None) same)
 
 -- a record that is set is there
-set_there : (k : Seat) (d : Dinode) (h : Hand) → IsSome (inode_at k h) → IsLoadedAt k (with_record k d h)
+set_there : (k : InodePlace) (d : Dinode) (h : Hand) → IsSome (inode_at k h) → IsLoadedAt k (with_record k d h)
 set_there One d h there = at h.one there
   where
     at : (o : Option (GuardState Inode)) → IsSome o → MatchOption (option_map (recorded d) o) ⊥ (λ g. IsSome g.value.content)
@@ -45,40 +45,40 @@ set_there Two d h there = at h.two there
 
 -- ---- it goes on
 
-pub still_amid : (n : ℕ) (start : Hand) (k : Seat) (before h : Hand) → beside_inode k h ≡ beside_inode k before → IsAmid n start k before → IsAmid n start k h
+pub still_amid : (n : ℕ) (start : Hand) (k : InodePlace) (before h : Hand) → beside_inode k h ≡ beside_inode k before → IsAmid n start k before → IsAmid n start k h
 still_amid n start k before h same amid = (amid.0, amid.1, same ∙ amid.2)
 
 -- ---- what is left at the end
 
-without_buffers : (k : Seat) (h : Hand) → HasNoBuffer h → beside_inode k h ≡ unloaded k h
+without_buffers : (k : InodePlace) (h : Hand) → HasNoBuffer h → beside_inode k h ≡ unloaded k h
 without_buffers One h none = λ i. record (unloaded One h) { first = sym none.0 i; second = sym none.1 i }
 without_buffers Two h none = λ i. record (unloaded Two h) { first = sym none.0 i; second = sym none.1 i }
 
-noted_beside : (k : Seat) (x : Note) (m : Notes) → note_at (other k) (with_note k x m) ≡ note_at (other k) m
+noted_beside : (k : InodePlace) (x : Note) (m : Notes) → note_at (other k) (with_note k x m) ≡ note_at (other k) m
 noted_beside One x m = refl
 noted_beside Two x m = refl
 
-module _ (n : ℕ) (start h : Hand) (k : Seat) (amid : IsAmid n start k h) (none : HasNoBuffer h) where
+module _ (n : ℕ) (start h : Hand) (k : InodePlace) (amid : IsAmid n start k h) (none : HasNoBuffer h) where
   pub reloads : Reloaded n start h
   reloads =
-      subst (λ (k : Seat). unloaded k h ≡ unloaded k start) amid.0
+      subst (λ (k : InodePlace). unloaded k h ≡ unloaded k start) amid.0
       (sym (without_buffers k h none) ∙ amid.2 ∙ without_buffers k start amid.1)
 
   pub stands : (m m2 : Notes) (x : Note) → m2 ≡ with_note k x m → StandBeside n (having start m) (having h m2)
   stands m m2 x noted =
-      subst (λ (k : Seat). note_at (other k) m2 ≡ note_at (other k) m) amid.0
+      subst (λ (k : InodePlace). note_at (other k) m2 ≡ note_at (other k) m) amid.0
       (ap (note_at (other k)) noted ∙ noted_beside k x m)
 
   pub leaves_changed : (m m2 : Notes) (x : Note) → m2 ≡ with_note k x m → IsLoadedAt k h → Changed n start h × StandBeside n (having start m) (having h m2)
-  leaves_changed m m2 x noted there = ((reloads, subst (λ (k : Seat). IsLoadedAt k h) amid.0 there), stands m m2 x noted)
+  leaves_changed m m2 x noted there = ((reloads, subst (λ (k : InodePlace). IsLoadedAt k h) amid.0 there), stands m m2 x noted)
 
 -- where its record is set at the end
-pub leaves_set : (n : ℕ) (start h after : Hand) (k : Seat) (d : Dinode) (m m2 : Notes) (x : Note) → IsAmid n start k h → HasNoBuffer h → IsSome (inode_at k h) → after ≡ with_record k d h → m2 ≡ with_note k x m
+pub leaves_set : (n : ℕ) (start h after : Hand) (k : InodePlace) (d : Dinode) (m m2 : Notes) (x : Note) → IsAmid n start k h → HasNoBuffer h → IsSome (inode_at k h) → after ≡ with_record k d h → m2 ≡ with_note k x m
     → Changed n start after × StandBeside n (having start m) (having after m2)
 leaves_set n start h after k d m m2 x amid none there set noted =
     subst (λ (after : Hand). Changed n start after × StandBeside n (having start m) (having after m2)) (sym set)
     (leaves_changed n start (with_record k d h) k (still_amid n start k h (with_record k d h) (record_beside k d h) amid) (no_buffer k) m m2 x noted (set_there k d h there))
   where
-    no_buffer : (k : Seat) → HasNoBuffer (with_record k d h)
+    no_buffer : (k : InodePlace) → HasNoBuffer (with_record k d h)
     no_buffer One = none
     no_buffer Two = none

@@ -1,12 +1,12 @@
 -- What an operation on whole inodes is below, where it is one operation.
-use Rattle.inode_parts.proofs.Vocabulary.{◌≡◌, ◌≢◌, ℕ, zero, suc, List, [], ◌++◌, Bool, true, false, Option, Some, None, refl, sym, ap, ◌∙◌, subst, inl, inr, append-nil, if◌then◌else◌, is_some, IsSome, MatchOption, option_map_or, unwrap_or, put, eq_is, Prog, Ret, Do, bind, plain, unmarked, GuardState, Dinode, Super, Inode, Given, Left, Commits, holding, P, after_leave, commit_unless, commits, most_writes, Hand, Seat, One, Two, inode_at, inode_in, no_inode, number_at, reference_at, new_file, Acts, joining_to, lent_to, with_dying, is_listed, is_dying, Carry, Had, Apart, record_had, joined_in, loan_in, op_in, Ask, Element, BeginsWith, carry_in, had_at, had_of, IsPart, Part, one, Begins, HasReference, IsAlone, MayRefer, StepReady, free_seat, joining_heard, loan_heard, locks, seat_of_lock, seat_of_reference, still, having, ends_with, is_short, part_for, part_left, PartReady, one_or_leave, PartTold, FillsAs, Note, Notes, OneStep}
+use Rattle.inode_parts.proofs.Vocabulary.{◌≡◌, ◌≢◌, ℕ, zero, suc, List, [], ◌++◌, Bool, true, false, Option, Some, None, refl, sym, ap, ◌∙◌, subst, inl, inr, append-nil, if◌then◌else◌, is_some, IsSome, MatchOption, option_map_or, unwrap_or, put, eq_is, Prog, Ret, Do, bind, plain, unmarked, GuardState, Dinode, Super, Inode, Given, AfterLeave, Commits, holding, P, after_leave, commit_unless, commits, most_writes, Hand, InodePlace, One, Two, inode_at, inode_in, no_inode, number_at, reference_at, new_file, Acts, joining_to, lent_to, with_dying, is_listed, is_dying, Carry, Had, Apart, record_had, joined_in, loan_in, op_in, Ask, Element, BeginsWith, carry_in, had_at, had_of, IsPart, Part, one, Begins, HasReference, IsAlone, MayRefer, StepReady, free_seat, joining_heard, loan_heard, locks, seat_of_lock, seat_of_reference, still, having, ends_with, is_short, part_for, part_left, PartReady, one_or_leave, PartTold, FillsAs, Note, Notes, OneStep}
 use Rattle.fs_machine.specs.declared.slots.Given.TheVariants as given
-use Rattle.group_log.specs.declared.log.Left.TheVariants.{Free}
+use Rattle.group_log.specs.declared.log.AfterLeave.TheVariants.{Free}
 use Rattle.fs_machine.specs.Steps as steps
 use Rattle.inode_machine.specs.World as above
 use Rattle.path_walk.specs.declared.asks.Ask.TheVariants as ask
 use Rattle.path_walk.specs.declared.asks.Query.{Query}
-use Rattle.path_walk.specs.declared.asks.Sort.{Sort}
+use Rattle.path_walk.specs.declared.asks.InodeType.{InodeType}
 use Rattle.path_walk.specs.declared.asks.Heard.TheVariants as heard
 use Rattle.inode_parts.specs.declared.note.Note.TheVariants as note
 use Rattle.inode_parts.specs.declared.one_step.OneStep.TheVariants as step
@@ -48,7 +48,7 @@ pub lock_is : (path : List ℕ) (m : Notes) (n : ℕ) (h : Hand) → locks n (in
     → let v : Inode = record { number = n; content = record_had (carry_in path m h n) } in v ≡ inode_in (seat_of_lock n h) h
 lock_is path m n h e = at (locks n h.one) refl e
   where
-    at : (b : Bool) → locks n h.one ≡ b → let k : Seat = if b then One else Two in locks n (inode_at k h) ≡ true
+    at : (b : Bool) → locks n h.one ≡ b → let k : InodePlace = if b then One else Two in locks n (inode_at k h) ≡ true
         → let v : Inode = record { number = n; content = record_had (carry_in path m h n) } in v ≡ inode_in k h
     at true is e = here path m.one n h.one (had_at path m.two h.two n Apart) e
     at false is e = ap (λ (x : Had). let v : Inode = record { number = n; content = record_had x } in v) (elsewhere path m.one n h.one (had_at path m.two h.two n Apart) is) ∙ here path m.two n h.two Apart e
@@ -69,7 +69,7 @@ module _ (path : List ℕ) (m : Notes) (h : Hand) where
   commits_so zero = refl
   commits_so (suc n) = λ i. Do steps.Commit unmarked (λ done. commits_unless n (commits_so n) done i)
 
-  leaves_so : (left : Left) → Same {M = Acts} (after_leave left) (after_leave left)
+  leaves_so : (left : AfterLeave) → Same {M = Acts} (after_leave left) (after_leave left)
   leaves_so Free = refl
   leaves_so Commits = commits_so most_writes
 
@@ -79,12 +79,12 @@ module _ (sizes : Super) (path : List ℕ) (m : Notes) (h : Hand) where
   up_is_part n false = λ mark. refl
 
   pub is_part : (op : above.Op) → Begins op h → IsPart sizes (carry_in path m h) op (part_left path m (part_for op h) h)
-  is_part (above.Give n) has =
+  is_part (above.UnlockInode n) has =
       let c : Carry = carry_in path m h in
-      subst (λ (v : Inode). IsPart sizes c (above.Give n) (one path (steps.Unlock v None) (λ a. heard.Did) (λ a. put c v.number Apart))) (lock_is path m n h has.0) (λ mark. refl)
-  is_part (above.Settle n) has =
+      subst (λ (v : Inode). IsPart sizes c (above.UnlockInode n) (one path (steps.Unlock v None) (λ a. heard.WasDone) (λ a. put c v.number Apart))) (lock_is path m n h has.0) (λ mark. refl)
+  is_part (above.SetDirectory n) has =
       let c : Carry = carry_in path m h in
-      subst (λ (v : Inode). IsPart sizes c (above.Settle n) (one path (steps.Settle v) heard.Old (λ a. put c v.number Apart))) (lock_is path m n h has.0.0) (λ mark. refl)
+      subst (λ (v : Inode). IsPart sizes c (above.SetDirectory n) (one path (steps.SetDirectory v) heard.Old (λ a. put c v.number Apart))) (lock_is path m n h has.0.0) (λ mark. refl)
   is_part (above.UpStart true) has = λ mark. refl
   is_part (above.UpStart false) has = λ mark. refl
   is_part (above.Up n) has = up_is_part n (is_some (reference_at (free_seat h) h))
@@ -96,16 +96,16 @@ module _ (sizes : Super) (path : List ℕ) (m : Notes) (h : Hand) where
       subst (λ (k : ℕ). IsPart sizes c (above.Down n) (one path (steps.Down (steps.Held k)) (λ a. heard.Is (is_dying a)) (with_dying k c))) (sym (reference_is n h has.0)) (λ mark. refl)
   is_part (above.Forget n) has =
       let c : Carry = carry_in path m h in
-      subst (λ (k : ℕ). IsPart sizes c (above.Forget n) (one path (steps.Down (steps.Freed k)) (λ a. heard.Did) (λ a. c))) (sym (reference_is n h has)) (λ mark. refl)
+      subst (λ (k : ℕ). IsPart sizes c (above.Forget n) (one path (steps.Down (steps.Freed k)) (λ a. heard.WasDone) (λ a. c))) (sym (reference_is n h has)) (λ mark. refl)
   is_part (above.Slot) has = λ mark. refl
-  is_part (above.Install f sort) has =
+  is_part (above.Install f inode_type) has =
       let c : Carry = carry_in path m h in
-      subst (λ (k : ℕ). IsPart sizes c (above.Install f sort) (still path (steps.TakeDescriptor k (new_file f sort)) heard.Start c)) (sym (reference_is f.number h has)) (λ mark. refl)
+      subst (λ (k : ℕ). IsPart sizes c (above.Install f inode_type) (still path (steps.TakeDescriptor k (new_file f inode_type)) heard.Start c)) (sym (reference_is f.number h has)) (λ mark. refl)
   is_part (above.CheckFile fd) has = λ mark. refl
   is_part (above.JoinFile fd) has = λ mark i. Do (steps.JoinToWrite fd) unmarked (λ a. Ret (record { answer = joins_so a i; carry = carry_in path m h }))
   is_part (above.Double fd) has = λ mark. refl
   is_part (above.Shut fd) has = λ mark. refl
-  is_part (above.Lend child from) has = λ mark i. Do (steps.Give child from) unmarked (λ a. Ret (record { answer = lends_so a i; carry = carry_in path m h }))
+  is_part (above.Lend child from) has = λ mark i. Do (steps.GiveDescriptor child from) unmarked (λ a. Ret (record { answer = lends_so a i; carry = carry_in path m h }))
   is_part (above.LendDirectory child) has = λ mark. refl
   is_part (above.Release child) has = λ mark. refl
   is_part above.Join has = λ mark. refl
@@ -128,7 +128,7 @@ short_so path m (ask.Enter d e n) h short has = absurd (cc short)
 short_so path m (ask.Clear d e) h short has = absurd (cc short)
 short_so path m (ask.Fill n d) h short has = absurd (cc short)
 short_so path m (ask.Free n) h short has = absurd (cc short)
-short_so path m (ask.Claim sort) h short has = absurd (cc short)
+short_so path m (ask.Claim inode_type) h short has = absurd (cc short)
 short_so path m (ask.LockOpen fd n) h short has = absurd (cc short)
 short_so path m (ask.LockFile fd) h short has = absurd (cc short)
 short_so path m (ask.StatFile fd) h short has = absurd (cc short)
@@ -149,7 +149,7 @@ pub short_begins : (path : List ℕ) (m : Notes) (a : Ask) (h : Hand) → Begins
     → ((d : ℕ) (e : Element) → a ≢ ask.Clear d e)
     → ((n d : ℕ) → a ≢ ask.Fill n d)
     → ((n : ℕ) → a ≢ ask.Free n)
-    → ((s : Sort) → a ≢ ask.Claim s)
+    → ((s : InodeType) → a ≢ ask.Claim s)
     → ((fd n : ℕ) → a ≢ ask.LockOpen fd n)
     → ((fd : ℕ) → a ≢ ask.LockFile fd)
     → ((fd : ℕ) → a ≢ ask.StatFile fd)
@@ -183,10 +183,10 @@ pub locked_there : (n : ℕ) (o : Option (GuardState Inode)) → locks n o ≡ t
 locked_there n None e = absurd (cc e)
 locked_there n (Some g) e = (refl, eq_is n g.value.number e)
 
-pub gives_ready : (n : ℕ) (k : Seat) (h : Hand) → locks n (inode_at k h) ≡ true → IsAlone n k h → IsSome (inode_at k h) × IsAlone (inode_in k h).number k h
+pub gives_ready : (n : ℕ) (k : InodePlace) (h : Hand) → locks n (inode_at k h) ≡ true → IsAlone n k h → IsSome (inode_at k h) × IsAlone (inode_in k h).number k h
 gives_ready n k h e alone = ((locked_there n (inode_at k h) e).0, subst (λ (n : ℕ). IsAlone n k h) (locked_there n (inode_at k h) e).1 alone)
 
-some_reference : (n : ℕ) (k : Seat) (h : Hand) → reference_at k h ≡ Some n → IsSome (reference_at k h)
+some_reference : (n : ℕ) (k : InodePlace) (h : Hand) → reference_at k h ≡ Some n → IsSome (reference_at k h)
 some_reference n k h e = ap (λ (o : Option ℕ). is_some o) e
 
 settles_there : (n : ℕ) (o : Option (GuardState Inode)) (r : Option ℕ) → locks n o ≡ true → r ≡ Some n → MatchOption o ⊥ (λ g. r ≡ Some g.value.number)
@@ -199,8 +199,8 @@ up_ready n h (Some j) is (inl free) = absurd (let clash : None ≡ Some j = sym 
 up_ready n h (Some j) is (inr none) = none
 
 pub is_ready : (op : above.Op) (h : Hand) → Begins op h → PartReady (part_for op h) h
-is_ready (above.Give n) h has = gives_ready n (seat_of_lock n h) h has.0 has.1
-is_ready (above.Settle n) h has =
+is_ready (above.UnlockInode n) h has = gives_ready n (seat_of_lock n h) h has.0 has.1
+is_ready (above.SetDirectory n) h has =
     (settles_there n (inode_at (seat_of_lock n h) h) (reference_at (seat_of_lock n h) h) has.0.0 has.1, (gives_ready n (seat_of_lock n h) h has.0.0 has.0.1).1)
 is_ready (above.UpStart true) h has = has
 is_ready (above.UpStart false) h has = has
@@ -210,7 +210,7 @@ is_ready (above.Down n) h has =
     (some_reference n (seat_of_reference n h) h has.0, has.1, subst (λ (k : ℕ). IsAlone k (seat_of_reference n h) h) (sym (reference_is n h has.0)) has.2)
 is_ready (above.Forget n) h has = some_reference n (seat_of_reference n h) h has
 is_ready above.Slot h has = tt
-is_ready (above.Install f sort) h has = some_reference f.number (seat_of_reference f.number h) h has
+is_ready (above.Install f inode_type) h has = some_reference f.number (seat_of_reference f.number h) h has
 is_ready (above.CheckFile fd) h has = tt
 is_ready (above.JoinFile fd) h has = has
 is_ready (above.Double fd) h has = tt

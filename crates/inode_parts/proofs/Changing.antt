@@ -1,5 +1,5 @@
 -- What is in hand after an inode was changed whose lock is in hand.
-use Rattle.inode_parts.proofs.Vocabulary.{◌≡◌, ℕ, List, Bool, true, false, Option, Some, None, refl, sym, ap, ◌∙◌, subst, ◌==◌, if◌then◌else◌, IsSome, MatchOption, option_map, option_map_or, put, eq_is, Ret, GuardState, Dinode, Inode, record_of, Hand, Seat, One, Two, bare, without_record, inode_at, no_inode, recorded, with_record, beside_emptying, record_in, without_content, IsLoadedAt, Emptying, beside_buffers, NothingMore, Had, Apart, Has, Heard, carry_in, had_at, with_note, changed, IsAlone, locks, Notes}
+use Rattle.inode_parts.proofs.Vocabulary.{◌≡◌, ℕ, List, Bool, true, false, Option, Some, None, refl, sym, ap, ◌∙◌, subst, ◌==◌, if◌then◌else◌, IsSome, MatchOption, option_map, option_map_or, put, eq_is, Ret, GuardState, Dinode, Inode, record_of, Hand, InodePlace, One, Two, bare, without_record, inode_at, no_inode, recorded, with_record, beside_emptying, record_in, without_content, IsLoadedAt, Emptying, beside_buffers, NothingMore, Had, Apart, Has, Heard, carry_in, had_at, with_note, changed, IsAlone, locks, Notes}
 use Rattle.inode_parts.specs.declared.note.Note.TheVariants as note
 use Rattle.inode_parts.proofs.Handing.{elsewhere, still_in}
 
@@ -19,7 +19,7 @@ with_it path d i None x e = absurd (cc e)
 with_it path d i (Some g) x e = ap (λ (b : Bool). if b then Has d NothingMore else x) e
 
 -- of the inode its record is had, and nothing more
-pub changes : (path : List ℕ) (m : Notes) (k : Seat) (n : ℕ) (d : Dinode) (h : Hand) → locks n (inode_at k h) ≡ true → IsAlone n k h
+pub changes : (path : List ℕ) (m : Notes) (k : InodePlace) (n : ℕ) (d : Dinode) (h : Hand) → locks n (inode_at k h) ≡ true → IsAlone n k h
     → put (carry_in path m h) n (Has d NothingMore) ≡ carry_in path (with_note k note.Nothing m) (with_record k d h)
 unfolding put
 changes path m One n d h e alone = λ j i. at i (i == n) refl j
@@ -55,7 +55,7 @@ pub carried_beside : (path : List ℕ) (m : Notes) (e : Emptying) (d : Dinode) (
     → carry_in path m (with_record e.seat d before) ≡ carry_in path m (with_record e.seat d h)
 carried_beside path m e d before h same = at e.seat same
   where
-    at : (k : Seat) → let e : Emptying = record { seat = k; sizes = e.sizes } in beside_emptying e h ≡ beside_emptying e before → carry_in path m (with_record k d before) ≡ carry_in path m (with_record k d h)
+    at : (k : InodePlace) → let e : Emptying = record { seat = k; sizes = e.sizes } in beside_emptying e h ≡ beside_emptying e before → carry_in path m (with_record k d before) ≡ carry_in path m (with_record k d h)
     at One same = still_in path m (with_record One d before) (with_record One d h) (sym (set_same d h.one before.one (ap (λ (h : Hand). h.one) same))) (sym (ap (λ (h : Hand). h.two) same))
     at Two same = still_in path m (with_record Two d before) (with_record Two d h) (sym (ap (λ (h : Hand). h.one) same)) (sym (set_same d h.two before.two (ap (λ (h : Hand). h.two) same)))
 
@@ -64,11 +64,11 @@ module _ (path : List ℕ) (m : Notes) (before h : Hand) (beside : beside_buffer
   pub buffers_beside : carry_in path m before ≡ carry_in path m h
   buffers_beside = still_in path m before h (sym (ap (λ (h : Hand). h.one) beside)) (sym (ap (λ (h : Hand). h.two) beside))
 
-  record_beside : (k : Seat) (d : Dinode) → carry_in path m (with_record k d before) ≡ carry_in path m (with_record k d h)
+  record_beside : (k : InodePlace) (d : Dinode) → carry_in path m (with_record k d before) ≡ carry_in path m (with_record k d h)
   record_beside One d = still_in path m (with_record One d before) (with_record One d h) (sym (ap (λ (h : Hand). option_map (recorded d) h.one) beside)) (sym (ap (λ (h : Hand). h.two) beside))
   record_beside Two d = still_in path m (with_record Two d before) (with_record Two d h) (sym (ap (λ (h : Hand). h.one) beside)) (sym (ap (λ (h : Hand). option_map (recorded d) h.two) beside))
 
-pub changed_same : (path : List ℕ) (m : Notes) (k : Seat) (x : Heard) (before h : Hand) → beside_buffers tt h ≡ beside_buffers tt before → changed path m k x before ≡ changed path m k x h
+pub changed_same : (path : List ℕ) (m : Notes) (k : InodePlace) (x : Heard) (before h : Hand) → beside_buffers tt h ≡ beside_buffers tt before → changed path m k x before ≡ changed path m k x h
 changed_same path m k x before h beside = λ i d. Ret (record { answer = (path, x); carry = record_beside path (with_note k note.Nothing m) before h beside k d i })
 
 -- the record that an inode has
@@ -80,7 +80,7 @@ set_own (Some g) there = at g.value.content there
     at None some = absurd (cc some)
     at (Some d) some = refl
 
-pub same_record : (k : Seat) (h : Hand) → IsLoadedAt k h → with_record k (record_in k h) h ≡ h
+pub same_record : (k : InodePlace) (h : Hand) → IsLoadedAt k h → with_record k (record_in k h) h ≡ h
 same_record One h there = λ i. record h { one = set_own h.one there i }
 same_record Two h there = λ i. record h { two = set_own h.two there i }
 
@@ -89,6 +89,6 @@ bare_set : (d : Dinode) (o : Option (GuardState Inode)) → option_map without_r
 bare_set d None = refl
 bare_set d (Some g) = refl
 
-pub bare_record : (k : Seat) (d : Dinode) (h : Hand) → bare (with_record k d h) ≡ bare h
+pub bare_record : (k : InodePlace) (d : Dinode) (h : Hand) → bare (with_record k d h) ≡ bare h
 bare_record One d h = λ i. record (bare h) { one = bare_set d h.one i }
 bare_record Two d h = λ i. record (bare h) { two = bare_set d h.two i }

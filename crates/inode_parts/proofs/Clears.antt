@@ -1,5 +1,5 @@
 -- A name cleared: it is a part, and goes on.
-use Rattle.inode_parts.proofs.Vocabulary.{◌≡◌, ℕ, ◌/◌, ◌%◌, Bool, true, false, if◌then◌else◌, List, Option, Some, None, refl, sym, ap, ◌∙◌, subst, IsSome, MatchOption, option_map_or, Name, put, GuardState, Free, Dinode, Super, dirents_per_block, Ret, Do, bind, plain, unmarked, Handover, bind-assoc, Inode, P, fetch, inode_block, record_of, store_inode, FetchedBlock, fetch_block, Named, give_record, put_dirent, put_entry, search, with_dirent, with_slot, Hand, Seat, One, Two, Goes, inode_at, inode_in, no_inode, IsLoadedAt, goes_with, clear_left, beside_buffers, NothingMore, Had, Apart, Carry, Has, record_had, clear_in, clear_slot, put_named, slot_found, slot_of, carry_in, had_at, had_of, note_at, changed, clear_part_left, slot_in, ClearBegins, HasFound, locks, seat_of_lock, IsPart, Part, Note, Notes, ClearPart}
+use Rattle.inode_parts.proofs.Vocabulary.{◌≡◌, ℕ, ◌/◌, ◌%◌, Bool, true, false, if◌then◌else◌, List, Option, Some, None, refl, sym, ap, ◌∙◌, subst, IsSome, MatchOption, option_map_or, Name, put, GuardState, Free, Dinode, Super, dirents_per_block, Ret, Do, bind, plain, unmarked, Handover, bind-assoc, Inode, P, fetch, inode_block, record_of, store_inode, FetchedBlock, fetch_block, Named, give_record, put_dirent, put_entry, search, with_dirent, with_slot, Hand, InodePlace, One, Two, Goes, inode_at, inode_in, no_inode, IsLoadedAt, goes_with, clear_left, beside_buffers, NothingMore, Had, Apart, Carry, Has, record_had, clear_in, clear_slot, put_named, slot_found, slot_of, carry_in, had_at, had_of, note_at, changed, clear_part_left, slot_in, ClearBegins, HasFound, locks, seat_of_lock, IsPart, Part, Note, Notes, ClearPart}
 use Rattle.fs_machine.specs.Steps as steps
 use Rattle.inode_machine.specs.World as above
 use Rattle.inodes_on_blocks.specs.Handlers as handlers
@@ -17,7 +17,7 @@ had_here path l n (Some g) x e = ap (λ (b : Bool). if b then had_of path l g.va
 had_is : (path : List ℕ) (m : Notes) (n : ℕ) (h : Hand) → locks n (inode_at (seat_of_lock n h) h) ≡ true → carry_in path m h n ≡ had_of path (note_at (seat_of_lock n h) m) (inode_in (seat_of_lock n h) h).content
 had_is path m n h e = at (locks n h.one) refl e
   where
-    at : (b : Bool) → locks n h.one ≡ b → let k : Seat = if b then One else Two in locks n (inode_at k h) ≡ true → carry_in path m h n ≡ had_of path (note_at k m) (inode_in k h).content
+    at : (b : Bool) → locks n h.one ≡ b → let k : InodePlace = if b then One else Two in locks n (inode_at k h) ≡ true → carry_in path m h n ≡ had_of path (note_at k m) (inode_in k h).content
     at true is e = had_here path m.one n h.one (had_at path m.two h.two n Apart) e
     at false is e = elsewhere path m.one n h.one (had_at path m.two h.two n Apart) is ∙ had_here path m.two n h.two Apart e
 
@@ -28,7 +28,7 @@ found_slot_of path e (note.Finds x s) (Some d) found some =
 found_slot_of path e (note.Finds x s) None found some = absurd (cc some)
 found_slot_of path e l o found some = absurd found
 
-loaded_there : (k : Seat) (h : Hand) → IsLoadedAt k h → IsSome (inode_in k h).content
+loaded_there : (k : InodePlace) (h : Hand) → IsLoadedAt k h → IsSome (inode_in k h).content
 loaded_there k h there = at (inode_at k h) there
   where
     at : (o : Option (GuardState Inode)) → MatchOption o ⊥ (λ g. IsSome g.value.content) → IsSome (option_map_or (λ (g : GuardState Inode). g.value) o no_inode).content
@@ -36,7 +36,7 @@ loaded_there k h there = at (inode_at k h) there
     at (Some g) there = there
 
 module _ (sizes : Super) (path : List ℕ) (m : Notes) (n : ℕ) (e : Name) (before : Hand) where
-  abbrev k : Seat
+  abbrev k : InodePlace
   k = seat_of_lock n before
 
   abbrev v : Inode
@@ -81,7 +81,7 @@ module _ (sizes : Super) (path : List ℕ) (m : Notes) (n : ℕ) (e : Name) (bef
 
   module _ (p : ClearPart) (begins : ClearBegins sizes path m n e before) (seat : p.seat ≡ k) where
     abbrev then_ : Dinode → P (Handover (Unit {0}) Carry)
-    then_ d = bind (changed path m k heard.Did before d) (λ r. Ret (record { answer = tt {0}; carry = r.carry }))
+    then_ d = bind (changed path m k heard.WasDone before d) (λ r. Ret (record { answer = tt {0}; carry = r.carry }))
 
     same_over : (d : Dinode) → over d ≡ then_ d
     same_over d = λ i. Ret (record { answer = tt {0}; carry = changes path m k n d before begins.0.0.0 begins.0.0.1 i })
@@ -97,18 +97,18 @@ module _ (sizes : Super) (path : List ℕ) (m : Notes) (n : ℕ) (e : Name) (bef
         ∙ slot_so mark
         ∙ (λ i. bind (put_entry sizes.inodestart n (record_of (lock_is path m n before begins.0.0.0 i)) s Free) over)
         ∙ (λ i. bind (sym program i) (λ d. same_over d i))
-        ∙ sym (bind-assoc (clear_left p.clear before) (changed path m k heard.Did before) (λ r. Ret (record { answer = tt {0}; carry = r.carry })))
-        ∙ (λ i. bind (bind (clear_left p.clear before) (changed path m (sym seat i) heard.Did before)) (λ r. Ret (record { answer = tt {0}; carry = r.carry })))
+        ∙ sym (bind-assoc (clear_left p.clear before) (changed path m k heard.WasDone before) (λ r. Ret (record { answer = tt {0}; carry = r.carry })))
+        ∙ (λ i. bind (bind (clear_left p.clear before) (changed path m (sym seat i) heard.WasDone before)) (λ r. Ret (record { answer = tt {0}; carry = r.carry })))
 
 -- ---- how it goes on
 
 module _ (path : List ℕ) (m : Notes) (p : ClearPart) (before h : Hand) (answer : (o : steps.Op) → steps.Answer o) (beside : beside_buffers tt h ≡ beside_buffers tt before) where
   pub clear_on : (q : ClearPart) → q.seat ≡ p.seat → Goes (clear_left p.clear before) answer (clear_left q.clear h) → Goes (clear_part_left path m p before) answer (clear_part_left path m q h)
   clear_on q seat goes =
-      goes_with (clear_left p.clear before) (clear_left q.clear h) (changed path m p.seat heard.Did before) (changed path m q.seat heard.Did h) answer
-      (changed_same path m p.seat heard.Did before h beside ∙ (λ i. changed path m (sym seat i) heard.Did h)) goes
+      goes_with (clear_left p.clear before) (clear_left q.clear h) (changed path m p.seat heard.WasDone before) (changed path m q.seat heard.WasDone h) answer
+      (changed_same path m p.seat heard.WasDone before h beside ∙ (λ i. changed path m (sym seat i) heard.WasDone h)) goes
 
-  pub clear_ends : (d : Dinode) (q : Part) → changed path m p.seat heard.Did h d ≡ q → Goes (clear_left p.clear before) answer (Ret d) → Goes (clear_part_left path m p before) answer q
+  pub clear_ends : (d : Dinode) (q : Part) → changed path m p.seat heard.WasDone h d ≡ q → Goes (clear_left p.clear before) answer (Ret d) → Goes (clear_part_left path m p before) answer q
   clear_ends d q is goes =
       subst (λ (q : Part). Goes (clear_part_left path m p before) answer q) is
-      (goes_with (clear_left p.clear before) (Ret d) (changed path m p.seat heard.Did before) (changed path m p.seat heard.Did h) answer (changed_same path m p.seat heard.Did before h beside) goes)
+      (goes_with (clear_left p.clear before) (Ret d) (changed path m p.seat heard.WasDone before) (changed path m p.seat heard.WasDone h) answer (changed_same path m p.seat heard.WasDone before h beside) goes)

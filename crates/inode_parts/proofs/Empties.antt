@@ -35,7 +35,7 @@ module _ (sizes : Super) (path : List ℕ) (m : Notes) (n : ℕ) (before : Hand)
     heard_at r = record { answer = tt {0}; carry = r.carry }
 
     abbrev part_ends : Dinode → Part
-    part_ends = changed path m e.seat heard.Did h
+    part_ends = changed path m e.seat heard.WasDone h
 
     abbrev then_ : Dinode → P (Handover (Unit {0}) Carry)
     then_ d = bind (part_ends d) (λ r. Ret (heard_at r))
@@ -60,24 +60,24 @@ module _ (sizes : Super) (path : List ℕ) (m : Notes) (n : ℕ) (before : Hand)
         ∙ routine
         ∙ (λ i. bind (sym program i) then_)
         ∙ sym (bind-assoc (truncate_left p.truncate h) part_ends (λ r. Ret (heard_at r)))
-        ∙ (λ i. bind (bind (truncate_left p.truncate h) (changed path m (sym about i).seat heard.Did h)) (λ r. Ret (heard_at r)))
+        ∙ (λ i. bind (bind (truncate_left p.truncate h) (changed path m (sym about i).seat heard.WasDone h)) (λ r. Ret (heard_at r)))
 
 -- ---- how it goes on
 
 module _ (path : List ℕ) (m : Notes) (p : EmptyPart) (before h : Hand) (answer : (o : steps.Op) → steps.Answer o) (beside : beside_emptying (emptying_of p.truncate) h ≡ beside_emptying (emptying_of p.truncate) before) where
-  same_ends : changed path m (empty_seat p) heard.Did before ≡ changed path m (empty_seat p) heard.Did h
-  same_ends = λ i d. Ret (record { answer = (path, heard.Did); carry = carried_beside path (with_note (empty_seat p) note.Nothing m) (emptying_of p.truncate) d before h beside i })
+  same_ends : changed path m (empty_seat p) heard.WasDone before ≡ changed path m (empty_seat p) heard.WasDone h
+  same_ends = λ i d. Ret (record { answer = (path, heard.WasDone); carry = carried_beside path (with_note (empty_seat p) note.Nothing m) (emptying_of p.truncate) d before h beside i })
 
   pub empty_on : (q : EmptyPart) → emptying_of q.truncate ≡ emptying_of p.truncate → Goes (truncate_left p.truncate before) answer (truncate_left q.truncate h) → Goes (empty_part_left path m p before) answer (empty_part_left path m q h)
   empty_on q about goes =
-      goes_with (truncate_left p.truncate before) (truncate_left q.truncate h) (changed path m (empty_seat p) heard.Did before) (changed path m (empty_seat q) heard.Did h) answer
-      (same_ends ∙ (λ i. changed path m (sym about i).seat heard.Did h)) goes
+      goes_with (truncate_left p.truncate before) (truncate_left q.truncate h) (changed path m (empty_seat p) heard.WasDone before) (changed path m (empty_seat q) heard.WasDone h) answer
+      (same_ends ∙ (λ i. changed path m (sym about i).seat heard.WasDone h)) goes
 
   pub empty_ends : (m2 : Notes) (e : Emptying) → e ≡ emptying_of p.truncate → IsLoadedAt e.seat h → m2 ≡ with_note e.seat note.Nothing m → Goes (truncate_left p.truncate before) answer (Ret (record_in e.seat h))
-      → Goes (empty_part_left path m p before) answer (Ret (handed path m2 heard.Did h))
+      → Goes (empty_part_left path m p before) answer (Ret (handed path m2 heard.WasDone h))
   empty_ends m2 e about there noted goes =
-      let last : changed path m e.seat heard.Did h (record_in e.seat h) ≡ Ret (handed path m2 heard.Did h)
-      = λ i. Ret (handed path (sym noted i) heard.Did (same_record e.seat h there i)) in
+      let last : changed path m e.seat heard.WasDone h (record_in e.seat h) ≡ Ret (handed path m2 heard.WasDone h)
+      = λ i. Ret (handed path (sym noted i) heard.WasDone (same_record e.seat h there i)) in
       subst (λ (r : Part). Goes (empty_part_left path m p before) answer r) last
-      (goes_with (truncate_left p.truncate before) (Ret (record_in e.seat h)) (changed path m (empty_seat p) heard.Did before) (changed path m e.seat heard.Did h) answer
-      (same_ends ∙ (λ i. changed path m (sym about i).seat heard.Did h)) goes)
+      (goes_with (truncate_left p.truncate before) (Ret (record_in e.seat h)) (changed path m (empty_seat p) heard.WasDone before) (changed path m e.seat heard.WasDone h) answer
+      (same_ends ∙ (λ i. changed path m (sym about i).seat heard.WasDone h)) goes)

@@ -1,5 +1,5 @@
 -- A name entered: it is a part, and goes on.
-use Rattle.inode_parts.proofs.Vocabulary.{◌≡◌, ℕ, zero, suc, ◌+◌, ◌*◌, ◌==◌, ◌<◌, nat_lt, Bool, true, false, if◌then◌else◌, List, length, Option, refl, sym, ◌∙◌, ap, subst, arith, is_some, nat_tests, Used, Dinode, Super, spell_dirent, Name, put, Ret, Do, bind, plain, Handover, bind-assoc, Inode, P, inode_block, record_of, store_inode, Address, Direct, InTable, address, blocks_between, fetch_at, fetch_block, WriteResult, grown, store_written, write_blocks, write_part, Room, Found, EnteredState, code_enter, enter_at, code_enter_in, entered_by, slot_for, Unused, block_count, look_at, search, search_from, slot_count, Hand, Seat, Goes, inode_in, goes_with, enter_left, beside_buffers, entered_to, put_grown, seek_free, acts, NothingMore, Carry, Has, record_had, carry_in, enter_part_left, entered, entered_so, HasLock, seat_of_lock, IsPart, Part, Notes, EnterPart}
+use Rattle.inode_parts.proofs.Vocabulary.{◌≡◌, ℕ, zero, suc, ◌+◌, ◌*◌, ◌==◌, ◌<◌, nat_lt, Bool, true, false, if◌then◌else◌, List, length, Option, refl, sym, ◌∙◌, ap, subst, arith, is_some, nat_tests, Used, Dinode, Super, spell_dirent, Name, put, Ret, Do, bind, plain, Handover, bind-assoc, Inode, P, inode_block, record_of, store_inode, Address, Direct, InTable, address, blocks_between, fetch_at, fetch_block, WriteResult, grown, store_written, write_blocks, write_part, Room, Found, EnteredState, code_enter, enter_at, code_enter_in, entered_by, slot_for, Unused, block_count, look_at, search, search_from, slot_count, Hand, InodePlace, Goes, inode_in, goes_with, enter_left, beside_buffers, entered_to, put_grown, seek_free, acts, NothingMore, Carry, Has, record_had, carry_in, enter_part_left, entered, entered_so, HasLock, seat_of_lock, IsPart, Part, Notes, EnterPart}
 use Rattle.atomic_programs.specs.Prog.{asks}
 use Rattle.fs_machine.specs.Steps as steps
 use Rattle.directory.specs.declared.enter.Room.TheVariants as room
@@ -17,7 +17,7 @@ pub grown_so : (sizes : Super) (n : ℕ) (op : above.Op) (outside : above.Outsid
 grown_so sizes n op outside m answer c w = put_so (inode_block sizes.inodestart n) n (grown w) (acts op outside m) (record { answer = answer; carry = put c n (Has (grown w) NothingMore) })
 
 module _ (sizes : Super) (path : List ℕ) (m : Notes) (n : ℕ) (e : Name) (q : ℕ) (before : Hand) where
-  abbrev k : Seat
+  abbrev k : InodePlace
   k = seat_of_lock n before
 
   abbrev v : Inode
@@ -143,7 +143,7 @@ never_over sizes n d q e r over =
 
 -- ---- how it goes on
 
-module _ (path : List ℕ) (m : Notes) (k : Seat) (before h : Hand) (beside : beside_buffers tt h ≡ beside_buffers tt before) where
+module _ (path : List ℕ) (m : Notes) (k : InodePlace) (before h : Hand) (beside : beside_buffers tt h ≡ beside_buffers tt before) where
   entered_same : (d : Dinode) (r : Room) → entered_so path m k before d r ≡ entered_so path m k h d r
   entered_same d room.There = λ i. changed_same path m k (heard.Entered entry.InPlace) before h beside i d
   entered_same d room.NoBlock = λ i. changed_same path m k (heard.Entered entry.NoBlock) before h beside i d

@@ -1,11 +1,11 @@
 -- What is heard of a descriptor's inode that was locked, or wasn't.
-use Rattle.inode_parts.proofs.Vocabulary.{◌≡◌, ℕ, List, Some, None, sym, ap, subst, ◌∙◌, Cause, Dinode, Ret, Refuses, Locks, Refused, inode_at, Hand, Seat, record_in, HasFile, HeldFile, cause_of, carry_in, handed, with_note, file_ends, open_ends, other, beside_in, Notes}
+use Rattle.inode_parts.proofs.Vocabulary.{◌≡◌, ℕ, List, Some, None, sym, ap, subst, ◌∙◌, Cause, Dinode, Ret, Refuses, Locks, Refused, inode_at, Hand, InodePlace, record_in, HasFile, HeldFile, cause_of, carry_in, handed, with_note, file_ends, open_ends, other, beside_in, Notes}
 use Rattle.path_walk.specs.declared.asks.Heard.TheVariants as heard
 use Rattle.path_walk.specs.declared.asks.Locked.TheVariants as locked
 use Rattle.inode_parts.specs.declared.note.Note.TheVariants as note
 use Rattle.inode_parts.proofs.Basics.{alone_none, had_now, none_beside}
 
-module _ (path : List ℕ) (m : Notes) (k : Seat) (h : Hand) where
+module _ (path : List ℕ) (m : Notes) (k : InodePlace) (h : Hand) where
   -- it was refused
   pub refused_so : (fd : ℕ) (why : Refused) (x : Cause) → inode_at k h ≡ None → x ≡ cause_of why → file_ends path fd (beside_in path m k h) (Refuses why) ≡ Ret (handed path m (heard.Locked (locked.Refused x)) h)
   refused_so fd why x free e = λ i. Ret (record { answer = (path, heard.Locked (locked.Refused (sym e i))); carry = sym (none_beside path m h k free) i })
@@ -30,9 +30,9 @@ module _ (path : List ℕ) (m m2 : Notes) (h : Hand) (f : HeldFile) (has : HasFi
   })
 
 -- the same at the seat where it was to be
-module _ (path : List ℕ) (m m2 : Notes) (h : Hand) (f : HeldFile) (k : Seat) (at : f.seat ≡ k) (has : HasFile f h) (alone : inode_at (other k) h ≡ None) where
+module _ (path : List ℕ) (m m2 : Notes) (h : Hand) (f : HeldFile) (k : InodePlace) (at : f.seat ≡ k) (has : HasFile f h) (alone : inode_at (other k) h ≡ None) where
   alone_there : inode_at (other f.seat) h ≡ None
-  alone_there = subst (λ (k : Seat). inode_at (other k) h ≡ None) (sym at) alone
+  alone_there = subst (λ (k : InodePlace). inode_at (other k) h ≡ None) (sym at) alone
 
   pub locked_at : (fd offset : ℕ) → offset ≡ f.file.offset → m2 ≡ with_note f.seat (note.Opened fd f.file.offset) m
       → file_ends path fd (beside_in path m k h) (Locks f.file (Some (record_in f.seat h))) ≡ Ret (handed path m2 (heard.Locked (locked.Locks f.file.number offset)) h)

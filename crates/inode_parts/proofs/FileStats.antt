@@ -1,5 +1,5 @@
 -- What a descriptor names locked, to tell its state: the operation is its part, and what is heard of it.
-use Rattle.inode_parts.proofs.Vocabulary.{◌≡◌, ℕ, List, Some, None, refl, sym, ap, subst, ◌∙◌, Dinode, Super, Ret, Do, bind, plain, unmarked, LockedState, Refuses, Locks, Refused, inode_at, Hand, Seat, record_in, load_locked, lock_file_loaded, file_left, file_seat, HasFile, HeldFile, LockFile, NothingMore, Carry, Has, stat_loaded, stat_locked, put, Face, carry_in, handed, with_note, face_by, stat_ends, other, answer_by, IsPart, beside_in, Notes}
+use Rattle.inode_parts.proofs.Vocabulary.{◌≡◌, ℕ, List, Some, None, refl, sym, ap, subst, ◌∙◌, Dinode, Super, Ret, Do, bind, plain, unmarked, LockedState, Refuses, Locks, Refused, inode_at, Hand, InodePlace, record_in, load_locked, lock_file_loaded, file_left, file_seat, HasFile, HeldFile, LockFile, NothingMore, Carry, Has, stat_loaded, stat_locked, put, Face, carry_in, handed, with_note, face_by, stat_ends, other, answer_by, IsPart, beside_in, Notes}
 use Rattle.fs_machine.specs.declared.files.Want.TheVariants as want
 use Rattle.fs_machine.specs.Machines as code
 use Rattle.fs_machine.specs.Steps as steps
@@ -26,16 +26,16 @@ module _ (sizes : Super) (path : List ℕ) (m : Notes) (fd : ℕ) where
 -- ---- what is heard
 
 -- it was refused
-pub untold : (path : List ℕ) (m : Notes) (k : Seat) (h : Hand) (why : Refused) → inode_at k h ≡ None → stat_ends path (beside_in path m k h) (Refuses why) ≡ Ret (handed path m (heard.Stat None) h)
+pub untold : (path : List ℕ) (m : Notes) (k : InodePlace) (h : Hand) (why : Refused) → inode_at k h ≡ None → stat_ends path (beside_in path m k h) (Refuses why) ≡ Ret (handed path m (heard.Stat None) h)
 untold path m k h why free = λ i. Ret (record { answer = (path, heard.Stat None); carry = sym (none_beside path m h k free) i })
 
 -- it is locked at the seat where that was to be
-module _ (path : List ℕ) (m m2 : Notes) (h : Hand) (f : HeldFile) (k : Seat) (at : f.seat ≡ k) (has : HasFile f h) (alone : inode_at (other k) h ≡ None) where
+module _ (path : List ℕ) (m m2 : Notes) (h : Hand) (f : HeldFile) (k : InodePlace) (at : f.seat ≡ k) (has : HasFile f h) (alone : inode_at (other k) h ≡ None) where
   abbrev d : Dinode
   d = record_in f.seat h
 
   alone_there : inode_at (other f.seat) h ≡ None
-  alone_there = subst (λ (k : Seat). inode_at (other k) h ≡ None) (sym at) alone
+  alone_there = subst (λ (k : InodePlace). inode_at (other k) h ≡ None) (sym at) alone
 
   pub told_at : (n : ℕ) (x : Face) → n ≡ f.file.number → x ≡ face_by d → m2 ≡ with_note f.seat note.Nothing m
       → stat_ends path (beside_in path m k h) (Locks f.file (Some d)) ≡ Ret (handed path m2 (heard.Stat (Some (n, x))) h)

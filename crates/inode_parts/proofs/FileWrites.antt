@@ -1,5 +1,5 @@
 -- A piece of bytes written to an open file: it is a part, and goes on.
-use Rattle.inode_parts.proofs.Vocabulary.{◌≡◌, ℕ, ◌+◌, ◌-◌, ◌==◌, ◌≤◌, Bool, true, false, if◌then◌else◌, List, length, Option, Some, None, refl, sym, ap, subst, ◌∙◌, arith, IsSome, option_map, piece, Cause, put, Dinode, Super, Ret, Do, bind, plain, unmarked, Handover, bind-assoc, GuardState, Inode, record_of, store_inode, blocks_between, WriteResult, grown, store_written, write_blocks, write_part, Goes, inode_at, inode_in, recorded, with_inode, with_record, Hand, Seat, One, Two, HasNoBuffer, number_in, record_in, IsLoadedAt, goes_to, goes_with, recorded-in, beside_buffers, write_left, written_as, WriteReady, WritePart, Written, Acts, Apart, Carry, nothing, record_had, give_written, refused_in, write_unless, wrote_to, wrote_of, Wrote, carry_in, handed, ended_as, write_done, write_file_left, write_over, wrote_upto, WriteFileReady, moved, HasLock, other, seat_of_lock, answer_by, IsPart, Message, LockedFile, Notes, Denied, Writing}
+use Rattle.inode_parts.proofs.Vocabulary.{◌≡◌, ℕ, ◌+◌, ◌-◌, ◌==◌, ◌≤◌, Bool, true, false, if◌then◌else◌, List, length, Option, Some, None, refl, sym, ap, subst, ◌∙◌, arith, IsSome, option_map, piece, Cause, put, Dinode, Super, Ret, Do, bind, plain, unmarked, Handover, bind-assoc, GuardState, Inode, record_of, store_inode, blocks_between, WriteResult, grown, store_written, write_blocks, write_part, Goes, inode_at, inode_in, recorded, with_inode, with_record, Hand, InodePlace, One, Two, HasNoBuffer, number_in, record_in, IsLoadedAt, goes_to, goes_with, recorded-in, beside_buffers, write_left, written_as, WriteReady, WritePart, Written, Acts, Apart, Carry, nothing, record_had, give_written, refused_in, write_unless, wrote_to, wrote_of, Wrote, carry_in, handed, ended_as, write_done, write_file_left, write_over, wrote_upto, WriteFileReady, moved, HasLock, other, seat_of_lock, answer_by, IsPart, Message, LockedFile, Notes, Denied, Writing}
 use Rattle.fs_machine.specs.Machines as code
 use Rattle.fs_machine.specs.Steps as steps
 use Rattle.inode_data.specs.declared.write_part.WritePart.TheVariants as write
@@ -56,9 +56,9 @@ module _ (sizes : Super) (text : List ℕ) (m : Notes) (n fd offset : ℕ) (byte
         then_plain (write_part sizes n d offset bytes) (write_part sizes n d offset bytes) (give_written fd n offset bytes mark c) (λ w. bind (write_over text file bytes n w) answered) (plain_part sizes n d offset bytes) ends_so
         ∙ sym (bind-assoc (write_part sizes n d offset bytes) (write_over text file bytes n) answered)
 
-  module _ (k : Seat) (at : k ≡ seat_of_lock n h) where
+  module _ (k : InodePlace) (at : k ≡ seat_of_lock n h) where
     record_is : record_of had ≡ record_in k h
-    record_is = ap record_of lock ∙ ap (λ (k : Seat). record_in k h) (sym at)
+    record_is = ap record_of lock ∙ ap (λ (k : InodePlace). record_in k h) (sym at)
 
     refused_so : (o : Option Cause) → refused_in (record_in k h) offset bytes ≡ o → refused_in (record_of had) offset bytes ≡ o
     refused_so o e = ap (λ (d : Dinode). refused_in d offset bytes) record_is ∙ e
@@ -72,7 +72,7 @@ module _ (sizes : Super) (text : List ℕ) (m : Notes) (n fd offset : ℕ) (byte
       ∙ (λ i. bind (bind (write_part sizes n (record_in (sym is i).seat h) offset bytes) (write_over text (sym is i) bytes (number_in (sym is i).seat h))) answered)
       ∙ (λ i. bind (bind (sym program i) (write_over text f bytes (number_in f.seat h))) answered)
 
-  pub deny_is_part : (k : Seat) (why : Cause) → k ≡ seat_of_lock n h → refused_in (record_in k h) offset bytes ≡ Some why → IsPart sizes c (above.WriteFile fd n offset bytes) (write_file_left text (Denied k why) h)
+  pub deny_is_part : (k : InodePlace) (why : Cause) → k ≡ seat_of_lock n h → refused_in (record_in k h) offset bytes ≡ Some why → IsPart sizes c (above.WriteFile fd n offset bytes) (write_file_left text (Denied k why) h)
   deny_is_part k why at refused mark =
       (λ i. plain (write_unless sizes fd n offset bytes mark c (refused_so k at (Some why) refused i)))
       ∙ (λ i. Do (steps.Unlock (lock i) None) unmarked (λ _. Ret (record { answer = above.Refused why; carry = given_up i })))
@@ -135,7 +135,7 @@ ended_ready f bytes r h after there only none set =
     some None is = absurd (cc is)
     some (Some g) is = refl
 
-    at : (k : Seat) → IsSome (inode_at k h) → inode_at (other k) h ≡ None → let g : Hand = with_record k r.inode h in IsSome (inode_at k g) × (inode_at (other k) g ≡ None) × HasNoBuffer g
+    at : (k : InodePlace) → IsSome (inode_at k h) → inode_at (other k) h ≡ None → let g : Hand = with_record k r.inode h in IsSome (inode_at k g) × (inode_at (other k) g ≡ None) × HasNoBuffer g
     at One there only = (some h.one there, only, none)
     at Two there only = (some h.two there, only, none)
 
@@ -144,6 +144,6 @@ module _ (text : List ℕ) (m : Notes) (before h : Hand) (answer : (o : steps.Op
       → Goes (write_file_left text (Ending f upto w) before) answer (Ret (handed text m (heard.Wrote w) h))
   write_gone f upto w only after = λ i. Ret (record { answer = (text, heard.Wrote w); carry = gone_then text m f.seat before h only after i })
 
-  pub deny_gone : (k : Seat) (why : Cause) → inode_at (other k) before ≡ None → h ≡ with_inode k None before
+  pub deny_gone : (k : InodePlace) (why : Cause) → inode_at (other k) before ≡ None → h ≡ with_inode k None before
       → Goes (write_file_left text (Denied k why) before) answer (Ret (handed text m (heard.Wrote (wrote.Refused why)) h))
   deny_gone k why only after = λ i. Ret (record { answer = (text, heard.Wrote (wrote.Refused why)); carry = gone_then text m k before h only after i })

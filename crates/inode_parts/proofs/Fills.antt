@@ -1,5 +1,5 @@
 -- The names of a new directory written: it is a part, and goes on.
-use Rattle.inode_parts.proofs.Vocabulary.{◌≡◌, ℕ, ◌+◌, ◌==◌, Bool, true, false, if◌then◌else◌, List, length, Option, sym, ◌∙◌, subst, put, Dinode, Super, Ret, bind, plain, Handover, bind-assoc, Inode, P, record_of, store_inode, blocks_between, WriteResult, grown, store_written, write_blocks, write_part, Hand, Seat, Goes, inode_in, goes_with, dots, fill_names, fill_left, filled_by, beside_buffers, Filled, put_grown, NothingMore, Carry, Has, record_had, carry_in, fill_part_left, filled, HasLock, seat_of_lock, IsPart, Part, Notes, FillPart}
+use Rattle.inode_parts.proofs.Vocabulary.{◌≡◌, ℕ, ◌+◌, ◌==◌, Bool, true, false, if◌then◌else◌, List, length, Option, sym, ◌∙◌, subst, put, Dinode, Super, Ret, bind, plain, Handover, bind-assoc, Inode, P, record_of, store_inode, blocks_between, WriteResult, grown, store_written, write_blocks, write_part, Hand, InodePlace, Goes, inode_in, goes_with, dots, fill_names, fill_left, filled_by, beside_buffers, Filled, put_grown, NothingMore, Carry, Has, record_had, carry_in, fill_part_left, filled, HasLock, seat_of_lock, IsPart, Part, Notes, FillPart}
 use Rattle.fs_machine.specs.Steps as steps
 use Rattle.inode_machine.specs.World as above
 use Rattle.inodes_on_blocks.specs.Entering.{filled_to}
@@ -9,7 +9,7 @@ use Rattle.inode_parts.proofs.Basics.{lock_is, changed_same, changes, plain_writ
 use Rattle.inode_parts.proofs.Enters.{grown_so}
 
 module _ (sizes : Super) (path : List ℕ) (m : Notes) (n parent : ℕ) (before : Hand) where
-  abbrev k : Seat
+  abbrev k : InodePlace
   k = seat_of_lock n before
 
   abbrev v : Inode

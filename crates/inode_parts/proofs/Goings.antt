@@ -1,5 +1,5 @@
 -- How operations on whole inodes that are one operation below go on.
-use Rattle.inode_parts.proofs.Vocabulary.{◌≡◌, ℕ, List, Bool, true, false, Option, Some, None, refl, sym, ap, ◌∙◌, subst, IsSome, is_some, if◌then◌else◌, MatchOption, put, Cause, descriptor_count, root, Ret, GuardState, Dinode, Inode, NewFile, Goes, inode_at, inode_in, number_at, reference_at, with_inode, with_seated, with_txn, IsAfter, IsHanded, IsJoined, IsKept, IsLent, IsOpened, answer_in, doubled_by, given_by, joined_by, number_by, refused_by, shut_by, yes_in, Hand, Seat, One, Two, Answer, cause_if, doubled_to, is_listed, old_directory, shut_to, Heard, Joined, Loan, carry_in, handed, had_of, with_note, IsAlone, StepReady, joining_heard, loan_heard, step_left, still, finish_left, Finish, goes_with, ends_with, part_left, Notes}
+use Rattle.inode_parts.proofs.Vocabulary.{◌≡◌, ℕ, List, Bool, true, false, Option, Some, None, refl, sym, ap, ◌∙◌, subst, IsSome, is_some, if◌then◌else◌, MatchOption, put, Cause, descriptor_count, root, Ret, GuardState, Dinode, Inode, NewFile, Goes, inode_at, inode_in, number_at, reference_at, with_inode, with_seated, with_txn, IsAfter, IsHanded, IsJoined, IsKept, IsLent, IsOpened, answer_in, doubled_by, given_by, joined_by, number_by, refused_by, shut_by, yes_in, Hand, InodePlace, One, Two, Answer, cause_if, doubled_to, is_listed, old_directory, shut_to, Heard, Joined, Loan, carry_in, handed, had_of, with_note, IsAlone, StepReady, joining_heard, loan_heard, step_left, still, finish_left, Finish, goes_with, ends_with, part_left, Notes}
 use Rattle.fs_machine.specs.declared.files.Want.TheVariants as want
 use Rattle.fs_machine.specs.Steps as steps
 use Rattle.fs_machine.specs.declared.op.Answer.TheVariants as answers
@@ -19,7 +19,7 @@ nothing_more : (path : List ℕ) (o : Option Dinode) → handlers.had_of o ≡ h
 nothing_more path None = refl
 nothing_more path (Some d) = refl
 
-came_in : (k : Seat) (g : GuardState Inode) (before : Hand) → inode_in k (with_inode k (Some g) before) ≡ g.value
+came_in : (k : InodePlace) (g : GuardState Inode) (before : Hand) → inode_in k (with_inode k (Some g) before) ≡ g.value
 came_in One g before = refl
 came_in Two g before = refl
 
@@ -29,7 +29,7 @@ module _ (path : List ℕ) (m : Notes) (before h : Hand) where
       → Goes (still path lop heard (carry_in path m before)) answer (Ret (handed path m x h))
   still_goes lop heard answer x e f = λ i. Ret (record { answer = (path, e i); carry = f i })
 
-  kept_in : (k : Seat) (a : Answer) → IsKept k a before h → carry_in path m before ≡ carry_in path m h
+  kept_in : (k : InodePlace) (a : Answer) → IsKept k a before h → carry_in path m before ≡ carry_in path m h
   kept_in k (answers.Is true) e = beside_seated path m k before (with_seated k before) refl ∙ sym (ap (carry_in path m) e)
   kept_in k (answers.Is false) e = beside_seated path m k before h e
   kept_in k answers.Nothing e = beside_seated path m k before h e
@@ -39,7 +39,7 @@ module _ (path : List ℕ) (m : Notes) (before h : Hand) where
   kept_in k (answers.Doubled d) e = beside_seated path m k before h e
   kept_in k (answers.Given fd more) e = beside_seated path m k before h e
 
-  opened_in : (k : Seat) (a : Answer) → IsOpened k a before h → carry_in path m before ≡ carry_in path m h
+  opened_in : (k : InodePlace) (a : Answer) → IsOpened k a before h → carry_in path m before ≡ carry_in path m h
   opened_in k (answers.Is b) e = same_in path m before h e
   opened_in k answers.Nothing e = same_in path m before h e
   opened_in k (answers.Refused why) e = same_in path m before h e
@@ -57,7 +57,7 @@ module _ (path : List ℕ) (m : Notes) (before h : Hand) where
   joined_in (answers.Doubled d) e = same_in path m before h e
   joined_in (answers.Given fd more) e = same_in path m before h e
 
-  handed_in : (k : Seat) (a : Answer) → IsHanded k a before h → carry_in path m before ≡ carry_in path m h
+  handed_in : (k : InodePlace) (a : Answer) → IsHanded k a before h → carry_in path m before ≡ carry_in path m h
   handed_in k (answers.Is true) e = beside_reference path m k (Some e.0) before h e.1
   handed_in k (answers.Is false) e = same_in path m before h e
   handed_in k answers.Nothing e = same_in path m before h e
@@ -67,7 +67,7 @@ module _ (path : List ℕ) (m : Notes) (before h : Hand) where
   handed_in k (answers.Doubled d) e = same_in path m before h e
   handed_in k (answers.Given fd more) e = same_in path m before h e
 
-  lent_in : (k : Seat) (from : ℕ) (a : Answer) → IsLent k from a before h → carry_in path m before ≡ carry_in path m h
+  lent_in : (k : InodePlace) (from : ℕ) (a : Answer) → IsLent k from a before h → carry_in path m before ≡ carry_in path m h
   lent_in k from (answers.Is true) e = beside_reference path m k (Some e.0) before h e.1
   lent_in k from (answers.Is false) e = absurd e
   lent_in k from answers.Nothing e = absurd e
@@ -77,11 +77,11 @@ module _ (path : List ℕ) (m : Notes) (before h : Hand) where
   lent_in k from (answers.Doubled d) e = absurd e
   lent_in k from (answers.Given fd more) e = same_in path m before h e.1
 
-  module _ (k : Seat) (a : Answer) where
-    pub give_goes : StepReady (step.Give k) before → IsAfter (ops.Unlock k) before a h → Goes (step_left path m (step.Give k) before) (answer_in (ops.Unlock k) a h) (Ret (handed path m heard.Did h))
-    give_goes ready after = λ i. Ret (record { answer = (path, heard.Did); carry = (gave path m k before ready.0 ready.1 ∙ sym (ap (carry_in path m) after)) i })
+  module _ (k : InodePlace) (a : Answer) where
+    pub give_goes : StepReady (step.UnlockInode k) before → IsAfter (ops.Unlock k) before a h → Goes (step_left path m (step.UnlockInode k) before) (answer_in (ops.Unlock k) a h) (Ret (handed path m heard.WasDone h))
+    give_goes ready after = λ i. Ret (record { answer = (path, heard.WasDone); carry = (gave path m k before ready.0 ready.1 ∙ sym (ap (carry_in path m) after)) i })
 
-    pub settle_goes : (x : ℕ) → x ≡ number_at k h → StepReady (step.Settle k) before → IsAfter (ops.Settle k) before a h → Goes (step_left path m (step.Settle k) before) (answer_in (ops.Settle k) a h) (Ret (handed path m (heard.Old x) h))
+    pub settle_goes : (x : ℕ) → x ≡ number_at k h → StepReady (step.SetDirectory k) before → IsAfter (ops.SetDirectory k) before a h → Goes (step_left path m (step.SetDirectory k) before) (answer_in (ops.SetDirectory k) a h) (Ret (handed path m (heard.Old x) h))
     unfolding answer_in
     settle_goes x e ready after =
         λ i. Ret (record { answer = (path, heard.Old (sym e i)); carry = (gave path m k before (there (λ g. reference_at k before ≡ Some g.value.number) (inode_at k before) ready.0) ready.1 ∙ beside_reference path m k (Some after.0) (with_inode k None before) h after.1) i })
@@ -116,13 +116,13 @@ module _ (path : List ℕ) (m : Notes) (before h : Hand) where
         → Goes (step_left path m (step.Lend k child from) before) (answer_in (ops.GiveTo k child from) a h) (Ret (handed path m (heard.Loan x) h))
     unfolding answer_in
     lent_goes child from n x named e after =
-        still_goes (steps.Give child from) loan_heard (answer_in (ops.GiveTo k child from) a h) (heard.Loan x) (ap (λ (n : ℕ). loan_heard (given_by a n)) (sym named) ∙ sym e) (lent_in k from a after)
+        still_goes (steps.GiveDescriptor child from) loan_heard (answer_in (ops.GiveTo k child from) a h) (heard.Loan x) (ap (λ (n : ℕ). loan_heard (given_by a n)) (sym named) ∙ sym e) (lent_in k from a after)
 
     pub moved_goes : (child n x : ℕ) → n ≡ number_at k h → x ≡ old_directory (given_by a n) → IsAfter (ops.GiveTo k child descriptor_count) before a h
         → Goes (step_left path m (step.LendDirectory k child) before) (answer_in (ops.GiveTo k child descriptor_count) a h) (Ret (handed path m (heard.Old x) h))
     unfolding answer_in
     moved_goes child n x named e after =
-        still_goes (steps.Give child descriptor_count) (λ a. heard.Old (old_directory a)) (answer_in (ops.GiveTo k child descriptor_count) a h) (heard.Old x) (ap heard.Old (ap (λ (n : ℕ). old_directory (given_by a n)) (sym named) ∙ sym e)) (lent_in k descriptor_count a after)
+        still_goes (steps.GiveDescriptor child descriptor_count) (λ a. heard.Old (old_directory a)) (answer_in (ops.GiveTo k child descriptor_count) a h) (heard.Old x) (ap heard.Old (ap (λ (n : ℕ). old_directory (given_by a n)) (sym named) ∙ sym e)) (lent_in k descriptor_count a after)
 
   module _ (a : Answer) where
     pub aside_goes : (n : ℕ) (x : Bool) → x ≡ is_some h.aside → IsAfter (ops.UpAside n) before a h → Goes (step_left path m (step.UpAside n) before) (answer_in (ops.UpAside n) a h) (Ret (handed path m (heard.Is x) h))
@@ -146,7 +146,7 @@ module _ (path : List ℕ) (m : Notes) (before h : Hand) where
     doubled_goes fd x e after = still_goes (steps.Double fd) (λ a. heard.Doubled (doubled_to a)) (answer_in (ops.Double fd) a h) (heard.Doubled x) (ap heard.Doubled (sym e)) (same_in path m before h after)
 
 -- a lock comes in place of the last reference
-module _ (path : List ℕ) (m : Notes) (k : Seat) (before h : Hand) where
+module _ (path : List ℕ) (m : Notes) (k : InodePlace) (before h : Hand) where
   dies_in : (g : GuardState Inode) → h ≡ with_inode k (Some g) before → g.value.number ≡ number_at k before → inode_at k before ≡ None → IsAlone (number_at k before) k before
       → put (carry_in path m before) (number_at k before) (handlers.had_of (inode_in k h).content) ≡ carry_in path (with_note k note.Nothing m) h
   dies_in g e named free alone =
@@ -173,4 +173,4 @@ pub leave_on : (path : List ℕ) (m : Notes) (before h : Hand) (f g : Finish) (a
     → Goes (part_left path m (part.Leave f) before) answer (part_left path m (part.Leave g) h)
 leave_on path m before h f g answer same goes =
     let kept : carry_in path m before ≡ carry_in path m h = sym (ap (carry_in path m) same) in
-    goes_with (finish_left f before) (finish_left g h) (ends_with path m before) (ends_with path m h) answer (λ i u. Ret (record { answer = (path, heard.Did); carry = kept i })) goes
+    goes_with (finish_left f before) (finish_left g h) (ends_with path m before) (ends_with path m h) answer (λ i u. Ret (record { answer = (path, heard.WasDone); carry = kept i })) goes

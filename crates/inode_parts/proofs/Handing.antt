@@ -1,5 +1,5 @@
 -- What is in hand after one operation.
-use Rattle.inode_parts.proofs.Vocabulary.{◌≡◌, ℕ, List, Bool, true, false, Option, Some, None, refl, sym, ap, ◌∙◌, subst, ◌==◌, if◌then◌else◌, IsSome, option_map_or, put, eq_is, GuardState, Inode, Hand, Place, First, Second, Seat, One, Two, inode_at, inode_in, no_inode, with_aside, with_buffer, with_inode, with_reference, with_seated, with_txn, dropped_by, kept_by, is_dying, is_listed, Had, Apart, carry_in, had_at, had_of, with_note, IsAlone, locks, Note, Notes}
+use Rattle.inode_parts.proofs.Vocabulary.{◌≡◌, ℕ, List, Bool, true, false, Option, Some, None, refl, sym, ap, ◌∙◌, subst, ◌==◌, if◌then◌else◌, IsSome, option_map_or, put, eq_is, GuardState, Inode, Hand, Place, First, Second, InodePlace, One, Two, inode_at, inode_in, no_inode, with_aside, with_buffer, with_inode, with_reference, with_seated, with_txn, dropped_by, kept_by, is_dying, is_listed, Had, Apart, carry_in, had_at, had_of, with_note, IsAlone, locks, Note, Notes}
 
 -- the locks are as they were
 pub still_in : (path : List ℕ) (m : Notes) (before h : Hand) → before.one ≡ h.one → before.two ≡ h.two → carry_in path m before ≡ carry_in path m h
@@ -8,14 +8,14 @@ still_in path m before h one two = λ i n. had_at path m.one (one i) n (had_at p
 pub same_in : (path : List ℕ) (m : Notes) (before h : Hand) → h ≡ before → carry_in path m before ≡ carry_in path m h
 same_in path m before h e = sym (ap (carry_in path m) e)
 
-pub beside_reference : (path : List ℕ) (m : Notes) (k : Seat) (r : Option ℕ) (before h : Hand) → h ≡ with_reference k r before → carry_in path m before ≡ carry_in path m h
+pub beside_reference : (path : List ℕ) (m : Notes) (k : InodePlace) (r : Option ℕ) (before h : Hand) → h ≡ with_reference k r before → carry_in path m before ≡ carry_in path m h
 beside_reference path m One r before h e = still_in path m before h (sym (ap (λ (h : Hand). h.one) e)) (sym (ap (λ (h : Hand). h.two) e))
 beside_reference path m Two r before h e = still_in path m before h (sym (ap (λ (h : Hand). h.one) e)) (sym (ap (λ (h : Hand). h.two) e))
 
 pub beside_aside : (path : List ℕ) (m : Notes) (r : Option ℕ) (before h : Hand) → h ≡ with_aside r before → carry_in path m before ≡ carry_in path m h
 beside_aside path m r before h e = still_in path m before h (sym (ap (λ (h : Hand). h.one) e)) (sym (ap (λ (h : Hand). h.two) e))
 
-pub beside_seated : (path : List ℕ) (m : Notes) (k : Seat) (before h : Hand) → h ≡ with_seated k before → carry_in path m before ≡ carry_in path m h
+pub beside_seated : (path : List ℕ) (m : Notes) (k : InodePlace) (before h : Hand) → h ≡ with_seated k before → carry_in path m before ≡ carry_in path m h
 beside_seated path m k before h e = beside_aside path m None before (with_aside None before) refl ∙ beside_reference path m k before.aside (with_aside None before) h e
 
 pub beside_txn : (path : List ℕ) (m : Notes) (o : Option ℕ) (before h : Hand) → h ≡ with_txn o before → carry_in path m before ≡ carry_in path m h
@@ -42,7 +42,7 @@ not_it path l None i x has e = absurd (cc has)
 not_it path l (Some g) i x has e = ap (λ (b : Bool). if b then had_of path l g.value.content else x) e
 
 -- where a lock is given up nothing is had of its inode
-pub gave : (path : List ℕ) (m : Notes) (k : Seat) (before : Hand) → IsSome (inode_at k before) → IsAlone (inode_in k before).number k before
+pub gave : (path : List ℕ) (m : Notes) (k : InodePlace) (before : Hand) → IsSome (inode_at k before) → IsAlone (inode_in k before).number k before
     → put (carry_in path m before) (inode_in k before).number Apart ≡ carry_in path m (with_inode k None before)
 unfolding put
 gave path m One before has alone = λ j i. at i (i == number_of before.one) refl j
@@ -57,7 +57,7 @@ gave path m Two before has alone = λ j i. at i (i == number_of before.two) refl
     at i false e = ap (had_at path m.one before.one i) (not_it path m.two before.two i Apart has e)
 
 -- where a lock came into hand this is had of it
-pub held : (path : List ℕ) (m : Notes) (k : Seat) (l : Note) (g : GuardState Inode) (before : Hand) → inode_at k before ≡ None → IsAlone g.value.number k before
+pub held : (path : List ℕ) (m : Notes) (k : InodePlace) (l : Note) (g : GuardState Inode) (before : Hand) → inode_at k before ≡ None → IsAlone g.value.number k before
     → put (carry_in path m before) g.value.number (had_of path l g.value.content) ≡ carry_in path (with_note k l m) (with_inode k (Some g) before)
 unfolding put
 held path m One l g before free alone = λ j i. let x : Had = if i == g.value.number then had_of path l g.value.content else had_at path m.one (free j) i (had_at path m.two before.two i Apart) in x

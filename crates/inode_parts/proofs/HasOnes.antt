@@ -8,8 +8,8 @@ use Rattle.inode_parts.specs.declared.take_part.TakePart.TheVariants as take
 use Rattle.inode_parts.specs.declared.write_file_part.WriteFilePart.TheVariants as writes
 
 step_has : (path : List ℕ) (m : Notes) (s : OneStep) (h : Hand) → HasOne (step_left path m s h)
-step_has path m (step.Give k) h = tt
-step_has path m (step.Settle k) h = tt
+step_has path m (step.UnlockInode k) h = tt
+step_has path m (step.SetDirectory k) h = tt
 step_has path m (step.UpRoot k) h = tt
 step_has path m (step.UpDirectory k) h = tt
 step_has path m (step.Up k n) h = tt

@@ -1,26 +1,26 @@
 -- How a part goes on whose routine takes a lock.
-use Rattle.inode_parts.proofs.Vocabulary.{◌≡◌, ℕ, List, Option, Some, None, refl, sym, ap, subst, ◌∙◌, IsSome, MatchOption, option_map_or, put, GuardState, Dinode, Ret, bind, Inode, record_of, P, Goes, inode_at, inode_in, no_inode, Hand, Seat, One, Two, number_in, record_in, IsLoadedAt, beside_lock, goes_to, goes_with, Carry, carry_in, had_of, with_note, IsAlone, locks, other, Part, beside_in, Note, Notes}
+use Rattle.inode_parts.proofs.Vocabulary.{◌≡◌, ℕ, List, Option, Some, None, refl, sym, ap, subst, ◌∙◌, IsSome, MatchOption, option_map_or, put, GuardState, Dinode, Ret, bind, Inode, record_of, P, Goes, inode_at, inode_in, no_inode, Hand, InodePlace, One, Two, number_in, record_in, IsLoadedAt, beside_lock, goes_to, goes_with, Carry, carry_in, had_of, with_note, IsAlone, locks, other, Part, beside_in, Note, Notes}
 use Rattle.fs_machine.specs.Steps as steps
 use Rattle.inode_parts.proofs.Sides.{held_beside, same_beside}
 
 -- meanwhile the other seat stays
-pub other_stays : (k : Seat) (before h : Hand) → beside_lock k h ≡ beside_lock k before → inode_at (other k) before ≡ inode_at (other k) h
+pub other_stays : (k : InodePlace) (before h : Hand) → beside_lock k h ≡ beside_lock k before → inode_at (other k) before ≡ inode_at (other k) h
 other_stays One before h same = sym (ap (λ (h : Hand). h.two) same)
 other_stays Two before h same = sym (ap (λ (h : Hand). h.one) same)
 
 -- and the second place
-pub second_stays : (k : Seat) (before h : Hand) → beside_lock k h ≡ beside_lock k before → before.second ≡ h.second
+pub second_stays : (k : InodePlace) (before h : Hand) → beside_lock k h ≡ beside_lock k before → before.second ≡ h.second
 second_stays One before h same = sym (ap (λ (h : Hand). h.second) same)
 second_stays Two before h same = sym (ap (λ (h : Hand). h.second) same)
 
-pub alone_none : (n : ℕ) (k : Seat) (h : Hand) → inode_at (other k) h ≡ None → IsAlone n k h
+pub alone_none : (n : ℕ) (k : InodePlace) (h : Hand) → inode_at (other k) h ≡ None → IsAlone n k h
 alone_none n k h e = ap (locks n) e
 
-module _ {A : Type 0} (ends : Carry → A → Part) (path : List ℕ) (m : Notes) (k : Seat) (before h : Hand) (p : P A) (answer : (o : steps.Op) → steps.Answer o) (same : beside_lock k h ≡ beside_lock k before) where
+module _ {A : Type 0} (ends : Carry → A → Part) (path : List ℕ) (m : Notes) (k : InodePlace) (before h : Hand) (p : P A) (answer : (o : steps.Op) → steps.Answer o) (same : beside_lock k h ≡ beside_lock k before) where
   ends_same : ends (beside_in path m k before) ≡ ends (beside_in path m k h)
   ends_same = ap ends (same_beside path m k before h (other_stays k before h same))
 
-  pub lock_on : (l : Seat) (q : P A) → l ≡ k → Goes p answer q → Goes (bind p (ends (beside_in path m k before))) answer (bind q (ends (beside_in path m l h)))
+  pub lock_on : (l : InodePlace) (q : P A) → l ≡ k → Goes p answer q → Goes (bind p (ends (beside_in path m k before))) answer (bind q (ends (beside_in path m l h)))
   lock_on l q at goes = goes_with p q (ends (beside_in path m k before)) (ends (beside_in path m l h)) answer (ends_same ∙ (λ i. ends (beside_in path m (sym at i) h))) goes
 
   pub lock_over : (a : A) (r : Part) → ends (beside_in path m k h) a ≡ r → Goes p answer (Ret a) → Goes (bind p (ends (beside_in path m k before))) answer r
@@ -39,11 +39,11 @@ there_loaded (Some g) is = (refl, at g.value.content is)
     at None is = absurd (cc is)
     at (Some d) is = refl
 
-pub loaded_there : (k : Seat) (h : Hand) → IsLoadedAt k h → IsSome (inode_at k h) × ((inode_in k h).content ≡ Some (record_in k h))
+pub loaded_there : (k : InodePlace) (h : Hand) → IsLoadedAt k h → IsSome (inode_at k h) × ((inode_in k h).content ≡ Some (record_in k h))
 loaded_there One h is = there_loaded h.one is
 loaded_there Two h is = there_loaded h.two is
 
-pub had_now : (path : List ℕ) (m : Notes) (k : Seat) (h : Hand) (l : Note) (n : ℕ) → IsLoadedAt k h → number_in k h ≡ n → IsAlone n k h
+pub had_now : (path : List ℕ) (m : Notes) (k : InodePlace) (h : Hand) (l : Note) (n : ℕ) → IsLoadedAt k h → number_in k h ≡ n → IsAlone n k h
     → put (beside_in path m k h) n (had_of path l (Some (record_in k h))) ≡ carry_in path (with_note k l m) h
 had_now path m k h l n loaded named alone =
     let there = loaded_there k h loaded in
@@ -52,8 +52,8 @@ had_now path m k h l n loaded named alone =
 
 -- ---- seats without a lock
 
-pub first_seat : (k : Seat) (h : Hand) → k ≡ One → h.one ≡ None → h.two ≡ None → (inode_at k h ≡ None) × (inode_at (other k) h ≡ None)
-first_seat k h is one two = subst (λ (k : Seat). (inode_at k h ≡ None) × (inode_at (other k) h ≡ None)) (sym is) (one, two)
+pub first_seat : (k : InodePlace) (h : Hand) → k ≡ One → h.one ≡ None → h.two ≡ None → (inode_at k h ≡ None) × (inode_at (other k) h ≡ None)
+first_seat k h is one two = subst (λ (k : InodePlace). (inode_at k h ≡ None) × (inode_at (other k) h ≡ None)) (sym is) (one, two)
 
-pub other_free : (k l : Seat) (before h : Hand) → l ≡ k → beside_lock k h ≡ beside_lock k before → inode_at (other k) before ≡ None → inode_at (other l) h ≡ None
-other_free k l before h is same free = subst (λ (l : Seat). inode_at (other l) h ≡ None) (sym is) (sym (other_stays k before h same) ∙ free)
+pub other_free : (k l : InodePlace) (before h : Hand) → l ≡ k → beside_lock k h ≡ beside_lock k before → inode_at (other k) before ≡ None → inode_at (other l) h ≡ None
+other_free k l before h is same free = subst (λ (l : InodePlace). inode_at (other l) h ≡ None) (sym is) (sym (other_stays k before h same) ∙ free)

@@ -1,5 +1,5 @@
 -- The first listed inode locked: the operation is its part.
-use Rattle.inode_parts.proofs.Vocabulary.{◌≡◌, ◌<◌, ◌^◌, ◌⊎◌, inl, inr, ℕ, List, [], ◌∷◌, true, false, Option, Some, None, refl, sym, ap, subst, ◌∙◌, IsSome, is_some, option_map_or, unwrap_or, GuardState, Dinode, Super, Inode, bind, inode_block, load_unless, first_in, first_listed, inode_at, inode_in, no_inode, number_at, reference_at, with_first, with_inode, Hand, Seat, One, Two, HasNoBuffer, number_in, HasBlock, lock_loaded, eq_is, eq_self, AtNothing, Query, Take, answer_to, Heard, carry_in, Comes, CameTo, Leaves, having, IsAlone, free_seat, other, refers, seat_of_reference, IsPart, Part, MayRelock, RelockBegins, RelockReady, beside_in, looked, IsTaken, Sees, TakeBegins, Notes}
+use Rattle.inode_parts.proofs.Vocabulary.{◌≡◌, ◌<◌, ◌^◌, ◌⊎◌, inl, inr, ℕ, List, [], ◌∷◌, true, false, Option, Some, None, refl, sym, ap, subst, ◌∙◌, IsSome, is_some, option_map_or, unwrap_or, GuardState, Dinode, Super, Inode, bind, inode_block, load_unless, first_in, first_listed, inode_at, inode_in, no_inode, number_at, reference_at, with_first, with_inode, Hand, InodePlace, One, Two, HasNoBuffer, number_in, HasBlock, lock_loaded, eq_is, eq_self, AtNothing, Query, Take, answer_to, Heard, carry_in, Comes, CameTo, Leaves, having, IsAlone, free_seat, other, refers, seat_of_reference, IsPart, Part, MayRelock, RelockBegins, RelockReady, beside_in, looked, IsTaken, Sees, TakeBegins, Notes}
 use Rattle.fs_machine.specs.Machines as code
 use Rattle.path_walk.specs.declared.asks.Query.TheVariants as query
 use Rattle.inode_parts.specs.declared.relock_part.RelockPart.TheVariants as relock
@@ -17,24 +17,24 @@ referred n (Some j) e = sym (ap (λ (j : ℕ). Some j) (eq_is n j e))
 refers_so_far : (n : ℕ) (o : Option ℕ) → o ≡ Some n → refers n o ≡ true
 refers_so_far n o e = ap (refers n) e ∙ eq_self n
 
-module _ (sizes : Super) (n : ℕ) (q : Query) (h : Hand) (k : Seat) (at : k ≡ seat_of_reference n h) where
+module _ (sizes : Super) (n : ℕ) (q : Query) (h : Hand) (k : InodePlace) (at : k ≡ seat_of_reference n h) where
   pub taken_by : refers n (reference_at k h) ≡ true → TakeBegins sizes n h ⊎ (RelockBegins sizes n h × (q ≡ AtNothing)) → TakeBegins sizes n h
   taken_by there (inl begins) = begins
-  taken_by there (inr begins) = absurd (begins.0.0.0 (subst (λ (k : Seat). reference_at k h ≡ Some n) at (referred n (reference_at k h) there)))
+  taken_by there (inr begins) = absurd (begins.0.0.0 (subst (λ (k : InodePlace). reference_at k h ≡ Some n) at (referred n (reference_at k h) there)))
 
   pub relocked_by : refers n (reference_at k h) ≡ false → TakeBegins sizes n h ⊎ (RelockBegins sizes n h × (q ≡ AtNothing)) → RelockBegins sizes n h × (q ≡ AtNothing)
   relocked_by none (inl begins) =
-      absurd (let clash : true ≡ false = sym (refers_so_far n (reference_at k h) (subst (λ (k : Seat). reference_at k h ≡ Some n) (sym at) begins.0)) ∙ none in cc clash)
+      absurd (let clash : true ≡ false = sym (refers_so_far n (reference_at k h) (subst (λ (k : InodePlace). reference_at k h ≡ Some n) (sym at) begins.0)) ∙ none in cc clash)
   relocked_by none (inr begins) = begins
 
 -- ---- it begins
 
-module _ (sizes : Super) (n : ℕ) (h : Hand) (k : Seat) (at : k ≡ free_seat h) (begins : RelockBegins sizes n h) where
+module _ (sizes : Super) (n : ℕ) (h : Hand) (k : InodePlace) (at : k ≡ free_seat h) (begins : RelockBegins sizes n h) where
   named : first_listed h ≡ n
   named = ap first_in begins.0.1.1
 
   free : inode_at k h ≡ None
-  free = subst (λ (k : Seat). inode_at k h ≡ None) (sym at) begins.0.3
+  free = subst (λ (k : InodePlace). inode_at k h ≡ None) (sym at) begins.0.3
 
   pub relock_is_part : (path : List ℕ) (m : Notes) → IsPart sizes (carry_in path m h) (Take n AtNothing) (bind (lock_loaded sizes.inodestart (first_listed h)) (looked path query.Nothing (beside_in path m k h) (first_listed h)))
   relock_is_part path m =
@@ -46,41 +46,41 @@ module _ (sizes : Super) (n : ℕ) (h : Hand) (k : Seat) (at : k ≡ free_seat h
   pub relock_ready : RelockReady (relock.Locking k sizes.inodestart) h
   relock_ready = (
     some,
-    subst (λ (k : Seat). reference_at k h ≡ None) (sym at) begins.0.2,
+    subst (λ (k : InodePlace). reference_at k h ≡ None) (sym at) begins.0.2,
     free,
-    subst (λ (n : ℕ). IsAlone n k h) (sym named) (subst (λ (k : Seat). IsAlone n k h) (sym at) begins.0.4),
+    subst (λ (n : ℕ). IsAlone n k h) (sym named) (subst (λ (k : InodePlace). IsAlone n k h) (sym at) begins.0.4),
     begins.0.5,
     subst (λ (n : ℕ). inode_block sizes.inodestart n < 2 ^ 32) (sym named) begins.1,
   )
 
 -- ---- its lock came, with the reference
 
-module _ (k : Seat) (before h : Hand) (g : GuardState Inode) (is : h ≡ with_inode k (Some g) (with_first k before)) (named : g.value.number ≡ first_listed before) where
+module _ (k : InodePlace) (before h : Hand) (g : GuardState Inode) (is : h ≡ with_inode k (Some g) (with_first k before)) (named : g.value.number ≡ first_listed before) where
   pub came_there : inode_at k h ≡ Some g
   came_there = at k is
     where
-      at : (k : Seat) → h ≡ with_inode k (Some g) (with_first k before) → inode_at k h ≡ Some g
+      at : (k : InodePlace) → h ≡ with_inode k (Some g) (with_first k before) → inode_at k h ≡ Some g
       at One is = ap (λ (h : Hand). h.one) is
       at Two is = ap (λ (h : Hand). h.two) is
 
   came_reference : reference_at k h ≡ Some (first_listed before)
   came_reference = at k is
     where
-      at : (k : Seat) → h ≡ with_inode k (Some g) (with_first k before) → reference_at k h ≡ Some (first_listed before)
+      at : (k : InodePlace) → h ≡ with_inode k (Some g) (with_first k before) → reference_at k h ≡ Some (first_listed before)
       at One is = ap (λ (h : Hand). h.to_one) is
       at Two is = ap (λ (h : Hand). h.to_two) is
 
   other_same : inode_at (other k) before ≡ inode_at (other k) h
   other_same = at k is
     where
-      at : (k : Seat) → h ≡ with_inode k (Some g) (with_first k before) → inode_at (other k) before ≡ inode_at (other k) h
+      at : (k : InodePlace) → h ≡ with_inode k (Some g) (with_first k before) → inode_at (other k) before ≡ inode_at (other k) h
       at One is = sym (ap (λ (h : Hand). h.two) is)
       at Two is = sym (ap (λ (h : Hand). h.one) is)
 
   pub came_buffers : HasNoBuffer before → HasNoBuffer h
   came_buffers none = at k is
     where
-      at : (k : Seat) → h ≡ with_inode k (Some g) (with_first k before) → HasNoBuffer h
+      at : (k : InodePlace) → h ≡ with_inode k (Some g) (with_first k before) → HasNoBuffer h
       at One is = (ap (λ (h : Hand). h.first) is ∙ none.0, ap (λ (h : Hand). h.second) is ∙ none.1)
       at Two is = (ap (λ (h : Hand). h.first) is ∙ none.0, ap (λ (h : Hand). h.second) is ∙ none.1)
 
@@ -113,16 +113,16 @@ module _ (k : Seat) (before h : Hand) (g : GuardState Inode) (is : h ≡ with_in
 -- ---- what it leaves
 
 -- the reference came to this seat
-first_at : (k : Seat) (h : Hand) → number_at k (with_first k h) ≡ first_listed h
+first_at : (k : InodePlace) (h : Hand) → number_at k (with_first k h) ≡ first_listed h
 first_at One h = refl
 first_at Two h = refl
 
 -- .. and its lock comes there too
-first_comes : (k : Seat) (h : Hand) (g : GuardState Inode) → inode_at k h ≡ None → h.first ≡ None → Comes k (with_first k h) (with_inode k (Some g) (with_first k h))
+first_comes : (k : InodePlace) (h : Hand) (g : GuardState Inode) → inode_at k h ≡ None → h.first ≡ None → Comes k (with_first k h) (with_inode k (Some g) (with_first k h))
 first_comes One h g free empty = (free, empty, refl)
 first_comes Two h g free empty = (free, empty, refl)
 
-module _ (n : ℕ) (start : Hand) (may : MayRelock n start) (k : Seat) (at : k ≡ free_seat start) where
+module _ (n : ℕ) (start : Hand) (may : MayRelock n start) (k : InodePlace) (at : k ≡ free_seat start) where
   abbrev referred_to : Hand
   referred_to = with_first (free_seat start) start
 
@@ -132,11 +132,11 @@ module _ (n : ℕ) (start : Hand) (may : MayRelock n start) (k : Seat) (at : k �
   pub relock_comes : (before h : Hand) (g : GuardState Inode) → before ≡ start → h ≡ with_inode k (Some g) (with_first k before) → Comes k referred_to h
   relock_comes before h g still is =
       subst (λ (h : Hand). Comes k referred_to h) (sym (is ∙ ap (λ (h : Hand). with_inode k (Some g) (with_first k h)) still))
-      (subst (λ (k : Seat). Comes k referred_to (with_inode k (Some g) (with_first k start))) (sym at) (first_comes (free_seat start) start g may.3 may.5.0))
+      (subst (λ (k : InodePlace). Comes k referred_to (with_inode k (Some g) (with_first k start))) (sym at) (first_comes (free_seat start) start g may.3 may.5.0))
 
   pub relock_leaves : (path : List ℕ) (m m2 : Notes) (h : Hand) (x : Heard) → Comes k referred_to h → IsTaken k h → h.first ≡ None → Sees path AtNothing k x m m2
       → Leaves path (Take n AtNothing) (answer_to [] (Take n AtNothing) x) (having start m) (having h m2)
   relock_leaves path m m2 h x comes taken over sees =
       let kept = sym (number_same k referred_to h comes.2) ∙ number_came in
       let left = taken_leaves path m m2 n AtNothing start referred_to k h x kept comes taken over sees in
-      ((((λ has. absurd (may.0 has)), (λ none. subst (λ (k : Seat). CameTo k n referred_to h) at left.0)), sees.0), left.1)
+      ((((λ has. absurd (may.0 has)), (λ none. subst (λ (k : InodePlace). CameTo k n referred_to h) at left.0)), sees.0), left.1)

@@ -1,5 +1,5 @@
 -- What is left in hand of an inode that is taken, and what was seen in it.
-use Rattle.inode_parts.proofs.Vocabulary.{◌≡◌, ℕ, List, [], true, Option, Some, None, sym, ap, subst, ◌∙◌, ◌<◌, ◌^◌, IsSome, IfSome, option_map, unwrap_or, same_self, IsSlot, Found, number_at, Hand, Seat, One, Two, beside_lock, LeavesBuffers, SearchReady, Search, Fetching, Giving, AtEntries, AtName, AtNothing, number_found, answer_to, face_of, sight_in, name_in, Face, Heard, Element, having, note_at, with_note, HasFound, Comes, CameTo, IsCounted, Learns, LearnsBy, Leaves, HasReference, IsAlone, other, seat_of_lock, seat_of_reference, note_of, IsTaken, Sees, Note, Notes}
+use Rattle.inode_parts.proofs.Vocabulary.{◌≡◌, ℕ, List, [], true, Option, Some, None, sym, ap, subst, ◌∙◌, ◌<◌, ◌^◌, IsSome, IfSome, option_map, unwrap_or, same_self, IsSlot, Found, number_at, Hand, InodePlace, One, Two, beside_lock, LeavesBuffers, SearchReady, Search, Fetching, Giving, AtEntries, AtName, AtNothing, number_found, answer_to, face_of, sight_in, name_in, Face, Heard, Element, having, note_at, with_note, HasFound, Comes, CameTo, IsCounted, Learns, LearnsBy, Leaves, HasReference, IsAlone, other, seat_of_lock, seat_of_reference, note_of, IsTaken, Sees, Note, Notes}
 use Rattle.inode_machine.specs.Inodes as whole
 use Rattle.inode_machine.specs.World.{Take}
 use Rattle.path_walk.specs.declared.asks.Heard.TheVariants as heard
@@ -12,14 +12,14 @@ search_second : (s : Search) (h : Hand) → SearchReady s h → h.second ≡ Non
 search_second (Fetching at m) h ready = ready.1.2
 search_second (Giving at found) h ready = ready.3
 
-beside_search : (k : Seat) (before h : Hand) → before.second ≡ None → h.second ≡ None → LeavesBuffers before h → beside_lock k h ≡ beside_lock k before
+beside_search : (k : InodePlace) (before h : Hand) → before.second ≡ None → h.second ≡ None → LeavesBuffers before h → beside_lock k h ≡ beside_lock k before
 beside_search One before h empty over same = λ i. record (same i) { one = None; second = (over ∙ sym empty) i }
 beside_search Two before h empty over same = λ i. record (same i) { two = None; second = (over ∙ sym empty) i }
 
-pub comes_on_search : (k : Seat) (s : Search) (start before h : Hand) → SearchReady s before → h.second ≡ None → LeavesBuffers before h → Comes k start before → Comes k start h
+pub comes_on_search : (k : InodePlace) (s : Search) (start before h : Hand) → SearchReady s before → h.second ≡ None → LeavesBuffers before h → Comes k start before → Comes k start h
 comes_on_search k s start before h ready over same comes = (comes.0, comes.1, beside_search k before h (search_second s before ready) over same ∙ comes.2)
 
-pub comes_between : (k : Seat) (s t : Search) (start before h : Hand) → SearchReady s before → SearchReady t h → LeavesBuffers before h → Comes k start before → Comes k start h
+pub comes_between : (k : InodePlace) (s t : Search) (start before h : Hand) → SearchReady s before → SearchReady t h → LeavesBuffers before h → Comes k start before → Comes k start h
 comes_between k s t start before h ready then same comes = comes_on_search k s start before h ready (search_second t h then) same comes
 
 -- ---- what was seen
@@ -32,7 +32,7 @@ not_found : (o : Option ℕ) → IsSome o → o ≡ None → ⊥
 not_found None is e = cc is
 not_found (Some n) is e = cc e
 
-module _ (path : List ℕ) (k : Seat) (x : Heard) (m m2 : Notes) (counted : IsCounted (sight_in x)) where
+module _ (path : List ℕ) (k : InodePlace) (x : Heard) (m m2 : Notes) (counted : IsCounted (sight_in x)) where
   apart : (l : Note) → m2 ≡ with_note k l m → note_at (other k) m2 ≡ note_at (other k) m
   apart l noted = ap (note_at (other k)) noted ∙ noted_apart k l m
 
@@ -54,23 +54,23 @@ module _ (path : List ℕ) (k : Seat) (x : Heard) (m m2 : Notes) (counted : IsCo
 
 -- ---- what is left
 
-number_kept : (k : Seat) (n : ℕ) (start h : Hand) → k ≡ seat_of_reference n start → HasReference n start → beside_lock k h ≡ beside_lock k start → number_at k h ≡ n
+number_kept : (k : InodePlace) (n : ℕ) (start h : Hand) → k ≡ seat_of_reference n start → HasReference n start → beside_lock k h ≡ beside_lock k start → number_at k h ≡ n
 number_kept k n start h at has same =
-    sym (number_same k start h same) ∙ ap (λ (k : Seat). number_at k start) at ∙ ap (λ (o : Option ℕ). unwrap_or o 0) has
+    sym (number_same k start h same) ∙ ap (λ (k : InodePlace). number_at k start) at ∙ ap (λ (o : Option ℕ). unwrap_or o 0) has
 
 -- what comes of a lock at a seat beside which all is as it was, and of what was seen there
-pub taken_leaves : (path : List ℕ) (m m2 : Notes) (n : ℕ) (looking : whole.Query) (start from : Hand) (k : Seat) (h : Hand) (x : Heard) → number_at k h ≡ n → Comes k from h
+pub taken_leaves : (path : List ℕ) (m m2 : Notes) (n : ℕ) (looking : whole.Query) (start from : Hand) (k : InodePlace) (h : Hand) (x : Heard) → number_at k h ≡ n → Comes k from h
     → IsTaken k h → h.first ≡ None → Sees path looking k x m m2 → CameTo k n from h × LearnsBy path n looking (sight_in x) (having start m) (having h m2)
 taken_leaves path m m2 n looking start from k h x kept comes taken over sees =
     let named = taken.1 ∙ kept in
     let seat = its_seat n k h taken.0 named (subst (λ (i : ℕ). IsAlone i k h) kept taken.2) in
     let back : k ≡ seat_of_lock n h = sym seat in (
       came k n from h comes over taken.0 named,
-      (subst (λ (k : Seat). note_at (other k) m2 ≡ note_at (other k) m) back sees.1, subst (λ (k : Seat). Learns path looking (sight_in x) (note_at k m2)) back sees.2),
+      (subst (λ (k : InodePlace). note_at (other k) m2 ≡ note_at (other k) m) back sees.1, subst (λ (k : InodePlace). Learns path looking (sight_in x) (note_at k m2)) back sees.2),
     )
 
-pub take_leaves : (path : List ℕ) (m m2 : Notes) (n : ℕ) (looking : whole.Query) (start : Hand) (k : Seat) (h : Hand) (x : Heard) → HasReference n start → k ≡ seat_of_reference n start → Comes k start h
+pub take_leaves : (path : List ℕ) (m m2 : Notes) (n : ℕ) (looking : whole.Query) (start : Hand) (k : InodePlace) (h : Hand) (x : Heard) → HasReference n start → k ≡ seat_of_reference n start → Comes k start h
     → IsTaken k h → h.first ≡ None → Sees path looking k x m m2 → Leaves path (Take n looking) (answer_to [] (Take n looking) x) (having start m) (having h m2)
 take_leaves path m m2 n looking start k h x has at comes taken over sees =
     let left = taken_leaves path m m2 n looking start start k h x (number_kept k n start h at has comes.2) comes taken over sees in
-    ((((λ is. subst (λ (k : Seat). CameTo k n start h) at left.0), (λ none. absurd (none has))), sees.0), left.1)
+    ((((λ is. subst (λ (k : InodePlace). CameTo k n start h) at left.0), (λ none. absurd (none has))), sees.0), left.1)

@@ -1,5 +1,5 @@
 -- What operations on whole inodes that are one operation below leave in hand.
-use Rattle.inode_parts.proofs.Vocabulary.{arith, ◌≡◌, ℕ, List, [], ◌∷◌, ◌++◌, Bool, true, false, Option, Some, None, refl, sym, ap, ◌∙◌, subst, IfSome, is_some, if◌then◌else◌, MatchOption, unwrap_or, descriptor_count, Ret, Do, Inode, Goes, inode_in, number_at, reference_at, with_inode, with_listed, with_reference, with_seated, IsAfter, IsDown, IsHanded, IsJoined, IsKept, IsLent, IsOpened, answer_in, dropped_by, given_by, joined_by, kept_by, number_by, shut_by, yes_in, Hand, Seat, One, Two, Answer, is_dying, is_listed, old_directory, shut_to, answer_to, bool_in, joined_in, loan_in, shut_in, start_in, Heard, handed, note_at, with_note, Having, Leaves, LeavesDown, LeavesInstall, LeavesJoinFile, LeavesLend, LeavesShut, LeavesUp, LeavesWalkDown, ReferredOrAside, part_for, having, Begins, HasFreeSeat, free_seat, joining_heard, loan_heard, other, seat_of_lock, seat_of_reference, step_asked, step_for, step_left, step_notes, Part, OneAmid, UnderWay, Notes, OneStep}
+use Rattle.inode_parts.proofs.Vocabulary.{arith, ◌≡◌, ℕ, List, [], ◌∷◌, ◌++◌, Bool, true, false, Option, Some, None, refl, sym, ap, ◌∙◌, subst, IfSome, is_some, if◌then◌else◌, MatchOption, unwrap_or, descriptor_count, Ret, Do, Inode, Goes, inode_in, number_at, reference_at, with_inode, with_listed, with_reference, with_seated, IsAfter, IsDown, IsHanded, IsJoined, IsKept, IsLent, IsOpened, answer_in, dropped_by, given_by, joined_by, kept_by, number_by, shut_by, yes_in, Hand, InodePlace, One, Two, Answer, is_dying, is_listed, old_directory, shut_to, answer_to, bool_in, joined_in, loan_in, shut_in, start_in, Heard, handed, note_at, with_note, Having, Leaves, LeavesDown, LeavesInstall, LeavesJoinFile, LeavesLend, LeavesShut, LeavesUp, LeavesWalkDown, ReferredOrAside, part_for, having, Begins, HasFreeSeat, free_seat, joining_heard, loan_heard, other, seat_of_lock, seat_of_reference, step_asked, step_for, step_left, step_notes, Part, OneAmid, UnderWay, Notes, OneStep}
 use Rattle.fs_machine.specs.declared.op.Answer.TheVariants as answers
 use Rattle.inode_machine.specs.World as above
 use Rattle.path_walk.specs.Asks.{number_in}
@@ -9,15 +9,15 @@ use Rattle.inode_parts.specs.declared.one_step.OneStep.TheVariants as step
 
 -- it begins so
 pub under_way : (path : List ℕ) (op : above.Op) (h : Hand) (m : Notes) → Begins op h → UnderWay path op (having h m) (part_for op h) (having h m)
-under_way path (above.Give n) h m has = (has, refl, refl)
-under_way path (above.Settle n) h m has = (has, refl, refl)
+under_way path (above.UnlockInode n) h m has = (has, refl, refl)
+under_way path (above.SetDirectory n) h m has = (has, refl, refl)
 under_way path (above.UpStart absolute) h m has = (has, refl, refl)
 under_way path (above.Up n) h m has = (has, refl, refl)
 under_way path (above.WalkDown n) h m has = (has, refl, refl)
 under_way path (above.Down n) h m has = (has, refl, refl)
 under_way path (above.Forget n) h m has = (has, refl, refl)
 under_way path above.Slot h m has = (has, refl, refl)
-under_way path (above.Install f sort) h m has = (has, refl, refl)
+under_way path (above.Install f inode_type) h m has = (has, refl, refl)
 under_way path (above.CheckFile fd) h m has = (has, refl, refl)
 under_way path (above.JoinFile fd) h m has = (has, refl, refl)
 under_way path (above.Double fd) h m has = (has, refl, refl)
@@ -32,21 +32,21 @@ under_way path op h m has = absurd has
 
 -- ---- what is at a seat then
 
-abbrev referred : Seat → Option ℕ → Hand → Hand → Type 0
+abbrev referred : InodePlace → Option ℕ → Hand → Hand → Type 0
 referred k r g h = h ≡ with_reference k r g
 
-reference_came : (k : Seat) (r : Option ℕ) (g h : Hand) → referred k r g h → reference_at k h ≡ r
+reference_came : (k : InodePlace) (r : Option ℕ) (g h : Hand) → referred k r g h → reference_at k h ≡ r
 reference_came One r g h e = ap (λ (h : Hand). h.to_one) e
 reference_came Two r g h e = ap (λ (h : Hand). h.to_two) e
 
-number_came : (k : Seat) (n : ℕ) (g h : Hand) → referred k (Some n) g h → number_at k h ≡ n
+number_came : (k : InodePlace) (n : ℕ) (g h : Hand) → referred k (Some n) g h → number_at k h ≡ n
 number_came k n g h e = ap (λ (o : Option ℕ). unwrap_or o 0) (reference_came k (Some n) g h e)
 
 -- by its number, which is answered
-by_number : (k : Seat) (n : ℕ) (g h : Hand) → referred k (Some n) g h → referred k (Some (number_at k h)) g h
+by_number : (k : InodePlace) (n : ℕ) (g h : Hand) → referred k (Some n) g h → referred k (Some (number_at k h)) g h
 by_number k n g h e = e ∙ ap (λ (n : ℕ). with_reference k (Some n) g) (sym (number_came k n g h e))
 
-noted_beside : (k : Seat) (b : Bool) (m : Notes) → note_at (other k) (if b then with_note k note.Nothing m else m) ≡ note_at (other k) m
+noted_beside : (k : InodePlace) (b : Bool) (m : Notes) → note_at (other k) (if b then with_note k note.Nothing m else m) ≡ note_at (other k) m
 noted_beside One true m = refl
 noted_beside Two true m = refl
 noted_beside k false m = refl
@@ -132,7 +132,7 @@ module _ (before h : Hand) (a : Answer) where
 -- what was heard at the end of a part
 heard_of : Part → Heard
 heard_of (Ret r) = r.answer.1
-heard_of (Do o m k) = heard.Did
+heard_of (Do o m k) = heard.WasDone
 
 module _ (path : List ℕ) (m m2 : Notes) (before h : Hand) (a : Answer) (x : Heard) where
   -- this step came to that
@@ -152,8 +152,8 @@ module _ (path : List ℕ) (m m2 : Notes) (before h : Hand) (a : Answer) (x : He
 
   leaves_by : (op : above.Op) → Begins op before → MatchOption (step_for op before) ⊥ Came → Leaves path op (answer_to [] op x) (having before m) (having h m2)
   unfolding answer_in heard_of
-  leaves_by (above.Give n) has came = (came.0, came.2)
-  leaves_by (above.Settle n) has came =
+  leaves_by (above.UnlockInode n) has came = (came.0, came.2)
+  leaves_by (above.SetDirectory n) has came =
       let k = seat_of_lock n before in
       let g = with_inode k None before in
       (subst (λ (x : Heard). h ≡ with_reference k (Some (number_in x)) g) (ap heard_of came.1) (by_number k came.0.0 g h came.0.1), came.2)
@@ -175,7 +175,7 @@ module _ (path : List ℕ) (m m2 : Notes) (before h : Hand) (a : Answer) (x : He
       )
   leaves_by (above.Forget n) has came = (came.0, came.2)
   leaves_by above.Slot has came = (came.0, came.2)
-  leaves_by (above.Install f sort) has came =
+  leaves_by (above.Install f inode_type) has came =
       (subst (λ (o : Option ℕ). LeavesInstall f.number o before h) (ap (λ (q : Part). start_in (heard_of q)) came.1) (installs before h a f.number a came.0), came.2)
   leaves_by (above.CheckFile fd) has came = (came.0, came.2)
   leaves_by (above.JoinFile fd) has came =

@@ -32,7 +32,7 @@ module _ (sizes : Super) (path : List ℕ) (m : Notes) (n count : ℕ) (before :
 
   module _ (p : StorePart) (h : Hand) (has : HasLock n before) (seat : p.seat ≡ seat_of_lock n before) (hand : h ≡ with_record (seat_of_lock n before) (counted count (record_of v)) before) where
     abbrev ends : Handover Message Carry
-    ends = handed path (with_note p.seat note.Nothing m) heard.Did h
+    ends = handed path (with_note p.seat note.Nothing m) heard.WasDone h
 
     -- the handler's record is that in hand
     abbrev had : Inode
@@ -56,10 +56,10 @@ module _ (sizes : Super) (path : List ℕ) (m : Notes) (n count : ℕ) (before :
 module _ (path : List ℕ) (m : Notes) (p : StorePart) (before h : Hand) (answer : (o : steps.Op) → steps.Answer o) (same : with_buffer (record_place p.store) None h ≡ with_buffer (record_place p.store) None before) where
   pub store_on : (q : StorePart) → q.seat ≡ p.seat → Goes (record_left p.store before) answer (record_left q.store h) → Goes (store_part_left path m p before) answer (store_part_left path m q h)
   store_on q seat goes =
-      goes_with (record_left p.store before) (record_left q.store h) (λ _. Ret (handed path (with_note p.seat note.Nothing m) heard.Did before)) (λ _. Ret (handed path (with_note q.seat note.Nothing m) heard.Did h)) answer
-      (λ i _. Ret (record { answer = (path, heard.Did); carry = (beside_buffer path (with_note p.seat note.Nothing m) (record_place p.store) before h same ∙ (λ j. carry_in path (with_note (sym seat j) note.Nothing m) h)) i })) goes
+      goes_with (record_left p.store before) (record_left q.store h) (λ _. Ret (handed path (with_note p.seat note.Nothing m) heard.WasDone before)) (λ _. Ret (handed path (with_note q.seat note.Nothing m) heard.WasDone h)) answer
+      (λ i _. Ret (record { answer = (path, heard.WasDone); carry = (beside_buffer path (with_note p.seat note.Nothing m) (record_place p.store) before h same ∙ (λ j. carry_in path (with_note (sym seat j) note.Nothing m) h)) i })) goes
 
-  pub store_ends : (m2 : Notes) → m2 ≡ with_note p.seat note.Nothing m → Goes (record_left p.store before) answer (Ret tt) → Goes (store_part_left path m p before) answer (Ret (handed path m2 heard.Did h))
+  pub store_ends : (m2 : Notes) → m2 ≡ with_note p.seat note.Nothing m → Goes (record_left p.store before) answer (Ret tt) → Goes (store_part_left path m p before) answer (Ret (handed path m2 heard.WasDone h))
   store_ends m2 noted goes =
-      goes_with (record_left p.store before) (Ret tt) (λ _. Ret (handed path (with_note p.seat note.Nothing m) heard.Did before)) (λ _. Ret (handed path m2 heard.Did h)) answer
-      (λ i _. Ret (record { answer = (path, heard.Did); carry = (beside_buffer path (with_note p.seat note.Nothing m) (record_place p.store) before h same ∙ (λ j. carry_in path (sym noted j) h)) i })) goes
+      goes_with (record_left p.store before) (Ret tt) (λ _. Ret (handed path (with_note p.seat note.Nothing m) heard.WasDone before)) (λ _. Ret (handed path m2 heard.WasDone h)) answer
+      (λ i _. Ret (record { answer = (path, heard.WasDone); carry = (beside_buffer path (with_note p.seat note.Nothing m) (record_place p.store) before h same ∙ (λ j. carry_in path (sym noted j) h)) i })) goes

@@ -1,5 +1,5 @@
 -- An inode locked and looked at: the operation is its part.
-use Rattle.inode_parts.proofs.Vocabulary.{◌≡◌, ℕ, List, Bool, true, false, if◌then◌else◌, Option, Some, None, refl, sym, ap, subst, ◌∙◌, ◌<◌, ◌^◌, is_some, not, IsSome, option_map, unwrap_or, put, Dinode, Super, Ret, Do, bind, plain, unmarked, Handover, bind-assoc, is_free, inode_block, load_unless, lookup, Found, entries, inode_at, number_at, reference_at, Seat, Hand, lock_left, lock_loaded, lock_seat, LockInode, Sight, Take, Carry, NothingMore, Knowledge, Finds, Has, face_in, learned, number_found, search_entries, seen_record, face_of, query_in, sight_in, name_in, Element, carry_in, had_of, face_by, face_unless_free, IsAlone, seat_of_reference, IsPart, Message, beside_in, listed_ends, looked, named_ends, seen, TakeBegins, Note, Notes}
+use Rattle.inode_parts.proofs.Vocabulary.{◌≡◌, ℕ, List, Bool, true, false, if◌then◌else◌, Option, Some, None, refl, sym, ap, subst, ◌∙◌, ◌<◌, ◌^◌, is_some, not, IsSome, option_map, unwrap_or, put, Dinode, Super, Ret, Do, bind, plain, unmarked, Handover, bind-assoc, is_free, inode_block, load_unless, lookup, Found, entries, inode_at, number_at, reference_at, InodePlace, Hand, lock_left, lock_loaded, lock_seat, LockInode, Sight, Take, Carry, NothingMore, Knowledge, Finds, Has, face_in, learned, number_found, search_entries, seen_record, face_of, query_in, sight_in, name_in, Element, carry_in, had_of, face_by, face_unless_free, IsAlone, seat_of_reference, IsPart, Message, beside_in, listed_ends, looked, named_ends, seen, TakeBegins, Note, Notes}
 use Rattle.fs_machine.specs.Machines as code
 use Rattle.fs_machine.specs.Steps as steps
 use Rattle.inode_machine.specs.Inodes.{Face}
@@ -41,7 +41,7 @@ module _ (path : List ℕ) (c : Carry) (n : ℕ) (d : Dinode) where
       ∙ sym (bind-assoc (entries d) (listed_ends path c n d) answers)
 
 -- once its lock is taken, by whichever reference
-pub locked_is_part : (sizes : Super) (path : List ℕ) (m : Notes) (n : ℕ) (q : Query) (h : Hand) (k : Seat) (p : code.P Dinode) (j : ℕ) → p ≡ lock_loaded sizes.inodestart n → j ≡ n → inode_at k h ≡ None
+pub locked_is_part : (sizes : Super) (path : List ℕ) (m : Notes) (n : ℕ) (q : Query) (h : Hand) (k : InodePlace) (p : code.P Dinode) (j : ℕ) → p ≡ lock_loaded sizes.inodestart n → j ≡ n → inode_at k h ≡ None
     → IsPart sizes (carry_in path m h) (Take n (query_in path q)) (bind p (looked path q (beside_in path m k h) j))
 locked_is_part sizes path m n q h k p j program named free =
     let c : Carry = beside_in path m k h in
@@ -61,18 +61,18 @@ take_is_part sizes path m n q h r program named free = locked_is_part sizes path
 
 -- ---- what its routine asks of the hand
 
-pub take_asks : (sizes : Super) (n : ℕ) (k l : Seat) (h : Hand) → k ≡ seat_of_reference n h → l ≡ k → TakeBegins sizes n h
+pub take_asks : (sizes : Super) (n : ℕ) (k l : InodePlace) (h : Hand) → k ≡ seat_of_reference n h → l ≡ k → TakeBegins sizes n h
     → IsSome (reference_at k h) × (inode_at k h ≡ None) × (inode_block sizes.inodestart (number_at k h) < 2 ^ 32) × (number_at l h ≡ n) × (inode_at l h ≡ None) × IsAlone (number_at l h) l h
 take_asks sizes n k l h is at begins =
-    let there : reference_at k h ≡ Some n = subst (λ (k : Seat). reference_at k h ≡ Some n) (sym is) begins.0 in
-    let free : inode_at k h ≡ None = subst (λ (k : Seat). inode_at k h ≡ None) (sym is) begins.1 in
-    let alone : IsAlone n k h = subst (λ (k : Seat). IsAlone n k h) (sym is) begins.2 in
+    let there : reference_at k h ≡ Some n = subst (λ (k : InodePlace). reference_at k h ≡ Some n) (sym is) begins.0 in
+    let free : inode_at k h ≡ None = subst (λ (k : InodePlace). inode_at k h ≡ None) (sym is) begins.1 in
+    let alone : IsAlone n k h = subst (λ (k : InodePlace). IsAlone n k h) (sym is) begins.2 in
     let named : number_at k h ≡ n = ap (λ (o : Option ℕ). unwrap_or o 0) there in
     let named_there : number_at l h ≡ n = (λ i. number_at (at i) h) ∙ named in (
       ap (λ (o : Option ℕ). is_some o) there,
       free,
       subst (λ (n : ℕ). inode_block sizes.inodestart n < 2 ^ 32) (sym named) begins.4,
       named_there,
-      subst (λ (k : Seat). inode_at k h ≡ None) (sym at) free,
-      subst (λ (n : ℕ). IsAlone n l h) (sym named_there) (subst (λ (k : Seat). IsAlone n k h) (sym at) alone),
+      subst (λ (k : InodePlace). inode_at k h ≡ None) (sym at) free,
+      subst (λ (n : ℕ). IsAlone n l h) (sym named_there) (subst (λ (k : InodePlace). IsAlone n k h) (sym at) alone),
     )

@@ -1,5 +1,5 @@
 -- How an inode that is taken is looked at.
-use Rattle.inode_parts.proofs.Vocabulary.{◌≡◌, ℕ, List, Option, sym, ap, subst, ◌∙◌, Bool, Dinode, Ret, bind, P, Aim, Found, Goes, number_at, Hand, Seat, One, Two, record_in, beside_lock, LeavesBuffers as Leaves, HasLocked, goes_to, goes_with, search_left, Search, Carry, Heard, carry_in, handed, with_note, face_unless_free, IsAlone, Part, beside_in, looked, seen, IsTaken, Note, Notes}
+use Rattle.inode_parts.proofs.Vocabulary.{◌≡◌, ℕ, List, Option, sym, ap, subst, ◌∙◌, Bool, Dinode, Ret, bind, P, Aim, Found, Goes, number_at, Hand, InodePlace, One, Two, record_in, beside_lock, LeavesBuffers as Leaves, HasLocked, goes_to, goes_with, search_left, Search, Carry, Heard, carry_in, handed, with_note, face_unless_free, IsAlone, Part, beside_in, looked, seen, IsTaken, Note, Notes}
 use Rattle.fs_machine.specs.Steps as steps
 use Rattle.path_walk.specs.declared.asks.Heard.TheVariants as heard
 use Rattle.path_walk.specs.declared.asks.Query.{Query}
@@ -7,49 +7,49 @@ use Rattle.inode_parts.proofs.Basics.{had_now, lock_on, lock_over, other_stays, 
 
 -- ---- while it is locked the reference stays
 
-pub number_same : (k : Seat) (before h : Hand) → beside_lock k h ≡ beside_lock k before → number_at k before ≡ number_at k h
+pub number_same : (k : InodePlace) (before h : Hand) → beside_lock k h ≡ beside_lock k before → number_at k before ≡ number_at k h
 number_same One before h same = sym (ap (number_at One) same)
 number_same Two before h same = sym (ap (number_at Two) same)
 
-pub alone_locked : (k l : Seat) (before h : Hand) → l ≡ k → beside_lock k h ≡ beside_lock k before → IsAlone (number_at k before) k before → IsAlone (number_at l h) l h
+pub alone_locked : (k l : InodePlace) (before h : Hand) → l ≡ k → beside_lock k h ≡ beside_lock k before → IsAlone (number_at k before) k before → IsAlone (number_at l h) l h
 alone_locked k l before h is same alone =
-    subst (λ (l : Seat). IsAlone (number_at l h) l h) (sym is)
+    subst (λ (l : InodePlace). IsAlone (number_at l h) l h) (sym is)
     (subst (λ (n : ℕ). IsAlone n k h) (number_same k before h same) (alone_still k before h (number_at k before) (other_stays k before h same) alone))
 
-pub is_taken : (k l : Seat) (before h : Hand) → l ≡ k → beside_lock k h ≡ beside_lock k before → IsAlone (number_at k before) k before → HasLocked l h → IsTaken l h
+pub is_taken : (k l : InodePlace) (before h : Hand) → l ≡ k → beside_lock k h ≡ beside_lock k before → IsAlone (number_at k before) k before → HasLocked l h → IsTaken l h
 is_taken k l before h is same alone has = (has.0, has.1, alone_locked k l before h is same alone)
 
-module _ (path : List ℕ) (m : Notes) (q : Query) (k : Seat) (before h : Hand) (p : P Dinode) (answer : (o : steps.Op) → steps.Answer o) (same : beside_lock k h ≡ beside_lock k before) where
-  pub take_on : (l : Seat) (r : P Dinode) → l ≡ k → Goes p answer r
+module _ (path : List ℕ) (m : Notes) (q : Query) (k : InodePlace) (before h : Hand) (p : P Dinode) (answer : (o : steps.Op) → steps.Answer o) (same : beside_lock k h ≡ beside_lock k before) where
+  pub take_on : (l : InodePlace) (r : P Dinode) → l ≡ k → Goes p answer r
       → Goes (bind p (looked path q (beside_in path m k before) (number_at k before))) answer (bind r (looked path q (beside_in path m l h) (number_at l h)))
   take_on l r at goes =
       goes_to (bind p (looked path q (beside_in path m k before) (number_at k before))) (bind r (looked path q (beside_in path m l h) (number_at k before))) (bind r (looked path q (beside_in path m l h) (number_at l h))) answer
       (lock_on (λ c. looked path q c (number_at k before)) path m k before h p answer same l r at goes)
       (λ i. bind r (looked path q (beside_in path m l h) ((number_same k before h same ∙ (λ j. number_at (sym at j) h)) i)))
 
-  pub take_over : (l : Seat) (r : Part) → l ≡ k → looked path q (beside_in path m l h) (number_at l h) (record_in l h) ≡ r → Goes p answer (Ret (record_in l h)) → Goes (bind p (looked path q (beside_in path m k before) (number_at k before))) answer r
+  pub take_over : (l : InodePlace) (r : Part) → l ≡ k → looked path q (beside_in path m l h) (number_at l h) (record_in l h) ≡ r → Goes p answer (Ret (record_in l h)) → Goes (bind p (looked path q (beside_in path m k before) (number_at k before))) answer r
   take_over l r at e goes =
       lock_over (λ c. looked path q c (number_at k before)) path m k before h p answer same (record_in l h) r
       ((λ i. looked path q (beside_in path m (sym at i) h) ((number_same k before h same ∙ (λ j. number_at (sym at j) h)) i) (record_in l h)) ∙ e) goes
 
 -- ---- while it is searched all but the buffers stays
 
-record_same : (k : Seat) (before h : Hand) → Leaves before h → record_in k before ≡ record_in k h
+record_same : (k : InodePlace) (before h : Hand) → Leaves before h → record_in k before ≡ record_in k h
 record_same One before h same = sym (ap (record_in One) same)
 record_same Two before h same = sym (ap (record_in Two) same)
 
-pub taken_stays : (k : Seat) (before h : Hand) → Leaves before h → IsTaken k before → IsTaken k h
+pub taken_stays : (k : InodePlace) (before h : Hand) → Leaves before h → IsTaken k before → IsTaken k h
 taken_stays One before h same is = subst (λ (h : Hand). IsTaken One h) (sym same) is
 taken_stays Two before h same is = subst (λ (h : Hand). IsTaken Two h) (sym same) is
 
-module _ (ends : Carry → ℕ → Dinode → Option Found → Part) (path : List ℕ) (m : Notes) (k : Seat) (before h : Hand) (aim : Aim) (s : Search) (answer : (o : steps.Op) → steps.Answer o) (same : Leaves before h) (inode : Dinode) (is : inode ≡ record_in k h) where
+module _ (ends : Carry → ℕ → Dinode → Option Found → Part) (path : List ℕ) (m : Notes) (k : InodePlace) (before h : Hand) (aim : Aim) (s : Search) (answer : (o : steps.Op) → steps.Answer o) (same : Leaves before h) (inode : Dinode) (is : inode ≡ record_in k h) where
   abbrev at : Hand → Option Found → Part
   at h = ends (beside_in path m k h) (number_at k h) (record_in k h)
 
   at_same : at before ≡ at h
   at_same = by k
     where
-      by : (k : Seat) → ends (beside_in path m k before) (number_at k before) (record_in k before) ≡ ends (beside_in path m k h) (number_at k h) (record_in k h)
+      by : (k : InodePlace) → ends (beside_in path m k before) (number_at k before) (record_in k before) ≡ ends (beside_in path m k h) (number_at k h) (record_in k h)
       by One = sym (ap (λ (h : Hand). ends (beside_in path m One h) (number_at One h) (record_in One h)) same)
       by Two = sym (ap (λ (h : Hand). ends (beside_in path m Two h) (number_at Two h) (record_in Two h)) same)
 
@@ -68,7 +68,7 @@ module _ (ends : Carry → ℕ → Dinode → Option Found → Part) (path : Lis
 
 -- ---- what was seen
 
-pub seen_ends : (path : List ℕ) (m m2 : Notes) (k : Seat) (h : Hand) (l : Note) (d : Dinode) (found : Option ℕ) (empty : Bool) (x : Heard) → d ≡ record_in k h → IsTaken k h
+pub seen_ends : (path : List ℕ) (m m2 : Notes) (k : InodePlace) (h : Hand) (l : Note) (d : Dinode) (found : Option ℕ) (empty : Bool) (x : Heard) → d ≡ record_in k h → IsTaken k h
     → x ≡ heard.Saw (record { face = face_unless_free d; found = found; empty = empty }) → m2 ≡ with_note k l m → seen path (beside_in path m k h) (number_at k h) (record_in k h) l found empty ≡ Ret (handed path m2 x h)
 seen_ends path m m2 k h l d found empty x is taken heard_so noted =
     λ i. Ret (record {

@@ -1,5 +1,5 @@
 -- How parts of several steps go on: each is under way, or leaves what its operation does.
-use Rattle.inode_parts.proofs.Vocabulary.{◌≡◌, ℕ, List, [], Option, Some, None, refl, sym, ◌∙◌, subst, with_txn, Hand, Finish, AtNothing, Query, Sort, Name, answer_to, Heard, ClaimAmid, ClearAmid, EmptyAmid, EnterAmid, LockFileAmid, LockOpenAmid, StatAmid, ReadFileAmid, WriteFileAmid, FillAmid, FreeAmid, RelockAmid, StoreAmid, TakeAmid, Having, Leaves, having, StaysOrLeaves, GoesOrLeaves, UnderWay, ClaimPart, ClearPart, EmptyPart, EnterPart, FillPart, FreePart, LockFilePart, LockOpenPart, Notes, InodePart, ReadFilePart, RelockPart, StatFilePart, StorePart, TakePart, WriteFilePart}
+use Rattle.inode_parts.proofs.Vocabulary.{◌≡◌, ℕ, List, [], Option, Some, None, refl, sym, ◌∙◌, subst, with_txn, Hand, Finish, AtNothing, Query, InodeType, Name, answer_to, Heard, ClaimAmid, ClearAmid, EmptyAmid, EnterAmid, LockFileAmid, LockOpenAmid, StatAmid, ReadFileAmid, WriteFileAmid, FillAmid, FreeAmid, RelockAmid, StoreAmid, TakeAmid, Having, Leaves, having, StaysOrLeaves, GoesOrLeaves, UnderWay, ClaimPart, ClearPart, EmptyPart, EnterPart, FillPart, FreePart, LockFilePart, LockOpenPart, Notes, InodePart, ReadFilePart, RelockPart, StatFilePart, StorePart, TakePart, WriteFilePart}
 use Rattle.inode_machine.specs.World as above
 use Rattle.path_walk.specs.declared.asks.Heard.TheVariants as heard
 use Rattle.inode_parts.specs.declared.part.InodePart.TheVariants as part
@@ -38,8 +38,8 @@ module _ (path : List ℕ) (start : Having) (before h : Hand) (m m2 : Notes) (o 
   frees p r on (above.Free n) under = went path (above.Free n) start (FreeAmid n start.hand r) (part.Free r) m m2 h o under.1 (λ stays. stays) (on n under.0)
   frees p r on op under = absurd under.0
 
-  pub claims : (p r : ClaimPart) → ((sort : Sort) → ClaimAmid start.hand p before → StaysOrLeaves (ClaimAmid start.hand r) path (above.Claim sort) o (having start.hand m) (having h m2)) → Goes (part.Claim p) (part.Claim r)
-  claims p r on (above.Claim sort) under = went path (above.Claim sort) start (ClaimAmid start.hand r) (part.Claim r) m m2 h o under.1 (λ stays. stays) (on sort under.0)
+  pub claims : (p r : ClaimPart) → ((inode_type : InodeType) → ClaimAmid start.hand p before → StaysOrLeaves (ClaimAmid start.hand r) path (above.Claim inode_type) o (having start.hand m) (having h m2)) → Goes (part.Claim p) (part.Claim r)
+  claims p r on (above.Claim inode_type) under = went path (above.Claim inode_type) start (ClaimAmid start.hand r) (part.Claim r) m m2 h o under.1 (λ stays. stays) (on inode_type under.0)
   claims p r on op under = absurd under.0
 
   pub lock_opens : (p r : LockOpenPart) → ((fd n : ℕ) → LockOpenAmid fd start.hand p before → StaysOrLeaves (LockOpenAmid fd start.hand r) path (above.LockOpen fd n) o (having start.hand m) (having h m2)) → Goes (part.LockOpen p) (part.LockOpen r)
@@ -81,6 +81,6 @@ module _ (path : List ℕ) (m : Notes) (start : Having) (before h : Hand) (f g :
   leave_stays above.Leave under = (same ∙ under.0, under.1)
   leave_stays op under = absurd under.0
 
-  pub leave_leaves : (op : above.Op) → UnderWay path op start (part.Leave f) (having before m) → h.txn ≡ None → Leaves path op (answer_to [] op heard.Did) start (having h m)
+  pub leave_leaves : (op : above.Op) → UnderWay path op start (part.Leave f) (having before m) → h.txn ≡ None → Leaves path op (answer_to [] op heard.WasDone) start (having h m)
   leave_leaves above.Leave under gone = (no_txn h gone ∙ same ∙ under.0, under.1)
   leave_leaves op under gone = absurd under.0

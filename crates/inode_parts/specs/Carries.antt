@@ -1,6 +1,6 @@
 -- What a hart has in hand between two operations, as the theory of whole inodes knows it.
 use Rattle.std.specs.Prelude.{ℕ, List, Option, Some, None, ◌==◌, if◌then◌else◌}
-use Rattle.inode_parts.specs.Vocabulary.{GuardState, Dinode, Inode, Hand, NothingMore, Finds, Opened, Had, Apart, Has, Emptied, Carry, name_in, Heard, Handover, Seat, One, Two}
+use Rattle.inode_parts.specs.Vocabulary.{GuardState, Dinode, Inode, Hand, NothingMore, Finds, Opened, Had, Apart, Has, Emptied, Carry, name_in, Heard, Handover, InodePlace, One, Two}
 use Rattle.inode_parts.specs.Parts.{Message}
 use Rattle.inode_parts.specs.declared.note.Note.{Note}
 use Rattle.inode_parts.specs.declared.note.Note.TheVariants as note
@@ -24,11 +24,11 @@ abbrev pub carry_in : List ℕ → Notes → Hand → Carry
 carry_in path m h i = had_at path m.one h.one i (had_at path m.two h.two i Apart)
 
 -- what was learned of the inode at a seat
-abbrev pub note_at : Seat → Notes → Note
+abbrev pub note_at : InodePlace → Notes → Note
 note_at One m = m.one
 note_at Two m = m.two
 
-abbrev pub with_note : Seat → Note → Notes → Notes
+abbrev pub with_note : InodePlace → Note → Notes → Notes
 with_note One n m = record m { one = n }
 with_note Two n m = record m { two = n }
 

@@ -9,7 +9,7 @@ use Rattle.inode_parts.specs.declared.note.Notes.{Notes}
 use Rattle.inode_parts.specs.declared.clear_part.ClearPart.{ClearPart}
 
 abbrev pub clear_part_left : List ℕ → Notes → ClearPart → Hand → Part
-clear_part_left path m p h = bind (clear_left p.clear h) (changed path m p.seat heard.Did h)
+clear_part_left path m p h = bind (clear_left p.clear h) (changed path m p.seat heard.WasDone h)
 
 abbrev pub clear_part_asked : ClearPart → Op
 clear_part_asked p = clear_asked p.clear

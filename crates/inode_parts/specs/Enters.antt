@@ -1,6 +1,6 @@
 -- A name entered, as a part.
 use Rattle.std.specs.Prelude.{◌≡◌, ◌*◌, ◌^◌, ◌<◌, ◌≤◌, ℕ, List, [], length}
-use Rattle.inode_parts.specs.Vocabulary.{piece_len, IsName, bits_per_block, Dinode, Super, Ret, bind, EnteredState, Room, There, NoBlock, NoSlot, Hand, Seat, Op, IsLoadedAt, enter_left, enter_asked, EnterReady, Ask}
+use Rattle.inode_parts.specs.Vocabulary.{piece_len, IsName, bits_per_block, Dinode, Super, Ret, bind, EnteredState, Room, There, NoBlock, NoSlot, Hand, InodePlace, Op, IsLoadedAt, enter_left, enter_asked, EnterReady, Ask}
 use Rattle.path_walk.specs.declared.asks.Ask.TheVariants as ask
 use Rattle.path_walk.specs.declared.asks.Entered.TheVariants as entry
 use Rattle.path_walk.specs.declared.asks.Heard.TheVariants as heard
@@ -9,12 +9,12 @@ use Rattle.inode_parts.specs.declared.note.Notes.{Notes}
 use Rattle.inode_parts.specs.declared.enter_part.EnterPart.{EnterPart}
 
 -- what is heard of the room for it; without a slot the directory is as it was
-abbrev pub entered_so : List ℕ → Notes → Seat → Hand → Dinode → Room → Part
+abbrev pub entered_so : List ℕ → Notes → InodePlace → Hand → Dinode → Room → Part
 entered_so path m k h d There = changed path m k (heard.Entered entry.InPlace) h d
 entered_so path m k h d NoBlock = changed path m k (heard.Entered entry.NoBlock) h d
 entered_so path m k h d NoSlot = Ret (handed path m (heard.Entered entry.NoSlot) h)
 
-abbrev pub entered : List ℕ → Notes → Seat → Hand → EnteredState → Part
+abbrev pub entered : List ℕ → Notes → InodePlace → Hand → EnteredState → Part
 entered path m k h r = entered_so path m k h r.inode r.room
 
 abbrev pub enter_part_left : List ℕ → Notes → EnterPart → Hand → Part

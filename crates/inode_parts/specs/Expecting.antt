@@ -29,7 +29,7 @@ abbrev pub BeginsWith : List ℕ → above.Op → Having → Type 0
 BeginsWith path (above.Take n looking) s = MayLock n s.hand ⊎ (MayRelock n s.hand × (looking ≡ AtNothing))
 BeginsWith path (above.Free n) s = HasChangeable n s.hand
 BeginsWith path (above.Store n count) s = HasChangeable n s.hand × (count < 2 ^ 15)
-BeginsWith path (above.Claim sort) s = HasFreeSeat s.hand × HasNoBuffer s.hand × IsSome s.hand.txn
+BeginsWith path (above.Claim inode_type) s = HasFreeSeat s.hand × HasNoBuffer s.hand × IsSome s.hand.txn
 BeginsWith path (above.Fill n d) s = HasChangeable n s.hand
 BeginsWith path (above.Enter d e n) s = HasChangeable d s.hand × IsName e
 BeginsWith path (above.Clear d e) s = HasChangeable d s.hand × HasFound path e (note_at (seat_of_lock d s.hand) s.notes)

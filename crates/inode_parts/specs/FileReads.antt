@@ -1,6 +1,6 @@
 -- A part of an open file read, as a part.
 use Rattle.std.specs.Prelude.{◌≡◌, ◌+◌, ◌<◌, ◌≤◌, ◌^◌, ◌++◌, ℕ, List, length, drop, IsSome}
-use Rattle.inode_parts.specs.Vocabulary.{Reply, bind, Handover, P, FilledMemory, Hand, Seat, Op, inode_at, inode_in, HasNoBuffer, record_in, IsLoadedAt, filled_to, read_asked, read_count, read_left, ReadReady, Carry}
+use Rattle.inode_parts.specs.Vocabulary.{Reply, bind, Handover, P, FilledMemory, Hand, InodePlace, Op, inode_at, inode_in, HasNoBuffer, record_in, IsLoadedAt, filled_to, read_asked, read_count, read_left, ReadReady, Carry}
 use Rattle.fs_machine.specs.declared.op.Op.TheVariants as ops
 use Rattle.path_walk.specs.declared.asks.Heard.TheVariants as heard
 use Rattle.inode_parts.specs.Basics.{IsAmid, moved, IsOnly, Message, Part}
@@ -33,7 +33,7 @@ abbrev pub ReadFileTold : List ℕ → ReadFilePart → Type 0
 ReadFileTold text (Reading f p) = read_count p ≤ length text
 ReadFileTold text (Ending f count) = count ≤ length text
 
-abbrev pub read_seat : ReadFilePart → Seat
+abbrev pub read_seat : ReadFilePart → InodePlace
 read_seat (Reading f p) = f.seat
 read_seat (Ending f count) = f.seat
 

@@ -1,6 +1,6 @@
 -- A piece of bytes written to an open file, as a part.
 use Rattle.std.specs.Prelude.{◌≡◌, ◌*◌, ◌+◌, ◌-◌, ◌==◌, ◌<◌, ◌≤◌, ◌^◌, ℕ, List, length, if◌then◌else◌, None, Some, IsSome}
-use Rattle.inode_parts.specs.Vocabulary.{piece, piece_len, bits_per_block, Super, Ret, Do, bind, unmarked, inode_block, WriteResult, Hand, Seat, Op, inode_at, inode_in, HasNoBuffer, number_in, IsLoadedAt, write_asked, write_left, WriteReady, WritePart, Written, nothing, Wrote}
+use Rattle.inode_parts.specs.Vocabulary.{piece, piece_len, bits_per_block, Super, Ret, Do, bind, unmarked, inode_block, WriteResult, Hand, InodePlace, Op, inode_at, inode_in, HasNoBuffer, number_in, IsLoadedAt, write_asked, write_left, WriteReady, WritePart, Written, nothing, Wrote}
 use Rattle.fs_machine.specs.Steps as steps
 use Rattle.fs_machine.specs.declared.op.Op.TheVariants as ops
 use Rattle.inode_data.specs.declared.write_part.WritePart.TheVariants as write
@@ -51,7 +51,7 @@ WriteFileTold text (Denied k why) = Unit {0}
 WriteFileTold text (Writing f i p) = (piece_len * i ≤ length text) × (write_done p ≤ length (piece text i))
 WriteFileTold text (Ending f upto w) = Unit {0}
 
-abbrev pub write_seat : WriteFilePart → Seat
+abbrev pub write_seat : WriteFilePart → InodePlace
 write_seat (Denied k why) = k
 write_seat (Writing f i p) = f.seat
 write_seat (Ending f upto w) = f.seat

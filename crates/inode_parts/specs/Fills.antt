@@ -1,13 +1,13 @@
 -- The names of a new directory written, as a part.
 use Rattle.std.specs.Prelude.{◌≤◌, ℕ, List, IsSome}
-use Rattle.inode_parts.specs.Vocabulary.{bits_per_block, Super, bind, Hand, Seat, Op, inode_at, fill_left, fill_asked, FillReady, Filled}
+use Rattle.inode_parts.specs.Vocabulary.{bits_per_block, Super, bind, Hand, InodePlace, Op, inode_at, fill_left, fill_asked, FillReady, Filled}
 use Rattle.path_walk.specs.declared.asks.Heard.TheVariants as heard
 use Rattle.inode_parts.specs.Basics.{changed, IsAmid, MayChange, Part}
 use Rattle.inode_parts.specs.declared.note.Notes.{Notes}
 use Rattle.inode_parts.specs.declared.fill_part.FillPart.{FillPart}
 
 -- whether both were written is heard
-abbrev pub filled : List ℕ → Notes → Seat → Hand → Filled → Part
+abbrev pub filled : List ℕ → Notes → InodePlace → Hand → Filled → Part
 filled path m k h f = changed path m k (heard.Is f.whole) h f.inode
 
 abbrev pub fill_part_left : List ℕ → Notes → FillPart → Hand → Part

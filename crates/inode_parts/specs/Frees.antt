@@ -8,7 +8,7 @@ use Rattle.inode_parts.specs.declared.free_part.FreePart.{FreePart}
 
 -- nothing is had of it then
 abbrev pub free_ends : List ℕ → Carry → ℕ → Unit {0} → Part
-free_ends text c n _ = Ret (record { answer = (text, heard.Did); carry = put c n Emptied })
+free_ends text c n _ = Ret (record { answer = (text, heard.WasDone); carry = put c n Emptied })
 
 abbrev pub free_left : List ℕ → Notes → FreePart → Hand → Part
 free_left path m p h = bind (freeing_left p.free h) (free_ends path (beside_in path m p.seat h) (number_in p.seat h))

@@ -1,6 +1,6 @@
 -- What an operation on whole inodes leaves in hand, and programs that find in hand what their operations ask.
 use Rattle.std.specs.Prelude.{◌≡◌, ◌<◌, ◌^◌, ℕ, List, [], ◌∷◌, ◌++◌, Bool, true, false, Option, Some, None, IsSome, IfSome}
-use Rattle.inode_parts.specs.Vocabulary.{Reply, Ret, Do, GuardState, Inode, Hand, Seat, inode_at, with_aside, with_first, with_inode, with_listed, with_reference, with_seated, with_txn, IsEmpty, unloaded, IsLoadedAt, AtEntries, AtName, AtNothing, Query, Sight}
+use Rattle.inode_parts.specs.Vocabulary.{Reply, Ret, Do, GuardState, Inode, Hand, InodePlace, inode_at, with_aside, with_first, with_inode, with_listed, with_reference, with_seated, with_txn, IsEmpty, unloaded, IsLoadedAt, AtEntries, AtName, AtNothing, Query, Sight}
 use Rattle.inode_machine.specs.Inodes.{Face}
 use Rattle.inode_machine.specs.Parts as programs
 use Rattle.inode_machine.specs.World as above
@@ -30,7 +30,7 @@ abbrev pub Dropped : ℕ → Hand → Hand → Type 0
 Dropped n before h = h ≡ with_reference (seat_of_reference n before) None before
 
 -- the lock of inode n came to this seat, and that is loaded
-abbrev pub CameTo : Seat → ℕ → Hand → Hand → Type 0
+abbrev pub CameTo : InodePlace → ℕ → Hand → Hand → Type 0
 CameTo k n before h = (g : GuardState Inode) × (h ≡ with_inode k (Some g) before) × (g.value.number ≡ n) × IsSome g.value.content
 
 -- .. to the seat of the reference to it
@@ -43,7 +43,7 @@ Relocked n before h = CameTo (free_seat before) n (with_first (free_seat before)
 
 -- .. to a seat without one
 abbrev pub Opened : ℕ → Hand → Hand → Type 0
-Opened n before h = (k : Seat) × (inode_at k before ≡ None) × CameTo k n before h
+Opened n before h = (k : InodePlace) × (inode_at k before ≡ None) × CameTo k n before h
 
 -- the lock of inode n is gone
 abbrev pub Unlocked : ℕ → Hand → Hand → Type 0
@@ -125,7 +125,7 @@ LeavesSettle n old before h = h ≡ with_reference (seat_of_lock n before) (Some
 
 abbrev pub LeavesHand : (op : above.Op) → above.Answer op → Hand → Hand → Type 0
 LeavesHand (above.Take n looking) a before h = LeavesTake n before h × IsCounted a
-LeavesHand (above.Give n) a before h = Unlocked n before h
+LeavesHand (above.UnlockInode n) a before h = Unlocked n before h
 LeavesHand (above.UpStart absolute) a before h = Referred a before h
 LeavesHand (above.Up n) a before h = LeavesUp n a before h
 LeavesHand (above.WalkDown n) a before h = LeavesWalkDown n a before h
@@ -152,7 +152,7 @@ LeavesHand (above.Shut fd) a before h = LeavesShut a before h
 LeavesHand (above.Lend child from) a before h = LeavesLend a before h
 LeavesHand (above.LendDirectory child) a before h = Referred (Some a) before h
 LeavesHand (above.Release child) a before h = h ≡ before
-LeavesHand (above.Settle n) a before h = LeavesSettle n a before h
+LeavesHand (above.SetDirectory n) a before h = LeavesSettle n a before h
 LeavesHand above.Join a before h = Joined before h
 LeavesHand above.Leave a before h = h ≡ with_txn None before
 LeavesHand above.Say a before h = h ≡ before
@@ -160,7 +160,7 @@ LeavesHand above.Say a before h = h ≡ before
 -- ---- what is learned of it
 
 -- what was learned of the inode at the other seat stands
-abbrev pub Stand : Seat → Having → Having → Type 0
+abbrev pub Stand : InodePlace → Having → Having → Type 0
 Stand k before after = note_at (other k) after.notes ≡ note_at (other k) before.notes
 
 abbrev pub StandBeside : ℕ → Having → Having → Type 0

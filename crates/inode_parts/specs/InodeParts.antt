@@ -25,7 +25,7 @@ use Rattle.inode_parts.specs.declared.part.InodePart.{InodePart}
 use Rattle.inode_parts.specs.declared.part.InodePart.TheVariants as part
 
 abbrev pub ends_with : List ℕ → Notes → Hand → Unit {0} → Part
-ends_with path m h _ = Ret (handed path m heard.Did h)
+ends_with path m h _ = Ret (handed path m heard.WasDone h)
 
 abbrev pub part_left : List ℕ → Notes → InodePart → Hand → Part
 part_left path m (part.One s) h = step_left path m s h
@@ -133,7 +133,7 @@ is_short (ask.Enter d e n) = false
 is_short (ask.Clear d e) = false
 is_short (ask.Fill n d) = false
 is_short (ask.Free n) = false
-is_short (ask.Claim sort) = false
+is_short (ask.Claim inode_type) = false
 is_short (ask.LockOpen fd n) = false
 is_short (ask.LockFile fd) = false
 is_short (ask.StatFile fd) = false

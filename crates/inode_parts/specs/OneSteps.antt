@@ -1,6 +1,6 @@
 -- Operations on whole inodes that are one operation below.
 use Rattle.std.specs.Prelude.{◌≡◌, ◌<◌, ◌⊎◌, ℕ, List, length, Bool, false, Option, Some, None, IsSome, is_some, ◌==◌, if◌then◌else◌, true}
-use Rattle.inode_parts.specs.Vocabulary.{MatchOption, option_map_or, put, root, descriptor_count, GuardState, listed_places, Inode, Given, Hand, Seat, One, Two, Op, inode_at, inode_in, number_at, reference_at, new_file, cause_of, cause_if, doubled_to, shut_to, is_listed, is_dying, old_directory, with_dying, Apart, Carry, Heard}
+use Rattle.inode_parts.specs.Vocabulary.{MatchOption, option_map_or, put, root, descriptor_count, GuardState, listed_places, Inode, Given, Hand, InodePlace, One, Two, Op, inode_at, inode_in, number_at, reference_at, new_file, cause_of, cause_if, doubled_to, shut_to, is_listed, is_dying, old_directory, with_dying, Apart, Carry, Heard}
 use Rattle.fs_machine.specs.declared.files.Want.TheVariants as want
 use Rattle.fs_machine.specs.declared.slots.Given.TheVariants as given
 use Rattle.fs_machine.specs.Steps as steps
@@ -30,10 +30,10 @@ abbrev pub still : List ℕ → (lop : steps.Op) → (steps.Answer lop → Heard
 still text lop heard c = one text lop heard (λ a. c)
 
 abbrev pub step_left : List ℕ → Notes → OneStep → Hand → Part
-step_left path m (step.Give k) h =
-    one path (steps.Unlock (inode_in k h) None) (λ a. heard.Did) (λ a. put (carry_in path m h) (inode_in k h).number Apart)
-step_left path m (step.Settle k) h =
-    one path (steps.Settle (inode_in k h)) heard.Old (λ a. put (carry_in path m h) (inode_in k h).number Apart)
+step_left path m (step.UnlockInode k) h =
+    one path (steps.Unlock (inode_in k h) None) (λ a. heard.WasDone) (λ a. put (carry_in path m h) (inode_in k h).number Apart)
+step_left path m (step.SetDirectory k) h =
+    one path (steps.SetDirectory (inode_in k h)) heard.Old (λ a. put (carry_in path m h) (inode_in k h).number Apart)
 step_left path m (step.UpRoot k) h = still path (steps.Up (steps.Number root)) heard.Start (carry_in path m h)
 step_left path m (step.UpDirectory k) h = still path (steps.Up steps.Directory) heard.Start (carry_in path m h)
 step_left path m (step.Up k n) h = still path (steps.Up (steps.Number n)) (λ a. heard.Is (is_some a)) (carry_in path m h)
@@ -42,23 +42,23 @@ step_left path m (step.WalkDown k) h =
     still path (steps.Down (steps.Walked (number_at k h))) (λ a. heard.Is (is_listed a)) (carry_in path m h)
 step_left path m (step.Down k) h =
     one path (steps.Down (steps.Held (number_at k h))) (λ a. heard.Is (is_dying a)) (with_dying (number_at k h) (carry_in path m h))
-step_left path m (step.Forget k) h = still path (steps.Down (steps.Freed (number_at k h))) (λ a. heard.Did) (carry_in path m h)
+step_left path m (step.Forget k) h = still path (steps.Down (steps.Freed (number_at k h))) (λ a. heard.WasDone) (carry_in path m h)
 step_left path m step.Slot h = still path steps.TakePlace heard.Is (carry_in path m h)
 step_left path m (step.Install k file) h = still path (steps.TakeDescriptor (number_at k h) file) heard.Start (carry_in path m h)
 step_left path m (step.CheckFile fd) h = still path (steps.CheckFile want.Write fd) (λ a. heard.Checked (cause_if a)) (carry_in path m h)
 step_left path m (step.JoinFile fd) h = still path (steps.JoinToWrite fd) joining_heard (carry_in path m h)
 step_left path m (step.Double fd) h = still path (steps.Double fd) (λ a. heard.Doubled (doubled_to a)) (carry_in path m h)
 step_left path m (step.Shut k fd) h = still path (steps.Close fd) (λ a. heard.Shut (shut_to a)) (carry_in path m h)
-step_left path m (step.Lend k child from) h = still path (steps.Give child from) loan_heard (carry_in path m h)
+step_left path m (step.Lend k child from) h = still path (steps.GiveDescriptor child from) loan_heard (carry_in path m h)
 step_left path m (step.LendDirectory k child) h =
-    still path (steps.Give child descriptor_count) (λ a. heard.Old (old_directory a)) (carry_in path m h)
-step_left path m step.Release h = still path steps.Reply (λ a. heard.Did) (carry_in path m h)
-step_left path m step.Join h = still path steps.Join (λ a. heard.Did) (carry_in path m h)
-step_left path m step.Say h = still path steps.Reply (λ a. heard.Did) (carry_in path m h)
+    still path (steps.GiveDescriptor child descriptor_count) (λ a. heard.Old (old_directory a)) (carry_in path m h)
+step_left path m step.Release h = still path steps.Reply (λ a. heard.WasDone) (carry_in path m h)
+step_left path m step.Join h = still path steps.Join (λ a. heard.WasDone) (carry_in path m h)
+step_left path m step.Say h = still path steps.Reply (λ a. heard.WasDone) (carry_in path m h)
 
 abbrev pub step_asked : OneStep → Op
-step_asked (step.Give k) = ops.Unlock k
-step_asked (step.Settle k) = ops.Settle k
+step_asked (step.UnlockInode k) = ops.Unlock k
+step_asked (step.SetDirectory k) = ops.SetDirectory k
 step_asked (step.UpRoot k) = ops.Up k root
 step_asked (step.UpDirectory k) = ops.UpDirectory k
 step_asked (step.Up k n) = ops.Up k n
@@ -87,12 +87,12 @@ step_notes s dies m = m
 abbrev pub locks : ℕ → Option (GuardState Inode) → Bool
 locks n o = option_map_or (λ (g : GuardState Inode). n == g.value.number) o false
 
-abbrev pub other : Seat → Seat
+abbrev pub other : InodePlace → InodePlace
 other One = Two
 other Two = One
 
 -- the lock of this inode is not at the other seat too
-abbrev pub IsAlone : ℕ → Seat → Hand → Type 0
+abbrev pub IsAlone : ℕ → InodePlace → Hand → Type 0
 IsAlone n k h = locks n (inode_at (other k) h) ≡ false
 
 -- one more reference may be listed
@@ -100,8 +100,9 @@ abbrev pub HasRoom : Hand → Type 0
 HasRoom h = length h.listed < listed_places
 
 abbrev pub StepReady : OneStep → Hand → Type 0
-StepReady (step.Give k) h = IsSome (inode_at k h) × IsAlone (inode_in k h).number k h
-StepReady (step.Settle k) h = MatchOption (inode_at k h) ⊥ (λ g. reference_at k h ≡ Some g.value.number) × IsAlone (inode_in k h).number k h
+StepReady (step.UnlockInode k) h = IsSome (inode_at k h) × IsAlone (inode_in k h).number k h
+StepReady (step.SetDirectory k) h =
+    MatchOption (inode_at k h) ⊥ (λ g. reference_at k h ≡ Some g.value.number) × IsAlone (inode_in k h).number k h
 StepReady (step.UpRoot k) h = reference_at k h ≡ None
 StepReady (step.UpDirectory k) h = reference_at k h ≡ None
 StepReady (step.Up k n) h = reference_at k h ≡ None
@@ -124,16 +125,16 @@ StepReady step.Say h = Unit {0}
 -- ---- which one an operation on whole inodes is
 
 -- where the lock of inode n is, where a reference to it, and where no reference
-abbrev pub seat_of_lock : ℕ → Hand → Seat
+abbrev pub seat_of_lock : ℕ → Hand → InodePlace
 seat_of_lock n h = if locks n h.one then One else Two
 
 abbrev pub refers : ℕ → Option ℕ → Bool
 refers n o = option_map_or (λ (k : ℕ). n == k) o false
 
-abbrev pub seat_of_reference : ℕ → Hand → Seat
+abbrev pub seat_of_reference : ℕ → Hand → InodePlace
 seat_of_reference n h = if refers n h.to_one then One else Two
 
-abbrev pub free_seat : Hand → Seat
+abbrev pub free_seat : Hand → InodePlace
 free_seat h = if is_some h.to_one then Two else One
 
 abbrev pub start_for : Bool → Hand → OneStep
@@ -145,15 +146,15 @@ abbrev pub up_for : ℕ → Hand → OneStep
 up_for n h = if is_some (reference_at (free_seat h) h) then step.UpAside n else step.Up (free_seat h) n
 
 abbrev pub step_for : above.Op → Hand → Option OneStep
-step_for (above.Give n) h = Some (step.Give (seat_of_lock n h))
-step_for (above.Settle n) h = Some (step.Settle (seat_of_lock n h))
+step_for (above.UnlockInode n) h = Some (step.UnlockInode (seat_of_lock n h))
+step_for (above.SetDirectory n) h = Some (step.SetDirectory (seat_of_lock n h))
 step_for (above.UpStart absolute) h = Some (start_for absolute h)
 step_for (above.Up n) h = Some (up_for n h)
 step_for (above.WalkDown n) h = Some (step.WalkDown (seat_of_reference n h))
 step_for (above.Down n) h = Some (step.Down (seat_of_reference n h))
 step_for (above.Forget n) h = Some (step.Forget (seat_of_reference n h))
 step_for above.Slot h = Some step.Slot
-step_for (above.Install f sort) h = Some (step.Install (seat_of_reference f.number h) (new_file f sort))
+step_for (above.Install f inode_type) h = Some (step.Install (seat_of_reference f.number h) (new_file f inode_type))
 step_for (above.CheckFile fd) h = Some (step.CheckFile fd)
 step_for (above.JoinFile fd) h = Some (step.JoinFile fd)
 step_for (above.Double fd) h = Some (step.Double fd)
@@ -180,15 +181,15 @@ abbrev pub MayRefer : Hand → Type 0
 MayRefer h = HasFreeSeat h ⊎ (h.aside ≡ None)
 
 abbrev pub Begins : above.Op → Hand → Type 0
-Begins (above.Give n) h = HasLock n h
-Begins (above.Settle n) h = HasLock n h × (reference_at (seat_of_lock n h) h ≡ Some n)
+Begins (above.UnlockInode n) h = HasLock n h
+Begins (above.SetDirectory n) h = HasLock n h × (reference_at (seat_of_lock n h) h ≡ Some n)
 Begins (above.UpStart absolute) h = HasFreeSeat h
 Begins (above.Up n) h = MayRefer h
 Begins (above.WalkDown n) h = HasReference n h × HasRoom h
 Begins (above.Down n) h = HasReference n h × (inode_at (seat_of_reference n h) h ≡ None) × IsAlone n (seat_of_reference n h) h
 Begins (above.Forget n) h = HasReference n h
 Begins above.Slot h = Unit {0}
-Begins (above.Install f sort) h = HasReference f.number h
+Begins (above.Install f inode_type) h = HasReference f.number h
 Begins (above.CheckFile fd) h = Unit {0}
 Begins (above.JoinFile fd) h = h.txn ≡ None
 Begins (above.Double fd) h = Unit {0}

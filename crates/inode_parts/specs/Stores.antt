@@ -9,7 +9,7 @@ use Rattle.inode_parts.specs.declared.store_part.StorePart.{StorePart}
 
 -- the record is in hand already
 abbrev pub store_part_left : List ℕ → Notes → StorePart → Hand → Part
-store_part_left path m p h = bind (record_left p.store h) (λ _. Ret (handed path (with_note p.seat note.Nothing m) heard.Did h))
+store_part_left path m p h = bind (record_left p.store h) (λ _. Ret (handed path (with_note p.seat note.Nothing m) heard.WasDone h))
 
 abbrev pub store_part_asked : StorePart → Op
 store_part_asked p = record_asked p.store

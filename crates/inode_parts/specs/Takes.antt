@@ -1,6 +1,6 @@
 -- An inode locked, and what is looked for found in it, as a part.
 use Rattle.std.specs.Prelude.{◌≡◌, ◌<◌, ◌^◌, ℕ, List, Bool, true, not, Option, Some, None, is_some}
-use Rattle.inode_parts.specs.Vocabulary.{put, Dinode, Super, Ret, bind, inode_block, begun_of, Begun, Entry, Named, lookup, Found, Hand, Seat, Op, inode_at, number_at, HasNoBuffer, number_in, record_in, IsLoadedAt, lock_left, lock_asked, lock_seat, LockReady, entries, search_left, search_asked, SearchReady, Carry, number_found, query_in, sight_in, name_in, Heard, Element}
+use Rattle.inode_parts.specs.Vocabulary.{put, Dinode, Super, Ret, bind, inode_block, begun_of, Begun, Entry, Named, lookup, Found, Hand, InodePlace, Op, inode_at, number_at, HasNoBuffer, number_in, record_in, IsLoadedAt, lock_left, lock_asked, lock_seat, LockReady, entries, search_left, search_asked, SearchReady, Carry, number_found, query_in, sight_in, name_in, Heard, Element}
 use Rattle.inode_machine.specs.Inodes as whole
 use Rattle.path_walk.specs.declared.asks.Heard.TheVariants as heard
 use Rattle.path_walk.specs.declared.asks.Query.{Query}
@@ -60,7 +60,7 @@ IsTold path second (query.Name e) = StandsIn path second e
 IsTold path second query.Entries = Unit {0}
 
 -- the inode of the reference is locked at this seat alone, and loaded
-abbrev pub IsTaken : Seat → Hand → Type 0
+abbrev pub IsTaken : InodePlace → Hand → Type 0
 IsTaken k h = IsLoadedAt k h × (number_in k h ≡ number_at k h) × IsAlone (number_at k h) k h
 
 abbrev pub TakeTold : List ℕ → List ℕ → TakePart → Type 0
@@ -74,7 +74,7 @@ TakeReady (take.Naming k e s) h = SearchReady s h × IsTaken k h
 TakeReady (take.Listing k s) h = SearchReady s h × IsTaken k h
 
 -- where the lock comes, and what is looked for
-abbrev pub take_seat : TakePart → Seat
+abbrev pub take_seat : TakePart → InodePlace
 take_seat (take.Locking q r) = lock_seat r
 take_seat (take.Naming k e s) = k
 take_seat (take.Listing k s) = k
@@ -90,7 +90,7 @@ TakeAmid path n looking start p now = HasReference n start × (take_seat p ≡ s
     × (query_in path (take_query p) ≡ looking) × Comes (take_seat p) start now
 
 -- what was seen in the inode at this seat, and is noted of it
-abbrev pub Sees : List ℕ → whole.Query → Seat → Heard → Notes → Notes → Type 0
+abbrev pub Sees : List ℕ → whole.Query → InodePlace → Heard → Notes → Notes → Type 0
 Sees path looking k x before after =
     IsCounted (sight_in x) × (note_at (other k) after ≡ note_at (other k) before) × Learns path looking (sight_in x) (note_at k after)
 

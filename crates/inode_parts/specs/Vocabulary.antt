@@ -3,7 +3,7 @@ pub use Rattle.inodes_on_blocks.specs.Vocabulary.{AtEntries, AtName, AtNothing, 
 unfoldable pub use Rattle.inodes_on_blocks.specs.Vocabulary.{put, same_name}
 pub use Rattle.inode_data.specs.Vocabulary.{CanDo, Goes, GuardState, IsAfter, IsLoadedAt, MatchOption, P, Prepared, RecordReady, asks, bare, bits_per_block, inode_at, inode_in, left_after, number_in, op_in, option_map_or, record_asked, record_in, record_left, record_of, record_place, record_seat, unloaded, with_buffer}
 unfoldable pub use Rattle.inode_data.specs.Vocabulary.{answer_in}
-pub use Rattle.whole_calls.specs.Vocabulary.{IsElement, count_in, file_for, has, name_in, op_in as above_op, piece, piece_len, program, reply_to, sort_of}
+pub use Rattle.whole_calls.specs.Vocabulary.{IsElement, count_in, file_for, has, name_in, op_in as above_op, piece, piece_len, program, reply_to, type_of}
 pub use Rattle.directory.specs.Vocabulary.{IfBegun, IsName, WriteReady, begun_of, write_asked, write_left}
 pub use Rattle.file_table.specs.Vocabulary.{beside_lock}
 pub use Rattle.inode_data.specs.Emptying.{HasNoBuffer, IsEmptying, TruncateReady, emptying_of, truncate_asked, truncate_left}
@@ -15,7 +15,7 @@ pub use Rattle.inodes_on_blocks.specs.Handlers.{cause_if, cause_of, doubled_to, 
 pub use Rattle.path_walk.specs.Asks.{answer_to, query_in, sight_in}
 pub use Rattle.whole_calls.specs.Wholes.{HasRoomFor, IsCall, WholeFits, call_in, first_in, second_in, text_in, whole_of}
 pub use Rattle.file_table.specs.LockingFiles.{FileReady, HasInodeBlocks, OpenReady, file_asked, file_left, file_seat, open_asked, open_left, open_seat}
-pub use Rattle.fs_machine.specs.declared.hand.Seat.TheVariants.{One, Two}
+pub use Rattle.fs_machine.specs.declared.hand.InodePlace.TheVariants.{One, Two}
 pub use Rattle.inode_table.specs.LockingInodes.{LockReady, lock_asked, lock_left, lock_loaded, lock_seat}
 pub use Rattle.inodes_on_blocks.specs.Reading.{natural, number_found}
 pub use Rattle.inodes_on_blocks.specs.ShownTables.{kind_of, new_file}
@@ -43,7 +43,7 @@ pub use Rattle.inodes_on_blocks.specs.Programs.{handlers}
 pub use Rattle.inodes_on_blocks.specs.Writing.{refused_in}
 pub use Rattle.path_walk.specs.Elements.{IsInOne}
 pub use Rattle.path_walk.specs.declared.asks.Claimed.{Claimed}
-pub use Rattle.path_walk.specs.declared.asks.Sort.{Sort}
+pub use Rattle.path_walk.specs.declared.asks.InodeType.{InodeType}
 pub use Rattle.path_walk.specs.declared.asks.Wrote.{Wrote}
 pub use Rattle.whole_calls.specs.Reads.{read_of}
 pub use Rattle.whole_calls.specs.declared.whole.Whole.{Whole}
@@ -54,7 +54,7 @@ pub use Rattle.fs_machine.specs.declared.entries.Inode.{Inode}
 pub use Rattle.fs_machine.specs.declared.files.OpenFile.{OpenFile}
 pub use Rattle.fs_machine.specs.declared.hand.Hand.{Hand}
 pub use Rattle.fs_machine.specs.declared.hand.Place.TheVariants.{First, Second}
-pub use Rattle.fs_machine.specs.declared.hand.Seat.{Seat}
+pub use Rattle.fs_machine.specs.declared.hand.InodePlace.{InodePlace}
 pub use Rattle.fs_machine.specs.declared.op.Op.{Op}
 pub use Rattle.fs_machine.specs.declared.slots.Given.{Given}
 pub use Rattle.inode_data.specs.declared.begun.Begun.{Begun}

@@ -1,6 +1,6 @@
 //! A new inode.
 ghost use Rattle.std.specs.Prelude.{◌≡◌, ℕ, List, Some, IfNone};
-ghost use Rattle.inode_parts.specs.Vocabulary.{asks, op_in, answer_in, CanDo, Prepared, IsAfter, Goes, left_after, bare, Hand as HandState, new_value, Claim, sort_of};
+ghost use Rattle.inode_parts.specs.Vocabulary.{asks, op_in, answer_in, CanDo, Prepared, IsAfter, Goes, left_after, bare, Hand as HandState, new_value, Claim, type_of};
 ghost use Rattle.inode_machine.specs.Inodes as whole;
 ghost use Rattle.inode_parts.specs.Carries.{carry_in, handed};
 ghost use Rattle.inode_parts.specs.Claims.{claim_left, claim_asked, claimed_by, ClaimAmid, ClaimBegins, ClaimReady};
@@ -14,7 +14,7 @@ use crate::places::free_seat;
 use fs_layout::Super;
 use fs_machine::{Answer, Hand, Op, Routine};
 use inode_table::NewInode;
-use path_walk::{Heard, Sort};
+use path_walk::{Heard, InodeType};
 
 /// An inode is sought that is free, and recorded with its type. The reference to it is in hand then.
 #[derive(Clone, Copy, Drop)]
@@ -24,14 +24,14 @@ pub struct ClaimPart {
 
 impl ClaimPart {
     /// One of this type, on a disk of these sizes.
-    pub fn begin(sort: Sort, sizes: &Super, hand: &Hand) -> ClaimPart
+    pub fn begin(inode_type: InodeType, sizes: &Super, hand: &Hand) -> ClaimPart
         requires begins { ClaimBegins sizes.now hand.now }
         ensures part { (path : List ℕ) (notes : NotesState)
-            → IsPart sizes.now (carry_in path notes hand.now) (Claim (sort_of sort)) (claim_left path notes result hand.now) }
+            → IsPart sizes.now (carry_in path notes hand.now) (Claim (type_of inode_type)) (claim_left path notes result hand.now) }
         ensures ready { ClaimReady result hand.now }
         ensures amid { ClaimAmid hand.now result hand.now }
     {
-        let claim = NewInode::new(kind(sort), sizes, free_seat(hand));
+        let claim = NewInode::new(kind(inode_type), sizes, free_seat(hand));
         ClaimPart { claim }
     }
 
@@ -61,9 +61,9 @@ impl ClaimPart {
             → Goes (claim_left path notes.now self.old before) (answer_in (claim_asked self.old) answer.now hand.old)
             (left_after (claim_left path notes.now) (handed path notes.now) (heard_if result heard.new) self.new hand.new) }
         ensures ready { IfNone (heard_if result heard.new) (ClaimReady self.new hand.new) }
-        ensures leaves { (path : List ℕ) (sort : whole.Sort) (start before : HandState) → ClaimAmid start self.old before
+        ensures leaves { (path : List ℕ) (inode_type : whole.InodeType) (start before : HandState) → ClaimAmid start self.old before
             → ClaimReady self.old before → IsAfter (claim_asked self.old) before answer.now hand.old
-            → StaysOrLeaves (ClaimAmid start self.new) path (Claim sort) (heard_if result heard.new) (having start notes.now)
+            → StaysOrLeaves (ClaimAmid start self.new) path (Claim inode_type) (heard_if result heard.new) (having start notes.now)
             (having hand.new notes.now) }
         ensures hand { bare hand.new ≡ bare hand.old }
     {

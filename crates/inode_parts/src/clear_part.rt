@@ -13,13 +13,13 @@ use crate::places::lock_seat;
 use crate::records::{change, record_at};
 use directory::{Clear, Slot};
 use fs_layout::Super;
-use fs_machine::{Answer, Hand, Op, Routine, Seat};
+use fs_machine::{Answer, Hand, InodePlace, Op, Routine};
 use path_walk::Heard;
 
 /// A slot is cleared of the directory whose lock is at this seat.
 #[derive(Drop)]
 pub struct ClearPart {
-    pub seat: Seat,
+    pub seat: InodePlace,
     pub clear: Clear,
 }
 
@@ -83,7 +83,7 @@ impl ClearPart {
             None => false,
             Some(inode) => {
                 change(self.seat, inode, notes, hand);
-                *heard = Heard::Did;
+                *heard = Heard::WasDone;
                 true
             }
         }
@@ -91,7 +91,7 @@ impl ClearPart {
 }
 
 // The slot that was found in the directory at a seat.
-fn found_slot(notes: &Notes, seat: Seat) -> u32
+fn found_slot(notes: &Notes, seat: InodePlace) -> u32
     requires { (path : List ℕ) × (name : Name) × HasFound path name (note_at seat notes.now) }
     ensures { result ≡ slot_in (note_at seat notes.now) }
 {

@@ -76,7 +76,7 @@ impl EmptyPart {
             None => false,
             Some(emptying) => {
                 notes.set(emptying.seat, Note::Nothing);
-                *heard = Heard::Did;
+                *heard = Heard::WasDone;
                 true
             }
         }

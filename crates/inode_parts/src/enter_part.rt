@@ -15,14 +15,14 @@ use crate::places::lock_seat;
 use crate::records::{change, record_at};
 use directory::{Enter, Entered, Room};
 use fs_layout::Super;
-use fs_machine::{Answer, Hand, Op, Routine, Seat};
+use fs_machine::{Answer, Hand, InodePlace, Op, Routine};
 use inode_data::Begun;
 use path_walk::{Entered as Entry, Heard};
 
 /// A name is entered in the directory whose lock is at this seat.
 #[derive(Drop)]
 pub struct EnterPart {
-    pub seat: Seat,
+    pub seat: InodePlace,
     pub enter: Enter,
 }
 
@@ -90,7 +90,7 @@ impl EnterPart {
 }
 
 // What is heard of it. The directory at this seat was stored, but where it has no slot left.
-fn hear(seat: Seat, outcome: &Entered, notes: &mut Notes, hand: &mut Hand) -> Heard
+fn hear(seat: InodePlace, outcome: &Entered, notes: &mut Notes, hand: &mut Hand) -> Heard
     requires { IsLoadedAt seat hand.old }
     ensures is { (path : List ℕ)
         → entered path notes.old seat hand.old (entered_as outcome.now) ≡ Ret (handed path notes.new result hand.new) }

@@ -1,10 +1,10 @@
 //! What an inode's record tells.
 ghost use Rattle.std.specs.Prelude.{◌≡◌, ◌<◌, ◌^◌, IfSome};
 ghost use Rattle.inode_parts.specs.Vocabulary.{natural};
-ghost use Rattle.inode_parts.specs.Faces.{face_by, face_unless_free, sort_by};
+ghost use Rattle.inode_parts.specs.Faces.{face_by, face_unless_free, type_by_number};
 
 use fs_layout::Dinode;
-use path_walk::{Face, Sort};
+use path_walk::{Face, InodeType};
 
 const FREE: i16 = 0;
 
@@ -12,15 +12,15 @@ const DIRECTORY: i16 = 1;
 
 const FILE: i16 = 2;
 
-fn sort(inode: &Dinode) -> Sort
-    ensures { result ≡ sort_by inode.now.kind inode.now.major }
+fn inode_type(inode: &Dinode) -> InodeType
+    ensures { result ≡ type_by_number inode.now.kind inode.now.major }
 {
     if inode.kind == DIRECTORY {
-        Sort::Directory
+        InodeType::Directory
     } else if inode.kind == FILE {
-        Sort::File
+        InodeType::File
     } else {
-        Sort::Device(inode.major)
+        InodeType::Device(inode.major)
     }
 }
 
@@ -38,7 +38,7 @@ pub(crate) fn face(inode: &Dinode) -> Face
     ensures few { result.count < 2 ^ 15 }
 {
     Face {
-        sort: sort(inode),
+        inode_type: inode_type(inode),
         count: count(inode.nlink),
         size: u64::from(inode.size),
     }

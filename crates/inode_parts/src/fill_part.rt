@@ -13,13 +13,13 @@ use crate::places::lock_seat;
 use crate::records::{change, record_at};
 use directory::Fill;
 use fs_layout::Super;
-use fs_machine::{Answer, Hand, Op, Routine, Seat};
+use fs_machine::{Answer, Hand, InodePlace, Op, Routine};
 use path_walk::Heard;
 
 /// "." and ".." are written in the new directory whose lock is at this seat.
 #[derive(Drop)]
 pub struct FillPart {
-    pub seat: Seat,
+    pub seat: InodePlace,
     pub fill: Fill,
 }
 

@@ -10,14 +10,14 @@ ghost use Rattle.inode_parts.specs.declared.note.Notes.{Notes as NotesState};
 use crate::note::{Note, Notes};
 use crate::places::lock_seat;
 use fs_layout::Super;
-use fs_machine::{Answer, Hand, Op, Routine, Seat};
+use fs_machine::{Answer, Hand, InodePlace, Op, Routine};
 use inode_data::FreeInode;
 use path_walk::Heard;
 
 /// An inode without links, whose lock is at this seat, is emptied and stored so that it may be taken again.
 #[derive(Clone, Copy, Drop)]
 pub struct FreePart {
-    pub seat: Seat,
+    pub seat: InodePlace,
     pub free: FreeInode,
 }
 
@@ -72,7 +72,7 @@ impl FreePart {
             None => false,
             Some(()) => {
                 notes.set(self.seat, Note::Freed);
-                *heard = Heard::Did;
+                *heard = Heard::WasDone;
                 true
             }
         }

@@ -11,7 +11,7 @@ use crate::answers::cause;
 use crate::note::{Note, Notes};
 use file_table::{FileLocked, LockFile};
 use fs_layout::Super;
-use fs_machine::{Answer, Hand, Op, Routine, Seat, Want};
+use fs_machine::{Answer, Hand, InodePlace, Op, Routine, Want};
 use path_walk::{Heard, Locked};
 
 /// The lock of what this descriptor names is taken, where that may be read.
@@ -30,7 +30,7 @@ impl LockFilePart {
         ensures ready { LockFileReady result hand.now }
         ensures amid { LockFileAmid fd hand.now result hand.now }
     {
-        let lock = LockFile::new(sizes.inodestart, Seat::One, Want::Read, fd);
+        let lock = LockFile::new(sizes.inodestart, InodePlace::One, Want::Read, fd);
         LockFilePart { fd, lock }
     }
 

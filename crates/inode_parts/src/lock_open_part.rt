@@ -10,7 +10,7 @@ ghost use Rattle.inode_parts.specs.declared.note.Notes.{Notes as NotesState};
 use crate::note::{Note, Notes};
 use file_table::LockOpen;
 use fs_layout::Super;
-use fs_machine::{Answer, Hand, Op, Routine, Seat};
+use fs_machine::{Answer, Hand, InodePlace, Op, Routine};
 use path_walk::Heard;
 
 /// The lock of what this descriptor names is taken, which is known to be open.
@@ -29,7 +29,7 @@ impl LockOpenPart {
         ensures ready { LockOpenReady result hand.now }
         ensures amid { LockOpenAmid fd hand.now result hand.now }
     {
-        let lock = LockOpen::new(sizes.inodestart, Seat::One, fd);
+        let lock = LockOpen::new(sizes.inodestart, InodePlace::One, fd);
         LockOpenPart { fd, lock }
     }
 

@@ -6,12 +6,12 @@ ghost use Rattle.inode_parts.specs.declared.note.Note.TheVariants as note;
 
 use crate::note::{Note, Notes};
 use crate::places::lock_seat;
-use fs_machine::{Hand, Seat};
+use fs_machine::{Hand, InodePlace};
 
 /// Where the lock is, by which descriptor it was taken, and where the open file stands.
 #[derive(Clone, Copy, Drop)]
 pub struct LockedFile {
-    pub seat: Seat,
+    pub seat: InodePlace,
     pub fd: u32,
     pub offset: u32,
 }

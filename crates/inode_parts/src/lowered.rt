@@ -56,7 +56,7 @@ impl Lowered {
             notes: Notes::new(),
             part: InodePart::idle(),
             ended: false,
-            heard: Heard::Did,
+            heard: Heard::WasDone,
             says: CallAnswer::Done,
         })
     }

@@ -2,7 +2,7 @@
 ghost use Rattle.std.specs.Prelude.{◌≡◌};
 ghost use Rattle.inode_parts.specs.Carries.{note_at, with_note};
 
-use fs_machine::Seat;
+use fs_machine::InodePlace;
 use path_walk::Element;
 
 /// What was learned of the inode at a seat since its lock was taken.
@@ -33,21 +33,21 @@ impl Notes {
         }
     }
 
-    pub fn at(&self, seat: Seat) -> Note
+    pub fn at(&self, seat: InodePlace) -> Note
         ensures { result ≡ note_at seat self.now }
     {
         match seat {
-            Seat::One => self.one,
-            Seat::Two => self.two,
+            InodePlace::One => self.one,
+            InodePlace::Two => self.two,
         }
     }
 
-    pub fn set(&mut self, seat: Seat, note: Note)
+    pub fn set(&mut self, seat: InodePlace, note: Note)
         ensures { self.new ≡ with_note seat note self.old }
     {
         match seat {
-            Seat::One => self.one = note,
-            Seat::Two => self.two = note,
+            InodePlace::One => self.one = note,
+            InodePlace::Two => self.two = note,
         }
     }
 }

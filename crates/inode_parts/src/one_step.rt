@@ -10,35 +10,35 @@ use crate::answers::{checked_in, doubled_in, joined_in, loan_in, number_in, old_
 use crate::note::{Note, Notes};
 use crate::opening::new_file;
 use crate::places::{free_seat, known_number, lock_seat, number_to, reference_seat};
-use fs_machine::{Answer, DESCRIPTORS, Hand, NewFile, Op, ROOT, Seat, Want};
+use fs_machine::{Answer, DESCRIPTORS, Hand, InodePlace, NewFile, Op, ROOT, Want};
 use path_walk::{Ask, Heard};
 
 /// Such an operation, with the place of what it is about.
 #[derive(Clone, Copy, Drop)]
 pub enum OneStep {
     /// An inode's lock is given up; so too where it is the hart's current directory from then on.
-    Give(Seat),
-    Settle(Seat),
+    UnlockInode(InodePlace),
+    SetDirectory(InodePlace),
     /// A reference more: to the root, to the current directory, to this inode; and to this one where no seat is free.
-    UpRoot(Seat),
-    UpDirectory(Seat),
-    Up(Seat, u32),
+    UpRoot(InodePlace),
+    UpDirectory(InodePlace),
+    Up(InodePlace, u32),
     UpAside(u32),
     /// A reference less: in a walk, where one that is aside comes to its seat; elsewhere; and to an inode that was freed.
-    WalkDown(Seat),
-    Down(Seat),
-    Forget(Seat),
+    WalkDown(InodePlace),
+    Down(InodePlace),
+    Forget(InodePlace),
     /// A place for an open file, and the lowest descriptor for it.
     Slot,
-    Install(Seat, NewFile),
+    Install(InodePlace, NewFile),
     /// A descriptor to write to; one more, and one less.
     CheckFile(u32),
     JoinFile(u32),
     Double(u32),
-    Shut(Seat, u32),
+    Shut(InodePlace, u32),
     /// A descriptor from this one on, or the directory, goes to this child.
-    Lend(Seat, u8, u32),
-    LendDirectory(Seat, u8),
+    Lend(InodePlace, u8, u32),
+    LendDirectory(InodePlace, u8),
     Release,
     Join,
     Say,
@@ -51,8 +51,8 @@ impl OneStep {
         ensures is { (path : List ℕ) → result ≡ step_for (above_op path ask) hand.now }
     {
         let step = match ask {
-            Ask::Give(number) => OneStep::Give(lock_seat(hand, number)),
-            Ask::Settle(number) => OneStep::Settle(lock_seat(hand, number)),
+            Ask::UnlockInode(number) => OneStep::UnlockInode(lock_seat(hand, number)),
+            Ask::SetDirectory(number) => OneStep::SetDirectory(lock_seat(hand, number)),
             Ask::UpStart(true) => OneStep::UpRoot(free_seat(hand)),
             Ask::UpStart(false) => OneStep::UpDirectory(free_seat(hand)),
             Ask::Up(number) => up(number, hand),
@@ -60,8 +60,8 @@ impl OneStep {
             Ask::Down(number) => OneStep::Down(reference_seat(hand, number)),
             Ask::Forget(number) => OneStep::Forget(reference_seat(hand, number)),
             Ask::Slot => OneStep::Slot,
-            Ask::Install(number, flags, sort) => {
-                OneStep::Install(reference_seat(hand, number), new_file(flags, sort))
+            Ask::Install(number, flags, inode_type) => {
+                OneStep::Install(reference_seat(hand, number), new_file(flags, inode_type))
             }
             Ask::CheckFile(fd) => OneStep::CheckFile(fd),
             Ask::JoinFile(fd) => OneStep::JoinFile(fd),
@@ -87,8 +87,8 @@ impl OneStep {
         ensures prepared { (h : HandState) → Prepared result h h }
     {
         match *self {
-            OneStep::Give(seat) => Op::Unlock(seat),
-            OneStep::Settle(seat) => Op::Settle(seat),
+            OneStep::UnlockInode(seat) => Op::Unlock(seat),
+            OneStep::SetDirectory(seat) => Op::SetDirectory(seat),
             OneStep::UpRoot(seat) => Op::Up(seat, ROOT),
             OneStep::UpDirectory(seat) => Op::UpDirectory(seat),
             OneStep::Up(seat, number) => Op::Up(seat, number),
@@ -120,15 +120,15 @@ impl OneStep {
         ensures notes { notes.new ≡ step_notes self.now (yes_in answer.now) notes.old }
     {
         match *self {
-            OneStep::Give(_) => Heard::Did,
-            OneStep::Settle(seat) => Heard::Old(known_number(hand, seat)),
+            OneStep::UnlockInode(_) => Heard::WasDone,
+            OneStep::SetDirectory(seat) => Heard::Old(known_number(hand, seat)),
             OneStep::UpRoot(seat) => Heard::Start(number_to(hand, seat)),
             OneStep::UpDirectory(seat) => Heard::Start(number_to(hand, seat)),
             OneStep::Up(seat, _) => Heard::Is(number_to(hand, seat).is_some()),
             OneStep::UpAside(_) => Heard::Is(hand.aside.is_some()),
             OneStep::WalkDown(_) => Heard::Is(answer.yes()),
             OneStep::Down(seat) => Heard::Is(dies(notes, seat, answer)),
-            OneStep::Forget(_) => Heard::Did,
+            OneStep::Forget(_) => Heard::WasDone,
             OneStep::Slot => Heard::Is(answer.yes()),
             OneStep::Install(_, _) => Heard::Start(number_in(answer)),
             OneStep::CheckFile(_) => Heard::Checked(checked_in(answer)),
@@ -137,9 +137,9 @@ impl OneStep {
             OneStep::Shut(seat, _) => Heard::Shut(shut_in(answer, known_number(hand, seat))),
             OneStep::Lend(seat, _, _) => Heard::Loan(loan_in(answer, known_number(hand, seat))),
             OneStep::LendDirectory(seat, _) => Heard::Old(old_in(answer, known_number(hand, seat))),
-            OneStep::Release => Heard::Did,
-            OneStep::Join => Heard::Did,
-            OneStep::Say => Heard::Did,
+            OneStep::Release => Heard::WasDone,
+            OneStep::Join => Heard::WasDone,
+            OneStep::Say => Heard::WasDone,
         }
     }
 }
@@ -156,7 +156,7 @@ fn up(number: u32, hand: &Hand) -> OneStep
 }
 
 // Whether the inode to which a reference was dropped is to be freed: then its lock came into hand.
-fn dies(notes: &mut Notes, seat: Seat, answer: &Answer) -> bool
+fn dies(notes: &mut Notes, seat: InodePlace, answer: &Answer) -> bool
     ensures is { result ≡ yes_in answer.now }
     ensures notes { notes.new ≡ (if yes_in answer.now then with_note seat note.Nothing notes.old else notes.old) }
 {

@@ -1,9 +1,9 @@
 //! What is told of a file that is opened.
 ghost use Rattle.std.specs.Prelude.{◌≡◌, ℕ};
-ghost use Rattle.inode_parts.specs.Vocabulary.{has, file_for, kind_of, new_file as told_of, sort_of};
+ghost use Rattle.inode_parts.specs.Vocabulary.{has, file_for, kind_of, new_file as told_of, type_of};
 
 use fs_machine::NewFile;
-use path_walk::Sort;
+use path_walk::InodeType;
 
 /// The numbers of an inode's type.
 const DIRECTORY: i16 = 1;
@@ -24,22 +24,22 @@ fn has_flag(flags: u32, bit: u32) -> bool
 }
 
 /// The number of an inode's type.
-pub(crate) fn kind(sort: Sort) -> i16
-    ensures { result ≡ kind_of (sort_of sort) }
+pub(crate) fn kind(inode_type: InodeType) -> i16
+    ensures { result ≡ kind_of (type_of inode_type) }
 {
-    match sort {
-        Sort::Directory => DIRECTORY,
-        Sort::File => FILE,
-        Sort::Device(_) => DEVICE,
+    match inode_type {
+        InodeType::Directory => DIRECTORY,
+        InodeType::File => FILE,
+        InodeType::Device(_) => DEVICE,
     }
 }
 
 /// An inode of this type, opened with these flags.
-pub(crate) fn new_file(flags: u32, sort: Sort) -> NewFile
-    ensures { (number : ℕ) → result ≡ told_of (file_for number flags) (sort_of sort) }
+pub(crate) fn new_file(flags: u32, inode_type: InodeType) -> NewFile
+    ensures { (number : ℕ) → result ≡ told_of (file_for number flags) (type_of inode_type) }
 {
     NewFile {
-        kind: kind(sort),
+        kind: kind(inode_type),
         readable: !has_flag(flags, WRITE_ONLY),
         writable: has_flag(flags, WRITE_ONLY) || has_flag(flags, READ_WRITE),
     }

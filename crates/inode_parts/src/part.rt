@@ -158,7 +158,9 @@ impl InodePart {
                 *self = InodePart::Fill(FillPart::begin(number, parent, sizes, hand));
             }
             Ask::Free(number) => *self = InodePart::Free(FreePart::begin(number, sizes, hand)),
-            Ask::Claim(sort) => *self = InodePart::Claim(ClaimPart::begin(sort, sizes, hand)),
+            Ask::Claim(inode_type) => *self = InodePart::Claim(ClaimPart::begin(
+                inode_type, sizes, hand,
+            )),
             Ask::LockOpen(fd, _) => *self = InodePart::LockOpen(LockOpenPart::begin(
                 fd, sizes, hand,
             )),
@@ -279,7 +281,7 @@ impl InodePart {
             InodePart::Leave(finish) => match finish.next(answer, hand) {
                 None => false,
                 Some(()) => {
-                    *heard = Heard::Did;
+                    *heard = Heard::WasDone;
                     true
                 }
             }

@@ -3,7 +3,7 @@ ghost use Rattle.std.specs.Prelude.{◌≡◌};
 ghost use Rattle.inode_parts.specs.Vocabulary.{number_at, reference_at};
 ghost use Rattle.inode_parts.specs.OneSteps.{free_seat, locks, refers, seat_of_lock, seat_of_reference};
 
-use fs_machine::{Hand, Inode, Reference, Seat};
+use fs_machine::{Hand, Inode, InodePlace, Reference};
 use sleep_lock::Guard;
 
 fn number_of(reference: &Option<Reference>) -> Option<u32>
@@ -16,17 +16,17 @@ fn number_of(reference: &Option<Reference>) -> Option<u32>
 }
 
 /// The number of the inode to which the reference at a seat is.
-pub(crate) fn number_to(hand: &Hand, seat: Seat) -> Option<u32>
+pub(crate) fn number_to(hand: &Hand, seat: InodePlace) -> Option<u32>
     ensures { result ≡ reference_at seat hand.now }
 {
     match seat {
-        Seat::One => number_of(&hand.to_one),
-        Seat::Two => number_of(&hand.to_two),
+        InodePlace::One => number_of(&hand.to_one),
+        InodePlace::Two => number_of(&hand.to_two),
     }
 }
 
 /// That number, where there is a reference.
-pub(crate) fn known_number(hand: &Hand, seat: Seat) -> u32
+pub(crate) fn known_number(hand: &Hand, seat: InodePlace) -> u32
     ensures { result ≡ number_at seat hand.now }
 {
     number_to(hand, seat).unwrap_or(0)
@@ -42,13 +42,13 @@ fn has_number(place: &Option<Guard<Inode>>, number: u32) -> bool
 }
 
 /// Where the lock of the inode of this number is.
-pub(crate) fn lock_seat(hand: &Hand, number: u32) -> Seat
+pub(crate) fn lock_seat(hand: &Hand, number: u32) -> InodePlace
     ensures { result ≡ seat_of_lock number hand.now }
 {
     if has_number(&hand.one, number) {
-        Seat::One
+        InodePlace::One
     } else {
-        Seat::Two
+        InodePlace::Two
     }
 }
 
@@ -62,32 +62,32 @@ fn refers_to(place: &Option<Reference>, number: u32) -> bool
 }
 
 /// Where the reference to the inode of this number is.
-pub(crate) fn reference_seat(hand: &Hand, number: u32) -> Seat
+pub(crate) fn reference_seat(hand: &Hand, number: u32) -> InodePlace
     ensures { result ≡ seat_of_reference number hand.now }
 {
     if refers_to(&hand.to_one, number) {
-        Seat::One
+        InodePlace::One
     } else {
-        Seat::Two
+        InodePlace::Two
     }
 }
 
 /// Whether the reference at a seat is to the inode of this number.
-pub(crate) fn refers_at(hand: &Hand, seat: Seat, number: u32) -> bool
+pub(crate) fn refers_at(hand: &Hand, seat: InodePlace, number: u32) -> bool
     ensures { result ≡ refers number (reference_at seat hand.now) }
 {
     match seat {
-        Seat::One => refers_to(&hand.to_one, number),
-        Seat::Two => refers_to(&hand.to_two, number),
+        InodePlace::One => refers_to(&hand.to_one, number),
+        InodePlace::Two => refers_to(&hand.to_two, number),
     }
 }
 
 /// Where there is no reference.
-pub(crate) fn free_seat(hand: &Hand) -> Seat
+pub(crate) fn free_seat(hand: &Hand) -> InodePlace
     ensures { result ≡ free_seat hand.now }
 {
     match &hand.to_one {
-        Some(_) => Seat::Two,
-        None => Seat::One,
+        Some(_) => InodePlace::Two,
+        None => InodePlace::One,
     }
 }

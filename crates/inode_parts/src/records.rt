@@ -6,7 +6,7 @@ ghost use Rattle.inode_parts.specs.declared.note.Note.TheVariants as note;
 
 use crate::note::{Note, Notes};
 use fs_layout::Dinode;
-use fs_machine::{Hand, Inode, Seat};
+use fs_machine::{Hand, Inode, InodePlace};
 use inode_table::record;
 use sleep_lock::Guard;
 
@@ -21,19 +21,19 @@ fn record_of(place: &Option<Guard<Inode>>) -> Dinode
 }
 
 // The record of the inode at a seat.
-pub(crate) fn record_at(hand: &Hand, seat: Seat) -> Dinode
+pub(crate) fn record_at(hand: &Hand, seat: InodePlace) -> Dinode
     requires { IsLoadedAt seat hand.now }
     ensures { result ≡ record_in seat hand.now }
 {
     match seat {
-        Seat::One => record_of(&hand.one),
-        Seat::Two => record_of(&hand.two),
+        InodePlace::One => record_of(&hand.one),
+        InodePlace::Two => record_of(&hand.two),
     }
 }
 
 // The inode at a seat has this record from now on, and nothing more is known of it.
 #[tactic(auto, using(crate::proofs::Changing::bare_record))]
-pub(crate) fn change(seat: Seat, inode: Dinode, notes: &mut Notes, hand: &mut Hand)
+pub(crate) fn change(seat: InodePlace, inode: Dinode, notes: &mut Notes, hand: &mut Hand)
     requires { IsSome (inode_at seat hand.old) }
     ensures notes { notes.new ≡ with_note seat note.Nothing notes.old }
     ensures record { hand.new ≡ with_record seat inode hand.old }

@@ -15,7 +15,7 @@ use crate::note::{Note, Notes};
 use crate::places::free_seat;
 use crate::records::record_at;
 use fs_layout::Super;
-use fs_machine::{Answer, Hand, Op, Routine, Seat};
+use fs_machine::{Answer, Hand, InodePlace, Op, Routine};
 use inode_table::LockInode;
 use path_walk::{Heard, Sight};
 
@@ -23,7 +23,7 @@ use path_walk::{Heard, Sight};
 #[derive(Clone, Copy, Drop)]
 pub enum RelockPart {
     /// They come to this seat, on a disk whose inode blocks begin there.
-    Locking(Seat, u32),
+    Locking(InodePlace, u32),
     /// The inode is loaded.
     Loading(LockInode),
 }
@@ -102,7 +102,7 @@ impl RelockPart {
 }
 
 // What is seen of the inode at a seat.
-fn seen(seat: Seat, notes: &mut Notes, hand: &Hand) -> Heard
+fn seen(seat: InodePlace, notes: &mut Notes, hand: &Hand) -> Heard
     requires { IsTaken seat hand.now }
     ensures program { (path : List ℕ) → Ret (handed path notes.new result hand.now)
         ≡ looked path query.Nothing (beside_in path notes.old seat hand.now) (number_at seat hand.now) (record_in seat hand.now) }

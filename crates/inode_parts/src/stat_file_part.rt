@@ -13,7 +13,7 @@ use crate::note::{Note, Notes};
 use crate::records::record_at;
 use file_table::{FileLocked, LockFile};
 use fs_layout::Super;
-use fs_machine::{Answer, Hand, Op, Routine, Seat, Want};
+use fs_machine::{Answer, Hand, InodePlace, Op, Routine, Want};
 use path_walk::Heard;
 
 /// The lock of what a descriptor names is taken, where that has a state to tell.
@@ -31,7 +31,7 @@ impl StatFilePart {
         ensures ready { StatReady result hand.now }
         ensures amid { StatAmid hand.now result hand.now }
     {
-        let lock = LockFile::new(sizes.inodestart, Seat::One, Want::Stat, fd);
+        let lock = LockFile::new(sizes.inodestart, InodePlace::One, Want::Stat, fd);
         StatFilePart { lock }
     }
 

@@ -10,14 +10,14 @@ ghost use Rattle.inode_parts.specs.declared.note.Notes.{Notes as NotesState};
 use crate::note::{Note, Notes};
 use crate::places::lock_seat;
 use fs_layout::Super;
-use fs_machine::{Answer, Hand, Op, Part, Place, Seat};
+use fs_machine::{Answer, Hand, InodePlace, Op, Part, Place};
 use inode_table::StoreRecord;
 use path_walk::Heard;
 
 /// The inode whose lock is at this seat is stored, as it is in hand.
 #[derive(Clone, Copy, Drop)]
 pub struct StorePart {
-    pub seat: Seat,
+    pub seat: InodePlace,
     pub store: StoreRecord,
 }
 
@@ -75,7 +75,7 @@ impl StorePart {
             None => false,
             Some(()) => {
                 notes.set(self.seat, Note::Nothing);
-                *heard = Heard::Did;
+                *heard = Heard::WasDone;
                 true
             }
         }

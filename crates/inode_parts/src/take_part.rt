@@ -20,7 +20,7 @@ use crate::places::reference_seat;
 use crate::records::record_at;
 use directory::{Found, Search, Sought};
 use fs_layout::{Dinode, Super};
-use fs_machine::{Answer, Hand, Op, Routine, Seat};
+use fs_machine::{Answer, Hand, InodePlace, Op, Routine};
 use inode_data::Begun;
 use inode_table::LockInode;
 use path_walk::{Element, Heard, Query, Sight};
@@ -31,9 +31,9 @@ pub enum TakePart {
     /// It is locked and loaded, to look for this.
     Locking(Query, LockInode),
     /// A name is sought in the directory at this seat.
-    Naming(Seat, Element, Search),
+    Naming(InodePlace, Element, Search),
     /// An entry is sought, past the first two.
-    Listing(Seat, Search),
+    Listing(InodePlace, Search),
 }
 
 impl TakePart {
@@ -131,7 +131,7 @@ impl TakePart {
 }
 
 // Looks for this in the inode at a seat, which is locked and loaded.
-fn look(query: Query, seat: Seat, notes: &mut Notes, hand: &Hand) -> Begun<TakePart, Heard>
+fn look(query: Query, seat: InodePlace, notes: &mut Notes, hand: &Hand) -> Begun<TakePart, Heard>
     requires taken { IsTaken seat hand.now }
     requires free { HasNoBuffer hand.now }
     ensures program { (path : List ℕ) → taken_left path notes.new result hand.now
@@ -174,7 +174,7 @@ fn saw(inode: &Dinode, found: Option<u32>, empty: bool) -> Heard
 // The same where a name was sought; its slot is noted.
 fn named(
     inode: &Dinode,
-    seat: Seat,
+    seat: InodePlace,
     element: Element,
     found: Option<Found>,
     notes: &mut Notes,
@@ -196,7 +196,7 @@ fn named(
 }
 
 // The same where an entry was sought.
-fn listed(inode: &Dinode, seat: Seat, found: Option<Found>, notes: &mut Notes) -> Heard
+fn listed(inode: &Dinode, seat: InodePlace, found: Option<Found>, notes: &mut Notes) -> Heard
     ensures heard { result ≡ heard.Saw (record { face = face_unless_free inode.now; found = None; empty = not (is_some found) }) }
     ensures notes { notes.new ≡ with_note seat note.Nothing notes.old }
     ensures counted { IsCounted (sight_in result) }

@@ -13,7 +13,7 @@ use crate::pieces::piece;
 use crate::records::record_at;
 use fs_layout::widths::BLOCK_LEN;
 use fs_layout::{Dinode, Super};
-use fs_machine::{Answer, Hand, Op, Seat};
+use fs_machine::{Answer, Hand, InodePlace, Op};
 use inode_data::{MOST_BLOCKS, WritePart, Written};
 use path_walk::{Heard, Wrote};
 use plain_tree::Cause;
@@ -22,7 +22,7 @@ use plain_tree::Cause;
 #[derive(Drop)]
 pub enum WriteFilePart {
     /// It may not be written there.
-    Denied(Seat, Cause),
+    Denied(InodePlace, Cause),
     /// The piece at this place among the call's.
     Writing(LockedFile, usize, WritePart),
     /// It was written up to this offset.

@@ -1,8 +1,8 @@
 -- How what was loaded stands in hand.
-use Rattle.inode_table.proofs.Vocabulary.{◌≡◌, ℕ, Option, refl, None, option_map, option_map_or, MatchOption, IsLoadedAt, Dinode, false, Some, IsSome, is_some, Seat, One, Two, GuardState, Inode, load, load_unless, P, Hand, inode_in, no_inode, recorded, with_record}
+use Rattle.inode_table.proofs.Vocabulary.{◌≡◌, ℕ, Option, refl, None, option_map, option_map_or, MatchOption, IsLoadedAt, Dinode, false, Some, IsSome, is_some, InodePlace, One, Two, GuardState, Inode, load, load_unless, P, Hand, inode_in, no_inode, recorded, with_record}
 
 -- a record that was set
-pub recorded-in : (k : Seat) (d : Dinode) (h : Hand) → IsLoadedAt k h → inode_in k (with_record k d h) ≡ record { number = (inode_in k h).number; content = Some d }
+pub recorded-in : (k : InodePlace) (d : Dinode) (h : Hand) → IsLoadedAt k h → inode_in k (with_record k d h) ≡ record { number = (inode_in k h).number; content = Some d }
 recorded-in One d h there = at d h.one there
   where
     at : (d : Dinode) (o : Option (GuardState Inode)) → MatchOption o ⊥ (λ g. IsSome g.value.content) → option_map_or (λ (g : GuardState Inode). g.value) (option_map (recorded d) o) no_inode ≡ record { number = (option_map_or (λ (g : GuardState Inode). g.value) o no_inode).number; content = Some d }

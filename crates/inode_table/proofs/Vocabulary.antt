@@ -22,5 +22,5 @@ pub use Rattle.inode_table.specs.declared.store_record.StoreRecord.{StoreRecord}
 pub use Rattle.fs_layout.specs.declared.inode.Dinode.{Dinode}
 pub use Rattle.fs_machine.specs.declared.entries.Inode.{Inode}
 pub use Rattle.fs_machine.specs.declared.hand.Hand.{Hand}
-pub use Rattle.fs_machine.specs.declared.hand.Seat.{Seat}
-pub use Rattle.fs_machine.specs.declared.hand.Seat.TheVariants.{One, Two}
+pub use Rattle.fs_machine.specs.declared.hand.InodePlace.{InodePlace}
+pub use Rattle.fs_machine.specs.declared.hand.InodePlace.TheVariants.{One, Two}

@@ -1,21 +1,21 @@
 -- Inodes whose locks are in hand.
 use Rattle.std.specs.Prelude.{◌<◌, ◌^◌, ℕ, pos, None, IsSome}
-use Rattle.inode_table.specs.Vocabulary.{MatchOption, option_map, Dinode, GuardState, Inode, Hand, Seat, inode_at, inode_in, with_inode}
+use Rattle.inode_table.specs.Vocabulary.{MatchOption, option_map, Dinode, GuardState, Inode, Hand, InodePlace, inode_at, inode_in, with_inode}
 use Rattle.inode_table.specs.Programs.{record_of, inode_block}
 
 -- the number and the record of the inode at a seat
-abbrev pub number_in : Seat → Hand → ℕ
+abbrev pub number_in : InodePlace → Hand → ℕ
 number_in k h = (inode_in k h).number
 
-abbrev pub record_in : Seat → Hand → Dinode
+abbrev pub record_in : InodePlace → Hand → Dinode
 record_in k h = record_of (inode_in k h)
 
 -- it is loaded
-abbrev pub IsLoadedAt : Seat → Hand → Type 0
+abbrev pub IsLoadedAt : InodePlace → Hand → Type 0
 IsLoadedAt k h = MatchOption (inode_at k h) ⊥ (λ g. IsSome g.value.content)
 
 -- its block has a number
-abbrev pub HasBlock : ℕ → Seat → Hand → Type 0
+abbrev pub HasBlock : ℕ → InodePlace → Hand → Type 0
 HasBlock inodestart k h = inode_block inodestart (number_in k h) < 2 ^ 32
 
 -- a record with this count of links
@@ -26,5 +26,5 @@ counted n d = record d { nlink = pos n }
 abbrev pub without_content : GuardState Inode → GuardState Inode
 without_content g = record g { value = record g.value { content = None } }
 
-abbrev pub unloaded : Seat → Hand → Hand
+abbrev pub unloaded : InodePlace → Hand → Hand
 unloaded k h = with_inode k (option_map without_content (inode_at k h)) h

@@ -1,23 +1,23 @@
 -- The inode whose lock is at a seat, loaded where it isn't.
 use Rattle.std.specs.Prelude.{◌≡◌, Option, Some, None, IsSome}
-use Rattle.inode_table.specs.Vocabulary.{Dinode, Ret, P, Hand, First, Seat, inode_at, with_buffer, with_inode}
+use Rattle.inode_table.specs.Vocabulary.{Dinode, Ret, P, Hand, First, InodePlace, inode_at, with_buffer, with_inode}
 use Rattle.inode_table.specs.HeldInodes.{record_in, IsLoadedAt}
 use Rattle.inode_table.specs.Loading.{load_left, load_place, LoadReady}
 use Rattle.inode_table.specs.declared.load_inode.LoadInode.{LoadInode}
 
 -- a loading that has begun, where there is one
-abbrev pub begun_left : Option LoadInode → Seat → Hand → P Dinode
+abbrev pub begun_left : Option LoadInode → InodePlace → Hand → P Dinode
 begun_left None k h = Ret (record_in k h)
 begun_left (Some m) k h = load_left m h
 
 -- it is loaded by way of the first place
-abbrev pub IsLoading : Seat → LoadInode → Hand → Type 0
+abbrev pub IsLoading : InodePlace → LoadInode → Hand → Type 0
 IsLoading k m h = LoadReady m h × (load_place m ≡ First) × IsSome (inode_at k h)
 
-abbrev pub HasBegun : Seat → Option LoadInode → Hand → Type 0
+abbrev pub HasBegun : InodePlace → Option LoadInode → Hand → Type 0
 HasBegun k None h = IsLoadedAt k h
 HasBegun k (Some m) h = IsLoading k m h
 
 -- but for the lock at a seat, and a buffer
-abbrev pub beside_lock : Seat → Hand → Hand
+abbrev pub beside_lock : InodePlace → Hand → Hand
 beside_lock k h = with_buffer First None (with_inode k None h)

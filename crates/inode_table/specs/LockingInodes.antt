@@ -1,6 +1,6 @@
 -- An inode locked, and loaded.
 use Rattle.std.specs.Prelude.{◌≡◌, ◌<◌, ◌^◌, ℕ, Option, Some, None, IsSome}
-use Rattle.inode_table.specs.Vocabulary.{Dinode, Ret, Do, unmarked, P, Hand, Seat, Op, inode_at, number_at, reference_at}
+use Rattle.inode_table.specs.Vocabulary.{Dinode, Ret, Do, unmarked, P, Hand, InodePlace, Op, inode_at, number_at, reference_at}
 use Rattle.fs_machine.specs.Steps as steps
 use Rattle.inode_table.specs.Programs.{inode_block, load_unless}
 use Rattle.fs_machine.specs.declared.op.Op.TheVariants as ops
@@ -19,7 +19,7 @@ lock_left (Lock k inodestart) h = lock_loaded inodestart (number_at k h)
 lock_left (Loading k m) h = load_left m h
 
 -- where the lock came already
-abbrev pub held_left : Option LockInode → Seat → Hand → P Dinode
+abbrev pub held_left : Option LockInode → InodePlace → Hand → P Dinode
 held_left None k h = Ret (record_in k h)
 held_left (Some m) k h = lock_left m h
 
@@ -27,7 +27,7 @@ abbrev pub lock_asked : LockInode → Op
 lock_asked (Lock k inodestart) = ops.Lock k
 lock_asked (Loading k m) = load_asked m
 
-abbrev pub lock_seat : LockInode → Seat
+abbrev pub lock_seat : LockInode → InodePlace
 lock_seat (Lock k inodestart) = k
 lock_seat (Loading k m) = k
 
@@ -37,5 +37,5 @@ LockReady (Lock k inodestart) h =
 LockReady (Loading k m) h = IsLoading k m h × (number_in k h ≡ number_at k h)
 
 -- the inode is that of the reference, and loaded
-abbrev pub HasLocked : Seat → Hand → Type 0
+abbrev pub HasLocked : InodePlace → Hand → Type 0
 HasLocked k h = IsLoadedAt k h × (number_in k h ≡ number_at k h) × (h.first ≡ None)

@@ -1,6 +1,6 @@
 -- A new inode.
 use Rattle.std.specs.Prelude.{◌≡◌, ◌<◌, ◌≤◌, ◌+◌, ◌^◌, ℕ, [], take, Option, Some, None, IsSome}
-use Rattle.inode_table.specs.Vocabulary.{MatchOption, inodes_per_block, bind, Claims, NoPlace, P, Hand, First, Seat, Op, block_at, bytes_at, reference_at, with_buffer, with_reference, fetch_left, fetch_asked, fetch_block, fetch_place, FetchReady}
+use Rattle.inode_table.specs.Vocabulary.{MatchOption, inodes_per_block, bind, Claims, NoPlace, P, Hand, First, InodePlace, Op, block_at, bytes_at, reference_at, with_buffer, with_reference, fetch_left, fetch_asked, fetch_block, fetch_place, FetchReady}
 use Rattle.inode_table.specs.NewInodes.{free_in, look_in, make_in, new_from}
 use Rattle.inode_table.specs.declared.new_inode.Looking.{Looking}
 use Rattle.inode_table.specs.declared.new_inode.Made.{Made}
@@ -32,7 +32,7 @@ new_asked (Look k l) = ops.Claim First k
 new_asked (Record k l n) = ops.Record First
 new_asked (GiveBack k l) = ops.Give First
 
-abbrev pub new_seat : NewInode → Seat
+abbrev pub new_seat : NewInode → InodePlace
 new_seat (Fetching k l f) = k
 new_seat (Look k l) = k
 new_seat (Record k l n) = k
@@ -71,5 +71,5 @@ abbrev pub NewEnds : NewInode → Made → Hand → Type 0
 NewEnds m out h = (reference_at (new_seat m) h ≡ claimed_of out) × (h.first ≡ None) × (h.second ≡ None)
 
 -- but for the reference at a seat, a buffer and numbers
-abbrev pub beside_new : Seat → Hand → Hand
+abbrev pub beside_new : InodePlace → Hand → Hand
 beside_new k h = with_buffer First None (with_reference k None (record h { numbers = []; count = 0 }))

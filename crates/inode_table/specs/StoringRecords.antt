@@ -1,6 +1,6 @@
 -- The inode at a seat stored.
 use Rattle.std.specs.Prelude.{IsSome}
-use Rattle.inode_table.specs.Vocabulary.{MatchOption, bind, P, Hand, Place, Seat, Op, buffer_at, block_at, bytes_at, fetch_left, fetch_asked, fetch_block, fetch_place, FetchReady}
+use Rattle.inode_table.specs.Vocabulary.{MatchOption, bind, P, Hand, Place, InodePlace, Op, buffer_at, block_at, bytes_at, fetch_left, fetch_asked, fetch_block, fetch_place, FetchReady}
 use Rattle.inode_table.specs.Programs.{put_inode}
 use Rattle.fs_machine.specs.declared.op.Op.TheVariants as ops
 use Rattle.inode_table.specs.HeldInodes.{number_in, record_in, IsLoadedAt}
@@ -23,6 +23,6 @@ abbrev pub record_place : StoreRecord → Place
 record_place (Fetching k f) = fetch_place f
 record_place (Write k p) = p
 
-abbrev pub record_seat : StoreRecord → Seat
+abbrev pub record_seat : StoreRecord → InodePlace
 record_seat (Fetching k f) = k
 record_seat (Write k p) = k

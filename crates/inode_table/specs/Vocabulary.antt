@@ -2,7 +2,7 @@
 pub use Rattle.fs_machine.specs.Vocabulary.{Do, GuardState, MatchOption, Prog, Ret, option_map, option_map_or, unmarked, unwrap_or}
 pub use Rattle.group_log.specs.Vocabulary.{block_len, overwrite}
 pub use Rattle.fs_machine.specs.declared.hand.Hand.{Hand}
-pub use Rattle.fs_machine.specs.declared.hand.Seat.{Seat}
+pub use Rattle.fs_machine.specs.declared.hand.InodePlace.{InodePlace}
 pub use Rattle.fs_machine.specs.Hands.{block_at, buffer_at, bytes_at, inode_at, inode_in, no_inode, number_at, reference_at, with_buffer, with_bytes, with_content, with_inode, with_record, with_reference}
 pub use Rattle.atomic_programs.specs.Prog.{bind}
 pub use Rattle.fs_layout.specs.Widths.{addresses, inode_len, inodes_per_block}

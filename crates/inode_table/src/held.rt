@@ -5,7 +5,7 @@ ghost use Rattle.inode_table.specs.Programs.{record_of};
 ghost use Rattle.inode_table.specs.HeldInodes.{record_in, without_content, unloaded, IsLoadedAt};
 
 use fs_layout::Dinode;
-use fs_machine::{Hand, Inode, Seat};
+use fs_machine::{Hand, Inode, InodePlace};
 use sleep_lock::Guard;
 
 /// The record of an inode that is loaded, as the holder of its lock has it.
@@ -30,13 +30,13 @@ fn record_of(place: &Option<Guard<Inode>>) -> Dinode
 }
 
 /// The record of the inode at a seat.
-pub fn record_at(hand: &Hand, seat: Seat) -> Dinode
+pub fn record_at(hand: &Hand, seat: InodePlace) -> Dinode
     requires { IsLoadedAt seat hand.now }
     ensures { result ≡ record_in seat hand.now }
 {
     match seat {
-        Seat::One => record_of(&hand.one),
-        Seat::Two => record_of(&hand.two),
+        InodePlace::One => record_of(&hand.one),
+        InodePlace::Two => record_of(&hand.two),
     }
 }
 
@@ -51,12 +51,12 @@ fn unload(place: &mut Option<Guard<Inode>>)
 }
 
 /// Nothing is loaded of the inode at a seat from now on.
-pub fn unload_at(hand: &mut Hand, seat: Seat)
+pub fn unload_at(hand: &mut Hand, seat: InodePlace)
     requires { IsSome (inode_at seat hand.old) }
     ensures { hand.new ≡ unloaded seat hand.old }
 {
     match seat {
-        Seat::One => unload(&mut hand.one),
-        Seat::Two => unload(&mut hand.two),
+        InodePlace::One => unload(&mut hand.one),
+        InodePlace::Two => unload(&mut hand.two),
     }
 }

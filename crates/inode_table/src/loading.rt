@@ -6,10 +6,10 @@ ghost use Rattle.inode_table.specs.HeldInodes.{number_in, HasBlock};
 ghost use Rattle.inode_table.specs.LoadingHeld.{begun_left, HasBegun};
 
 use crate::load_inode::LoadInode;
-use fs_machine::{Hand, Place, Seat};
+use fs_machine::{Hand, InodePlace, Place};
 
 /// Begins to load it, on a disk whose inode blocks begin at block `inodestart`. None where it is loaded.
-pub fn load_held(inodestart: u32, hand: &Hand, seat: Seat) -> Option<LoadInode>
+pub fn load_held(inodestart: u32, hand: &Hand, seat: InodePlace) -> Option<LoadInode>
     requires there { IsSome (inode_at seat hand.now) }
     requires block { HasBlock inodestart seat hand.now }
     requires free { hand.now.first ≡ None }

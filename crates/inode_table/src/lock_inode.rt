@@ -1,6 +1,6 @@
 //! An inode locked, and loaded.
 ghost use Rattle.std.specs.Prelude.{◌≡◌, ◌<◌, ◌^◌, None, IsSome, IfSome, IfNone, MatchOption};
-ghost use Rattle.inode_table.specs.Vocabulary.{Dinode as DinodeState, inode_at, inode_in, number_at, reference_at, IsAfter, answer_in, Goes, left_after, bare, Hand as HandState, Seat as SeatState};
+ghost use Rattle.inode_table.specs.Vocabulary.{Dinode as DinodeState, inode_at, inode_in, number_at, reference_at, IsAfter, answer_in, Goes, left_after, bare, Hand as HandState, InodePlace};
 ghost use Rattle.inode_table.specs.Programs.{inode_block, load_unless};
 ghost use Rattle.inode_table.specs.HeldInodes.{number_in, record_in, HasBlock};
 ghost use Rattle.inode_table.specs.LoadingHeld.{beside_lock};
@@ -8,20 +8,20 @@ ghost use Rattle.inode_table.specs.LockingInodes.{held_left, lock_loaded, lock_l
 
 use crate::load_inode::LoadInode;
 use crate::loading::load_held;
-use fs_machine::{Answer, Hand, Op, Part, Routine, Seat};
+use fs_machine::{Answer, Hand, InodePlace, Op, Part, Routine};
 
 /// Takes the lock of the inode to which the reference at a seat is, and loads the inode where it isn't.
 #[derive(Clone, Copy, Drop)]
 pub enum LockInode {
     /// The lock is taken, on a disk whose inode blocks begin there.
-    Lock(Seat, u32),
+    Lock(InodePlace, u32),
     /// The inode is loaded.
-    Loading(Seat, LoadInode),
+    Loading(InodePlace, LoadInode),
 }
 
 impl LockInode {
     /// On a disk whose inode blocks begin at block `inodestart`.
-    pub fn new(inodestart: u32, seat: Seat) -> LockInode
+    pub fn new(inodestart: u32, seat: InodePlace) -> LockInode
         ensures program { (h : HandState) → lock_left result h ≡ lock_loaded inodestart (number_at seat h) }
         ensures ready { (h : HandState) → IsSome (reference_at seat h) → inode_at seat h ≡ None → h.first ≡ None
             → inode_block inodestart (number_at seat h) < 2 ^ 32 → LockReady result h }
@@ -31,7 +31,7 @@ impl LockInode {
     }
 
     /// That of an inode whose lock came to a seat, to which the reference is there. None where the inode is loaded.
-    pub fn held(inodestart: u32, hand: &Hand, seat: Seat) -> Option<LockInode>
+    pub fn held(inodestart: u32, hand: &Hand, seat: InodePlace) -> Option<LockInode>
         requires there { IsSome (inode_at seat hand.now) }
         requires number { number_in seat hand.now ≡ number_at seat hand.now }
         requires block { HasBlock inodestart seat hand.now }
@@ -48,7 +48,7 @@ impl LockInode {
 }
 
 impl Routine for LockInode {
-    type Out = Seat;
+    type Out = InodePlace;
 
     ghost Value = { DinodeState };
 
@@ -60,7 +60,7 @@ impl Routine for LockInode {
 
     ghost Ready = { LockReady };
 
-    ghost About = { SeatState };
+    ghost About = { InodePlace };
 
     ghost about = { lock_seat };
 
@@ -75,7 +75,7 @@ impl Routine for LockInode {
         }
     }
 
-    fn next(&mut self, answer: &Answer, hand: &mut Hand) -> Option<Seat> {
+    fn next(&mut self, answer: &Answer, hand: &mut Hand) -> Option<InodePlace> {
         match self {
             LockInode::Lock(seat, inodestart) => {
                 let seat = *seat;

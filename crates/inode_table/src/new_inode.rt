@@ -1,6 +1,6 @@
 //! A new inode.
 ghost use Rattle.std.specs.Prelude.{◌≡◌, ◌<◌, ◌≤◌, ◌+◌, ◌-◌, ◌*◌, ◌^◌, take, None, IsSome, IfSome, IfNone};
-ghost use Rattle.inode_table.specs.Vocabulary.{MatchOption, i16_at, inode_len, inodes_per_block, Ret, bytes_of, bytes_at, reference_at, IsAfter, answer_in, Goes, left_after, bare, Hand as HandState, First, Seat as SeatState};
+ghost use Rattle.inode_table.specs.Vocabulary.{MatchOption, i16_at, inode_len, inodes_per_block, Ret, bytes_of, bytes_at, reference_at, IsAfter, answer_in, Goes, left_after, bare, Hand as HandState, First, InodePlace};
 ghost use Rattle.inode_table.specs.NewInodes.{free_in, inode_blocks, is_free_in, new_from, new_inode, new_record};
 ghost use Rattle.inode_table.specs.declared.new_inode.Made.{Made as MadeState};
 ghost use Rattle.inode_table.specs.Making.{new_left, new_value, new_asked, new_seat, beside_new, claimed_of, rest_of, HasFree, HasInodes, IsLooking, NewEnds, NewReady};
@@ -9,7 +9,7 @@ use crate::place::write_dinode_at;
 use byteorder::{ByteOrder, LittleEndian};
 use fs_layout::widths::{ADDRESSES, Block, INODE_LEN, INODES_PER_BLOCK};
 use fs_layout::{Dinode, Super};
-use fs_machine::{Answer, Fetch, Hand, Op, Part, Place, Routine, Seat};
+use fs_machine::{Answer, Fetch, Hand, InodePlace, Op, Part, Place, Routine};
 
 /// What a search for a new inode came to.
 #[derive(Clone, Copy, Drop)]
@@ -39,19 +39,19 @@ pub struct Looking {
 #[derive(Clone, Copy, Drop)]
 pub enum NewInode {
     /// An inode block is fetched.
-    Fetching(Seat, Looking, Fetch),
+    Fetching(InodePlace, Looking, Fetch),
     /// It is there, and the numbers of its free inodes are in hand.
-    Look(Seat, Looking),
+    Look(InodePlace, Looking),
     /// One of them was claimed, of this number.
-    Record(Seat, Looking, u32),
+    Record(InodePlace, Looking, u32),
     /// None could be claimed, since each place in memory is referred to.
-    GiveBack(Seat, Looking),
+    GiveBack(InodePlace, Looking),
 }
 
 impl NewInode {
     /// An inode of this type, not 0, on a disk with this superblock, whose inodes are at least one.
     #[tactic(auto, unfolding(crate::specs::NewInodes::new_from))]
-    pub fn new(kind: i16, sizes: &Super, seat: Seat) -> NewInode
+    pub fn new(kind: i16, sizes: &Super, seat: InodePlace) -> NewInode
         requires some { 0 < sizes.now.ninodes }
         requires blocks { sizes.now.inodestart + inode_blocks sizes.now.ninodes < 2 ^ 32 }
         ensures program { (h : HandState) → new_left result h ≡ new_inode kind sizes.now }
@@ -82,7 +82,7 @@ impl Routine for NewInode {
 
     ghost Ready = { NewReady };
 
-    ghost About = { SeatState };
+    ghost About = { InodePlace };
 
     ghost about = { new_seat };
 
@@ -147,7 +147,7 @@ impl Routine for NewInode {
 
 // The next block is fetched.
 #[tactic(auto, unfolding(crate::specs::NewInodes::new_from))]
-fn look_at(seat: Seat, looking: Looking) -> NewInode
+fn look_at(seat: InodePlace, looking: Looking) -> NewInode
     requires { IsLooking looking }
     ensures program { (h : HandState) → new_left result h ≡ new_from (looking.left + 1) looking.kind looking.sizes looking.before }
     ensures ready { (h : HandState) → h.first ≡ None → h.second ≡ None → reference_at seat h ≡ None → IsSome h.txn → NewReady result h }

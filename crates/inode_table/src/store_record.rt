@@ -1,27 +1,27 @@
 //! The inode at a seat stored.
 ghost use Rattle.std.specs.Prelude.{◌≡◌, ◌<◌, ◌^◌, ℕ, None, IsSome, IfSome, IfNone};
 ghost use Rattle.inode_table.specs.Programs.{inode_block, store};
-ghost use Rattle.inode_table.specs.Vocabulary.{buffer_at, with_buffer, with_record, IsAfter, answer_in, Goes, left_after, bare, Hand as HandState, Seat as SeatState};
+ghost use Rattle.inode_table.specs.Vocabulary.{buffer_at, with_buffer, with_record, IsAfter, answer_in, Goes, left_after, bare, Hand as HandState, InodePlace};
 ghost use Rattle.inode_table.specs.HeldInodes.{counted, number_in, record_in, HasBlock, IsLoadedAt};
 ghost use Rattle.inode_table.specs.StoringRecords.{record_left, record_asked, record_place, record_seat, RecordReady};
 
 use crate::held::record_at;
 use crate::place::{block_of, write_dinode_at};
 use fs_layout::Dinode;
-use fs_machine::{Answer, Fetch, Hand, Op, Part, Place, Seat};
+use fs_machine::{Answer, Fetch, Hand, InodePlace, Op, Part, Place};
 
 /// Records the inode whose lock is at a seat in its block, as it is in hand.
 #[derive(Clone, Copy, Drop)]
 pub enum StoreRecord {
     /// The block is fetched.
-    Fetching(Seat, Fetch),
+    Fetching(InodePlace, Fetch),
     /// It is there.
-    Write(Seat, Place),
+    Write(InodePlace, Place),
 }
 
 impl StoreRecord {
     /// On a disk whose inode blocks begin at block `inodestart`.
-    pub fn new(inodestart: u32, hand: &Hand, seat: Seat, place: Place) -> StoreRecord
+    pub fn new(inodestart: u32, hand: &Hand, seat: InodePlace, place: Place) -> StoreRecord
         requires loaded { IsLoadedAt seat hand.now }
         requires block { HasBlock inodestart seat hand.now }
         ensures program { record_left result hand.now ≡ store inodestart (number_in seat hand.now) (record_in seat hand.now) }
@@ -37,7 +37,7 @@ impl StoreRecord {
     pub fn with(
         inodestart: u32,
         hand: &mut Hand,
-        seat: Seat,
+        seat: InodePlace,
         inode: Dinode,
         place: Place,
     ) -> StoreRecord
@@ -58,7 +58,7 @@ impl StoreRecord {
     pub fn with_count(
         inodestart: u32,
         hand: &mut Hand,
-        seat: Seat,
+        seat: InodePlace,
         count: u32,
         place: Place,
     ) -> StoreRecord
@@ -93,7 +93,7 @@ impl Part for StoreRecord {
 
     ghost place = { record_place };
 
-    ghost About = { SeatState };
+    ghost About = { InodePlace };
 
     ghost about = { record_seat };
 

@@ -1,11 +1,11 @@
 -- An operation below that acts or not, and as what lies outside has it, by what it answers.
-use Rattle.inodes_on_blocks.proofs.Vocabulary.{◌≡◌, ◌≢◌, ◌⊎◌, inl, inr, ℕ, suc, List, Option, Some, None, [], ◌∷◌, refl, sym, subst, arith, Do, Did, Ran, Machine, Laws, P, Fine, Goes, Good, Wp, onto, own, placed_with, ActOf, Both, both, joined, Lasts, Lower, LowerLaws, act_places, placed_at, ran_to, seen_after, Here, ToAct, may_act, s-step, to_act}
+use Rattle.inodes_on_blocks.proofs.Vocabulary.{◌≡◌, ◌≢◌, ◌⊎◌, inl, inr, ℕ, suc, List, Option, Some, None, [], ◌∷◌, refl, sym, subst, arith, Do, ExecResult, Ran, Machine, Laws, P, Fine, Goes, Good, Wp, onto, own, placed_with, ActOf, Both, both, joined, Lasts, LowerLayer, LowerLaws, act_places, placed_at, ran_to, seen_after, Here, ToAct, may_act, s-step, to_act}
 
-goes_below : (U : Machine) (R : Lower U.World) (t : U.Tree) (ps : List (ℕ × U.Step)) (u : U.Tree) → Goes U t ps u → Goes (joined U R) t ps u
+goes_below : (U : Machine) (R : LowerLayer U.World) (t : U.Tree) (ps : List (ℕ × U.Step)) (u : U.Tree) → Goes U t ps u → Goes (joined U R) t ps u
 goes_below U R t [] u g = g
 goes_below U R t (p ∷ ps) u g = (g.0, g.1, goes_below U R g.0 ps u g.2)
 
-module _ (U : Machine) (R : Lower U.World) (above : Laws U) (below : LowerLaws U R) (h : ℕ) (B : List U.Step → Type 0) (op : U.Op) (m : U.Answer op → Option U.Mark) (C : U.Answer op → List U.Step → U.World → Type 0) (lasts : Lasts U h B C) where
+module _ (U : Machine) (R : LowerLayer U.World) (above : Laws U) (below : LowerLaws U R) (h : ℕ) (B : List U.Step → Type 0) (op : U.Op) (m : U.Answer op → Option U.Mark) (C : U.Answer op → List U.Step → U.World → Type 0) (lasts : Lasts U h B C) where
   abbrev W : Type 0
   W = Both R.World U.World
 
@@ -40,11 +40,11 @@ module _ (U : Machine) (R : Lower U.World) (above : Laws U) (below : LowerLaws U
     }
 
     -- by what the operation alone comes to
-    acting : (y : U.Outside) (b : U.Answer op) (g : U.World) (d : Did (U.Answer op) U.World) → d ≡ Ran b g → Fine U h (U.places h op b (m b) v.seen) (U.more op) (suc (U.more op)) B fs v.seen g (λ l. C b (onto (own h (U.places h op b (m b) v.seen)) fs) g)
+    acting : (y : U.Outside) (b : U.Answer op) (g : U.World) (d : ExecResult (U.Answer op) U.World) → d ≡ Ran b g → Fine U h (U.places h op b (m b) v.seen) (U.more op) (suc (U.more op)) B fs v.seen g (λ l. C b (onto (own h (U.places h op b (m b) v.seen)) fs) g)
         → (U.Inv g → R.Shows r g) → ((other : ℕ) → other ≢ h → R.Same other v.real r) → ((gs : List U.Step) → U.Inv g → C b gs g → Wp (joined U R) h B Q p n gs (record { real = r; seen = g }))
         → Fine (joined U R) h (placed_at (placed_with U h op m v.seen) d) 0 (suc n) B fs v (record { real = r; seen = ran_to v.seen d }) (λ l. Wp (joined U R) h B Q p l (onto (own h (placed_at (placed_with U h op m v.seen) d)) fs) (record { real = r; seen = ran_to v.seen d }))
     acting y b g d is f shows others next =
-        subst (λ (z : Did (U.Answer op) U.World). Fine (joined U R) h (placed_at (placed_with U h op m v.seen) z) 0 (suc n) B fs v (record { real = r; seen = ran_to v.seen z }) (λ l. Wp (joined U R) h B Q p l (onto (own h (placed_at (placed_with U h op m v.seen) z)) fs) (record { real = r; seen = ran_to v.seen z })))
+        subst (λ (z : ExecResult (U.Answer op) U.World). Fine (joined U R) h (placed_at (placed_with U h op m v.seen) z) 0 (suc n) B fs v (record { real = r; seen = ran_to v.seen z }) (λ l. Wp (joined U R) h B Q p l (onto (own h (placed_at (placed_with U h op m v.seen) z)) fs) (record { real = r; seen = ran_to v.seen z })))
         (sym is)
         (record {
           inv = (shows f.inv, f.inv);
@@ -64,7 +64,7 @@ module _ (U : Machine) (R : Lower U.World) (above : Laws U) (below : LowerLaws U
         let b = a.1 in
         let g = a.2 in
         let ran : U.go h y op m v.seen ≡ Ran b g = a.4 in
-        let alone = subst (λ (z : Did (U.Answer op) U.World). Good U (U.Answer op) h (placed_with U h op m v.seen) (U.more op) (suc (U.more op)) B fs v.seen (U.MayWait h op v.seen) z (λ l c u. C c (onto (own h (U.places h op c (m c) v.seen)) fs) u)) ran ((here v.seen [] (above.same h v.seen) inv).2 y a.5) in
+        let alone = subst (λ (z : ExecResult (U.Answer op) U.World). Good U (U.Answer op) h (placed_with U h op m v.seen) (U.more op) (suc (U.more op)) B fs v.seen (U.MayWait h op v.seen) z (λ l c u. C c (onto (own h (U.places h op c (m c) v.seen)) fs) u)) ran ((here v.seen [] (above.same h v.seen) inv).2 y a.5) in
         subst (λ (t : Option (ActOf U)). IsFine t) (sym a.3) (acting y b g (U.go h y op m v.seen) ran alone a.6 a.7 a.8)
 
   -- an operation below that runs, whatever others did before it
@@ -80,6 +80,6 @@ module _ (U : Machine) (R : Lower U.World) (above : Laws U) (below : LowerLaws U
         q.0,
         λ x t.
             let z = q.1 x t in
-            subst (λ (d : Did (R.Answer lop) R.World). Good (joined U R) (R.Answer lop) h (placed_with (joined U R) h lop mk v) 0 (suc n) B fs v (R.MayWait h lop v.real) (both U h mk v.seen d) (λ l a u. Wp (joined U R) h B Q (k a) l (onto (own h (placed_with (joined U R) h lop mk v a)) fs) u)) (sym z.2)
+            subst (λ (d : ExecResult (R.Answer lop) R.World). Good (joined U R) (R.Answer lop) h (placed_with (joined U R) h lop mk v) 0 (suc n) B fs v (R.MayWait h lop v.real) (both U h mk v.seen d) (λ l a u. Wp (joined U R) h B Q (k a) l (onto (own h (placed_with (joined U R) h lop mk v a)) fs) u)) (sym z.2)
             (fine Q n v fs here.stage here.inv z.1 (k z.0) (mk z.0) z.3),
       ))

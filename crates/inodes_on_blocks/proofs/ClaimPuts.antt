@@ -1,5 +1,5 @@
 -- An inode claimed, and its record put with a type: what is shown of both.
-use Rattle.inodes_on_blocks.proofs.Vocabulary.{◌≡◌, ◌≢◌, inl, inr, ℕ, ◌+◌, ◌<◌, ◌≤◌, Bool, true, false, ◌&&◌, ◌==◌, List, length, Option, Some, None, refl, sym, ◌∙◌, ap, subst, arith, if◌then◌else◌, zero, suc, replicate, ◌^◌, w16, FitsSigned, AllByRecursion, IsSome, none-some, same_Some, Dinode, Super, IsDinode, sizes_of, Node, put, hart_count, same_or, eq_not, put_same, put_other, is_free, is_number, HoldsAt, IsRecord, IsInodePut, IsRunning, is_held_by, holder_of, kept, has, HasRoom, IsHome, Put, IsGoodSeen, Owners, TablesState, lock_holder, LogPart, put_block, Own, seen_of, new_record, inode_block, with_dinode, Sort, OfDirectory, OfFile, OfDevice, is_nothing, blank, claimed, counted_up, is_hart, if_kept, Inv, Idle, one_refs, opens_slots, loaded, kind_of, is_joined, AreOnBlocks, World, log_of, tables_of, disk_of, inode_in, owners_of, untyped, owners_after, Shows, IsNew, if_joined, ghost_of, on_blocks, unless_new, Same, Kept, Carry, IsLoaded, commit_in, Base, IsMade, CanPut, PutLeaves}
+use Rattle.inodes_on_blocks.proofs.Vocabulary.{◌≡◌, ◌≢◌, inl, inr, ℕ, ◌+◌, ◌<◌, ◌≤◌, Bool, true, false, ◌&&◌, ◌==◌, List, length, Option, Some, None, refl, sym, ◌∙◌, ap, subst, arith, if◌then◌else◌, zero, suc, replicate, ◌^◌, w16, FitsSigned, AllByRecursion, IsSome, none-some, same_Some, Dinode, Super, IsDinode, sizes_of, Node, put, hart_count, same_or, eq_not, put_same, put_other, is_free, is_number, HoldsAt, IsRecord, IsInodePut, IsRunning, is_held_by, holder_of, kept, has, HasRoom, IsHome, Put, IsGoodSeen, Owners, TablesState, lock_holder, LogPart, put_block, Own, seen_of, new_record, inode_block, with_dinode, InodeType, OfDirectory, OfFile, OfDevice, is_nothing, blank, claimed, counted_up, is_hart, if_kept, Inv, Idle, one_refs, opens_slots, loaded, kind_of, is_joined, AreOnBlocks, World, log_of, tables_of, disk_of, inode_in, owners_of, untyped, owners_after, Shows, IsNew, if_joined, ghost_of, on_blocks, unless_new, Same, Kept, Carry, IsLoaded, commit_in, Base, IsMade, CanPut, PutLeaves}
 use Rattle.inodes_on_blocks.proofs.Basics.{untouched, inode_is, good_seen, is_member, nobody_commits, commit_none, put_grows, same_view, AllInHand, hands_marked, hart_is, held_back, in_hand_then, is_here, kept_disk, tables_left, SameCode, new_holds, new_kept, old_node, unkept_old, open_alike, open_then, lock_range, load_range, whole_put, own_put, seen_then, good_then, bytes_then, members_joined, put_hand, record_put, quiet_leaves, quiet_owners, inode_home, untaken, stored_long, stored_bytes, with_tables, unlocked_holds}
 use Rattle.buffer_cache.specs.Lists.{count_of}
 use Rattle.inode_machine.specs.World as above
@@ -11,7 +11,7 @@ use Rattle.inodes_on_blocks.proofs.StatSteps.{in_use}
 -- ---- the claim
 
 -- of an inode to which no reference stands, and whose record is free
-module _ (h : ℕ) (lt : h < hart_count) (sort : Sort) (v : World) (g : above.World) (shows : Shows v g) (inv : Inv g) (n : ℕ) (low : 1 ≤ n) (bound : n < (log_of v).sizes.ninodes) (free : is_free (inode_in (log_of v) n) ≡ true) (zero : g.refs n ≡ 0) where
+module _ (h : ℕ) (lt : h < hart_count) (inode_type : InodeType) (v : World) (g : above.World) (shows : Shows v g) (inv : Inv g) (n : ℕ) (low : 1 ≤ n) (bound : n < (log_of v).sizes.ninodes) (free : is_free (inode_in (log_of v) n) ≡ true) (zero : g.refs n ≡ 0) where
   nobody : g.keeper n ≡ None
   nobody = at (g.keeper n) refl
     where
@@ -48,9 +48,9 @@ module _ (h : ℕ) (lt : h < hart_count) (sort : Sort) (v : World) (g : above.Wo
     claimed_below = record (with_tables v u) { new = put v.new n (Some h) }
 
     abbrev node : Option Node
-    node = Some (blank sort)
+    node = Some (blank inode_type)
 
-    tables_then : tables.Shows u (claimed h sort g n) (loaded (tables_of v))
+    tables_then : tables.Shows u (claimed h inode_type g n) (loaded (tables_of v))
     tables_then = record { sound = after.sound; places = record { counts = after.places.counts; holders = after.places.holders; loads = after.places.loads }; files = after.files; desks = after.desks; lenders = after.lenders; range = after.range }
 
     nodes_same : on_blocks (put v.new n (Some h)) (put g.disk n node) ≡ on_blocks v.new g.disk
@@ -75,7 +75,7 @@ module _ (h : ℕ) (lt : h < hart_count) (sort : Sort) (v : World) (g : above.Wo
           new_kept m k (log_of v) g.lock g.keeper g.lock (put g.keeper n (Some h)) (loaded (tables_of v)) (loaded u) is.unlocked (put_other g.keeper n (Some h) m ne ∙ is.kept) (sym (after.places.loads m) ∙ is.unloaded) is
     ]
 
-    pub claimed_shows : Shows claimed_below (claimed h sort g n)
+    pub claimed_shows : Shows claimed_below (claimed h inode_type g n)
     claimed_shows = record {
       whole = shows.whole;
       runs = shows.runs;
@@ -94,7 +94,7 @@ module _ (h : ℕ) (lt : h < hart_count) (sort : Sort) (v : World) (g : above.Wo
           | inr ne ↦ subst IsSome (after.places.loads i) (shows.loads.dead i (subst (λ (k : ℕ). 0 < k) (put_other g.refs n (g.refs n + 1) i ne) some) loose (sym (put_other g.keeper n (Some h) i ne) ∙ lax) (ap above_exec.is_dead (sym (put_other g.disk n node i ne)) ∙ dead))
         ];
         typed = λ i e. elim (same_or i n) [
-          | inl q ↦ absurd (none-some (blank sort) (sym e ∙ ap (put g.disk n node) q ∙ put_same g.disk n node))
+          | inl q ↦ absurd (none-some (blank inode_type) (sym e ∙ ap (put g.disk n node) q ∙ put_same g.disk n node))
           | inr ne ↦ sym (after.places.loads i) ∙ shows.loads.typed i (sym (put_other g.disk n node i ne) ∙ e)
         ];
       };
@@ -103,7 +103,7 @@ module _ (h : ℕ) (lt : h < hart_count) (sort : Sort) (v : World) (g : above.Wo
 
     pub claimed_same : (other : ℕ) → other ≢ h → Same other v claimed_below
     claimed_same other ne =
-        let s = tables_left h v u g (claimed h sort g n) (loaded (tables_of v)) (loaded (tables_of v)) shows.tables tables_then (λ i. inl refl) other ne in
+        let s = tables_left h v u g (claimed h inode_type g n) (loaded (tables_of v)) (loaded (tables_of v)) shows.tables tables_then (λ i. inl refl) other ne in
         record {
           inodes = λ i e. record { lock = (s.inodes i e).lock; untouched = (s.inodes i e).untouched };
           no_more = s.no_more;
@@ -123,7 +123,7 @@ module _ (h : ℕ) (lt : h < hart_count) (sort : Sort) (v : World) (g : above.Wo
         ]
 
     -- the hart's inodes are others
-    pub claimed_hands : (c : Carry) → AllInHand h c v g → AllInHand h c claimed_below (claimed h sort g n)
+    pub claimed_hands : (c : Carry) → AllInHand h c v g → AllInHand h c claimed_below (claimed h inode_type g n)
     claimed_hands c all i e =
         let mine : g.lock i ≡ Some h = after.places.holders i ∙ e in
         let ne : i ≢ n = (λ q. none-some h (sym unlocked ∙ ap g.lock (sym q) ∙ mine)) in
@@ -132,24 +132,24 @@ module _ (h : ℕ) (lt : h < hart_count) (sort : Sort) (v : World) (g : above.Wo
           keeps = put_other g.keeper n (Some h) i ne ∙ was.keeps;
           loaded_is = subst (λ (o : Option Node). IsLoaded (c i) o (inode_in (log_of v) i)) (sym (put_other g.disk n node i ne)) was.loaded_is;
           holds = subst (λ (o : Option Node). HoldsAt (disk_of (log_of v)) v.owner i o) (sym (put_other g.disk n node i ne)) was.holds;
-          opened = open_then h i (c i) g (claimed h sort g n) (open_alike h i g (claimed h sort g n) refl refl) was.opened;
+          opened = open_then h i (c i) g (claimed h inode_type g n) (open_alike h i g (claimed h inode_type g n) refl refl) was.opened;
         }
 
 -- ---- what the hart has between the claim and the put
 
-pub record HasClaimed (h n : ℕ) (sort : Sort) (c : Carry) (r : World) (g : above.World) : Type 0 where
+pub record HasClaimed (h n : ℕ) (inode_type : InodeType) (c : Carry) (r : World) (g : above.World) : Type 0 where
   pub new : r.new n ≡ Some h
   pub only : (m : ℕ) → m ≢ n → r.new m ≢ Some h
   pub commits : r.commits ≢ Some h
   pub taken : (b : ℕ) → r.taken b ≢ Some h
   pub keeps : g.keeper n ≡ Some h
-  pub node : g.disk n ≡ Some (blank sort)
+  pub node : g.disk n ≡ Some (blank inode_type)
   pub hands : AllInHand h c r g
   pub free : (g.desks h).lender ≡ None
 
 -- the same above where that differs for the proof alone
-pub claimed_marked : (h n : ℕ) (sort : Sort) (c : Carry) (r : World) (g u : above.World) → SameCode g u → HasClaimed h n sort c r g → HasClaimed h n sort c r u
-claimed_marked h n sort c r g u s is = record {
+pub claimed_marked : (h n : ℕ) (inode_type : InodeType) (c : Carry) (r : World) (g u : above.World) → SameCode g u → HasClaimed h n inode_type c r g → HasClaimed h n inode_type c r u
+claimed_marked h n inode_type c r g u s is = record {
   new = is.new;
   only = is.only;
   commits = is.commits;
@@ -161,8 +161,8 @@ claimed_marked h n sort c r g u s is = record {
 }
 
 -- it lasts while the others step
-pub claimed_then : (h n : ℕ) (sort : Sort) (c : Carry) (v w : World) (g u : above.World) → Same h v w → Kept h g u → HasClaimed h n sort c v g → HasClaimed h n sort c w u
-claimed_then h n sort c v w g u same kept is =
+pub claimed_then : (h n : ℕ) (inode_type : InodeType) (c : Carry) (v w : World) (g u : above.World) → Same h v w → Kept h g u → HasClaimed h n inode_type c v g → HasClaimed h n inode_type c w u
+claimed_then h n inode_type c v w g u same kept is =
     let lent : ((g.desks h).lender ≡ None → ⊥) → Idle h g = (λ some. absurd (some is.free)) in
     let now = kept_disk h n g u kept lent is.keeps in
     record {
@@ -185,20 +185,20 @@ none_large : (k : ℕ) → AllByRecursion (λ b. b < 2 ^ 32) (replicate k 0)
 none_large zero = tt
 none_large (suc k) = (omega arith, none_large k)
 
-kind_fits : (sort : Sort) → FitsSigned w16 (kind_of sort)
+kind_fits : (inode_type : InodeType) → FitsSigned w16 (kind_of inode_type)
 kind_fits OfDirectory = omega arith
 kind_fits OfFile = omega arith
 kind_fits (OfDevice major) = omega arith
 
-has_kind : (sort : Sort) → is_number 0 (kind_of sort) ≡ false
+has_kind : (inode_type : InodeType) → is_number 0 (kind_of inode_type) ≡ false
 has_kind OfDirectory = refl
 has_kind OfFile = refl
 has_kind (OfDevice major) = refl
 
-new_fits : (sort : Sort) → IsDinode (new_record (kind_of sort))
-new_fits sort = record { kind = kind_fits sort; major = omega arith; minor = omega arith; nlink = omega arith; size = omega arith; thirteen = refl; addrs = none_large 13 }
+new_fits : (inode_type : InodeType) → IsDinode (new_record (kind_of inode_type))
+new_fits inode_type = record { kind = kind_fits inode_type; major = omega arith; minor = omega arith; nlink = omega arith; size = omega arith; thirteen = refl; addrs = none_large 13 }
 
-module _ (h : ℕ) (n : ℕ) (sort : Sort) (c : Carry) (r : World) (g : above.World) (shows : Shows r g) (claims : HasClaimed h n sort c r g) where
+module _ (h : ℕ) (n : ℕ) (inode_type : InodeType) (c : Carry) (r : World) (g : above.World) (shows : Shows r g) (claims : HasClaimed h n inode_type c r g) where
   abbrev l : LogPart
   l = log_of r
 
@@ -209,7 +209,7 @@ module _ (h : ℕ) (n : ℕ) (sort : Sort) (c : Carry) (r : World) (g : above.Wo
   is = shows.news n h claims.new
 
   abbrev put_record : Dinode
-  put_record = new_record (kind_of sort)
+  put_record = new_record (kind_of inode_type)
 
   abbrev pub stored : List ℕ
   stored = with_dinode n put_record (seen_of l b)
@@ -221,7 +221,7 @@ module _ (h : ℕ) (n : ℕ) (sort : Sort) (c : Carry) (r : World) (g : above.Wo
   long = shows.blocks.seen.whole b home.within home.outside
 
   fits : IsDinode put_record
-  fits = new_fits sort
+  fits = new_fits inode_type
 
   -- the block may be put, where its buffer is in hand and there is room
   pub can_put_new : holder_of b l.seats ≡ Some h → IsSome (kept b l.seats) → (has l.group b ≡ false → HasRoom l.members h) → CanPut h b stored l
@@ -258,15 +258,15 @@ module _ (h : ℕ) (n : ℕ) (sort : Sort) (c : Carry) (r : World) (g : above.Wo
         (shows.blocks.running.inodes n is.low (within n is.bound) (ap (if_joined g.desks) is.unlocked))
 
     -- it holds what it is above
-    holds : IsMade sort → HoldsAt (disk_of now) r.owner n (Some (blank sort))
-    holds made = new_holds (disk_of l) (disk_of now) r.owner n sort shows.blocks.running.front (within n is.bound) made is.free held put_is
+    holds : IsMade inode_type → HoldsAt (disk_of now) r.owner n (Some (blank inode_type))
+    holds made = new_holds (disk_of l) (disk_of now) r.owner n inode_type shows.blocks.running.front (within n is.bound) made is.free held put_is
 
     abbrev new : ℕ → Option ℕ
     new = untyped now r.new
 
     -- and isn't new, as the others are still
     none_new : new n ≡ None
-    none_new = ap (λ (t : Bool). if t then r.new n else None) (ap is_free (inode_is (disk_of l) (disk_of now) n put_record put_is) ∙ has_kind sort)
+    none_new = ap (λ (t : Bool). if t then r.new n else None) (ap is_free (inode_is (disk_of l) (disk_of now) n put_record put_is) ∙ has_kind inode_type)
 
     other_record : (m : ℕ) → m ≢ n → (k : ℕ) → r.new m ≡ Some k → is_free (inode_in now m) ≡ true
     other_record m ne k e = let z = shows.news m k e in ap is_free (leaves.inodes m z.low (within m z.bound) ne).inode ∙ z.free
@@ -282,7 +282,7 @@ module _ (h : ℕ) (n : ℕ) (sort : Sort) (c : Carry) (r : World) (g : above.Wo
             by false = sym e
         at (Some k) e = ap (λ (t : Bool). if t then r.new m else None) (other_record m ne k e)
 
-    node_here : on_blocks new g.disk n ≡ Some (blank sort)
+    node_here : on_blocks new g.disk n ≡ Some (blank inode_type)
     node_here = old_node new g.disk n none_new ∙ claims.node
 
     node_other : (m : ℕ) → m ≢ n → on_blocks new g.disk m ≡ on_blocks r.new g.disk m
@@ -298,7 +298,7 @@ module _ (h : ℕ) (n : ℕ) (sort : Sort) (c : Carry) (r : World) (g : above.Wo
     good : IsGoodSeen l.sizes (seen_of now) (length l.contents)
     good = good_then h b stored r.state shows.whole shows.blocks.seen can
 
-    blocks_then : IsMade sort → AreOnBlocks now.contents now.seats now.sizes now.members (ghost_of r.owner r.left (on_blocks new g.disk) g.lock g.desks)
+    blocks_then : IsMade inode_type → AreOnBlocks now.contents now.seats now.sizes now.members (ghost_of r.owner r.left (on_blocks new g.disk) g.lock g.desks)
     blocks_then made =
         let before : IsRunning (disk_of l) (on_blocks r.new g.disk) r.owner r.left (λ j. if_joined g.desks (g.lock j)) (is_joined l.members) = shows.blocks.running in
         record {
@@ -324,7 +324,7 @@ module _ (h : ℕ) (n : ℕ) (sort : Sort) (c : Carry) (r : World) (g : above.Wo
           };
         }
 
-    pub put_shows : IsMade sort → Shows put_then g
+    pub put_shows : IsMade inode_type → Shows put_then g
     put_shows made = record {
       whole = whole_put h b stored r.state shows.whole shows.blocks.seen can;
       runs = shows.runs;

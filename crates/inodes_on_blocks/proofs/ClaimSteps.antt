@@ -1,5 +1,5 @@
 -- The operation that takes a new inode acts where a block of the table is looked through; its record is put in a step of its own.
-use Rattle.inodes_on_blocks.proofs.Vocabulary.{◌≡◌, ◌≢◌, inl, inr, ℕ, zero, suc, ℤ, pos, negsuc, ◌+◌, ◌*◌, ◌/◌, ◌<◌, ◌≤◌, ◌||◌, ◌&&◌, Bool, true, false, List, Option, Some, None, is_some, refl, sym, ◌∙◌, ap, subst, arith, if◌then◌else◌, [], IsSome, nat_lt, is_none, nat_tests, Super, dinode_at, IsOutsideLog, SeatState, kept, given_back, holder_of, has, HasRoom, is_free, is_number, hart_count, and_true, put_same, put_other, Do, unmarked, Did, Ran, Machine, Laws, P, Wp, Both, joined, Below, Handover, Lasts, Here, Silent, ToAct, to_act, acted, s-silent, Wp-more, TablesState, references_in, up_inode, first_free, is_unreferenced, Outside, Passes, seen_of, keeps_whole, leaves_own, shows_its_puts, free_in, inode_blocks, new_record, inode_block, with_dinode, Spent, size, most_recorded, Sort, Claim, claimed, counted_up, has_place, place_count, referenced, blank, marked, with_mark, Idle, Inv, more, loaded, kind_of, World, log_of, tables_of, inode_in, came_to, exec, alone, Answers, IsDone, in_hand, HasBuffer, SameBut, Carry, IsThrough, Keeps, Kept, Labels, Same, Stands, below, labelled, IsMade, answers, claim, claim_at, claim_from, claim_in, claim_mark, HasInodes, Owners, GivesRoom, HasSpent, Shows, ActsWithin, DoesItWithin}
+use Rattle.inodes_on_blocks.proofs.Vocabulary.{◌≡◌, ◌≢◌, inl, inr, ℕ, zero, suc, ℤ, pos, negsuc, ◌+◌, ◌*◌, ◌/◌, ◌<◌, ◌≤◌, ◌||◌, ◌&&◌, Bool, true, false, List, Option, Some, None, is_some, refl, sym, ◌∙◌, ap, subst, arith, if◌then◌else◌, [], IsSome, nat_lt, is_none, nat_tests, Super, dinode_at, IsOutsideLog, SeatState, kept, given_back, holder_of, has, HasRoom, is_free, is_number, hart_count, and_true, put_same, put_other, Do, unmarked, ExecResult, Ran, Machine, Laws, P, Wp, Both, joined, Below, Handover, Lasts, Here, Silent, ToAct, to_act, acted, s-silent, Wp-more, TablesState, references_in, up_inode, first_free, is_unreferenced, Outside, Passes, seen_of, keeps_whole, leaves_own, shows_its_puts, free_in, inode_blocks, new_record, inode_block, with_dinode, Spent, size, most_recorded, InodeType, Claim, claimed, counted_up, has_place, place_count, referenced, blank, marked, with_mark, Idle, Inv, more, loaded, kind_of, World, log_of, tables_of, inode_in, came_to, exec, alone, Answers, IsDone, in_hand, HasBuffer, SameBut, Carry, IsThrough, Keeps, Kept, Labels, Same, Stands, below, labelled, IsMade, answers, claim, claim_at, claim_from, claim_in, claim_mark, HasInodes, Owners, GivesRoom, HasSpent, Shows, ActsWithin, DoesItWithin}
 use Rattle.std.specs.Prelude.{Contains}
 use Rattle.fs_machine.specs.Tables as places
 use Rattle.fs_machine.specs.Premises as premises
@@ -64,7 +64,7 @@ unfolding claim_steps
 steps_are zero = refl
 steps_are (suc n) = let more_ = steps_are n in omega (arith, more_)
 
-module _ (sizes : Super) (l : Labels) (laws : Laws (labelled l)) (keeps : Keeps l) (h : ℕ) (lt : h < hart_count) (sort : Sort) (made : IsMade sort) (m : above.ClaimResult → Option above.Mark) (c : Carry) (s : Spent) (few : size s < most_recorded)
+module _ (sizes : Super) (l : Labels) (laws : Laws (labelled l)) (keeps : Keeps l) (h : ℕ) (lt : h < hart_count) (inode_type : InodeType) (made : IsMade inode_type) (m : above.ClaimResult → Option above.Mark) (c : Carry) (s : Spent) (few : size s < most_recorded)
     (B : List l.Step → Type 0) (C : above.ClaimResult → List l.Step → above.World → Type 0) (lasts : Lasts (labelled l) h B C) where
   abbrev W : Type 0
   W = Both World above.World
@@ -76,10 +76,10 @@ module _ (sizes : Super) (l : Labels) (laws : Laws (labelled l)) (keeps : Keeps 
   Q = Below (labelled l) (below sizes) h C
 
   abbrev Todo : List l.Step → above.World → Type 0
-  Todo = ToAct (labelled l) (below sizes) laws (below_laws sizes l keeps) h B (Claim sort) m C lasts
+  Todo = ToAct (labelled l) (below sizes) laws (below_laws sizes l keeps) h B (Claim inode_type) m C lasts
 
   abbrev kind : ℤ
-  kind = kind_of sort
+  kind = kind_of inode_type
 
   -- what it has while it looks through the blocks, beside the buffer
   record Looks (r : World) (g : above.World) : Type 0 where
@@ -114,11 +114,11 @@ module _ (sizes : Super) (l : Labels) (laws : Laws (labelled l)) (keeps : Keeps 
   -- the blocks behind this one, of which there are so many
   abbrev Again : ℕ → ℕ → Type 0
   Again zero q = Unit {0}
-  Again (suc n) q = (z : W) (fs : List l.Step) → Todo fs z.seen → Looks z.real z.seen → in_hand h z.real ≡ 0 → Wp M h B Q (claim_from (suc n) sizes sort c m q) (claim_steps (suc n)) fs z
+  Again (suc n) q = (z : W) (fs : List l.Step) → Todo fs z.seen → Looks z.real z.seen → in_hand h z.real ≡ 0 → Wp M h B Q (claim_from (suc n) sizes inode_type c m q) (claim_steps (suc n)) fs z
 
   -- ---- a block in hand, at u
 
-  module _ (q : ℕ) (bytes : List ℕ) (u : W) (gs : List l.Step) (todo : Todo gs u.seen) (shows : Shows u.real u.seen) (inv : Inv u.seen) (may : rules.May h (Claim sort) u.seen) (looks : Looks u.real u.seen)
+  module _ (q : ℕ) (bytes : List ℕ) (u : W) (gs : List l.Step) (todo : Todo gs u.seen) (shows : Shows u.real u.seen) (inv : Inv u.seen) (may : rules.May h (Claim inode_type) u.seen) (looks : Looks u.real u.seen)
       (buffer : HasBuffer h (sizes.inodestart + q) bytes u.real) (one : in_hand h u.real ≡ 1) (out : IsOutsideLog (log_of u.real).sizes (sizes.inodestart + q)) where
     abbrev b : ℕ
     b = sizes.inodestart + q
@@ -133,7 +133,7 @@ module _ (sizes : Super) (l : Labels) (laws : Laws (labelled l)) (keeps : Keeps 
     candidates = free_in sizes.ninodes q bytes
 
     abbrev Came : (n : ℕ) → P M (Handover above.ClaimResult Carry) → steps.ClaimResult → World → Type 0
-    Came n rest a z = Answered (labelled l) (below sizes) laws (below_laws sizes l keeps) h B (Claim sort) m C lasts u z gs (claim_mark sort m n a) (λ fs y f. Wp M h B Q (claim_in rest kind b bytes c a) (claim_steps n) fs (record { real = y; seen = f }))
+    Came n rest a z = Answered (labelled l) (below sizes) laws (below_laws sizes l keeps) h B (Claim inode_type) m C lasts u z gs (claim_mark inode_type m n a) (λ fs y f. Wp M h B Q (claim_in rest kind b bytes c a) (claim_steps n) fs (record { real = y; seen = f }))
 
     lower_may : premises.May h (steps.Claim b candidates) r.state
     unfolding premises.May
@@ -159,7 +159,7 @@ module _ (sizes : Super) (l : Labels) (laws : Laws (labelled l)) (keeps : Keeps 
     looks_then : Looks (with_buffers r ss) g
     looks_then = looks_but b r (with_buffers r ss) g g (quiet_but h r g shows ss quiet b (back_hand h b (log_of r).seats buffer.holder).others) (kept_same h g) looks
 
-    no_inode : (n : ℕ) → Again n (q + 1) → Came n (claim_from n sizes sort c m (q + 1)) steps.NoInode (with_buffers r ss)
+    no_inode : (n : ℕ) → Again n (q + 1) → Came n (claim_from n sizes inode_type c m (q + 1)) steps.NoInode (with_buffers r ss)
     unfolding claim_from
     no_inode zero again =
         let s_ = marked_same h (m above.NoInode) g in
@@ -196,7 +196,7 @@ module _ (sizes : Super) (l : Labels) (laws : Laws (labelled l)) (keeps : Keeps 
           (λ other ne. (below_laws sizes l keeps).same other r),
           λ fs i done.
               Wp-more M h (Do (steps.Put b None) unmarked (λ _. answers above.NoPlace c)) B Q 1 (claim_steps n) fs (record { real = r; seen = g' }) (some_steps n)
-              (s-back sizes l laws keeps h lt B Q (C above.NoPlace) (acted (labelled l) (below sizes) laws (below_laws sizes l keeps) h B (Claim sort) m C lasts above.NoPlace) b (λ _. answers above.NoPlace c) 0 fs (record { real = r; seen = g' }) done buffer.holder out
+              (s-back sizes l laws keeps h lt B Q (C above.NoPlace) (acted (labelled l) (below sizes) laws (below_laws sizes l keeps) h B (Claim inode_type) m C lasts above.NoPlace) b (λ _. answers above.NoPlace c) 0 fs (record { real = r; seen = g' }) done buffer.holder out
               (λ v es back. (back.stage, ends v.real v.seen (let down = back.count in omega (arith, down, one)) (looks_but b r v.real g' v.seen back.since back.kept base)))),
         )
 
@@ -219,22 +219,22 @@ module _ (sizes : Super) (l : Labels) (laws : Laws (labelled l)) (keeps : Keeps 
 
       module _ (t : TablesState) (after : tables.Shows t (counted_up h i g) (loaded (tables_of r))) where
         abbrev then_ : World
-        then_ = claimed_below h lt sort r g shows inv i is.low bound free zero_refs may.1 t after
+        then_ = claimed_below h lt inode_type r g shows inv i is.low bound free zero_refs may.1 t after
 
         abbrev g' : above.World
-        g' = marked h (m (above.New i)) (claimed h sort g i)
+        g' = marked h (m (above.New i)) (claimed h inode_type g i)
 
-        has_claimed : HasClaimed h i sort c then_ g'
+        has_claimed : HasClaimed h i inode_type c then_ g'
         has_claimed =
-            claimed_marked h i sort c then_ (claimed h sort g i) g' (marked_same h (m (above.New i)) (claimed h sort g i))
+            claimed_marked h i inode_type c then_ (claimed h inode_type g i) g' (marked_same h (m (above.New i)) (claimed h inode_type g i))
             (record {
               new = put_same r.new i (Some h);
               only = λ k ne e. looks.through.new k (sym (put_other r.new i (Some h) k ne) ∙ e);
               commits = looks.through.commits;
               taken = looks.taken;
               keeps = put_same g.keeper i (Some h);
-              node = put_same g.disk i (Some (blank sort));
-              hands = claimed_hands h lt sort r g shows inv i is.low bound free zero_refs may.1 t after c looks.hands;
+              node = put_same g.disk i (Some (blank inode_type));
+              hands = claimed_hands h lt inode_type r g shows inv i is.low bound free zero_refs may.1 t after c looks.hands;
               free = may.0;
             })
 
@@ -247,17 +247,17 @@ module _ (sizes : Super) (l : Labels) (laws : Laws (labelled l)) (keeps : Keeps 
         unfolding steps.exec premises.MayWait premises.Honest
         puts z es fs here =
             let v = z.real in
-            let claims = claimed_then h i sort c then_ v g' z.seen here.same here.kept has_claimed in
+            let claims = claimed_then h i inode_type c then_ v g' z.seen here.same here.kept has_claimed in
             let buffer_v = buffer_then h b bytes then_ v (here.same.buffers b) (record { holder = buffer.holder; has = buffer.has }) in
             let size : (log_of v).sizes ≡ sizes = here.same.sizes ∙ looks.knows.0 in
             let there : b ≡ inode_block (log_of v).sizes.inodestart i = where_ ∙ ap (λ (y : Super). inode_block y.inodestart i) (sym here.same.sizes) in
             let same_bytes : seen_of (log_of v) (inode_block (log_of v).sizes.inodestart i) ≡ bytes = ap (seen_of (log_of v)) (sym there) ∙ buffer_seen h b bytes v buffer_v in
             let knows : HasSpent sizes h s v = (gives b).lasts then_ v here.same looks.knows in
-            let can = can_put_new h i sort c v z.seen here.shows claims (subst (λ (k : ℕ). holder_of k (log_of v).seats ≡ Some h) there buffer_v.holder)
+            let can = can_put_new h i inode_type c v z.seen here.shows claims (subst (λ (k : ℕ). holder_of k (log_of v).seats ≡ Some h) there buffer_v.holder)
             (subst (λ (k : ℕ). IsSome (kept k (log_of v).seats)) there (ap (λ (o : Option (List ℕ)). is_some o) buffer_v.has))
             (subst (λ (k : ℕ). has (log_of v).group k ≡ false → HasRoom (log_of v).members h) there ((gives b).room v knows (here.shows.news i h claims.new).joined)) in
             let at = inode_block (log_of v).sizes.inodestart i in
-            let stored_ = stored h i sort c v z.seen here.shows claims in
+            let stored_ = stored h i inode_type c v z.seen here.shows claims in
             let one_v : in_hand h v ≡ 1 = here.same.held ∙ one in
             subst
             (λ (p : ℕ × List ℕ). premises.May h (steps.Put p.0 (Some (with_dinode i (new_record kind) p.1))) v.state
@@ -266,9 +266,9 @@ module _ (sizes : Super) (l : Labels) (laws : Laws (labelled l)) (keeps : Keeps 
             (λ y. (sym there y, same_bytes y)) (
               may_put h at stored_ v.state here.shows.whole here.shows.blocks.seen can,
               λ x t_.
-                  subst (λ (o : Owners). Silent (labelled l) (below sizes) laws (below_laws sizes l keeps) h B z ⊥ (Ran (tt {0}) (put_with h i sort c v z.seen here.shows claims can o)) (λ a y. Wp M h B Q (answers (above.New i) c) 0 fs (record { real = y; seen = z.seen })))
-                  (sym (put_owners h i sort c v z.seen here.shows claims can))
-                  (put_shows h i sort c v z.seen here.shows claims can made, put_same_others h i sort c v z.seen here.shows claims can, (here.stage, (put_base h i sort c v z.seen here.shows claims can one_v, size))),
+                  subst (λ (o : Owners). Silent (labelled l) (below sizes) laws (below_laws sizes l keeps) h B z ⊥ (Ran (tt {0}) (put_with h i inode_type c v z.seen here.shows claims can o)) (λ a y. Wp M h B Q (answers (above.New i) c) 0 fs (record { real = y; seen = z.seen })))
+                  (sym (put_owners h i inode_type c v z.seen here.shows claims can))
+                  (put_shows h i inode_type c v z.seen here.shows claims can made, put_same_others h i inode_type c v z.seen here.shows claims can, (here.stage, (put_base h i inode_type c v z.seen here.shows claims can one_v, size))),
             )
 
         takes : (n : ℕ) (rest : P M (Handover above.ClaimResult Carry)) → nat_lt (referenced g) place_count ≡ true → Came n rest (steps.Claims i) then_
@@ -279,21 +279,21 @@ module _ (sizes : Super) (l : Labels) (laws : Laws (labelled l)) (keeps : Keeps 
               above.New i,
               g',
               refl,
-              ap (λ (e : Bool). with_mark h m (if e then Ran (above.New i) (claimed h sort g i) else Ran above.NoPlace g)) room,
-              (is.low, subst (λ (k : ℕ). i < k) (sym shows.size) bound, free_above h lt sort r g shows inv i is.low bound free zero_refs),
-              (λ j. shows_marked then_ (claimed h sort g i) g' (marked_same h (m (above.New i)) (claimed h sort g i)) (claimed_shows h lt sort r g shows inv i is.low bound free zero_refs may.1 t after)),
-              claimed_same h lt sort r g shows inv i is.low bound free zero_refs may.1 t after,
+              ap (λ (e : Bool). with_mark h m (if e then Ran (above.New i) (claimed h inode_type g i) else Ran above.NoPlace g)) room,
+              (is.low, subst (λ (k : ℕ). i < k) (sym shows.size) bound, free_above h lt inode_type r g shows inv i is.low bound free zero_refs),
+              (λ j. shows_marked then_ (claimed h inode_type g i) g' (marked_same h (m (above.New i)) (claimed h inode_type g i)) (claimed_shows h lt inode_type r g shows inv i is.low bound free zero_refs may.1 t after)),
+              claimed_same h lt inode_type r g shows inv i is.low bound free zero_refs may.1 t after,
               λ fs j done.
                   Wp-more M h (Do (steps.Put b (Some (with_dinode i (new_record kind) bytes))) unmarked (λ _. answers (above.New i) c)) B Q 1 (claim_steps n) fs (record { real = then_; seen = g' }) (some_steps n)
                   (s-silent (labelled l) (below sizes) laws (below_laws sizes l keeps) h B (steps.Put b (Some (with_dinode i (new_record kind) bytes))) (λ _. answers (above.New i) c) Q (C (above.New i)) 0 fs (record { real = then_; seen = g' })
-                  (acted (labelled l) (below sizes) laws (below_laws sizes l keeps) h B (Claim sort) m C lasts (above.New i)) done (λ z es here. puts z fs es here)),
+                  (acted (labelled l) (below sizes) laws (below_laws sizes l keeps) h B (Claim inode_type) m C lasts (above.New i)) done (λ z es here. puts z fs es here)),
             )
 
     -- what the step comes to
     abbrev Comes : (n : ℕ) → P M (Handover above.ClaimResult Carry) → Outside → Type 0
     Comes n rest x = (a : steps.ClaimResult) × (z : World) × (exec h x (steps.Claim b candidates) r ≡ Ran a z) × Came n rest a z
 
-    comes : (n : ℕ) (x : Outside) → Again n (q + 1) → (o : Option ℕ) → first_free (tables_of r).entries candidates ≡ o → Comes n (claim_from n sizes sort c m (q + 1)) x
+    comes : (n : ℕ) (x : Outside) → Again n (q + 1) → (o : Option ℕ) → first_free (tables_of r).entries candidates ≡ o → Comes n (claim_from n sizes inode_type c m (q + 1)) x
     unfolding steps.exec
     comes n x again None e = (steps.NoInode, with_buffers r ss, ap (λ (o : Option ℕ). came_to h (steps.Claim b candidates) r (steps.claim_first h b r.state o)) e, no_inode n again)
     comes n x again (Some i) e =
@@ -304,15 +304,15 @@ module _ (sizes : Super) (l : Labels) (laws : Laws (labelled l)) (keeps : Keeps 
         let ran : exec h x (steps.Claim b candidates) r ≡ came_to h (steps.Claim b candidates) r (steps.claims (steps.in_tables r.state (up_inode i (tables_of r)))) = ap (λ (o : Option ℕ). came_to h (steps.Claim b candidates) r (steps.claim_first h b r.state o)) e in
         let none = zero_refs i is unplaced in
         let room : has_place g i ≡ nat_lt (referenced g) place_count = ap (λ (k : ℕ). nat_lt 0 k || nat_lt (referenced g) place_count) none in
-        by_place h i (tables_of r) g (loaded (tables_of r)) shows.tables is.low (subst (λ (k : ℕ). i < k) (sym shows.size) inside) (Comes n (claim_from n sizes sort c m (q + 1)) x)
+        by_place h i (tables_of r) g (loaded (tables_of r)) shows.tables is.low (subst (λ (k : ℕ). i < k) (sym shows.size) inside) (Comes n (claim_from n sizes inode_type c m (q + 1)) x)
         (λ t there has_room after. (
           steps.Claims i,
-          claimed_below h lt sort r g shows inv i is.low inside (free i is unplaced) none may.1 t after,
-          ran ∙ ap (λ (d : Did (Option ℕ) TablesState). came_to h (steps.Claim b candidates) r (steps.claims (steps.in_tables r.state d))) there,
-          takes i is unplaced t after n (claim_from n sizes sort c m (q + 1)) (sym room ∙ has_room),
+          claimed_below h lt inode_type r g shows inv i is.low inside (free i is unplaced) none may.1 t after,
+          ran ∙ ap (λ (d : ExecResult (Option ℕ) TablesState). came_to h (steps.Claim b candidates) r (steps.claims (steps.in_tables r.state d))) there,
+          takes i is unplaced t after n (claim_from n sizes inode_type c m (q + 1)) (sym room ∙ has_room),
         ))
         (λ there full.
-        (steps.NoPlace, r, ran ∙ ap (λ (d : Did (Option ℕ) TablesState). came_to h (steps.Claim b candidates) r (steps.claims (steps.in_tables r.state d))) there, gives_back n (claim_from n sizes sort c m (q + 1)) (sym room ∙ full)))
+        (steps.NoPlace, r, ran ∙ ap (λ (d : ExecResult (Option ℕ) TablesState). came_to h (steps.Claim b candidates) r (steps.claims (steps.in_tables r.state d))) there, gives_back n (claim_from n sizes inode_type c m (q + 1)) (sym room ∙ full)))
 
   -- ---- all blocks
 
@@ -327,14 +327,14 @@ module _ (sizes : Super) (l : Labels) (laws : Laws (labelled l)) (keeps : Keeps 
         let here : inode_block (log_of v).sizes.inodestart (16 * q) ≡ at = ap (λ (z : Super). inode_block z.inodestart (16 * q)) size ∙ ap (λ (k : ℕ). sizes.inodestart + k) (let e : (16 * q) / 16 ≡ q = omega arith in e) in
         subst (λ (k : ℕ). IsOutsideLog (log_of v).sizes k × (k < (log_of v).sizes.size)) here (inode_place v g shows (16 * q) (subst (λ (z : Super). 16 * q < z.ninodes) (sym size) first))
 
-    one_block : Wp M h B Q (claim_from (suc n) sizes sort c m q) (claim_steps (suc n)) es w
+    one_block : Wp M h B Q (claim_from (suc n) sizes inode_type c m q) (claim_steps (suc n)) es w
     unfolding claim_from claim_steps
     one_block =
-        s-fetch sizes l laws keeps h lt B Q Todo (to_act (labelled l) (below sizes) laws (below_laws sizes l keeps) h B (Claim sort) m C lasts) at (claim_at (claim_from n sizes sort c m (q + 1)) sizes sort c m n q at) (suc (claim_steps n)) es w todo (omega (arith, none))
+        s-fetch sizes l laws keeps h lt B Q Todo (to_act (labelled l) (below sizes) laws (below_laws sizes l keeps) h B (Claim inode_type) m C lasts) at (claim_at (claim_from n sizes inode_type c m (q + 1)) sizes inode_type c m n q at) (suc (claim_steps n)) es w todo (omega (arith, none))
         (λ v fs here. place v.real v.seen here.shows (here.same.sizes ∙ looks.knows.0)) (empty_hand h at w.real none)
         (λ v fs got.
         let looks_v = looks_but at w.real v.real w.seen v.seen got.since got.kept looks in
-        s-answered (labelled l) (below sizes) laws (below_laws sizes l keeps) h B (Claim sort) m C lasts (steps.Claim at (free_in sizes.ninodes q (seen_of (log_of v.real) at))) (claim_mark sort m n) (claim_in (claim_from n sizes sort c m (q + 1)) kind at (seen_of (log_of v.real) at) c) Q (claim_steps n) fs v got.stage
+        s-answered (labelled l) (below sizes) laws (below_laws sizes l keeps) h B (Claim inode_type) m C lasts (steps.Claim at (free_in sizes.ninodes q (seen_of (log_of v.real) at))) (claim_mark inode_type m n) (claim_in (claim_from n sizes inode_type c m (q + 1)) kind at (seen_of (log_of v.real) at) c) Q (claim_steps n) fs v got.stage
         (λ u gs here may.
         let looks_u = looks_same v.real u.real v.seen u.seen here.same here.kept looks_v in
         let buffer = buffer_then h at (seen_of (log_of v.real) at) v.real u.real (here.same.buffers at) got.buffer in
@@ -344,28 +344,28 @@ module _ (sizes : Super) (l : Labels) (laws : Laws (labelled l)) (keeps : Keeps 
           λ x t. comes q (seen_of (log_of v.real) at) u gs here.stage here.shows here.inv may looks_u buffer one out n x again (first_free (tables_of u.real).entries (free_in sizes.ninodes q (seen_of (log_of v.real) at))) refl,
         )))
 
-  all_blocks : (n q : ℕ) (es : List l.Step) (w : W) → q + suc n ≡ inode_blocks sizes.ninodes → Todo es w.seen → Looks w.real w.seen → in_hand h w.real ≡ 0 → Wp M h B Q (claim_from (suc n) sizes sort c m q) (claim_steps (suc n)) es w
+  all_blocks : (n q : ℕ) (es : List l.Step) (w : W) → q + suc n ≡ inode_blocks sizes.ninodes → Todo es w.seen → Looks w.real w.seen → in_hand h w.real ≡ 0 → Wp M h B Q (claim_from (suc n) sizes inode_type c m q) (claim_steps (suc n)) es w
   all_blocks zero q es w sum todo looks none = one_block zero q sum tt es w todo looks none
   all_blocks (suc n) q es w sum todo looks none = one_block (suc n) q sum (λ z fs next looks_z none_z. all_blocks n (q + 1) fs z (omega (arith, sum)) next looks_z none_z) es w todo looks none
 
-  pub claim_acts : 0 < sizes.ninodes → sizes.ninodes < 65536 → (es : List l.Step) (w : W) → Todo es w.seen → Stands sizes h w.real w.seen c → HasSpent sizes h s w.real → Wp M h B Q (claim sizes sort c m) (suc (more (Claim sort))) es w
+  pub claim_acts : 0 < sizes.ninodes → sizes.ninodes < 65536 → (es : List l.Step) (w : W) → Todo es w.seen → Stands sizes h w.real w.seen c → HasSpent sizes h s w.real → Wp M h B Q (claim sizes inode_type c m) (suc (more (Claim inode_type))) es w
   claim_acts some most es w todo stands knows = by (inode_blocks sizes.ninodes) refl
     where
       looks : Looks w.real w.seen
       looks = record { taken = stands.0.taken; through = stands.0.through; hands = stands.0.inodes; lent = stands.0.lent; knows = knows }
 
-      by : (k : ℕ) → inode_blocks sizes.ninodes ≡ k → Wp M h B Q (claim_from k sizes sort c m 0) (suc (more (Claim sort))) es w
+      by : (k : ℕ) → inode_blocks sizes.ninodes ≡ k → Wp M h B Q (claim_from k sizes inode_type c m 0) (suc (more (Claim inode_type))) es w
       by zero e = absurd (omega (arith, e, some))
       by (suc n) e =
           let fewer = steps_are (suc n) in
-          Wp-more M h (claim_from (suc n) sizes sort c m 0) B Q (claim_steps (suc n)) (suc (more (Claim sort))) es w (omega (arith, fewer, e, most)) (all_blocks n 0 es w (omega (arith, e)) todo looks stands.0.free)
+          Wp-more M h (claim_from (suc n) sizes inode_type c m 0) B Q (claim_steps (suc n)) (suc (more (Claim inode_type))) es w (omega (arith, fewer, e, most)) (all_blocks n 0 es w (omega (arith, e)) todo looks stands.0.free)
 
 -- and within what the operation spends
-pub claim_within : (sizes : Super) (l : Labels) → Laws (labelled l) → Keeps l → (h : ℕ) → h < hart_count → (sort : Sort) → IsMade sort → HasInodes sizes → (m : above.ClaimResult → Option above.Mark) → ActsWithin sizes l h (Claim sort) m (claim sizes sort)
-claim_within sizes l laws keeps h lt sort made inodes m c s B C es w lasts todo stands few has_ =
-    stays_within sizes l h (Claim sort) m (claim sizes sort) ((programs_spend sizes).claim sort) c s B C (suc (more (Claim sort))) es w
-    (claim_acts sizes l laws keeps h lt sort made m c s (omega (arith, few)) B C lasts inodes.some inodes.few es w todo stands has_) has_
+pub claim_within : (sizes : Super) (l : Labels) → Laws (labelled l) → Keeps l → (h : ℕ) → h < hart_count → (inode_type : InodeType) → IsMade inode_type → HasInodes sizes → (m : above.ClaimResult → Option above.Mark) → ActsWithin sizes l h (Claim inode_type) m (claim sizes inode_type)
+claim_within sizes l laws keeps h lt inode_type made inodes m c s B C es w lasts todo stands few has_ =
+    stays_within sizes l h (Claim inode_type) m (claim sizes inode_type) ((programs_spend sizes).claim inode_type) c s B C (suc (more (Claim inode_type))) es w
+    (claim_acts sizes l laws keeps h lt inode_type made m c s (omega (arith, few)) B C lasts inodes.some inodes.few es w todo stands has_) has_
 
-pub claims_within : (sizes : Super) (sort : Sort) → IsMade sort → HasInodes sizes → DoesItWithin sizes (Claim sort) (claim sizes sort)
-claims_within sizes sort made inodes h s m c w lt few todo stands known =
-    claim_within sizes alone alone_laws alone_keeps h lt sort made inodes m c s (IsDone (Claim sort)) (Answers (Claim sort)) [] w (lasts_done (Claim sort) h) todo stands few (stands.1, known)
+pub claims_within : (sizes : Super) (inode_type : InodeType) → IsMade inode_type → HasInodes sizes → DoesItWithin sizes (Claim inode_type) (claim sizes inode_type)
+claims_within sizes inode_type made inodes h s m c w lt few todo stands known =
+    claim_within sizes alone alone_laws alone_keeps h lt inode_type made inodes m c s (IsDone (Claim inode_type)) (Answers (Claim inode_type)) [] w (lasts_done (Claim inode_type) h) todo stands few (stands.1, known)

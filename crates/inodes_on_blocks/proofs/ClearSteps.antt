@@ -1,5 +1,5 @@
 -- A name cleared acts where the directory's record is put, after its slot was put free.
-use Rattle.inodes_on_blocks.proofs.Vocabulary.{◌≡◌, ◌≢◌, ℕ, zero, suc, ◌+◌, ◌-◌, ◌*◌, ◌/◌, ◌%◌, ◌<◌, ◌≤◌, ◌==◌, ◌&&◌, nat_lt, Bool, true, false, List, [], ◌∷◌, length, max, Option, Some, None, refl, sym, ◌∙◌, ap, subst, arith, if◌then◌else◌, IsSome, option_map, unwrap_or, none-some, Found, Named, block_count, search, search_from, with_dirent, with_slot, Free, Dinode, Super, IsBytes, IsDinode, recovered, All, IsData, is_free, numbers_of, block_number, content_block, HoldsAt, IsOwned, size_in, IsPut, IsLaidOut, Becomes, slots_with, Slot, Node, Kind, Directory, File, Device, cleared, node_or, Name, same_name, live_directory, look, first_slot, all_slots, put, hart_count, eq_is, Ret, bind, Ran, Laws, Machine, P, Wp, Both, joined, Below, Lasts, Handover, ToAct, to_act, may_act, bind-assoc, Wp-more, lock_holder, fetch, seen_of, Direct, InTable, BlockInHand, fetch_at, fetch_block, no_record, inode_block, Clear, without_entry, with_record, Inv, World, log_of, tables_of, disk_of, inode_in, KeepsRoom, in_hand, HasBuffer, KeepsInode, NothingMore, Finds, Opened, Had, Apart, Has, Emptied, Same, Kept, Carry, record_had, IsFirstNamed, IsKnown, InHand, Stands, below, Labels, labelled, Keeps, put_named, slot_found, clear_in, clear_slot, clear, learned, number_found, IsChanging, GivesRoom, Shows, record_in}
+use Rattle.inodes_on_blocks.proofs.Vocabulary.{◌≡◌, ◌≢◌, ℕ, zero, suc, ◌+◌, ◌-◌, ◌*◌, ◌/◌, ◌%◌, ◌<◌, ◌≤◌, ◌==◌, ◌&&◌, nat_lt, Bool, true, false, List, [], ◌∷◌, length, max, Option, Some, None, refl, sym, ◌∙◌, ap, subst, arith, if◌then◌else◌, IsSome, option_map, unwrap_or, none-some, Found, Named, block_count, search, search_from, with_dirent, with_slot, Free, Dinode, Super, IsBytes, IsDinode, recovered, All, IsData, is_free, numbers_of, block_number, content_block, HoldsAt, IsOwned, size_in, IsPut, IsLaidOut, Becomes, slots_with, Slot, Node, NodeKind, Directory, File, Device, cleared, node_or, Name, same_name, live_directory, look, first_slot, all_slots, put, hart_count, eq_is, Ret, bind, Ran, Laws, Machine, P, Wp, Both, joined, Below, Lasts, Handover, ToAct, to_act, may_act, bind-assoc, Wp-more, lock_holder, fetch, seen_of, Direct, InTable, BlockInHand, fetch_at, fetch_block, no_record, inode_block, Clear, without_entry, with_record, Inv, World, log_of, tables_of, disk_of, inode_in, KeepsRoom, in_hand, HasBuffer, KeepsInode, NothingMore, Finds, Opened, Had, Apart, Has, Emptied, Same, Kept, Carry, record_had, IsFirstNamed, IsKnown, InHand, Stands, below, Labels, labelled, Keeps, put_named, slot_found, clear_in, clear_slot, clear, learned, number_found, IsChanging, GivesRoom, Shows, record_in}
 use Rattle.inodes_on_blocks.proofs.Basics.{at_index, good_seen, kept_then, kept_same, same_inode, same_numbers, holds_now, used_now, block_stays, but_same, but_then, below_laws, lock_range, seen_dinode, TakesStep, s-here}
 use Rattle.plain_tree.specs.Tree as tree
 use Rattle.plain_tree.specs.Tree.{slots_of}
@@ -109,10 +109,10 @@ module _ (sizes : Super) (l : Labels) (laws : Laws (labelled l)) (keeps : Keeps 
     directory : (slots : List (Option Slot)) × (node.kind ≡ Directory slots)
     directory = by node.kind refl
       where
-        by : (k : Kind) → node.kind ≡ k → (slots : List (Option Slot)) × (node.kind ≡ Directory slots)
+        by : (k : NodeKind) → node.kind ≡ k → (slots : List (Option Slot)) × (node.kind ≡ Directory slots)
         by (Directory slots) q = (slots, q)
-        by (File bytes) q = absurd (looks.no_directory node.count (ap (λ (k : Kind). nat_lt 0 node.count && tree.is_directory k) (sym q) ∙ live))
-        by (Device major minor size) q = absurd (looks.no_directory node.count (ap (λ (k : Kind). nat_lt 0 node.count && tree.is_directory k) (sym q) ∙ live))
+        by (File bytes) q = absurd (looks.no_directory node.count (ap (λ (k : NodeKind). nat_lt 0 node.count && tree.is_directory k) (sym q) ∙ live))
+        by (Device major minor size) q = absurd (looks.no_directory node.count (ap (λ (k : NodeKind). nat_lt 0 node.count && tree.is_directory k) (sym q) ∙ live))
 
     abbrev slots : List (Option Slot)
     slots = directory.0
@@ -128,7 +128,7 @@ module _ (sizes : Super) (l : Labels) (laws : Laws (labelled l)) (keeps : Keeps 
 
       module _ (s : ℕ) (known : IsFirstNamed (all_slots (Some node)) e s) where
         first : IsFirstNamed slots e s
-        first = subst (λ (k : Kind). IsFirstNamed (slots_of k) e s) directory.1 known
+        first = subst (λ (k : NodeKind). IsFirstNamed (slots_of k) e s) directory.1 known
 
         abbrev k : ℕ
         k = s / 64
@@ -143,7 +143,7 @@ module _ (sizes : Super) (l : Labels) (laws : Laws (labelled l)) (keeps : Keeps 
         was_is = λ z. record { count = node.count; kind = directory.1 z }
 
         after_is : record { count = node.count; kind = Directory (slots_with slots s None) } ≡ after
-        after_is = ap (λ (ss : List (Option Slot)). record { count = node.count; kind = Directory ss }) (sym (cleared_first slots e s first) ∙ ap (λ (q : Kind). cleared (slots_of q) e) (sym directory.1))
+        after_is = ap (λ (ss : List (Option Slot)). record { count = node.count; kind = Directory ss }) (sym (cleared_first slots e s first) ∙ ap (λ (q : NodeKind). cleared (slots_of q) e) (sym directory.1))
 
         abbrev f : Dinode
         f = record d { size = max d.size (16 * suc s) }

@@ -1,5 +1,5 @@
 -- The operations that count references act at their one step.
-use Rattle.inodes_on_blocks.proofs.Vocabulary.{◌≡◌, ◌≢◌, inl, inr, ℕ, pos, ◌+◌, ◌-◌, ◌^◌, ◌<◌, ◌==◌, nat_lt, Bool, true, false, Option, Some, None, refl, sym, ◌∙◌, ap, subst, arith, if◌then◌else◌, IsSome, is_some, slice_get, nat_tests, none-some, Dinode, Node, put, hart_count, root, same_or, and_true, eq_is, eq_not, put_same, put_other, sum_part, HoldsAt, IsRecord, Did, Waits, Ran, Stops, did_in, Laws, Both, TablesState, references_of, up_inode, up_directory, directory_of, dead_of, DroppedState, Counts, Stays, Dies, drop_inode, drop_walked, Number, Walked, UpStart, Up, WalkDown, Down, counted_up, has_place, up_if, start_if, counted_down, reserved, is_last, walk_down_if, down_if, Inv, put_elim, ours_none, ours_some, two_refs, opens_slots, Numbered, found_number, start_is_number, loaded, BothCame, MayDie, load_after, World, log_of, tables_of, disk_of, inode_in, Shows, Had, Carry, IsLoaded, Base, Labels, labelled, Keeps, IsOpened, up_start, walk_down, down, is_listed, is_dying, had_of, with_dying, ActsOnce}
+use Rattle.inodes_on_blocks.proofs.Vocabulary.{◌≡◌, ◌≢◌, inl, inr, ℕ, pos, ◌+◌, ◌-◌, ◌^◌, ◌<◌, ◌==◌, nat_lt, Bool, true, false, Option, Some, None, refl, sym, ◌∙◌, ap, subst, arith, if◌then◌else◌, IsSome, is_some, slice_get, nat_tests, none-some, Dinode, Node, put, hart_count, root, same_or, and_true, eq_is, eq_not, put_same, put_other, sum_part, HoldsAt, IsRecord, ExecResult, Waits, Ran, Stops, exec_result_in, Laws, Both, TablesState, references_of, up_inode, up_directory, directory_of, dead_of, DroppedState, Counts, Stays, Dies, drop_inode, drop_walked, Number, Walked, UpStart, Up, WalkDown, Down, counted_up, has_place, up_if, start_if, counted_down, reserved, is_last, walk_down_if, down_if, Inv, put_elim, ours_none, ours_some, two_refs, opens_slots, Numbered, found_number, start_is_number, loaded, BothCame, MayDie, load_after, World, log_of, tables_of, disk_of, inode_in, Shows, Had, Carry, IsLoaded, Base, Labels, labelled, Keeps, IsOpened, up_start, walk_down, down, is_listed, is_dying, had_of, with_dying, ActsOnce}
 use Rattle.fs_machine.specs.Inodes.{is_positive}
 use Rattle.fs_machine.specs.Steps as steps
 use Rattle.fs_machine.specs.Steps.{Directory, Held}
@@ -49,14 +49,14 @@ module _ (l : Labels) (laws : Laws (labelled l)) (keeps : Keeps l) (h : ℕ) (lt
 
   up_to : (op : above.Op) (n : ℕ) (v : W) (c : Carry) (answer : Option ℕ → above.Answer op) (yes_ no_ : above.Answer op) → answer (Some n) ≡ yes_ → answer None ≡ no_ → Shows v.real v.seen → Base h v.real v.seen c → (v.seen.desks h).lender ≡ None → Numbered n v.seen
       → (has_place v.seen n ≡ true → above_exec.exec h above.Room op v.seen ≡ Ran yes_ (counted_up h n v.seen)) → (has_place v.seen n ≡ false → above_exec.exec h above.Room op v.seen ≡ Ran no_ v.seen)
-      → CameTo l laws keeps h op v ⊥ (did_in (with_tables v.real) (up_inode n (tables_of v.real))) answer (λ a. c)
+      → CameTo l laws keeps h op v ⊥ (exec_result_in (with_tables v.real) (up_inode n (tables_of v.real))) answer (λ a. c)
   up_to op n v c answer yes_ no_ is_yes is_no shows base free range goes stays =
       by_place h n (tables_of v.real) v.seen (loaded (tables_of v.real)) shows.tables range.low range.size _
       (λ t ran there after.
-      subst (λ (d : Did (Option ℕ) TablesState). CameTo l laws keeps h op v ⊥ (did_in (with_tables v.real) d) answer (λ a. c)) (sym ran)
+      subst (λ (d : ExecResult (Option ℕ) TablesState). CameTo l laws keeps h op v ⊥ (exec_result_in (with_tables v.real) d) answer (λ a. c)) (sym ran)
       (counted_came op n v c (answer (Some n)) t shows base free range (goes there ∙ ap (λ (b : above.Answer op). Ran b (counted_up h n v.seen)) (sym is_yes)) after))
       (λ ran there.
-      subst (λ (d : Did (Option ℕ) TablesState). CameTo l laws keeps h op v ⊥ (did_in (with_tables v.real) d) answer (λ a. c)) (sym ran)
+      subst (λ (d : ExecResult (Option ℕ) TablesState). CameTo l laws keeps h op v ⊥ (exec_result_in (with_tables v.real) d) answer (λ a. c)) (sym ran)
       (came_quiet l laws keeps h lt op v (answer None) (tables_of v.real) v.seen c shows base free (stays there ∙ ap (λ (b : above.Answer op). Ran b v.seen) (sym is_no)) shows.tables (all_same h v.seen)))
 
   pub up_acts : (n : ℕ) (m : Bool → Option above.Mark) → ActsOnce l h (Up n) m (up n)
@@ -67,7 +67,7 @@ module _ (l : Labels) (laws : Laws (labelled l)) (keeps : Keeps l) (h : ℕ) (lt
       let range = found_number h n v.seen inv may.1 in (
         (in_word n v shows range.size, subst (λ (k : ℕ). k + 1 < 2 ^ 32) (shows.tables.places.counts n) range.room),
         λ x t.
-            subst (λ (d : Did (Option ℕ) World). CameTo l laws keeps h (Up n) v ⊥ d is_some (λ a. c)) (sym (in_tables_is h (steps.Up (Number n)) v.real (λ a o. refl) (λ s. refl) (λ a l. refl) (up_inode n (tables_of v.real))))
+            subst (λ (d : ExecResult (Option ℕ) World). CameTo l laws keeps h (Up n) v ⊥ d is_some (λ a. c)) (sym (in_tables_is h (steps.Up (Number n)) v.real (λ a o. refl) (λ s. refl) (λ a l. refl) (up_inode n (tables_of v.real))))
             (up_to (Up n) n v c is_some true false refl refl shows base may.0 range (λ e. ap (up_if h n v.seen) e) (λ e. ap (up_if h n v.seen) e)),
       ))
 
@@ -89,7 +89,7 @@ module _ (l : Labels) (laws : Laws (labelled l)) (keeps : Keeps l) (h : ℕ) (lt
       let range = start_is_number h true v.seen lt inv in (
         (in_word root v shows range.size, subst (λ (k : ℕ). k + 1 < 2 ^ 32) (shows.tables.places.counts root) range.room),
         λ x t.
-            subst (λ (d : Did (Option ℕ) World). CameTo l laws keeps h (UpStart true) v ⊥ d (λ a. a) (λ a. c)) (sym (in_tables_is h (steps.Up (Number root)) v.real (λ a o. refl) (λ s. refl) (λ a l. refl) (up_inode root (tables_of v.real))))
+            subst (λ (d : ExecResult (Option ℕ) World). CameTo l laws keeps h (UpStart true) v ⊥ d (λ a. a) (λ a. c)) (sym (in_tables_is h (steps.Up (Number root)) v.real (λ a o. refl) (λ s. refl) (λ a l. refl) (up_inode root (tables_of v.real))))
             (up_to (UpStart true) root v c (λ a. a) (Some root) None refl refl shows base may.0 range (λ e. ap (start_if h root v.seen) e) (λ e. ap (start_if h root v.seen) e)),
       ))
   up_start_acts false m =
@@ -98,8 +98,8 @@ module _ (l : Labels) (laws : Laws (labelled l)) (keeps : Keeps l) (h : ℕ) (lt
       let range = start_is_number h false v.seen lt inv in (
         (lt, may_up_directory v shows inv),
         λ x t.
-            subst (λ (d : Did (Option ℕ) World). CameTo l laws keeps h (UpStart false) v ⊥ d (λ a. a) (λ a. c))
-            (sym (in_tables_is h (steps.Up Directory) v.real (λ a o. refl) (λ s. refl) (λ a l. refl) (up_directory h (tables_of v.real)) ∙ ap (did_in (with_tables v.real)) (directories_are_starts h (tables_of v.real) v.seen (loaded (tables_of v.real)) shows.tables lt)))
+            subst (λ (d : ExecResult (Option ℕ) World). CameTo l laws keeps h (UpStart false) v ⊥ d (λ a. a) (λ a. c))
+            (sym (in_tables_is h (steps.Up Directory) v.real (λ a o. refl) (λ s. refl) (λ a l. refl) (up_directory h (tables_of v.real)) ∙ ap (exec_result_in (with_tables v.real)) (directories_are_starts h (tables_of v.real) v.seen (loaded (tables_of v.real)) shows.tables lt)))
             (up_to (UpStart false) (v.seen.desks h).directory v c (λ a. a) (Some (v.seen.desks h).directory) None refl refl shows base may.0 range (λ e. ap (start_if h (v.seen.desks h).directory v.seen) e) (λ e. ap (start_if h (v.seen.desks h).directory v.seen) e)),
       ))
 
@@ -334,16 +334,16 @@ module _ (l : Labels) (laws : Laws (labelled l)) (keeps : Keeps l) (h : ℕ) (lt
       (λ v c shows inv base may. (
         (fewer_owed n (tables_of v.real) v.seen (loaded (tables_of v.real)) shows.tables inv h lt may.1.0, λ one. sym (shows.tables.places.holders n) ∙ last_free n v.seen inv (some_here n v.seen may.1.0) (unheld n v inv may.1.1) (shows.tables.places.counts n ∙ one)),
         λ x t.
-            subst (λ (d : Did DroppedState World). CameTo l laws keeps h (WalkDown n) v ⊥ d is_listed (λ a. c)) (sym (in_tables_is h (steps.Down (Walked n)) v.real (λ a o. refl) (λ s. refl) (λ a l. refl) (drop_walked n (tables_of v.real))))
+            subst (λ (d : ExecResult DroppedState World). CameTo l laws keeps h (WalkDown n) v ⊥ d is_listed (λ a. c)) (sym (in_tables_is h (steps.Down (Walked n)) v.real (λ a o. refl) (λ s. refl) (λ a l. refl) (drop_walked n (tables_of v.real))))
             (by v c shows base may.0 (unheld n v inv may.1.1) (unlone n v inv (some_here n v.seen may.1.0) may.1.1) (unlone n v inv (some_here n v.seen may.1.0) may.1.1) (λ one. unkept_old v.real v.seen shows n (last_loose n v.seen inv (some_here n v.seen may.1.0) may.1.1 one)) (is_last v.seen n) refl (drop_walked n (tables_of v.real)) (walks_drop_references h n (tables_of v.real) v.seen (loaded (tables_of v.real)) shows.tables (may_die n v shows inv (λ one. unkept_old v.real v.seen shows n (last_loose n v.seen inv (some_here n v.seen may.1.0) may.1.1 one)) (may.1.0, unheld n v inv may.1.1) (λ one _. last_loose n v.seen inv (some_here n v.seen may.1.0) may.1.1 one)))),
       ))
     where
-      by : (v : W) (c : Carry) → Shows v.real v.seen → Base h v.real v.seen c → (v.seen.desks h).lender ≡ None → v.seen.lock n ≢ Some h → (v.seen.alone n ≡ true → above_exec.is_dead (v.seen.disk n) ≡ false) → (v.seen.alone n ≡ true → v.real.new n ≡ None) → (v.seen.refs n ≡ 1 → v.real.new n ≡ None) → (b : Bool) → is_last v.seen n ≡ b → (d : Did DroppedState TablesState)
-          → BothCame (λ a last. a ≡ (if last then Stays else Counts)) (load_after n (v.seen.refs n) (loaded (tables_of v.real))) d (walk_down_if h n v.seen (is_last v.seen n)) → CameTo l laws keeps h (WalkDown n) v ⊥ (did_in (with_tables v.real) d) is_listed (λ a. c)
+      by : (v : W) (c : Carry) → Shows v.real v.seen → Base h v.real v.seen c → (v.seen.desks h).lender ≡ None → v.seen.lock n ≢ Some h → (v.seen.alone n ≡ true → above_exec.is_dead (v.seen.disk n) ≡ false) → (v.seen.alone n ≡ true → v.real.new n ≡ None) → (v.seen.refs n ≡ 1 → v.real.new n ≡ None) → (b : Bool) → is_last v.seen n ≡ b → (d : ExecResult DroppedState TablesState)
+          → BothCame (λ a last. a ≡ (if last then Stays else Counts)) (load_after n (v.seen.refs n) (loaded (tables_of v.real))) d (walk_down_if h n v.seen (is_last v.seen n)) → CameTo l laws keeps h (WalkDown n) v ⊥ (exec_result_in (with_tables v.real) d) is_listed (λ a. c)
       by v c shows base free not_mine lone lone_old old b e d both = at b e d (subst (λ (z : Bool). BothCame (λ a last. a ≡ (if last then Stays else Counts)) (load_after n (v.seen.refs n) (loaded (tables_of v.real))) d (walk_down_if h n v.seen z)) e both)
         where
-          at : (b : Bool) → is_last v.seen n ≡ b → (d : Did DroppedState TablesState) → BothCame (λ a last. a ≡ (if last then Stays else Counts)) (load_after n (v.seen.refs n) (loaded (tables_of v.real))) d (walk_down_if h n v.seen b)
-              → CameTo l laws keeps h (WalkDown n) v ⊥ (did_in (with_tables v.real) d) is_listed (λ a. c)
+          at : (b : Bool) → is_last v.seen n ≡ b → (d : ExecResult DroppedState TablesState) → BothCame (λ a last. a ≡ (if last then Stays else Counts)) (load_after n (v.seen.refs n) (loaded (tables_of v.real))) d (walk_down_if h n v.seen b)
+              → CameTo l laws keeps h (WalkDown n) v ⊥ (exec_result_in (with_tables v.real) d) is_listed (λ a. c)
           at true e Waits both = absurd both
           at true e (Stops t) both = absurd both
           at true e (Ran a t) both =
@@ -362,16 +362,16 @@ module _ (l : Labels) (laws : Laws (labelled l)) (keeps : Keeps l) (h : ℕ) (lt
       (λ v c shows inv base may. (
         (fewer_owed n (tables_of v.real) v.seen (loaded (tables_of v.real)) shows.tables inv h lt may.1.0, λ one. sym (shows.tables.places.holders n) ∙ last_free n v.seen inv (some_here n v.seen may.1.0) (unheld n v inv may.1.1) (shows.tables.places.counts n ∙ one)),
         λ x t.
-            subst (λ (d : Did DroppedState World). CameTo l laws keeps h (Down n) v ⊥ d is_dying (with_dying n c)) (sym (in_tables_is h (steps.Down (Held n)) v.real (λ a o. refl) (λ s. refl) (λ a l. refl) (drop_inode h n (tables_of v.real))))
+            subst (λ (d : ExecResult DroppedState World). CameTo l laws keeps h (Down n) v ⊥ d is_dying (with_dying n c)) (sym (in_tables_is h (steps.Down (Held n)) v.real (λ a o. refl) (λ s. refl) (λ a l. refl) (drop_inode h n (tables_of v.real))))
             (by v c shows base may.0 (may_die n v shows inv (λ one. unkept_old v.real v.seen shows n (last_loose n v.seen inv (some_here n v.seen may.1.0) may.1.1 one)) (may.1.0, unheld n v inv may.1.1) (λ one _. last_loose n v.seen inv (some_here n v.seen may.1.0) may.1.1 one)) (λ one. last_loose n v.seen inv (some_here n v.seen may.1.0) may.1.1 one) (unheld n v inv may.1.1) (unlone n v inv (some_here n v.seen may.1.0) may.1.1) (unlone n v inv (some_here n v.seen may.1.0) may.1.1) (is_last v.seen n) refl (drop_inode h n (tables_of v.real)) (references_are_dropped h n (tables_of v.real) v.seen (loaded (tables_of v.real)) shows.tables (may_die n v shows inv (λ one. unkept_old v.real v.seen shows n (last_loose n v.seen inv (some_here n v.seen may.1.0) may.1.1 one)) (may.1.0, unheld n v inv may.1.1) (λ one _. last_loose n v.seen inv (some_here n v.seen may.1.0) may.1.1 one)))),
       ))
     where
-      by : (v : W) (c : Carry) → Shows v.real v.seen → Base h v.real v.seen c → (v.seen.desks h).lender ≡ None → MayDie n v.seen (loaded (tables_of v.real)) → (v.seen.refs n ≡ 1 → v.seen.keeper n ≡ None) → v.seen.lock n ≢ Some h → (v.seen.alone n ≡ true → above_exec.is_dead (v.seen.disk n) ≡ false) → (v.seen.alone n ≡ true → v.real.new n ≡ None) → (b : Bool) → is_last v.seen n ≡ b → (d : Did DroppedState TablesState)
-          → BothCame (λ a last. a ≡ (if last then Dies n (loaded (tables_of v.real) n) else Counts)) (load_after n (v.seen.refs n) (loaded (tables_of v.real))) d (down_if h n v.seen (is_last v.seen n)) → CameTo l laws keeps h (Down n) v ⊥ (did_in (with_tables v.real) d) is_dying (with_dying n c)
+      by : (v : W) (c : Carry) → Shows v.real v.seen → Base h v.real v.seen c → (v.seen.desks h).lender ≡ None → MayDie n v.seen (loaded (tables_of v.real)) → (v.seen.refs n ≡ 1 → v.seen.keeper n ≡ None) → v.seen.lock n ≢ Some h → (v.seen.alone n ≡ true → above_exec.is_dead (v.seen.disk n) ≡ false) → (v.seen.alone n ≡ true → v.real.new n ≡ None) → (b : Bool) → is_last v.seen n ≡ b → (d : ExecResult DroppedState TablesState)
+          → BothCame (λ a last. a ≡ (if last then Dies n (loaded (tables_of v.real) n) else Counts)) (load_after n (v.seen.refs n) (loaded (tables_of v.real))) d (down_if h n v.seen (is_last v.seen n)) → CameTo l laws keeps h (Down n) v ⊥ (exec_result_in (with_tables v.real) d) is_dying (with_dying n c)
       by v c shows base free die unkept not_mine lone lone_old b e d both = at b e d (subst (λ (z : Bool). BothCame (λ a last. a ≡ (if last then Dies n (loaded (tables_of v.real) n) else Counts)) (load_after n (v.seen.refs n) (loaded (tables_of v.real))) d (down_if h n v.seen z)) e both)
         where
-          at : (b : Bool) → is_last v.seen n ≡ b → (d : Did DroppedState TablesState) → BothCame (λ a last. a ≡ (if last then Dies n (loaded (tables_of v.real) n) else Counts)) (load_after n (v.seen.refs n) (loaded (tables_of v.real))) d (down_if h n v.seen b)
-              → CameTo l laws keeps h (Down n) v ⊥ (did_in (with_tables v.real) d) is_dying (with_dying n c)
+          at : (b : Bool) → is_last v.seen n ≡ b → (d : ExecResult DroppedState TablesState) → BothCame (λ a last. a ≡ (if last then Dies n (loaded (tables_of v.real) n) else Counts)) (load_after n (v.seen.refs n) (loaded (tables_of v.real))) d (down_if h n v.seen b)
+              → CameTo l laws keeps h (Down n) v ⊥ (exec_result_in (with_tables v.real) d) is_dying (with_dying n c)
           at true e Waits both = absurd both
           at true e (Stops t) both = absurd both
           at true e (Ran a t) both =

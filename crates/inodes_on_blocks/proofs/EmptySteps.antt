@@ -1,5 +1,5 @@
 -- A file's content is given back: the operation acts where its record is put without it.
-use Rattle.inodes_on_blocks.proofs.Vocabulary.{◌≡◌, ℕ, zero, suc, pos, ◌^◌, ◌<◌, ◌≤◌, ◌==◌, Bool, true, false, List, [], ◌∷◌, length, take, replicate, Option, Some, None, refl, sym, ◌∙◌, subst, arith, if◌then◌else◌, AllByRecursion, unwrap_or, none-some, same_Some, Super, Dinode, IsDinode, sizes_of, Node, Kind, Directory, File, Device, emptied, node_or, hart_count, HoldsAt, IsInode, NamesOwned, size_in, type_in, numbers_by_free, bind, once, Ran, Laws, Machine, P, Wp, Both, joined, Below, Lasts, Handover, ToAct, to_act, may_act, Stable, Wp-more, lock_holder, fetch, seen_of, free_block, table_of, free_numbers, free_indirect, free_in_table, without_content, direct, no_record, inode_block, Empty, with_record, with_no_bytes, Inv, Idle, more, World, log_of, tables_of, disk_of, inode_in, empty, Owns, KeepsRoom, KeepsInode, Kept, NothingMore, Had, Apart, Has, Emptied, Carry, record_had, IsLoaded, InHand, Base, Stands, below, Labels, labelled, Keeps, IsChanging, GivesRoom, Shows, record_in, put_record}
+use Rattle.inodes_on_blocks.proofs.Vocabulary.{◌≡◌, ℕ, zero, suc, pos, ◌^◌, ◌<◌, ◌≤◌, ◌==◌, Bool, true, false, List, [], ◌∷◌, length, take, replicate, Option, Some, None, refl, sym, ◌∙◌, subst, arith, if◌then◌else◌, AllByRecursion, unwrap_or, none-some, same_Some, Super, Dinode, IsDinode, sizes_of, Node, NodeKind, Directory, File, Device, emptied, node_or, hart_count, HoldsAt, IsInode, NamesOwned, size_in, type_in, numbers_by_free, bind, once, Ran, Laws, Machine, P, Wp, Both, joined, Below, Lasts, Handover, ToAct, to_act, may_act, Stable, Wp-more, lock_holder, fetch, seen_of, free_block, table_of, free_numbers, free_indirect, free_in_table, without_content, direct, no_record, inode_block, Empty, with_record, with_no_bytes, Inv, Idle, more, World, log_of, tables_of, disk_of, inode_in, empty, Owns, KeepsRoom, KeepsInode, Kept, NothingMore, Had, Apart, Has, Emptied, Carry, record_had, IsLoaded, InHand, Base, Stands, below, Labels, labelled, Keeps, IsChanging, GivesRoom, Shows, record_in, put_record}
 use Rattle.std.proofs.Common.{All}
 use Rattle.plain_tree.specs.Steps.{is_file}
 use Rattle.inodes_on_blocks.proofs.Basics.{laid_before, node_held, empty_laid, empty_named, good_seen, kept_same, below_laws, hand_then, kept_disk, lent_then, untouched_same, through_then, given_order, order_owned, order_named, lock_range, TakesStep, s-here, AllBut, Ready, seen_dinode, untaken}
@@ -34,7 +34,7 @@ few_numbers d = least 12 d.addrs
 empty_inode : (d : Dinode) (v : Node) → is_file v.kind ≡ true → IsInode d v → IsInode (without_content d) (with_no_bytes v) × (size_in (with_no_bytes v).kind ≡ 0)
 empty_inode d v file is = by v.kind file is.kind
   where
-    by : (k : Kind) → is_file k ≡ true → d.kind ≡ pos (type_in k) → IsInode (without_content d) (record v { kind = emptied k }) × (size_in (emptied k) ≡ 0)
+    by : (k : NodeKind) → is_file k ≡ true → d.kind ≡ pos (type_in k) → IsInode (without_content d) (record v { kind = emptied k }) × (size_in (emptied k) ≡ 0)
     by (Directory slots) e kind = absurd (cc e)
     by (File bytes) e kind = (record { kind = kind; count = is.count; size = refl; device = tt }, refl)
     by (Device major minor size) e kind = absurd (cc e)

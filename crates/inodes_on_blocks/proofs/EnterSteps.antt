@@ -1,5 +1,5 @@
 -- A name entered acts where the directory's record is put, after its entry was written; or, where the directory has no slot left, where its last block is given back.
-use Rattle.inodes_on_blocks.proofs.Vocabulary.{◌≡◌, ℕ, zero, suc, ◌+◌, ◌-◌, ◌*◌, ◌/◌, ◌<◌, ◌≤◌, ◌==◌, ◌&&◌, nat_lt, Bool, true, false, List, [], length, drop, max, Option, Some, None, refl, sym, ◌∙◌, ap, subst, arith, if◌then◌else◌, slice_index, nat_tests, Found, slot_for, IsFirst, Unused, block_count, search, search_from, slot_count, found_from, Used, Dinode, Super, IsDirent, spell_dirent, length-spell_dirent, is_free, content_block, HoldsAt, size_in, slots_with, Slot, Node, Kind, Directory, File, Device, node_or, Name, hart_count, eq_not, eq_self, Ret, bind, Ran, Laws, Machine, P, Wp, Both, joined, Below, Lasts, Handover, ToAct, to_act, may_act, Wp-more, lock_holder, blocks_between, WriteResult, front_of, write_blocks, inode_block, Spent, size, with_contents, most_recorded, Enter, all_used, enter_if, is_full_directory, with_entry, with_record, marked, Inv, IsSpent, World, log_of, tables_of, disk_of, inode_in, enter, entered_to, put_grown, search_full, Acts, acts, Same, Kept, Carry, InHand, Stands, below, Labels, labelled, Keeps, IsChanging, HasSpent, Shows, record_in}
+use Rattle.inodes_on_blocks.proofs.Vocabulary.{◌≡◌, ℕ, zero, suc, ◌+◌, ◌-◌, ◌*◌, ◌/◌, ◌<◌, ◌≤◌, ◌==◌, ◌&&◌, nat_lt, Bool, true, false, List, [], length, drop, max, Option, Some, None, refl, sym, ◌∙◌, ap, subst, arith, if◌then◌else◌, slice_index, nat_tests, Found, slot_for, IsFirst, Unused, block_count, search, search_from, slot_count, found_from, Used, Dinode, Super, IsDirent, spell_dirent, length-spell_dirent, is_free, content_block, HoldsAt, size_in, slots_with, Slot, Node, NodeKind, Directory, File, Device, node_or, Name, hart_count, eq_not, eq_self, Ret, bind, Ran, Laws, Machine, P, Wp, Both, joined, Below, Lasts, Handover, ToAct, to_act, may_act, Wp-more, lock_holder, blocks_between, WriteResult, front_of, write_blocks, inode_block, Spent, size, with_contents, most_recorded, Enter, all_used, enter_if, is_full_directory, with_entry, with_record, marked, Inv, IsSpent, World, log_of, tables_of, disk_of, inode_in, enter, entered_to, put_grown, search_full, Acts, acts, Same, Kept, Carry, InHand, Stands, below, Labels, labelled, Keeps, IsChanging, HasSpent, Shows, record_in}
 use Rattle.directory.specs.Laws.{slot_at}
 use Rattle.plain_tree.specs.Steps.{first_free}
 use Rattle.plain_tree.specs.Tree as tree
@@ -117,7 +117,7 @@ module _ (sizes : Super) (l : Labels) (laws : Laws (labelled l)) (keeps : Keeps 
     directory : (slots : List (Option Slot)) × (node.kind ≡ Directory slots)
     directory = by node.kind refl may.1.1.fits
       where
-        by : (k : Kind) → node.kind ≡ k → tree.is_directory node.kind ≡ true → (slots : List (Option Slot)) × (node.kind ≡ Directory slots)
+        by : (k : NodeKind) → node.kind ≡ k → tree.is_directory node.kind ≡ true → (slots : List (Option Slot)) × (node.kind ≡ Directory slots)
         by (Directory slots) z dir = (slots, z)
         by (File bytes) z dir = absurd (let no : false ≡ true = ap tree.is_directory (sym z) ∙ dir in cc)
         by (Device major minor size) z dir = absurd (let no : false ≡ true = ap tree.is_directory (sym z) ∙ dir in cc)
@@ -165,7 +165,7 @@ module _ (sizes : Super) (l : Labels) (laws : Laws (labelled l)) (keeps : Keeps 
     entry = record { name = e; number = q }
 
     full_is : is_full_directory (Some node) ≡ ((length slots == 17152) && all_used slots)
-    full_is = ap (λ (k : Kind). (length (slots_of k) == 17152) && all_used (slots_of k)) directory.1
+    full_is = ap (λ (k : NodeKind). (length (slots_of k) == 17152) && all_used (slots_of k)) directory.1
 
     -- ---- the slot is known
 
@@ -177,7 +177,7 @@ module _ (sizes : Super) (l : Labels) (laws : Laws (labelled l)) (keeps : Keeps 
       grew = max (16 * length slots) (16 * suc slot)
 
       entered_is : with_entry e q node ≡ after
-      entered_is = let same = ap (λ (k : Kind). first_free (slots_of k) entry) directory.1 ∙ free in λ z. directory_of node.count (same z)
+      entered_is = let same = ap (λ (k : NodeKind). first_free (slots_of k) entry) directory.1 ∙ free in λ z. directory_of node.count (same z)
 
       place : 16 * slot / 1024 ≡ slot / 64
       place = omega arith

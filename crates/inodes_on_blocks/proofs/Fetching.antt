@@ -1,5 +1,5 @@
 -- A block's buffer is taken, and given back, below: nothing of it is seen above.
-use Rattle.inodes_on_blocks.proofs.Vocabulary.{◌≡◌, ◌≢◌, ℕ, suc, ◌<◌, ◌≤◌, Bool, true, false, List, Option, Some, None, length, refl, sym, ◌∙◌, ap, subst, arith, is_some, IsSome, unwrap_or, Super, IsBytes, IsOutsideLog, block_at, get_of, SeatState, seat_of, holder_of, kept, seen_in, with_seat, with_content, given_back, Got, GetLaws, get_laws, hart_count, inode_of, Do, bind, unmarked, Did, Machine, Laws, P, Wp, Both, joined, Stable, Here, Silent, s-silent, Wp-more, lock_holder, LogPart, Outside, Passes, Fails, with_seats, failed, got_by, own_of, mine_of, Own, fetch, read_unless, seen_of, Get, Read, Put, IsElsewhere, IsWholeLog, After, keeps_whole, leaves_own, shows_its_puts, if_kept, Inv, kept_is, kept_here, loaded, World, log_of, tables_of, disk_of, came_to, exec, shown, Shows, ghost_of, on_blocks, KeepsInode, Same, Kept, below, buffer_in, Labels, labelled, Keeps, in_hand, HasBuffer, SameBut, IsFetched, PutBack}
+use Rattle.inodes_on_blocks.proofs.Vocabulary.{◌≡◌, ◌≢◌, ℕ, suc, ◌<◌, ◌≤◌, Bool, true, false, List, Option, Some, None, length, refl, sym, ◌∙◌, ap, subst, arith, is_some, IsSome, unwrap_or, Super, IsBytes, IsOutsideLog, block_at, get_of, SeatState, seat_of, holder_of, kept, seen_in, with_seat, with_content, given_back, Got, GetLaws, get_laws, hart_count, inode_of, Do, bind, unmarked, ExecResult, Machine, Laws, P, Wp, Both, joined, Stable, Here, Silent, s-silent, Wp-more, lock_holder, LogPart, Outside, Passes, Fails, with_seats, failed, got_by, own_of, mine_of, Own, fetch, read_unless, seen_of, Get, Read, Put, IsElsewhere, IsWholeLog, After, keeps_whole, leaves_own, shows_its_puts, if_kept, Inv, kept_is, kept_here, loaded, World, log_of, tables_of, disk_of, came_to, exec, shown, Shows, ghost_of, on_blocks, KeepsInode, Same, Kept, below, buffer_in, Labels, labelled, Keeps, in_hand, HasBuffer, SameBut, IsFetched, PutBack}
 use Rattle.buffer_cache.specs.declared.got.Got.TheVariants as got
 use Rattle.inodes_on_blocks.proofs.SeenDisks.{seen_stays}
 use Rattle.fs_machine.specs.Steps as steps
@@ -164,7 +164,7 @@ module _ (sizes : Super) (l : Labels) (laws : Laws (labelled l)) (keeps : Keeps 
   elsewhere None is ne = let isnt : IsSome {T = ℕ} None = is in absurd (cc isnt)
   elsewhere (Some g) is ne = (g, λ e. ne (ap (λ (z : ℕ). Some z) e), refl)
 
-  abbrev IsSilent : {A : Type 0} → W → Type 0 → Did A World → (A → World → Type 0) → Type 0
+  abbrev IsSilent : {A : Type 0} → W → Type 0 → ExecResult A World → (A → World → Type 0) → Type 0
   IsSilent v wait d N = Silent (labelled l) (below sizes) laws (below_laws sizes l keeps) h B v wait d N
 
   -- a buffer is got, or another hart has it

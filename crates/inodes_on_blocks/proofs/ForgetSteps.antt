@@ -1,5 +1,5 @@
 -- The reference that is left to a freed inode goes in one step.
-use Rattle.inodes_on_blocks.proofs.Vocabulary.{◌≡◌, ℕ, ◌<◌, ◌==◌, ◌&&◌, Bool, false, true, Option, Some, None, refl, sym, ◌∙◌, ap, subst, if◌then◌else◌, slice_get, Dinode, SlotState, pick, Node, hart_count, Did, Waits, Ran, Stops, did_in, Laws, Both, Inode, TablesState, place_of, DroppedState, Counts, Dies, dead_in, dying, drop_inode, drop_at, drop_dying, drop_freed, uncounted_freed as freed_at, Freed, Forget, is_last, down_if, counted_down, Inv, load_after, BothCame, loaded, loaded_at, loaded_of, World, tables_of, Shows, Carry, Base, Labels, labelled, Keeps, forget, ActsOnce}
+use Rattle.inodes_on_blocks.proofs.Vocabulary.{◌≡◌, ℕ, ◌<◌, ◌==◌, ◌&&◌, Bool, false, true, Option, Some, None, refl, sym, ◌∙◌, ap, subst, if◌then◌else◌, slice_get, Dinode, SlotState, pick, Node, hart_count, ExecResult, Waits, Ran, Stops, exec_result_in, Laws, Both, Inode, TablesState, place_of, DroppedState, Counts, Dies, dead_in, dying, drop_inode, drop_at, drop_dying, drop_freed, uncounted_freed as freed_at, Freed, Forget, is_last, down_if, counted_down, Inv, load_after, BothCame, loaded, loaded_at, loaded_of, World, tables_of, Shows, Carry, Base, Labels, labelled, Keeps, forget, ActsOnce}
 use Rattle.fs_machine.specs.declared.entries.Entry.{Entry}
 use Rattle.fs_machine.specs.Steps as steps
 use Rattle.fs_machine.specs.Premises as premises
@@ -42,15 +42,15 @@ module _ (l : Labels) (laws : Laws (labelled l)) (keeps : Keeps l) (h : ℕ) (lt
   W = Both World above.World
 
   forgotten_came : (n : ℕ) (v : W) (c : Carry) → Shows v.real v.seen → Inv v.seen → Base h v.real v.seen c → rules.May h (Forget n) v.seen
-      → CameTo l laws keeps h (Forget n) v ⊥ (did_in (with_tables v.real) (drop_freed n (tables_of v.real))) (λ a. tt {0}) (λ a. c)
+      → CameTo l laws keeps h (Forget n) v ⊥ (exec_result_in (with_tables v.real) (drop_freed n (tables_of v.real))) (λ a. tt {0}) (λ a. c)
   forgotten_came n v c shows inv base may =
-      subst (λ (d : Did DroppedState TablesState). CameTo l laws keeps h (Forget n) v ⊥ (did_in (with_tables v.real) d) (λ a. tt {0}) (λ a. c)) (sym (freed_is h n (tables_of v.real) (shows.loads.typed n may.1.2.1)))
+      subst (λ (d : ExecResult DroppedState TablesState). CameTo l laws keeps h (Forget n) v ⊥ (exec_result_in (with_tables v.real) d) (λ a. tt {0}) (λ a. c)) (sym (freed_is h n (tables_of v.real) (shows.loads.typed n may.1.2.1)))
       (at (drop_inode h n (tables_of v.real))
       (subst (λ (z : Bool). BothCame (λ a last. a ≡ (if last then Dies n (loaded (tables_of v.real) n) else Counts)) (load_after n (v.seen.refs n) (loaded (tables_of v.real))) (drop_inode h n (tables_of v.real)) (down_if h n v.seen z))
       (not_last n v.seen may.1.2.1) (references_are_dropped h n (tables_of v.real) v.seen (loaded (tables_of v.real)) shows.tables (may_die l laws keeps h lt n v shows inv (λ one. kept_old v.real v.seen shows n h base.through.new may.1.2.0) (may.1.0, may.1.1) (λ one dead. absurd (let q : false ≡ true = sym (ap (λ (o : Option Node). above_exec.is_dead o) may.1.2.1) ∙ dead in cc q))))))
     where
-      at : (d : Did DroppedState TablesState) → BothCame (λ a last. a ≡ (if last then Dies n (loaded (tables_of v.real) n) else Counts)) (load_after n (v.seen.refs n) (loaded (tables_of v.real))) d (down_if h n v.seen false)
-          → CameTo l laws keeps h (Forget n) v ⊥ (did_in (with_tables v.real) d) (λ a. tt {0}) (λ a. c)
+      at : (d : ExecResult DroppedState TablesState) → BothCame (λ a last. a ≡ (if last then Dies n (loaded (tables_of v.real) n) else Counts)) (load_after n (v.seen.refs n) (loaded (tables_of v.real))) d (down_if h n v.seen false)
+          → CameTo l laws keeps h (Forget n) v ⊥ (exec_result_in (with_tables v.real) d) (λ a. tt {0}) (λ a. c)
       at Waits both = absurd both
       at (Stops t) both = absurd both
       at (Ran a t) both =
@@ -64,6 +64,6 @@ module _ (l : Labels) (laws : Laws (labelled l)) (keeps : Keeps l) (h : ℕ) (lt
       (λ v c shows inv base may. (
         (fewer_owed n (tables_of v.real) v.seen (loaded (tables_of v.real)) shows.tables inv h lt may.1.0, λ one. sym (shows.tables.places.holders n) ∙ last_free l laws keeps h lt n v.seen inv (some_here l laws keeps h lt n v.seen may.1.0) may.1.1 (shows.tables.places.counts n ∙ one)),
         λ x t.
-            subst (λ (d : Did DroppedState World). CameTo l laws keeps h (Forget n) v ⊥ d (λ a. tt {0}) (λ a. c)) (sym (in_tables_is h (steps.Down (Freed n)) v.real (λ a o. refl) (λ s. refl) (λ a l. refl) (drop_freed n (tables_of v.real))))
+            subst (λ (d : ExecResult DroppedState World). CameTo l laws keeps h (Forget n) v ⊥ d (λ a. tt {0}) (λ a. c)) (sym (in_tables_is h (steps.Down (Freed n)) v.real (λ a o. refl) (λ s. refl) (λ a l. refl) (drop_freed n (tables_of v.real))))
             (forgotten_came n v c shows inv base may),
       ))

@@ -1,5 +1,5 @@
 -- The inodes of a disk that holds nodes, and its tree.
-use Rattle.inodes_on_blocks.proofs.Vocabulary.{◌≡◌, ◌⊎◌, ℕ, zero, suc, true, false, pos, inl, inr, refl, sym, ◌∙◌, ap, subst, List, [], ◌∷◌, ◌++◌, map, Option, Some, None, nat_lt, false≢true, Dinode, Node, Kind, Directory, File, Device, inode_of, is_number, is_positive, is_free, is_directory, is_live, is_node, count_of, node_of, first_nodes, node_is, node_from, Slots, folder, links_of, either, folder_dead, dead_links, dead_no_directory, Nodes, type_in, size_in, IsDevice, IsInode, IsRecord, HasContent, entry_of, live_part, live_nodes}
+use Rattle.inodes_on_blocks.proofs.Vocabulary.{◌≡◌, ◌⊎◌, ℕ, zero, suc, true, false, pos, inl, inr, refl, sym, ◌∙◌, ap, subst, List, [], ◌∷◌, ◌++◌, map, Option, Some, None, nat_lt, false≢true, Dinode, Node, NodeKind, Directory, File, Device, inode_of, is_number, is_positive, is_free, is_directory, is_live, is_node, count_of, node_of, first_nodes, node_is, node_from, Slots, folder, links_of, either, folder_dead, dead_links, dead_no_directory, Nodes, type_in, size_in, IsDevice, IsInode, IsRecord, HasContent, entry_of, live_part, live_nodes}
 use Rattle.plain_tree.specs.Tree as plain
 use Rattle.image_tree.specs.Trees.{kind_of}
 use Rattle.inodes_on_blocks.proofs.HeldParts.{HoldsRecords, HoldsContents}
@@ -32,12 +32,12 @@ live_links o = elim (either (plain.is_live o)) [
 
 -- ---- an inode of a node
 
-used_type : (k : Kind) → is_number 0 (pos (type_in k)) ≡ false
+used_type : (k : NodeKind) → is_number 0 (pos (type_in k)) ≡ false
 used_type (Directory slots) = refl
 used_type (File bytes) = refl
 used_type (Device major minor size) = refl
 
-directory_type : (k : Kind) → is_number 1 (pos (type_in k)) ≡ plain.is_directory k
+directory_type : (k : NodeKind) → is_number 1 (pos (type_in k)) ≡ plain.is_directory k
 directory_type (Directory slots) = refl
 directory_type (File bytes) = refl
 directory_type (Device major minor size) = refl
@@ -61,7 +61,7 @@ entries_back [] = refl
 entries_back (None ∷ slots) = ap (λ (ss : Slots). None ∷ ss) (entries_back slots)
 entries_back (Some s ∷ slots) = ap (λ (ss : Slots). Some s ∷ ss) (entries_back slots)
 
-kind_same : (disk : List (List ℕ)) (d : Dinode) (k : Kind) → d.kind ≡ pos (type_in k) → d.size ≡ size_in k → IsDevice d k → HasContent disk d k → kind_of disk d ≡ k
+kind_same : (disk : List (List ℕ)) (d : Dinode) (k : NodeKind) → d.kind ≡ pos (type_in k) → d.size ≡ size_in k → IsDevice d k → HasContent disk d k → kind_of disk d ≡ k
 unfolding kind_of
 kind_same disk d (Directory slots) kind size device content =
     kind_of_directory disk d (ap (is_number 1) kind) ∙ ap (λ (ss : Entries). Directory (in_tree ss)) content ∙ ap (λ (ss : Slots). Directory ss) (entries_back slots)
@@ -118,7 +118,7 @@ module _ (disk : List (List ℕ)) (nodes : Nodes) (records : HoldsRecords disk n
             let kind : kind_of disk (inode_of disk i) ≡ v.kind = kind_same disk (inode_of disk i) v.kind d.kind d.size d.device (contents.content i v is) in
             live_node disk i (node_there i v is) (inode_live (inode_of disk i) v d ∙ live)
             ∙ ap (λ (n : ℕ). Some (record { count = n; kind = kind_of disk (inode_of disk i) })) (inode_count (inode_of disk i) v d)
-            ∙ ap (λ (k : Kind). Some (record { count = v.count; kind = k })) kind
+            ∙ ap (λ (k : NodeKind). Some (record { count = v.count; kind = k })) kind
             ∙ (rw (is, live) refl)
 
     pub folder_same : (i : ℕ) → folder (node_of disk i) ≡ folder (nodes i)

@@ -1,5 +1,5 @@
 -- What an inode and its blocks say stays where these do.
-use Rattle.inodes_on_blocks.proofs.Vocabulary.{◌≡◌, ◌≢◌, ⊎_elim, ℕ, zero, suc, ◌+◌, ◌*◌, ◌/◌, ◌%◌, ◌<◌, ◌≤◌, false, inl, inr, refl, sym, ◌∙◌, ap, subst, arith, List, [], ◌∷◌, ◌++◌, length, take, get_or, slice_index, filter, Option, Some, None, nat_lt, if◌then◌else◌, All, Contains, cases_eq, Super, Dinode, Dirent, u32s_at, dirent_at, recovered, sizes_of, Node, Kind, Directory, File, Device, IsOnce, inode_of, is_free, is_block, numbers_of, numbers_by, block_number, content_block, blocks_for, front_blocks, slot_on as slot_at, first_slots, IsData, numbers_by_node, numbers_without, numbers_with, All-addrs, numbers_by_free, either, IsRecord, HasContent, HasContentOf, IsOwned, HoldsAt, NamesOwned, IsPut, IsUntouched, IsLaidOut, IsSpare, Becomes}
+use Rattle.inodes_on_blocks.proofs.Vocabulary.{◌≡◌, ◌≢◌, ⊎_elim, ℕ, zero, suc, ◌+◌, ◌*◌, ◌/◌, ◌%◌, ◌<◌, ◌≤◌, false, inl, inr, refl, sym, ◌∙◌, ap, subst, arith, List, [], ◌∷◌, ◌++◌, length, take, get_or, slice_index, filter, Option, Some, None, nat_lt, if◌then◌else◌, All, Contains, cases_eq, Super, Dinode, Dirent, u32s_at, dirent_at, recovered, sizes_of, Node, NodeKind, Directory, File, Device, IsOnce, inode_of, is_free, is_block, numbers_of, numbers_by, block_number, content_block, blocks_for, front_blocks, slot_on as slot_at, first_slots, IsData, numbers_by_node, numbers_without, numbers_with, All-addrs, numbers_by_free, either, IsRecord, HasContent, HasContentOf, IsOwned, HoldsAt, NamesOwned, IsPut, IsUntouched, IsLaidOut, IsSpare, Becomes}
 use Rattle.inodes_on_blocks.specs.Holds.{HasRoom}
 use Rattle.inodes_on_blocks.proofs.Held.{inode_used}
 use Rattle.inodes_on_blocks.proofs.ImageNodes.{at_index}
@@ -28,7 +28,7 @@ module _ (disk new : List (List ℕ)) (d e : Dinode) (size : e.size ≡ d.size) 
       ap (λ (xs : List (Option Dirent)). xs ++ slot_at new e n ∷ []) (slots_same n (omega arith))
       ∙ ap (λ (x : Option Dirent). first_slots disk d n ++ x ∷ []) (slot_same n (omega arith))
 
-  pub content_same : (k : Kind) → HasContent disk d k → HasContent new e k
+  pub content_same : (k : NodeKind) → HasContent disk d k → HasContent new e k
   content_same (Directory slots) h = ap (λ (n : ℕ). first_slots new e (n / 16)) size ∙ slots_same (d.size / 16) (omega arith) ∙ h
   content_same (File bytes) h =
       ap (λ (n : ℕ). take n (front_blocks new e (blocks_for n))) size ∙ ap (take d.size) (front_same (blocks_for d.size) (omega arith)) ∙ h
@@ -49,7 +49,7 @@ module _ (disk new : List (List ℕ)) (d : Dinode) (all : All (λ b. b ≢ 0 →
       numbers_with new d ne ∙ ap (λ (block : List ℕ). d.addrs ++ u32s_at 256 block 0) same ∙ sym (numbers_with disk d ne))
       (cases_eq (slice_index d.addrs 12) 0)
 
-  pub content_kept : ((k : ℕ) → 1024 * k < d.size → block_number (numbers_of disk d) k ≢ 0) → (k : Kind) → HasContent disk d k → HasContent new d k
+  pub content_kept : ((k : ℕ) → 1024 * k < d.size → block_number (numbers_of disk d) k ≢ 0) → (k : NodeKind) → HasContent disk d k → HasContent new d k
   content_kept there =
       content_same disk new d d refl
       (λ k l.

@@ -1,5 +1,5 @@
 -- The checks of inodes pass: types, the root, sizes, and counts.
-use Rattle.inodes_on_blocks.proofs.Vocabulary.{◌≡◌, ◌≤◌, ℕ, ◌*◌, ◌%◌, true, false, ℤ, pos, negsuc, inl, inr, sym, ◌∙◌, ap, subst, arith, rules, List, length, map, Option, Some, nat_lt, ◌<ℤ◌, false≢true, eqb-true, nat_tests, length-map, Dinode, sizes_of, Node, Kind, Directory, File, Device, inode_of, is_number, is_positive, is_directory, is_live, is_node, is_live_directory, slots_of, IsGoodType, HasGoodTypes, HasRoot, HasGoodSizes, HasGoodCounts, directory_is, directory_from, node_is, links_of, IsForest, either, Nodes, type_in, size_in, IsUnused, IsRecord, HasContent, entry_of}
+use Rattle.inodes_on_blocks.proofs.Vocabulary.{◌≡◌, ◌≤◌, ℕ, ◌*◌, ◌%◌, true, false, ℤ, pos, negsuc, inl, inr, sym, ◌∙◌, ap, subst, arith, rules, List, length, map, Option, Some, nat_lt, ◌<ℤ◌, false≢true, eqb-true, nat_tests, length-map, Dinode, sizes_of, Node, NodeKind, Directory, File, Device, inode_of, is_number, is_positive, is_directory, is_live, is_node, is_live_directory, slots_of, IsGoodType, HasGoodTypes, HasRoot, HasGoodSizes, HasGoodCounts, directory_is, directory_from, node_is, links_of, IsForest, either, Nodes, type_in, size_in, IsUnused, IsRecord, HasContent, entry_of}
 use Rattle.plain_tree.specs.Tree as plain
 use Rattle.inodes_on_blocks.proofs.HeldParts.{HoldsRecords, HoldsContents, HaveRoom}
 use Rattle.inodes_on_blocks.proofs.ImageSlots.{Entries, in_tree}
@@ -14,7 +14,7 @@ use Rattle.inodes_on_blocks.proofs.HeldTree.{AreSpelled, root_live, stands, othe
 unused_type : (d : Dinode) → IsUnused d → IsGoodType d
 unused_type d h = (h.low, h.high, λ ne. let e = h.unnamed ne in rw e (search rules))
 
-good_type : (d : Dinode) (k : Kind) (n : ℕ) → d.kind ≡ pos (type_in k) → d.nlink ≡ pos n → IsGoodType d
+good_type : (d : Dinode) (k : NodeKind) (n : ℕ) → d.kind ≡ pos (type_in k) → d.nlink ≡ pos n → IsGoodType d
 good_type d (Directory slots) n e c = rw (e, c) (search rules, search rules, λ _. search rules)
 good_type d (File bytes) n e c = rw (e, c) (search rules, search rules, λ _. search rules)
 good_type d (Device major minor size) n e c = rw (e, c) (search rules, search rules, λ _. search rules)
@@ -37,12 +37,12 @@ above_zero (negsuc n) h = absurd (false≢true h)
 
 -- ---- slots
 
-spelled_as : (disk : List (List ℕ)) (d : Dinode) (k : Kind) → plain.is_directory k ≡ true → HasContent disk d k → slots_of disk d ≡ map entry_of (in_tree (slots_of disk d))
+spelled_as : (disk : List (List ℕ)) (d : Dinode) (k : NodeKind) → plain.is_directory k ≡ true → HasContent disk d k → slots_of disk d ≡ map entry_of (in_tree (slots_of disk d))
 spelled_as disk d (Directory slots) h content = content ∙ ap (map entry_of) (sym (ap (λ (es : Entries). in_tree es) content ∙ entries_back slots))
 spelled_as disk d (File bytes) h content = absurd (false≢true h)
 spelled_as disk d (Device major minor size) h content = absurd (false≢true h)
 
-slots_sized : (disk : List (List ℕ)) (d : Dinode) (k : Kind) → plain.is_directory k ≡ true → HasContent disk d k → size_in k ≡ 16 * length (slots_of disk d)
+slots_sized : (disk : List (List ℕ)) (d : Dinode) (k : NodeKind) → plain.is_directory k ≡ true → HasContent disk d k → size_in k ≡ 16 * length (slots_of disk d)
 slots_sized disk d (Directory slots) h content = ap (λ (n : ℕ). 16 * n) (sym (ap length content ∙ length-map slots entry_of))
 slots_sized disk d (File bytes) h content = absurd (false≢true h)
 slots_sized disk d (Device major minor size) h content = absurd (false≢true h)

@@ -1,5 +1,5 @@
 -- A well-formed image holds the nodes of its tree.
-use Rattle.inodes_on_blocks.proofs.Vocabulary.{get_or, ◌≡◌, ◌≢◌, ◌⊎◌, ⊎_elim, ℕ, zero, suc, ◌+◌, ◌*◌, ◌/◌, ◌<◌, ◌≤◌, true, false, ℤ, pos, negsuc, inl, inr, refl, sym, ◌∙◌, ap, subst, arith, List, [], ◌∷◌, length, length-append, map, slice_index, Option, Some, None, ints, nat_lt, ◌≤ℤ◌, if◌then◌else◌, All, false≢true, eqb-true, cases_lt, nat_tests, length-map, get_or_past, All-head, All-tail, Dinode, Free, Used, HasWholeBlocks, block_at, logged, recovered, sizes_of, length-logged, place_of_cases, Node, Kind, File, Device, tree_of, inode_of, is_number, is_positive, is_free, is_directory, is_live, is_node, is_live_directory, numbers_of, block_number, content_block, blocks_for, front_blocks, content_of, slot_on as slot_at, first_slots, slots_of, IsData, HasGoodNumbers, HasGoodTypes, HasGoodSizes, HasGoodSlots, UpToLog, IsWellFormed, slot_of, is_file, count_of, node_of, tree_in, node_is, node_from, directory_from, numbers_by_node, either, type_in, size_in, IsDevice, IsRecord, entry_of, HasContent, HasContentOf, Holds, AreNodesOf, live_part, owner_in}
+use Rattle.inodes_on_blocks.proofs.Vocabulary.{get_or, ◌≡◌, ◌≢◌, ◌⊎◌, ⊎_elim, ℕ, zero, suc, ◌+◌, ◌*◌, ◌/◌, ◌<◌, ◌≤◌, true, false, ℤ, pos, negsuc, inl, inr, refl, sym, ◌∙◌, ap, subst, arith, List, [], ◌∷◌, length, length-append, map, slice_index, Option, Some, None, ints, nat_lt, ◌≤ℤ◌, if◌then◌else◌, All, false≢true, eqb-true, cases_lt, nat_tests, length-map, get_or_past, All-head, All-tail, Dinode, Free, Used, HasWholeBlocks, block_at, logged, recovered, sizes_of, length-logged, place_of_cases, Node, NodeKind, File, Device, tree_of, inode_of, is_number, is_positive, is_free, is_directory, is_live, is_node, is_live_directory, numbers_of, block_number, content_block, blocks_for, front_blocks, content_of, slot_on as slot_at, first_slots, slots_of, IsData, HasGoodNumbers, HasGoodTypes, HasGoodSizes, HasGoodSlots, UpToLog, IsWellFormed, slot_of, is_file, count_of, node_of, tree_in, node_is, node_from, directory_from, numbers_by_node, either, type_in, size_in, IsDevice, IsRecord, entry_of, HasContent, HasContentOf, Holds, AreNodesOf, live_part, owner_in}
 use Rattle.std.proofs.lemmas.List.{length-take}
 use Rattle.fs_layout.specs.Recovered.{place_of}
 use Rattle.image_tree.specs.Trees.{kind_of}
@@ -79,7 +79,7 @@ device_kind_of disk d e =
     rw (no, not) refl
 
 -- the inode and the blocks say this kind
-record Says (disk : List (List ℕ)) (d : Dinode) (k : Kind) : Type 0 where
+record Says (disk : List (List ℕ)) (d : Dinode) (k : NodeKind) : Type 0 where
   kind : d.kind ≡ pos (type_in k)
   size : d.size ≡ size_in k
   device : IsDevice d k

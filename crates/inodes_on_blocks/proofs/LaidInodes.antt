@@ -1,5 +1,5 @@
 -- An inode before it is changed, and when it is put.
-use Rattle.inodes_on_blocks.proofs.Vocabulary.{◌≡◌, ◌≢◌, ℕ, ◌<◌, ◌≤◌, true, ℤ, pos, ◌≤ℤ◌, refl, sym, ◌∙◌, ap, subst, ⊎_elim, arith, List, [], ◌∷◌, length, filter, slice_index, Some, None, All, Contains, cases_lt, get_or_past, ints, All-nil, Super, Dinode, recovered, sizes_of, Node, Kind, Directory, File, Device, IsOnce, inode_of, is_number, is_free, is_block, numbers_of, numbers_by, block_number, content_block, first_slots, IsData, UpToLog, once_nil, numbers_by_node, numbers_by_free, numbers_without, type_in, size_in, IsDevice, IsInode, IsRecord, HasContent, HasContentOf, IsOwned, NamesOwned, HoldsAt, IsInodePut, IsLaidOut, Becomes}
+use Rattle.inodes_on_blocks.proofs.Vocabulary.{◌≡◌, ◌≢◌, ℕ, ◌<◌, ◌≤◌, true, ℤ, pos, ◌≤ℤ◌, refl, sym, ◌∙◌, ap, subst, ⊎_elim, arith, List, [], ◌∷◌, length, filter, slice_index, Some, None, All, Contains, cases_lt, get_or_past, ints, All-nil, Super, Dinode, recovered, sizes_of, Node, NodeKind, Directory, File, Device, IsOnce, inode_of, is_number, is_free, is_block, numbers_of, numbers_by, block_number, content_block, first_slots, IsData, UpToLog, once_nil, numbers_by_node, numbers_by_free, numbers_without, type_in, size_in, IsDevice, IsInode, IsRecord, HasContent, HasContentOf, IsOwned, NamesOwned, HoldsAt, IsInodePut, IsLaidOut, Becomes}
 use Rattle.inodes_on_blocks.specs.Holds.{HasRoom}
 use Rattle.inodes_on_blocks.specs.Puts.{inode_block}
 use Rattle.inodes_on_blocks.proofs.Held.{inode_used}
@@ -69,7 +69,7 @@ freed_held disk new owner i d put kind named =
 
 -- ---- a node that goes
 
-used_kinds : (k : Kind) → (pos 0 ≤ℤ pos (type_in k)) × (pos (type_in k) ≤ℤ pos 3)
+used_kinds : (k : NodeKind) → (pos 0 ≤ℤ pos (type_in k)) × (pos (type_in k) ≤ℤ pos 3)
 used_kinds (Directory slots) = (omega (arith, ints), omega (arith, ints))
 used_kinds (File bytes) = (omega (arith, ints), omega (arith, ints))
 used_kinds (Device major minor size) = (omega (arith, ints), omega (arith, ints))
@@ -99,7 +99,7 @@ pub block_alone : (disk : List (List ℕ)) (d e : Dinode) → e.addrs ≡ d.addr
 block_alone disk d e addrs k =
     block_of disk e k ∙ ap (λ (ns : List ℕ). recovered disk (block_number ns k)) (addrs_alone disk d e addrs) ∙ sym (block_of disk d k)
 
-pub device_kept : (d e : Dinode) (k : Kind) → e.major ≡ d.major → e.minor ≡ d.minor → IsDevice d k → IsDevice e k
+pub device_kept : (d e : Dinode) (k : NodeKind) → e.major ≡ d.major → e.minor ≡ d.minor → IsDevice d k → IsDevice e k
 device_kept d e (Directory slots) major minor h = tt
 device_kept d e (File bytes) major minor h = tt
 device_kept d e (Device m n size) major minor h = (major ∙ h.0, minor ∙ h.1)
@@ -132,7 +132,7 @@ module _ (disk : List (List ℕ)) (owner : ℕ → ℕ) (i : ℕ) (d : Dinode) (
   numbers_empty : numbers_of disk d ≡ d.addrs
   numbers_empty = numbers_without disk d (no_number 12)
 
-  content_empty : (k : Kind) → size_in k ≡ 0 → d.size ≡ 0 → HasContent disk d k
+  content_empty : (k : NodeKind) → size_in k ≡ 0 → d.size ≡ 0 → HasContent disk d k
   unfolding first_slots
   content_empty (Directory []) e z = rw z refl
   content_empty (Directory (s ∷ slots)) e z = absurd (omega (arith, e))

@@ -1,8 +1,8 @@
 -- A transaction is left in one step, and the writes of the commit that begins with it follow in silence.
-use Rattle.inodes_on_blocks.proofs.Vocabulary.{◌≡◌, ◌≢◌, inl, inr, ℕ, zero, suc, ◌+◌, ◌-◌, ◌<◌, ◌≤◌, ◌==◌, Bool, true, false, List, [], ◌∷◌, Option, Some, None, length, get_or-set_other, is_some, refl, sym, ◌∙◌, ap, subst, arith, if◌then◌else◌, slice_set, eqb-true, eqb-false, slice_get-set_other, Dinode, Super, IsOutsideLog, is_held_by, Left, Commits, Phase, Open, Staging, Installing, Halted, joined_count, IsMember, IsUnderWay, next_phase, group_in, phase_at_leave, turn_is_out, seats_after, seats_at_fault, left_at, pick, under_way, put, hart_count, same_or, put_same, put_other, Ret, bind, Did, Ran, Machine, Laws, P, Wp, Both, joined, Below, Lasts, Handover, holding, Silent, s-silent, Acting, s-act, acted, TablesState, lock_holder, LogPart, Outside, Passes, Fails, written, commit_if, is_open, failed, commits, commit_unless, after_leave, own_of, seen_of, Commit, IsWholeLog, After, keeps_whole, leaves_own, SameFor, same_after, shows_its_puts, Desk, Leave, is_at, marked, Inv, LocksNone, more, if_kept, is_hart, loaded, descriptor, first, lent_by, place_with, is_joined, Ghost, AreOnBlocks, World, log_of, tables_of, came_to, exec, Shows, CommitShows, if_joined, ghost_of, on_blocks, Same, Kept, Carry, Base, Stands, commit_in, below, Labels, labelled, Keeps, leave, ActsOnce}
+use Rattle.inodes_on_blocks.proofs.Vocabulary.{◌≡◌, ◌≢◌, inl, inr, ℕ, zero, suc, ◌+◌, ◌-◌, ◌<◌, ◌≤◌, ◌==◌, Bool, true, false, List, [], ◌∷◌, Option, Some, None, length, get_or-set_other, is_some, refl, sym, ◌∙◌, ap, subst, arith, if◌then◌else◌, slice_set, eqb-true, eqb-false, slice_get-set_other, Dinode, Super, IsOutsideLog, is_held_by, AfterLeave, Commits, Phase, Open, Staging, Installing, Halted, joined_count, IsMember, IsUnderWay, next_phase, group_in, phase_at_leave, turn_is_out, seats_after, seats_at_fault, left_at, pick, under_way, put, hart_count, same_or, put_same, put_other, Ret, bind, ExecResult, Ran, Machine, Laws, P, Wp, Both, joined, Below, Lasts, Handover, holding, Silent, s-silent, Acting, s-act, acted, TablesState, lock_holder, LogPart, Outside, Passes, Fails, written, commit_if, is_open, failed, commits, commit_unless, after_leave, own_of, seen_of, Commit, IsWholeLog, After, keeps_whole, leaves_own, SameFor, same_after, shows_its_puts, Desk, Leave, is_at, marked, Inv, LocksNone, more, if_kept, is_hart, loaded, descriptor, first, lent_by, place_with, is_joined, Ghost, AreOnBlocks, World, log_of, tables_of, came_to, exec, Shows, CommitShows, if_joined, ghost_of, on_blocks, Same, Kept, Carry, Base, Stands, commit_in, below, Labels, labelled, Keeps, leave, ActsOnce}
 use Rattle.std.proofs.lemmas.List.{get_or-set_same}
 use Rattle.buffer_cache.specs.Lists.{count_of}
-use Rattle.group_log.specs.declared.log.Left.TheVariants.{Free}
+use Rattle.group_log.specs.declared.log.AfterLeave.TheVariants.{Free}
 use Rattle.fs_machine.specs.Steps as steps
 use Rattle.fs_machine.specs.Premises as premises
 use Rattle.inode_machine.specs.World as above
@@ -144,7 +144,7 @@ module _ (sizes : Super) (l : Labels) (laws : Laws (labelled l)) (keeps : Keeps 
   abbrev M : Machine
   M = joined (labelled l) (below sizes)
 
-  abbrev IsSilent : {A : Type 0} → (B : List l.Step → Type 0) → W → Type 0 → Did A World → (A → World → Type 0) → Type 0
+  abbrev IsSilent : {A : Type 0} → (B : List l.Step → Type 0) → W → Type 0 → ExecResult A World → (A → World → Type 0) → Type 0
   IsSilent B v wait d N = Silent (labelled l) (below sizes) laws (below_laws sizes l keeps) h B v wait d N
 
   -- after a write
@@ -390,11 +390,11 @@ module _ (l : Labels) (laws : Laws (labelled l)) (keeps : Keeps l) (h : ℕ) (lt
       alone : (marked_then.desks h).lender ≡ None
       alone = ((marked_same h (m tt) then_).desks h).lender ∙ part_same (λ d. d.lender) v.seen.desks h (record (v.seen.desks h) { joined = false; noted = None }) h refl ∙ may.0
 
-      abbrev Leads : Left → Type 0
+      abbrev Leads : AfterLeave → Type 0
       Leads a = Acting (labelled l) (below sizes) laws (below_laws sizes l keeps) h B Leave m C lasts above.Room v ⊥ (came_to h steps.Leave v.real (Ran a (record (v.real.state) { log = left_log kept_log })))
           (λ a b u g. (gs : List l.Step) → Inv g → C b gs g → Wp (M sizes l laws keeps h lt) h B (Q sizes l laws keeps h lt B C m lasts c) (holding c (after_leave a)) 62 gs (record { real = u; seen = g }))
 
-      leads : (a : Left) → (a ≡ Free → phase ≡ Open) → (a ≡ Commits → phase ≡ Staging 0) → Leads a
+      leads : (a : AfterLeave) → (a ≡ Free → phase ≡ Open) → (a ≡ Commits → phase ≡ Staging 0) → Leads a
       leads Free opens_ begins =
           let shown = left_shows v.real v.seen shows stands.0.through.new may.1.0 member v.real.commits whole (subst (λ (o : Option ℕ). CommitShows o phase) (sym nobody) (opens_ refl)) in (
             tt,

@@ -1,5 +1,5 @@
 -- What the proofs of this crate's functions use: its lemmas, and what they speak of.
-pub use Rattle.inodes_on_blocks.proofs.Vocabulary.{Answers, CheckFile, Clear, Double, Down, Empty, Forget, Give, HasSpent, Install, IsDone, Join, JoinFile, Leave, Lend, LendDirectory, LockOpen, ReadFile, Release, Say, Settle, Shut, StatFile, Store, Take, Up, UpStart, WalkDown, [], alone, arith, check_file, close, double, down, forget, give, inode_block, install, join, join_file, leave, lend, lend_directory, lock_open, most_recorded, read_file, refl, release, say, size, slot, spent_after, stat_file, take_inode as take, up_start, walk_down, with_bitmap, with_contents, with_inode as with_record, ◌<◌}
+pub use Rattle.inodes_on_blocks.proofs.Vocabulary.{Answers, CheckFile, Clear, Double, Down, Empty, Forget, UnlockInode, HasSpent, Install, IsDone, Join, JoinFile, Leave, Lend, LendDirectory, LockOpen, ReadFile, Release, Say, SetDirectory, Shut, StatFile, Store, Take, Up, UpStart, WalkDown, [], alone, arith, check_file, close, double, down, forget, give, inode_block, install, join, join_file, leave, lend, lend_directory, lock_open, most_recorded, read_file, refl, release, say, size, slot, spent_after, stat_file, take_inode as take, up_start, walk_down, with_bitmap, with_contents, with_inode as with_record, ◌<◌}
 pub use Rattle.inodes_on_blocks.proofs.Alone.{alone_keeps, alone_laws, does_it, does_it_at, lasts_done}
 pub use Rattle.inodes_on_blocks.proofs.SpentRoom.{bitmap_spent, both_more, other_spends, record_more, record_spent, spent_gives}
 pub use Rattle.inode_machine.specs.World.Op.{Free, LockFile, Slot}

@@ -1,5 +1,5 @@
 -- What a hart hands on to the child that it serves, and the child let go, each at its one step.
-use Rattle.inodes_on_blocks.proofs.Vocabulary.{◌≡◌, ◌≢◌, inl, inr, ℕ, ◌+◌, ◌<◌, ◌≤◌, nat_lt, Bool, true, false, Option, Some, None, refl, sym, ◌∙◌, ap, subst, arith, nat_tests, none-some, same_Some, put, hart_count, descriptor_count, largest_size, same_or, put_other, put_same, Did, Waits, Ran, Laws, Both, Given, next_full, give_next, descriptors_of, Desk, LoanResult, Lent, Moved, Entry, Lend, LendDirectory, Release, next_used, with_lent, handed, moved_in, lend_last, lend_if, released, serving, more_users, slot_or, Inv, Serves, one_refs, next_is, next_past, loaded, descriptor, first, lent_by, given_as, World, tables_of, Shows, Labels, labelled, Keeps, lent_to, old_directory, lend, lend_directory, release, ActsOnce}
+use Rattle.inodes_on_blocks.proofs.Vocabulary.{◌≡◌, ◌≢◌, inl, inr, ℕ, ◌+◌, ◌<◌, ◌≤◌, nat_lt, Bool, true, false, Option, Some, None, refl, sym, ◌∙◌, ap, subst, arith, nat_tests, none-some, same_Some, put, hart_count, descriptor_count, largest_size, same_or, put_other, put_same, ExecResult, Waits, Ran, Laws, Both, Given, next_full, give_next, descriptors_of, Desk, LoanResult, Lent, Moved, Entry, Lend, LendDirectory, Release, next_used, with_lent, handed, moved_in, lend_last, lend_if, released, serving, more_users, slot_or, Inv, Serves, one_refs, next_is, next_past, loaded, descriptor, first, lent_by, given_as, World, tables_of, Shows, Labels, labelled, Keeps, lent_to, old_directory, lend, lend_directory, release, ActsOnce}
 use Rattle.fs_machine.specs.declared.desk.Desk as cards
 use Rattle.fs_machine.specs.declared.slots.Given.TheVariants as given
 use Rattle.fs_machine.specs.Steps as steps
@@ -43,7 +43,7 @@ released_same h child w apart = record {
 -- one more user leaves the files
 more_same : (s : ℕ) (files : ℕ → Option Entry) (k : ℕ) (e : Entry) → files k ≡ Some e → (f : Entry) × (put files s (more_users (files s)) k ≡ Some f) × (f.file ≡ e.file)
 more_same s files k e at = elim (same_or k s) [
-  | inl q ↦ (record { file = e.file; sort = e.sort; references = e.references + 1 }, ap (put files s (more_users (files s))) q ∙ put_same files s (more_users (files s)) ∙ ap more_users (ap files (sym q) ∙ at), refl)
+  | inl q ↦ (record { file = e.file; inode_type = e.inode_type; references = e.references + 1 }, ap (put files s (more_users (files s))) q ∙ put_same files s (more_users (files s)) ∙ ap more_users (ap files (sym q) ∙ at), refl)
   | inr ne ↦ (e, put_other files s (more_users (files s)) k ne ∙ at, refl)
 ]
 
@@ -185,11 +185,11 @@ module _ (l : Labels) (laws : Laws (labelled l)) (keeps : Keeps l) (h : ℕ) (lt
   pub lend_directory_acts : (child : ℕ) (m : ℕ → Option above.Mark) → ActsOnce l h (LendDirectory child) m (lend_directory child)
   unfolding steps.exec premises.May premises.MayWait
   lend_directory_acts child m =
-      one_step l laws keeps h (LendDirectory child) m (λ c. steps.Give child descriptor_count) (λ c. old_directory) (λ c a. c) (λ v. tt)
+      one_step l laws keeps h (LendDirectory child) m (λ c. steps.GiveDescriptor child descriptor_count) (λ c. old_directory) (λ c a. c) (λ v. tt)
       (λ v c shows inv base may. (
         may_give child descriptor_count v shows inv may.0 may.1.0 (omega arith) (λ i low below. absurd (omega (arith, low, below))),
         λ x t.
-            subst (λ (d : Did Given World). CameTo l laws keeps h (LendDirectory child) v ⊥ d old_directory (λ a. c)) (sym (in_tables_is h (steps.Give child descriptor_count) v.real (λ a o. refl) (λ s. refl) (λ a l. refl) (give_next h child descriptor_count (tables_of v.real))))
+            subst (λ (d : ExecResult Given World). CameTo l laws keeps h (LendDirectory child) v ⊥ d old_directory (λ a. c)) (sym (in_tables_is h (steps.GiveDescriptor child descriptor_count) v.real (λ a o. refl) (λ s. refl) (λ a l. refl) (give_next h child descriptor_count (tables_of v.real))))
             (from_both l laws keeps h lt (LendDirectory child) v ⊥ old_directory (λ a b. a ≡ given.Directory b) c (give_next h child descriptor_count (tables_of v.real)) (above_exec.exec h above.Room (LendDirectory child) v.seen) refl
             (directories_are_given h child (tables_of v.real) v.seen (loaded (tables_of v.real)) shows.tables inv (runs_here l laws keeps h lt v may.0) may.1)
             (λ e. no_wait _ _ e) (λ a b e. ap old_directory e) (λ b u e. ran_same h v.seen (moved_in v.seen h child) u (v.seen.desks child).directory b e (moved_same h child v.seen inv lt)) shows base may.0),
@@ -204,12 +204,12 @@ module _ (l : Labels) (laws : Laws (labelled l)) (keeps : Keeps l) (h : ℕ) (lt
   pub lend_acts : (child from : ℕ) (m : LoanResult → Option above.Mark) → ActsOnce l h (Lend child from) m (lend child from)
   unfolding steps.exec premises.May premises.MayWait
   lend_acts child from m =
-      one_step l laws keeps h (Lend child from) m (λ c. steps.Give child from) (λ c. lent_to) (λ c a. c) (λ v. tt)
+      one_step l laws keeps h (Lend child from) m (λ c. steps.GiveDescriptor child from) (λ c. lent_to) (λ c a. c) (λ v. tt)
       (λ v c shows inv base may.
       let le = starts_below from (v.seen.desks h).fds may.1.3 in (
         may_give child from v shows inv may.0 may.1.0 le (child_none child from v.seen inv may.1),
         λ x t.
-            subst (λ (d : Did Given World). CameTo l laws keeps h (Lend child from) v ⊥ d lent_to (λ a. c)) (sym (in_tables_is h (steps.Give child from) v.real (λ a o. refl) (λ s. refl) (λ a l. refl) (give_next h child from (tables_of v.real))))
+            subst (λ (d : ExecResult Given World). CameTo l laws keeps h (Lend child from) v ⊥ d lent_to (λ a. c)) (sym (in_tables_is h (steps.GiveDescriptor child from) v.real (λ a o. refl) (λ s. refl) (λ a l. refl) (give_next h child from (tables_of v.real))))
             (from_both l laws keeps h lt (Lend child from) v ⊥ lent_to (λ a b. a ≡ given_as b) c (give_next h child from (tables_of v.real)) (above_exec.exec h above.Room (Lend child from) v.seen) refl
             (descriptors_are_given h child from (tables_of v.real) v.seen (loaded (tables_of v.real)) shows.tables inv (runs_here l laws keeps h lt v may.0) may.1 le)
             (lend_runs h child v.seen (next_used from (v.seen.desks h).fds)) (λ a b e. ap lent_to e ∙ lent_back b) (λ b u e. lend_same h child v.seen (next_used from (v.seen.desks h).fds) b u inv lt (child_apart h child v.seen may.0 may.1.0.1) e) shows base may.0),

@@ -1,5 +1,5 @@
 -- The lock of an open file's inode, taken by its descriptor, acts where it is had.
-use Rattle.inodes_on_blocks.proofs.Vocabulary.{◌≡◌, ◌≢◌, ℕ, ◌<◌, ◌^◌, Bool, true, false, List, Option, Some, None, refl, sym, ◌∙◌, ap, subst, arith, option_map, MatchOption, none-some, same_Some, Dinode, Super, Cause, BadDescriptor, put, hart_count, put_same, bind, Did, Waits, Ran, did_in, Laws, Wp, Both, joined, Below, Lasts, Acting, acted, s-act, TablesState, file_named, lock_holder, LockedState, Refuses, Locks, lock_file as lock_named, lock_unless, lock_inode, with_file as with_locked, Outside, lock_opened, with_open, MayLockFile, IsElsewhere, Sort, OfDirectory, OfFile, OfDevice, Entry, LockResult, NotLocked, LocksIt, LockOpen, entry_at, slot_at, lock_at, lock_if, locked, mode_refusal, offset_of, read_refused, Inv, loaded, file_of, refused_as, World, log_of, tables_of, inode_in, exec, Shows, Opened, NothingMore, Has, Carry, HasOpen, Stands, below, Labels, labelled, Keeps, cause_of, ActsOnceAt, file_locked, open_locked, lock_open, load_unless}
+use Rattle.inodes_on_blocks.proofs.Vocabulary.{◌≡◌, ◌≢◌, ℕ, ◌<◌, ◌^◌, Bool, true, false, List, Option, Some, None, refl, sym, ◌∙◌, ap, subst, arith, option_map, MatchOption, none-some, same_Some, Dinode, Super, Cause, BadDescriptor, put, hart_count, put_same, bind, ExecResult, Waits, Ran, exec_result_in, Laws, Wp, Both, joined, Below, Lasts, Acting, acted, s-act, TablesState, file_named, lock_holder, LockedState, Refuses, Locks, lock_file as lock_named, lock_unless, lock_inode, with_file as with_locked, Outside, lock_opened, with_open, MayLockFile, IsElsewhere, InodeType, OfDirectory, OfFile, OfDevice, Entry, LockResult, NotLocked, LocksIt, LockOpen, entry_at, slot_at, lock_at, lock_if, locked, mode_refusal, offset_of, read_refused, Inv, loaded, file_of, refused_as, World, log_of, tables_of, inode_in, exec, Shows, Opened, NothingMore, Has, Carry, HasOpen, Stands, below, Labels, labelled, Keeps, cause_of, ActsOnceAt, file_locked, open_locked, lock_open, load_unless}
 use Rattle.fs_machine.specs.declared.files.Want.TheVariants as want
 use Rattle.fs_machine.specs.declared.files.OpenFile as files
 use Rattle.fs_machine.specs.Steps as steps
@@ -26,22 +26,22 @@ has_open h fd v e inv lt is = by_slot (slot_at v h fd) refl
         record { hart = lt; below = m.below; slot = s; is = m.is; entry = e; at = sym (ap (entry_at v.files) q) ∙ is; number = refl; offset_is = refl }
 
 -- where an operation ran to one world
-ran_is : {A : Type 0} (b : A) (d : Did A above.World) (g u : above.World) → d ≡ Ran b g → d ≡ Ran b u → g ≡ u
+ran_is : {A : Type 0} (b : A) (d : ExecResult A above.World) (g u : above.World) → d ≡ Ran b g → d ≡ Ran b u → g ≡ u
 ran_is {A} b d g u p q = same (sym p ∙ q)
   where
-    same : ◌≡◌ {A = Did A above.World} (Ran b g) (Ran b u) → g ≡ u
+    same : ◌≡◌ {A = ExecResult A above.World} (Ran b g) (Ran b u) → g ≡ u
     same e = cc e
 
 -- a cause that the tables tell comes back
 read_back : (e : Option Entry) (k : Cause) → read_refused e ≡ Some k → cause_of (refused_as k) ≡ k
 read_back None k q = subst (λ (z : Cause). cause_of (refused_as z) ≡ z) (same_Some _ k q) refl
-read_back (Some e) k q = mode e.file.readable e.sort k q
+read_back (Some e) k q = mode e.file.readable e.inode_type k q
   where
-    mode : (b : Bool) (sort : Sort) (k : Cause) → mode_refusal b sort ≡ Some k → cause_of (refused_as k) ≡ k
+    mode : (b : Bool) (inode_type : InodeType) (k : Cause) → mode_refusal b inode_type ≡ Some k → cause_of (refused_as k) ≡ k
     mode true OfDirectory k q = absurd (none-some k q)
     mode true OfFile k q = absurd (none-some k q)
     mode true (OfDevice major) k q = subst (λ (z : Cause). cause_of (refused_as z) ≡ z) (same_Some _ k q) refl
-    mode false sort k q = subst (λ (z : Cause). cause_of (refused_as z) ≡ z) (same_Some _ k q) refl
+    mode false inode_type k q = subst (λ (z : Cause). cause_of (refused_as z) ≡ z) (same_Some _ k q) refl
 
 module _ (l : Labels) (laws : Laws (labelled l)) (keeps : Keeps l) (h : ℕ) (lt : h < hart_count) (sizes : Super) (fd : ℕ) where
   abbrev W : Type 0
@@ -94,12 +94,12 @@ module _ (l : Labels) (laws : Laws (labelled l)) (keeps : Keeps l) (h : ℕ) (lt
         Next : LockedState → LockResult → World → above.World → Type 0
         Next a b u g = (gs : List l.Step) → Inv g → C b gs g → Wp (joined (labelled l) (below sizes)) h B (Below (labelled l) (below sizes) h C) (file_locked sizes fd c a) 3 gs (record { real = u; seen = g })
 
-        IsActing : W → Did LockedState World → Type 0
+        IsActing : W → ExecResult LockedState World → Type 0
         IsActing v d = Acting (labelled l) (below sizes) laws (below_laws sizes l keeps) h B (LockFile fd) m C lasts above.Room v (premises.MayWait h (steps.LockFile want.Read fd) v.real.state) d Next
 
-        on_tables : (v : W) (x : Outside) (d : Did LockedState TablesState) → lock_named h want.Read fd (tables_of v.real) ≡ d → IsActing v (did_in (with_tables v.real) d) → IsActing v (exec h x (steps.LockFile want.Read fd) v.real)
+        on_tables : (v : W) (x : Outside) (d : ExecResult LockedState TablesState) → lock_named h want.Read fd (tables_of v.real) ≡ d → IsActing v (exec_result_in (with_tables v.real) d) → IsActing v (exec h x (steps.LockFile want.Read fd) v.real)
         on_tables v x d is acting =
-            subst (λ (z : Did LockedState World). IsActing v z) (sym (in_tables_is h (steps.LockFile want.Read fd) v.real (λ a o. refl) (λ s. refl) (λ a l. refl) (lock_named h want.Read fd (tables_of v.real)) ∙ ap (did_in (with_tables v.real)) is)) acting
+            subst (λ (z : ExecResult LockedState World). IsActing v z) (sym (in_tables_is h (steps.LockFile want.Read fd) v.real (λ a o. refl) (λ s. refl) (λ a l. refl) (lock_named h want.Read fd (tables_of v.real)) ∙ ap (exec_result_in (with_tables v.real)) is)) acting
 
         may_be : (v : W) (o : Option Entry) → Shows v.real v.seen → Inv v.seen → (v.seen.desks h).lender ≡ None → entry_of v.seen h fd ≡ o → ((i : ℕ) → v.seen.lock i ≢ Some h) → MayLockFile h (file_named h fd (tables_of v.real)) (tables_of v.real)
         may_be v None shows inv free is none = subst (λ (z : Option files.OpenFile). MayLockFile h z (tables_of v.real)) (sym (named v None shows inv free is)) tt
@@ -157,12 +157,12 @@ module _ (l : Labels) (laws : Laws (labelled l)) (keeps : Keeps l) (h : ℕ) (lt
         Next : A → ℕ × ℕ → World → above.World → Type 0
         Next a b u g = (gs : List l.Step) → Inv g → C b gs g → Wp (joined (labelled l) (below sizes)) h B (Below (labelled l) (below sizes) h C) (open_locked sizes fd c a) 3 gs (record { real = u; seen = g })
 
-        IsActing : W → Did A World → Type 0
+        IsActing : W → ExecResult A World → Type 0
         IsActing v d = Acting (labelled l) (below sizes) laws (below_laws sizes l keeps) h B (LockOpen fd n) m C lasts above.Room v (premises.MayWait h (steps.LockOpen fd) v.real.state) d Next
 
-        on_tables : (v : W) (x : Outside) (d : Did A TablesState) → lock_opened h (tables_of v.real) (file_named h fd (tables_of v.real)) ≡ d → IsActing v (did_in (with_tables v.real) d) → IsActing v (exec h x (steps.LockOpen fd) v.real)
+        on_tables : (v : W) (x : Outside) (d : ExecResult A TablesState) → lock_opened h (tables_of v.real) (file_named h fd (tables_of v.real)) ≡ d → IsActing v (exec_result_in (with_tables v.real) d) → IsActing v (exec h x (steps.LockOpen fd) v.real)
         on_tables v x d is acting =
-            subst (λ (z : Did A World). IsActing v z) (sym (in_tables_is h (steps.LockOpen fd) v.real (λ a o. refl) (λ s. refl) (λ a l. refl) (lock_opened h (tables_of v.real) (file_named h fd (tables_of v.real))) ∙ ap (did_in (with_tables v.real)) is)) acting
+            subst (λ (z : ExecResult A World). IsActing v z) (sym (in_tables_is h (steps.LockOpen fd) v.real (λ a o. refl) (λ s. refl) (λ a l. refl) (lock_opened h (tables_of v.real) (file_named h fd (tables_of v.real))) ∙ ap (exec_result_in (with_tables v.real)) is)) acting
 
         by : (v : W) → Shows v.real v.seen → Inv v.seen → Stands sizes h v.real v.seen c → rules.May h (LockOpen fd n) v.seen → (e : Entry) → entry_of v.seen h fd ≡ Some e → e.file.number ≡ n
             → premises.May h (steps.LockOpen fd) v.real.state × ((x : Outside) → premises.Honest h (steps.LockOpen fd) v.real.state x → IsActing v (exec h x (steps.LockOpen fd) v.real))

@@ -1,5 +1,5 @@
 -- What a search of a directory's blocks finds is what its node has: under a name, and past its first two entries.
-use Rattle.inodes_on_blocks.proofs.Vocabulary.{◌≡◌, ⊎_elim, ℕ, zero, suc, ◌-◌, ◌*◌, ◌/◌, ◌<◌, ◌≤◌, nat_lt, ◌&&◌, ◌||◌, not, ℤ, pos, Bool, true, false, List, [], ◌∷◌, length, drop, get_or, Option, Some, None, is_some, refl, sym, ◌∙◌, ap, subst, arith, if◌then◌else◌, cases_lt, le-leb, get_or_append_left, get_or-append_right, get_or-map, Found, is_sought, number_of, IsFirst, Aim, Named, block_count, slot_count, is_used, found_from, found_first, Dinode, Dirent, block_len, inode_of, is_free, content_block, slot_on, first_slots, HoldsAt, HasContent, entry_of, size_in, type_in, Slot, Node, Kind, Directory, File, Device, any_used, Name, first_slot, live_directory, look, same_name, same_pointwise, is_empty_kind, is_empty_node, has_name, IsFirstNamed, IsKnown, number_found, learned}
+use Rattle.inodes_on_blocks.proofs.Vocabulary.{◌≡◌, ⊎_elim, ℕ, zero, suc, ◌-◌, ◌*◌, ◌/◌, ◌<◌, ◌≤◌, nat_lt, ◌&&◌, ◌||◌, not, ℤ, pos, Bool, true, false, List, [], ◌∷◌, length, drop, get_or, Option, Some, None, is_some, refl, sym, ◌∙◌, ap, subst, arith, if◌then◌else◌, cases_lt, le-leb, get_or_append_left, get_or-append_right, get_or-map, Found, is_sought, number_of, IsFirst, Aim, Named, block_count, slot_count, is_used, found_from, found_first, Dinode, Dirent, block_len, inode_of, is_free, content_block, slot_on, first_slots, HoldsAt, HasContent, entry_of, size_in, type_in, Slot, Node, NodeKind, Directory, File, Device, any_used, Name, first_slot, live_directory, look, same_name, same_pointwise, is_empty_kind, is_empty_node, has_name, IsFirstNamed, IsKnown, number_found, learned}
 use Rattle.directory.specs.Laws.{slot_at}
 use Rattle.directory.specs.Programs.{Entry, is_number, is_positive, is_directory, is_live_directory}
 use Rattle.directory.specs.Slots.{is_named}
@@ -152,7 +152,7 @@ module _ (disk : List (List ℕ)) (owner : ℕ → ℕ) (i : ℕ) (v : Node) (ho
   pub directory_is : is_directory d ≡ tree.is_directory v.kind
   directory_is = ap (is_number 1) holds.inode.kind ∙ by v.kind
     where
-      by : (k : Kind) → is_number 1 (pos (type_in k)) ≡ tree.is_directory k
+      by : (k : NodeKind) → is_number 1 (pos (type_in k)) ≡ tree.is_directory k
       by (Directory slots) = refl
       by (File bytes) = refl
       by (Device major minor size) = refl
@@ -186,23 +186,23 @@ module _ (disk : List (List ℕ)) (owner : ℕ → ℕ) (i : ℕ) (v : Node) (ho
   unfolding look
   name_found e live = by v.kind refl ∙ sym (ap (λ (b : Bool). if b then first_slot (slots_of v.kind) e else None) live)
     where
-      by : (k : Kind) → v.kind ≡ k → number_found (search_finds (Named e)) ≡ first_slot (slots_of v.kind) e
-      by (Directory slots) is = found_is slots e (slot_at content) (search_finds (Named e)) (shown slots is).0 (is_first (Named e) slots is) ∙ ap (λ (k : Kind). first_slot (slots_of k) e) (sym is)
-      by (File bytes) is = absurd (no_directory v.count (ap (λ (k : Kind). nat_lt 0 v.count && tree.is_directory k) (sym is) ∙ live))
-      by (Device major minor size) is = absurd (no_directory v.count (ap (λ (k : Kind). nat_lt 0 v.count && tree.is_directory k) (sym is) ∙ live))
+      by : (k : NodeKind) → v.kind ≡ k → number_found (search_finds (Named e)) ≡ first_slot (slots_of v.kind) e
+      by (Directory slots) is = found_is slots e (slot_at content) (search_finds (Named e)) (shown slots is).0 (is_first (Named e) slots is) ∙ ap (λ (k : NodeKind). first_slot (slots_of k) e) (sym is)
+      by (File bytes) is = absurd (no_directory v.count (ap (λ (k : NodeKind). nat_lt 0 v.count && tree.is_directory k) (sym is) ∙ live))
+      by (Device major minor size) is = absurd (no_directory v.count (ap (λ (k : NodeKind). nat_lt 0 v.count && tree.is_directory k) (sym is) ∙ live))
 
   -- and its slot
   pub slot_found : (e : Name) → live_directory (Some v) ≡ true → IsKnown (learned e (search_finds (Named e))) (Some v)
   slot_found e live = by v.kind refl
     where
-      by : (k : Kind) → v.kind ≡ k → IsKnown (learned e (search_finds (Named e))) (Some v)
+      by : (k : NodeKind) → v.kind ≡ k → IsKnown (learned e (search_finds (Named e))) (Some v)
       by (Directory slots) is = of_slots (search_finds (Named e)) (slot_is slots e (slot_at content) (search_finds (Named e)) (shown slots is).0 (is_first (Named e) slots is))
         where
           of_slots : (o : Option Found) → IsKnown (learned e o) (Some (record { count = 0; kind = Directory slots })) → IsKnown (learned e o) (Some v)
           of_slots None known = tt
-          of_slots (Some f) known = subst (λ (k : Kind). IsFirstNamed (slots_of k) e f.slot) (sym is) known
-      by (File bytes) is = absurd (no_directory v.count (ap (λ (k : Kind). nat_lt 0 v.count && tree.is_directory k) (sym is) ∙ live))
-      by (Device major minor size) is = absurd (no_directory v.count (ap (λ (k : Kind). nat_lt 0 v.count && tree.is_directory k) (sym is) ∙ live))
+          of_slots (Some f) known = subst (λ (k : NodeKind). IsFirstNamed (slots_of k) e f.slot) (sym is) known
+      by (File bytes) is = absurd (no_directory v.count (ap (λ (k : NodeKind). nat_lt 0 v.count && tree.is_directory k) (sym is) ∙ live))
+      by (Device major minor size) is = absurd (no_directory v.count (ap (λ (k : NodeKind). nat_lt 0 v.count && tree.is_directory k) (sym is) ∙ live))
 
   -- and another one
   pub name_lost : (e : Name) → live_directory (Some v) ≡ false → None ≡ look (λ j. Some v) i e
@@ -213,7 +213,7 @@ module _ (disk : List (List ℕ)) (owner : ℕ → ℕ) (i : ℕ) (v : Node) (ho
   pub entries_found : tree.is_directory v.kind ≡ true → not (is_some (search_finds Entry)) ≡ is_empty_node (Some v)
   entries_found directory = by v.kind refl
     where
-      by : (k : Kind) → v.kind ≡ k → not (is_some (search_finds Entry)) ≡ is_empty_kind v.kind
+      by : (k : NodeKind) → v.kind ≡ k → not (is_some (search_finds Entry)) ≡ is_empty_kind v.kind
       by (Directory slots) is = past slots (slot_at content) (search_finds Entry) (shown slots is).0 (is_first Entry slots is) ∙ ap is_empty_kind (sym is)
       by (File bytes) is = let no : false ≡ true = ap tree.is_directory (sym is) ∙ directory in cc
       by (Device major minor size) is = let no : false ≡ true = ap tree.is_directory (sym is) ∙ directory in cc
@@ -221,7 +221,7 @@ module _ (disk : List (List ℕ)) (owner : ℕ → ℕ) (i : ℕ) (v : Node) (ho
   pub no_entries : tree.is_directory v.kind ≡ false → true ≡ is_empty_node (Some v)
   no_entries other = by v.kind refl
     where
-      by : (k : Kind) → v.kind ≡ k → true ≡ is_empty_kind v.kind
+      by : (k : NodeKind) → v.kind ≡ k → true ≡ is_empty_kind v.kind
       by (Directory slots) is = let no : true ≡ false = ap tree.is_directory (sym is) ∙ other in cc
       by (File bytes) is = ap is_empty_kind (sym is)
       by (Device major minor size) is = ap is_empty_kind (sym is)

@@ -1,5 +1,5 @@
 -- What an operation above is marked with changes nothing that the machine below shows.
-use Rattle.inodes_on_blocks.proofs.Vocabulary.{inl, inr, ◌≡◌, ℕ, ◌<◌, Bool, true, false, List, [], ◌∷◌, Option, Some, None, refl, sym, ◌∙◌, ap, subst, if◌then◌else◌, Dinode, Cause, Node, Action, OpenStep as Open, Truncate, ReadStep as Read, WritePart, Find, Bump, EnterStep as Enter, Unbump, Unlink, Mkdir, Chdir, Dup, Close, Fstat, Inherit, Hold, OpenFile, Name, Tree, put, look, elements, resolve, parent, creates, has_room, lowest, file_at, effect_with, refusal, refusal_with, path_of, hart_count, any_same, either, Walk, Move, Begin, Look, Quit, OwnMove as Own, Desk, Mark, Makes, Frees, Orphans, Fills, Mends, Spoils, sort_of, is_at, is_dead, put_elim, marked, made_by, with_made, with_opened, with_noted, with_left, spoiled, act_all, new_id, unheld, unmoved, unopened, TablesState, descriptor, first, lent_by, place_with, loaded, Ghost, AreOnBlocks, log_of, tables_of, Shows, if_joined, ghost_of, on_blocks}
+use Rattle.inodes_on_blocks.proofs.Vocabulary.{inl, inr, ◌≡◌, ℕ, ◌<◌, Bool, true, false, List, [], ◌∷◌, Option, Some, None, refl, sym, ◌∙◌, ap, subst, if◌then◌else◌, Dinode, Cause, Node, Action, OpenStep as Open, Truncate, ReadStep as Read, WritePart, Find, Bump, EnterStep as Enter, Unbump, Unlink, Mkdir, Chdir, Dup, Close, Fstat, Inherit, Hold, OpenFile, Name, Tree, put, look, elements, resolve, parent, creates, has_room, lowest, file_at, effect_with, refusal, refusal_with, path_of, hart_count, any_same, either, Walk, Move, Begin, Look, GiveUpWalk, OwnMove as Own, Desk, Mark, Makes, Frees, Orphans, Fills, Mends, Spoils, type_of, is_at, is_dead, put_elim, marked, made_by, with_made, with_opened, with_noted, with_left, spoiled, act_all, new_id, unheld, unmoved, unopened, TablesState, descriptor, first, lent_by, place_with, loaded, Ghost, AreOnBlocks, log_of, tables_of, Shows, if_joined, ghost_of, on_blocks}
 use Rattle.plain_tree.specs.Steps as plain
 use Rattle.inode_machine.specs.World.{World}
 use Rattle.inode_machine.specs.Marks as marks
@@ -128,7 +128,7 @@ made_by_size : (b : Tree) (h id : ℕ) (k : Option Walk) (m : Move) → (made_by
 made_by_size b h id k (Begin s new) = begun_size b h s (elements (path_of s)) new id
 made_by_size b h id None (Look new) = refl
 made_by_size b h id (Some k) (Look new) = looked_size b h k k.rest (look b.nodes k.at k.next) new id
-made_by_size b h id k (Quit s) = refl
+made_by_size b h id k (GiveUpWalk s) = refl
 made_by_size b h id k (Own s new) = own_size (refusal b h s) b h s (marks.acts b h s (resolve b h (path_of s)) (parent b h (path_of s)) new id) (acts_size b h s (resolve b h (path_of s)) (parent b h (path_of s)) new id)
 
 unopened_size : (t : Tree) (h : ℕ) (o : Option ℕ) → (unopened t h o).ninodes ≡ t.ninodes
@@ -181,7 +181,7 @@ opened_desk desks h fd (Some id) g = put_desk desks h (record (desks h) { openin
 
 noted_desk : (b : Tree) (desks : ℕ → Desk) (h : ℕ) (o : Option ℕ) (g : ℕ) → SameDesk (desks g) (with_noted b desks h o g)
 noted_desk b desks h None g = same_desk (desks g)
-noted_desk b desks h (Some n) g = put_desk desks h (record (desks h) { noted = Some (record { number = n; sort = sort_of (b.nodes n) }) }) (record { fds = refl; hand = refl; joined = refl; directory = refl; lent = refl; lender = refl }) g
+noted_desk b desks h (Some n) g = put_desk desks h (record (desks h) { noted = Some (record { number = n; inode_type = type_of (b.nodes n) }) }) (record { fds = refl; hand = refl; joined = refl; directory = refl; lent = refl; lender = refl }) g
 
 left_desk : (desks : ℕ → Desk) (h : ℕ) (o : Option ℕ) (g : ℕ) → SameDesk (desks g) (with_left desks h o g)
 left_desk desks h None g = same_desk (desks g)

@@ -1,5 +1,5 @@
 -- What descriptors name: doubled, shut, asked for; and the directory.
-use Rattle.inodes_on_blocks.proofs.Vocabulary.{◌≡◌, inl, inr, ℕ, ◌+◌, ◌<◌, nat_lt, Bool, true, false, if◌then◌else◌, Option, Some, None, refl, sym, ◌∙◌, ap, subst, arith, List, slice_get, slice_set, option_map, none-some, Dinode, Ran, put, lowest, has_room, hart_count, descriptor_count, same_or, put_same, put_other, FilePlace, TablesState, place_named, file_named, file_in, open_at, with_desk, unlock_inode, settle_inode, settled, directory_of, with_directory, refusal_of, mode_refuses, lock_file, lock_unless, with_file, lock_inode, moved_at, unlocked_in, LockedState, Refuses, Locks, tables_offset, double_descriptor, double_at, double_to, with_descriptor, IsSoundTables, Sort, OfDirectory, OfFile, OfDevice, face_of, face_or, Cause, Desk, Entry, LockResult, NotLocked, LocksIt, file_count, slot_at, entry_at, is_at, double_if, entry_moved, lock_if, locked, unlocked, mode_refusal, read_refused, with_offset, write_refused, Inv, opens_slots, BothCame, DeskShows, DesksShow, FilesShow, Runs, kind_of, file_of, place_with, is_taken, doubled_as, refused_as, DescriptorsAreDoubled, DirectoriesAreSettled, DescriptorsNameFiles, FitsStat, FitsRead, load_locked, FilesAreLocked, FilesAreLockedToRead, OffsetsAreMoved}
+use Rattle.inodes_on_blocks.proofs.Vocabulary.{◌≡◌, inl, inr, ℕ, ◌+◌, ◌<◌, nat_lt, Bool, true, false, if◌then◌else◌, Option, Some, None, refl, sym, ◌∙◌, ap, subst, arith, List, slice_get, slice_set, option_map, none-some, Dinode, Ran, put, lowest, has_room, hart_count, descriptor_count, same_or, put_same, put_other, FilePlace, TablesState, place_named, file_named, file_in, open_at, with_desk, unlock_inode, settle_inode, settled, directory_of, with_directory, refusal_of, mode_refuses, lock_file, lock_unless, with_file, lock_inode, moved_at, unlocked_in, LockedState, Refuses, Locks, tables_offset, double_descriptor, double_at, double_to, with_descriptor, IsSoundTables, InodeType, OfDirectory, OfFile, OfDevice, face_of, face_or, Cause, Desk, Entry, LockResult, NotLocked, LocksIt, file_count, slot_at, entry_at, is_at, double_if, entry_moved, lock_if, locked, unlocked, mode_refusal, read_refused, with_offset, write_refused, Inv, opens_slots, BothCame, DeskShows, DesksShow, FilesShow, Runs, kind_of, file_of, place_with, is_taken, doubled_as, refused_as, DescriptorsAreDoubled, DirectoriesAreSettled, DescriptorsNameFiles, FitsStat, FitsRead, load_locked, FilesAreLocked, FilesAreLockedToRead, OffsetsAreMoved}
 use Rattle.fs_machine.specs.declared.desk.Desk as cards
 use Rattle.fs_machine.specs.declared.files.FilePlace.TheVariants.{Open}
 use Rattle.fs_machine.specs.declared.files.Want.TheVariants as want
@@ -45,19 +45,19 @@ module _ (h fd : ℕ) (t : TablesState) (w : World) (load : ℕ → Option Dinod
       at None e = refl
       at (Some s) e = let n = names_at h fd s w inv runs.below e in open_there s n ∙ sym (ap (option_map file_of) n.at)
 
-device_same : (sort : Sort) (m : Bool) (f : tables.OpenFile) → f.kind ≡ kind_of sort → mode_refuses m f ≡ option_map refused_as (mode_refusal m sort)
+device_same : (inode_type : InodeType) (m : Bool) (f : tables.OpenFile) → f.kind ≡ kind_of inode_type → mode_refuses m f ≡ option_map refused_as (mode_refusal m inode_type)
 device_same OfDirectory true f e = ap (λ k. mode_refuses true (record f { kind = k })) e
 device_same OfFile true f e = ap (λ k. mode_refuses true (record f { kind = k })) e
 device_same (OfDevice major) true f e = ap (λ k. mode_refuses true (record f { kind = k })) e
-device_same sort false f e = refl
+device_same inode_type false f e = refl
 
 reads_alike : (o : Option Entry) → refusal_of want.Read (option_map file_of o) ≡ option_map refused_as (read_refused o)
 reads_alike None = refl
-reads_alike (Some e) = device_same e.sort e.file.readable (file_of e) refl
+reads_alike (Some e) = device_same e.inode_type e.file.readable (file_of e) refl
 
 writes_alike : (o : Option Entry) → refusal_of want.Write (option_map file_of o) ≡ option_map refused_as (write_refused o)
 writes_alike None = refl
-writes_alike (Some e) = device_same e.sort e.file.writable (file_of e) refl
+writes_alike (Some e) = device_same e.inode_type e.file.writable (file_of e) refl
 
 pub descriptors_name_files : DescriptorsNameFiles
 descriptors_name_files h fd t w load shows inv runs =
@@ -72,14 +72,14 @@ card_named d fds cwd hand fd o s lt = let c = card_set d fds cwd hand hand fd o 
 
 -- the places where an open file's count of descriptors changed
 pub files_counted : (h fd s r : ℕ) (o : Option ℕ) (t : TablesState) (w : World) (load : ℕ → Option Dinode) → Shows t w load → (n : Names h fd s w) → (new : Desk) → new.hand ≡ (w.desks h).hand
-    → FilesShow t.files (put w.files s (Some (record { file = n.entry.file; sort = n.entry.sort; references = r }))) (put w.desks h new)
+    → FilesShow t.files (put w.files s (Some (record { file = n.entry.file; inode_type = n.entry.inode_type; references = r }))) (put w.desks h new)
 files_counted h fd s r o t w load shows n new same j lt = elim (same_or j s) [
   | inl q ↦
       shows.files j lt ∙ ap (λ (x : Option Entry). Some (place_with (is_taken w.desks j) x)) (ap w.files q ∙ n.at)
-      ∙ sym (ap (λ (x : Option Entry). Some (place_with (is_taken (put w.desks h new) j) x)) (ap (put w.files s (Some (record { file = n.entry.file; sort = n.entry.sort; references = r }))) q ∙ put_same w.files s (Some (record { file = n.entry.file; sort = n.entry.sort; references = r }))))
+      ∙ sym (ap (λ (x : Option Entry). Some (place_with (is_taken (put w.desks h new) j) x)) (ap (put w.files s (Some (record { file = n.entry.file; inode_type = n.entry.inode_type; references = r }))) q ∙ put_same w.files s (Some (record { file = n.entry.file; inode_type = n.entry.inode_type; references = r }))))
   | inr ne ↦
       shows.files j lt
-      ∙ (λ z. Some (place_with (sym (taken_same w.desks h new j (ap (λ (x : Option ℕ). is_at x j) same)) z) (sym (put_other w.files s (Some (record { file = n.entry.file; sort = n.entry.sort; references = r })) j ne) z)))
+      ∙ (λ z. Some (place_with (sym (taken_same w.desks h new j (ap (λ (x : Option ℕ). is_at x j) same)) z) (sym (put_other w.files s (Some (record { file = n.entry.file; inode_type = n.entry.inode_type; references = r })) j ne) z)))
 ]
 
 pub descriptors_are_doubled : DescriptorsAreDoubled

@@ -1,5 +1,5 @@
 -- The content of an inode's node is the bytes that its blocks have.
-use Rattle.inodes_on_blocks.proofs.Vocabulary.{◌≡◌, ◌≢◌, ℕ, ℤ, zero, suc, ◌+◌, ◌-◌, ◌*◌, ◌/◌, ◌%◌, ◌<◌, ◌^◌, ◌==◌, ◌&&◌, Bool, true, false, List, [], ◌∷◌, ◌++◌, length, take, drop, get_or, replicate, Option, Some, None, refl, sym, ap, subst, ◌∙◌, arith, if◌then◌else◌, list_all, position_or_len, same_Some, none-some, drop-drop, length-drop, take-take, take-append-drop, Dinode, Free, Used, record_at, u16_at, u16_bytes, IsBytes, dirent_of, free_of, used_of, name_of, is_name, is_zero, spell-dirent_of, u16_at-lt, inode_of, is_free, content_block, blocks_for, front_blocks, HoldsAt, HasContent, entry_of, size_in, Slot, Node, Kind, Directory, File, Device, content, entries, entry_bytes, block_there, drop_of_take, front, length-front}
+use Rattle.inodes_on_blocks.proofs.Vocabulary.{◌≡◌, ◌≢◌, ℕ, ℤ, zero, suc, ◌+◌, ◌-◌, ◌*◌, ◌/◌, ◌%◌, ◌<◌, ◌^◌, ◌==◌, ◌&&◌, Bool, true, false, List, [], ◌∷◌, ◌++◌, length, take, drop, get_or, replicate, Option, Some, None, refl, sym, ap, subst, ◌∙◌, arith, if◌then◌else◌, list_all, position_or_len, same_Some, none-some, drop-drop, length-drop, take-take, take-append-drop, Dinode, Free, Used, record_at, u16_at, u16_bytes, IsBytes, dirent_of, free_of, used_of, name_of, is_name, is_zero, spell-dirent_of, u16_at-lt, inode_of, is_free, content_block, blocks_for, front_blocks, HoldsAt, HasContent, entry_of, size_in, Slot, Node, NodeKind, Directory, File, Device, content, entries, entry_bytes, block_there, drop_of_take, front, length-front}
 use Rattle.std.proofs.lemmas.List.{length-take}
 use Rattle.inodes_on_blocks.proofs.Basics.{shown, take_bytes, drop_bytes}
 
@@ -74,7 +74,7 @@ module _ (disk : List (List ℕ)) (owner : ℕ → ℕ) (i : ℕ) (v : Node) (ho
   pub node_bytes : ((major minor : ℤ) (size : ℕ) → v.kind ≢ Device major minor size) → take d.size (front block many) ≡ content v.kind
   node_bytes plain = by v.kind refl
     where
-      by : (k : Kind) → v.kind ≡ k → take d.size (front block many) ≡ content v.kind
+      by : (k : NodeKind) → v.kind ≡ k → take d.size (front block many) ≡ content v.kind
       by (Device major minor size) is = absurd (plain major minor size is)
       by (File bytes) is = ap (take d.size) (fronts many) ∙ subst (HasContent disk d) is holds.content ∙ ap content (sym is)
       by (Directory slots) is = entries_are slots (take d.size (front block many)) long each ∙ ap content (sym is)

@@ -1,5 +1,5 @@
 -- The nodes of the tree that an image holds, and their slots.
-use Rattle.inodes_on_blocks.proofs.Vocabulary.{◌≡◌, ⊎_elim, ℕ, zero, suc, ◌<◌, ◌≤◌, true, false, ℤ, pos, negsuc, inl, inr, refl, sym, ◌∙◌, ap, arith, List, [], ◌∷◌, length, length-append, drop, get_or, Option, Some, None, nat_lt, false≢true, false_from_ne_true, cases_lt, get_or_past, get_or_append_left, get_or_at, Dinode, sizes_of, Node, Kind, Directory, tree_of, live_directory, times, inode_of, is_positive, is_live, is_node, is_live_directory, slots_in, slot_numbers, further_in, is_file, count_of, node_of, first_nodes, tree_in, node_is, node_from, directory_is, directory_from, Slots, folder, past, count_in, either, folder_dead, count_nil}
+use Rattle.inodes_on_blocks.proofs.Vocabulary.{◌≡◌, ⊎_elim, ℕ, zero, suc, ◌<◌, ◌≤◌, true, false, ℤ, pos, negsuc, inl, inr, refl, sym, ◌∙◌, ap, arith, List, [], ◌∷◌, length, length-append, drop, get_or, Option, Some, None, nat_lt, false≢true, false_from_ne_true, cases_lt, get_or_past, get_or_append_left, get_or_at, Dinode, sizes_of, Node, NodeKind, Directory, tree_of, live_directory, times, inode_of, is_positive, is_live, is_node, is_live_directory, slots_in, slot_numbers, further_in, is_file, count_of, node_of, first_nodes, tree_in, node_is, node_from, directory_is, directory_from, Slots, folder, past, count_in, either, folder_dead, count_nil}
 use Rattle.plain_tree.specs.Tree.{is_directory}
 use Rattle.image_tree.specs.Inodes as inodes
 use Rattle.image_tree.specs.Trees.{kind_of}
@@ -94,7 +94,7 @@ directory_there disk i h =
     let slots : kind_of disk (inode_of disk i) ≡ Directory (in_tree (slots_in disk i)) =
     kind_of_directory disk (inode_of disk i) is.directory ∙ ap (λ (ss : Entries). Directory (in_tree ss)) (sym (slots_of_directory disk i h)) in
     live_node disk i (directory_node disk i h) is.live
-    ∙ ap (λ (k : Kind). Some (record { count = count_of (inode_of disk i).nlink; kind = k })) slots
+    ∙ ap (λ (k : NodeKind). Some (record { count = count_of (inode_of disk i).nlink; kind = k })) slots
 
 pub directory_folder : (disk : List (List ℕ)) (i : ℕ) → is_live_directory disk i ≡ true → folder (node_of disk i) ≡ Some (in_tree (slots_in disk i))
 directory_folder disk i h =

@@ -1,5 +1,5 @@
 -- A descriptor shut: whether others name its open file still.
-use Rattle.inodes_on_blocks.proofs.Vocabulary.{◌≡◌, ◌≢◌, ◌⊎◌, inl, inr, ℕ, zero, suc, ◌+◌, ◌-◌, ◌<◌, ◌==◌, ◌||◌, Bool, true, false, List, [], ◌∷◌, length, Option, Some, None, refl, sym, ◌∙◌, ap, subst, arith, slice_get, list_any, slice_get_within, same_Some, none-some, Dinode, Did, put, any_below, hart_count, descriptor_count, sum_below, one_if, either, eq_is, eq_not, eq_self, same_or, put_same, put_other, any_none, none_any, sum_none, sum_part, one_yes, one_no, ShutState as Shut, TablesState, place_named, with_desk, is_place, names, shut_descriptor, shut_at, freed_at, freed_if, with_descriptor, with_place, IsSoundTables, Desk, slot_at, entry_at, is_at, close_if, close_less, close_last, Inv, uses, users, users_put, BothCame, DeskShows, DesksShow, Runs, descriptor, first, lent_by, place_with, is_taken, shut_as, DescriptorsAreShut}
+use Rattle.inodes_on_blocks.proofs.Vocabulary.{◌≡◌, ◌≢◌, ◌⊎◌, inl, inr, ℕ, zero, suc, ◌+◌, ◌-◌, ◌<◌, ◌==◌, ◌||◌, Bool, true, false, List, [], ◌∷◌, length, Option, Some, None, refl, sym, ◌∙◌, ap, subst, arith, slice_get, list_any, slice_get_within, same_Some, none-some, Dinode, ExecResult, put, any_below, hart_count, descriptor_count, sum_below, one_if, either, eq_is, eq_not, eq_self, same_or, put_same, put_other, any_none, none_any, sum_none, sum_part, one_yes, one_no, ShutState as Shut, TablesState, place_named, with_desk, is_place, names, shut_descriptor, shut_at, freed_at, freed_if, with_descriptor, with_place, IsSoundTables, Desk, slot_at, entry_at, is_at, close_if, close_less, close_last, Inv, uses, users, users_put, BothCame, DeskShows, DesksShow, Runs, descriptor, first, lent_by, place_with, is_taken, shut_as, DescriptorsAreShut}
 use Rattle.fs_machine.specs.declared.desk.Desk as cards
 use Rattle.fs_machine.specs.declared.files.FilePlace.TheVariants.{Free}
 use Rattle.fs_machine.specs.declared.slots.Shut.TheVariants as shut
@@ -215,6 +215,6 @@ descriptors_are_shut h fd t w load shows inv runs lends = at (slot_at w h fd) re
     at None e = both_ran (λ a b. a ≡ shut_as b) (λ a. load) (shut_at h fd t (place_named h fd t)) (above.close_at h w fd (slot_at w h fd) (entry_of w h fd)) shut.BadDescriptor None t w (lower None e) (upper None e) refl shows
     at (Some k) e =
         let n = names_at h fd k w inv runs.below e in
-        subst (λ (x : Did Shut TablesState). BothCame (λ a b. a ≡ shut_as b) (λ a. load) x (above.close_at h w fd (slot_at w h fd) (entry_of w h fd))) (sym (lower (Some k) e))
-        (subst (λ (y : Did (Option (Option ℕ)) World). BothCame (λ a b. a ≡ shut_as b) (λ a. load) (freed_at k (with_desk h (with_descriptor fd None) t)) y) (sym (upper (Some k) e ∙ ap (above.close_at h w fd (Some k)) n.at))
+        subst (λ (x : ExecResult Shut TablesState). BothCame (λ a b. a ≡ shut_as b) (λ a. load) x (above.close_at h w fd (slot_at w h fd) (entry_of w h fd))) (sym (lower (Some k) e))
+        (subst (λ (y : ExecResult (Option (Option ℕ)) World). BothCame (λ a b. a ≡ shut_as b) (λ a. load) (freed_at k (with_desk h (with_descriptor fd None) t)) y) (sym (upper (Some k) e ∙ ap (above.close_at h w fd (Some k)) n.at))
         (shut_one h fd k t w load shows inv runs lends n e))

@@ -1,5 +1,5 @@
 -- The operations on descriptors and open files act at their one step.
-use Rattle.inodes_on_blocks.proofs.Vocabulary.{◌≡◌, inl, inr, ℕ, ◌<◌, ◌≤◌, ◌==◌, Bool, true, false, Option, Some, None, refl, sym, ◌∙◌, ap, subst, arith, ◌+◌, ◌-◌, ◌≢◌, IsSome, option_map, none-some, same_Some, Cause, OpenFile, put, lowest, has_room, hart_count, largest_size, Did, Waits, Ran, Stops, did_in, Laws, Both, Doubled, TablesState, file_named, refusal_of, take_place, open_file, double_descriptor, shut_descriptor, Entry, Install, CheckFile, Double, Shut, Say, slot_if, install_if, first_from, file_count, is_empty_slot, double_if, slot_at, close_at, close_if, mode_refusal, write_refused, entry_at, Sort, OfDirectory, OfFile, OfDevice, loaded, new_file, Runs, BothCame, doubled_as, shut_as, refused_as, World, tables_of, came_to, commits_after, owners_of, owners_after, new_after, Shows, OffsetsShow, Carry, Base, Labels, labelled, Keeps, doubled_to, shut_to, cause_if, slot, install, double, close, check_file, say, ActsOnce, LogPart, lowest_free, renewed_same, Inv, same_or, put_same, put_other}
+use Rattle.inodes_on_blocks.proofs.Vocabulary.{◌≡◌, inl, inr, ℕ, ◌<◌, ◌≤◌, ◌==◌, Bool, true, false, Option, Some, None, refl, sym, ◌∙◌, ap, subst, arith, ◌+◌, ◌-◌, ◌≢◌, IsSome, option_map, none-some, same_Some, Cause, OpenFile, put, lowest, has_room, hart_count, largest_size, ExecResult, Waits, Ran, Stops, exec_result_in, Laws, Both, Doubled, TablesState, file_named, refusal_of, take_place, open_file, double_descriptor, shut_descriptor, Entry, Install, CheckFile, Double, Shut, Say, slot_if, install_if, first_from, file_count, is_empty_slot, double_if, slot_at, close_at, close_if, mode_refusal, write_refused, entry_at, InodeType, OfDirectory, OfFile, OfDevice, loaded, new_file, Runs, BothCame, doubled_as, shut_as, refused_as, World, tables_of, came_to, commits_after, owners_of, owners_after, new_after, Shows, OffsetsShow, Carry, Base, Labels, labelled, Keeps, doubled_to, shut_to, cause_if, slot, install, double, close, check_file, say, ActsOnce, LogPart, lowest_free, renewed_same, Inv, same_or, put_same, put_other}
 use Rattle.fs_machine.specs.declared.files.Want.TheVariants as want
 use Rattle.fs_machine.specs.declared.slots.Shut as shuts
 use Rattle.fs_machine.specs.Steps as steps
@@ -36,10 +36,10 @@ pub all_same : (h : ℕ) (g : above.World) → SameInodes h g g
 all_same h g = record { disk = refl; lock = refl; refs = λ n some. some; keeper = refl; size = refl; joined = λ j. refl; lender = refl; opens = λ i mine. open_same h i g; offsets = λ old. old }
 
 -- where an operation ran so
-pub ran_same : {A : Type 0} (h : ℕ) (g w u : above.World) (a b : A) → ◌≡◌ {A = Did A above.World} (Ran a w) (Ran b u) → SameInodes h g w → SameInodes h g u
+pub ran_same : {A : Type 0} (h : ℕ) (g w u : above.World) (a b : A) → ◌≡◌ {A = ExecResult A above.World} (Ran a w) (Ran b u) → SameInodes h g w → SameInodes h g u
 ran_same {A} h g w u a b e s = subst (SameInodes h g) world s
   where
-    world_of : Did A above.World → above.World
+    world_of : ExecResult A above.World → above.World
     world_of Waits = w
     world_of (Ran c x) = x
     world_of (Stops x) = x
@@ -47,12 +47,12 @@ ran_same {A} h g w u a b e s = subst (SameInodes h g) world s
     world : w ≡ u
     world = ap world_of e
 
-pub no_wait : {A S : Type 0} (a : A) (s : S) → ◌≡◌ {A = Did A S} (Ran a s) Waits → ⊥
+pub no_wait : {A S : Type 0} (a : A) (s : S) → ◌≡◌ {A = ExecResult A S} (Ran a s) Waits → ⊥
 no_wait a s e = cc
 
 -- a step on the tables, as a step on all
-pub in_tables_is : (h : ℕ) (lop : steps.Op) (v : World) → ((a : steps.Answer lop) (o : Option ℕ) → commits_after h lop a o ≡ o) → ((s : steps.State) → owners_after h lop v s ≡ owners_of v) → ((a : steps.Answer lop) (l : LogPart) → new_after h lop a l v.new ≡ v.new) → (d : Did (steps.Answer lop) TablesState)
-    → came_to h lop v (steps.in_tables v.state d) ≡ did_in (with_tables v) d
+pub in_tables_is : (h : ℕ) (lop : steps.Op) (v : World) → ((a : steps.Answer lop) (o : Option ℕ) → commits_after h lop a o ≡ o) → ((s : steps.State) → owners_after h lop v s ≡ owners_of v) → ((a : steps.Answer lop) (l : LogPart) → new_after h lop a l v.new ≡ v.new) → (d : ExecResult (steps.Answer lop) TablesState)
+    → came_to h lop v (steps.in_tables v.state d) ≡ exec_result_in (with_tables v) d
 in_tables_is h lop v quiet whose old Waits = refl
 in_tables_is h lop v quiet whose old (Ran a t) =
     let s = record (v.state) { tables = t } in
@@ -84,10 +84,10 @@ module _ (l : Labels) (laws : Laws (labelled l)) (keeps : Keeps l) (h : ℕ) (lt
   }
 
   -- by what came of both
-  pub from_both : (op : above.Op) {A : Type 0} (v : W) (wait : Type 0) (answer : A → above.Answer op) (Fits : A → above.Answer op → Type 0) (c : Carry) (d : Did A TablesState) (e : Did (above.Answer op) above.World)
+  pub from_both : (op : above.Op) {A : Type 0} (v : W) (wait : Type 0) (answer : A → above.Answer op) (Fits : A → above.Answer op → Type 0) (c : Carry) (d : ExecResult A TablesState) (e : ExecResult (above.Answer op) above.World)
       → above_exec.exec h above.Room op v.seen ≡ e → BothCame Fits (λ a. loaded (tables_of v.real)) d e → (e ≡ Waits → ⊥) → ((a : A) (b : above.Answer op) → Fits a b → answer a ≡ b)
       → ((b : above.Answer op) (u : above.World) → e ≡ Ran b u → SameInodes h v.seen u) → Shows v.real v.seen → Base h v.real v.seen c → (v.seen.desks h).lender ≡ None
-      → CameTo l laws keeps h op v wait (did_in (with_tables v.real) d) answer (λ a. c)
+      → CameTo l laws keeps h op v wait (exec_result_in (with_tables v.real) d) answer (λ a. c)
   from_both op v wait answer Fits c Waits Waits is both no_waits fits same shows base free = absurd (no_waits refl)
   from_both op v wait answer Fits c Waits (Ran b u) is both no_waits fits same shows base free = absurd both
   from_both op v wait answer Fits c Waits (Stops u) is both no_waits fits same shows base free = absurd both
@@ -136,7 +136,7 @@ module _ (l : Labels) (laws : Laws (labelled l)) (keeps : Keeps l) (h : ℕ) (lt
       (λ v c shows inv base may. (
         (lt, hand_here h (tables_of v.real) v.seen (loaded (tables_of v.real)) shows.tables (runs_here v may.0) ∙ may.1),
         λ x t.
-            subst (λ (d : Did Bool World). CameTo l laws keeps h Slot v ⊥ d (λ a. a) (λ a. c)) (sym (in_tables_is h steps.TakePlace v.real (λ a o. refl) (λ s. refl) (λ a l. refl) (take_place h (tables_of v.real))))
+            subst (λ (d : ExecResult Bool World). CameTo l laws keeps h Slot v ⊥ d (λ a. a) (λ a. c)) (sym (in_tables_is h steps.TakePlace v.real (λ a o. refl) (λ s. refl) (λ a l. refl) (take_place h (tables_of v.real))))
             (from_both Slot v ⊥ (λ a. a) (λ a b. a ≡ b) c (take_place h (tables_of v.real)) (above_exec.exec h above.Room Slot v.seen) refl
             (places_are_taken h (tables_of v.real) v.seen (loaded (tables_of v.real)) shows.tables (runs_here v may.0) may.1)
             (slot_runs v.seen (first_from file_count 0 (is_empty_slot v.seen))) (λ a b e. e) (slot_same v.seen (first_from file_count 0 (is_empty_slot v.seen))) shows base may.0),
@@ -148,31 +148,31 @@ module _ (l : Labels) (laws : Laws (labelled l)) (keeps : Keeps l) (h : ℕ) (lt
   kept_lowest : (w : above.World) (o : Option ℕ) → has_room (w.desks h).fds ≡ true → (fd k : ℕ) → (w.desks h).fds fd ≡ Some k → put (w.desks h).fds (lowest (w.desks h).fds) o fd ≡ Some k
   kept_lowest w o room fd k is = put_other (w.desks h).fds (lowest (w.desks h).fds) o fd (λ e. none-some k (sym (lowest_free (w.desks h).fds room).1 ∙ ap (w.desks h).fds (sym e) ∙ is)) ∙ is
 
-  opened_same : (w : above.World) (f : OpenFile) (sort : Sort) (o : Option ℕ) (b : Bool) (a : Option ℕ) (u : above.World) → Inv w → f.offset ≡ 0 → (w.desks h).hand ≡ o → has_room (w.desks h).fds ≡ b → install_if h w f sort o b ≡ Ran a u → SameInodes h w u
-  opened_same w f sort None b a u inv new hand room q = ran_same h w w u None a q (all_same h w)
-  opened_same w f sort (Some s) true a u inv new hand room q =
-      ran_same h w (above_exec.installed h w f sort s (lowest (w.desks h).fds)) u _ a q
-      (desk_same w (above_exec.installed h w f sort s (lowest (w.desks h).fds)) (record (w.desks h) { fds = put (w.desks h).fds (lowest (w.desks h).fds) (Some s); hand = None; opening = None }) refl refl refl refl refl refl refl refl
-      (λ i mine. open_put h i w (above_exec.installed h w f sort s (lowest (w.desks h).fds)) (record (w.desks h) { fds = put (w.desks h).fds (lowest (w.desks h).fds) (Some s); hand = None; opening = None }) refl (kept_lowest w (Some s) room)
-      (λ k e at. (e, put_other w.files s (Some (record { file = f; sort = sort; references = 1 })) k (λ z. none-some e (sym (inv.tied.hand h s lt hand).1 ∙ ap w.files (sym z) ∙ at)) ∙ at, refl)))
-      (λ old. offsets_put w.files s (Some (record { file = f; sort = sort; references = 1 })) (λ e is. subst (λ (x : Entry). x.file.offset ≤ largest_size) (same_Some _ e is) (omega (arith, new))) old))
-  opened_same w f sort (Some s) false a u inv new hand room q =
+  opened_same : (w : above.World) (f : OpenFile) (inode_type : InodeType) (o : Option ℕ) (b : Bool) (a : Option ℕ) (u : above.World) → Inv w → f.offset ≡ 0 → (w.desks h).hand ≡ o → has_room (w.desks h).fds ≡ b → install_if h w f inode_type o b ≡ Ran a u → SameInodes h w u
+  opened_same w f inode_type None b a u inv new hand room q = ran_same h w w u None a q (all_same h w)
+  opened_same w f inode_type (Some s) true a u inv new hand room q =
+      ran_same h w (above_exec.installed h w f inode_type s (lowest (w.desks h).fds)) u _ a q
+      (desk_same w (above_exec.installed h w f inode_type s (lowest (w.desks h).fds)) (record (w.desks h) { fds = put (w.desks h).fds (lowest (w.desks h).fds) (Some s); hand = None; opening = None }) refl refl refl refl refl refl refl refl
+      (λ i mine. open_put h i w (above_exec.installed h w f inode_type s (lowest (w.desks h).fds)) (record (w.desks h) { fds = put (w.desks h).fds (lowest (w.desks h).fds) (Some s); hand = None; opening = None }) refl (kept_lowest w (Some s) room)
+      (λ k e at. (e, put_other w.files s (Some (record { file = f; inode_type = inode_type; references = 1 })) k (λ z. none-some e (sym (inv.tied.hand h s lt hand).1 ∙ ap w.files (sym z) ∙ at)) ∙ at, refl)))
+      (λ old. offsets_put w.files s (Some (record { file = f; inode_type = inode_type; references = 1 })) (λ e is. subst (λ (x : Entry). x.file.offset ≤ largest_size) (same_Some _ e is) (omega (arith, new))) old))
+  opened_same w f inode_type (Some s) false a u inv new hand room q =
       let w' : above.World = record w { desks = put w.desks h (record (w.desks h) { hand = None }) } in
       ran_same h w w' u None a q (desk_same w w' (record (w.desks h) { hand = None }) refl refl refl refl refl refl refl refl (λ i mine. open_put h i w w' (record (w.desks h) { hand = None }) refl (λ fd k e. e) (λ k e at. (e, at, refl))) (λ old. old))
 
-  opened_runs : (w : above.World) (f : OpenFile) (sort : Sort) (o : Option ℕ) (b : Bool) → install_if h w f sort o b ≡ Waits → ⊥
-  opened_runs w f sort None b q = no_wait None w q
-  opened_runs w f sort (Some s) true q = no_wait _ _ q
-  opened_runs w f sort (Some s) false q = no_wait None _ q
+  opened_runs : (w : above.World) (f : OpenFile) (inode_type : InodeType) (o : Option ℕ) (b : Bool) → install_if h w f inode_type o b ≡ Waits → ⊥
+  opened_runs w f inode_type None b q = no_wait None w q
+  opened_runs w f inode_type (Some s) true q = no_wait _ _ q
+  opened_runs w f inode_type (Some s) false q = no_wait None _ q
 
   some_hand : (o p : Option ℕ) → o ≡ p → (p ≡ None → ⊥) → IsSome o
   some_hand None p e ne = absurd (ne (sym e))
   some_hand (Some k) p e ne = refl
 
-  pub install_acts : (f : OpenFile) (sort : Sort) (m : Option ℕ → Option above.Mark) → ActsOnce l h (Install f sort) m (install f sort)
+  pub install_acts : (f : OpenFile) (inode_type : InodeType) (m : Option ℕ → Option above.Mark) → ActsOnce l h (Install f inode_type) m (install f inode_type)
   unfolding steps.exec premises.May premises.MayWait
-  install_acts f sort m =
-      one_step l laws keeps h (Install f sort) m (λ c. steps.TakeDescriptor f.number (new_file f sort)) (λ c a. a) (λ c a. c) (λ v. tt)
+  install_acts f inode_type m =
+      one_step l laws keeps h (Install f inode_type) m (λ c. steps.TakeDescriptor f.number (new_file f inode_type)) (λ c a. a) (λ c a. c) (λ v. tt)
       (λ v c shows inv base may. (
         (
           lt,
@@ -180,10 +180,10 @@ module _ (l : Labels) (laws : Laws (labelled l)) (keeps : Keeps l) (h : ℕ) (lt
           fewer_owed f.number (tables_of v.real) v.seen (loaded (tables_of v.real)) shows.tables inv h lt may.1.2,
         ),
         λ x t.
-            subst (λ (d : Did (Option ℕ) World). CameTo l laws keeps h (Install f sort) v ⊥ d (λ a. a) (λ a. c)) (sym (in_tables_is h (steps.TakeDescriptor f.number (new_file f sort)) v.real (λ a o. refl) (λ s. refl) (λ a l. refl) (open_file h f.number (new_file f sort) (tables_of v.real))))
-            (from_both (Install f sort) v ⊥ (λ a. a) (λ a b. a ≡ b) c (open_file h f.number (new_file f sort) (tables_of v.real)) (above_exec.exec h above.Room (Install f sort) v.seen) refl
-            (files_are_opened h f sort (tables_of v.real) v.seen (loaded (tables_of v.real)) shows.tables inv (runs_here v may.0) may.1.0 may.1.1)
-            (opened_runs v.seen f sort (v.seen.desks h).hand (has_room (v.seen.desks h).fds)) (λ a b e. e) (λ a u. opened_same v.seen f sort (v.seen.desks h).hand (has_room (v.seen.desks h).fds) a u inv may.1.1 refl refl) shows base may.0),
+            subst (λ (d : ExecResult (Option ℕ) World). CameTo l laws keeps h (Install f inode_type) v ⊥ d (λ a. a) (λ a. c)) (sym (in_tables_is h (steps.TakeDescriptor f.number (new_file f inode_type)) v.real (λ a o. refl) (λ s. refl) (λ a l. refl) (open_file h f.number (new_file f inode_type) (tables_of v.real))))
+            (from_both (Install f inode_type) v ⊥ (λ a. a) (λ a b. a ≡ b) c (open_file h f.number (new_file f inode_type) (tables_of v.real)) (above_exec.exec h above.Room (Install f inode_type) v.seen) refl
+            (files_are_opened h f inode_type (tables_of v.real) v.seen (loaded (tables_of v.real)) shows.tables inv (runs_here v may.0) may.1.0 may.1.1)
+            (opened_runs v.seen f inode_type (v.seen.desks h).hand (has_room (v.seen.desks h).fds)) (λ a b e. e) (λ a u. opened_same v.seen f inode_type (v.seen.desks h).hand (has_room (v.seen.desks h).fds) a u inv may.1.1 refl refl) shows base may.0),
       ))
 
   -- ---- doubled
@@ -193,8 +193,8 @@ module _ (l : Labels) (laws : Laws (labelled l)) (keeps : Keeps l) (h : ℕ) (lt
       ran_same h w (above_exec.doubled h w s e (lowest (w.desks h).fds)) u _ a q
       (desk_same w (above_exec.doubled h w s e (lowest (w.desks h).fds)) (record (w.desks h) { fds = put (w.desks h).fds (lowest (w.desks h).fds) (Some s) }) refl refl refl refl refl refl refl refl
       (λ i mine. open_put h i w (above_exec.doubled h w s e (lowest (w.desks h).fds)) (record (w.desks h) { fds = put (w.desks h).fds (lowest (w.desks h).fds) (Some s) }) refl (kept_lowest w (Some s) room)
-      (λ k d at_k. let x = renewed_same w.files s e (record { file = e.file; sort = e.sort; references = e.references + 1 }) k d at refl refl at_k in (x.0, x.1, x.3)))
-      (λ old. offsets_put w.files s (Some (record { file = e.file; sort = e.sort; references = e.references + 1 })) (λ d is. subst (λ (x : Entry). x.file.offset ≤ largest_size) (same_Some _ d is) (old s e at)) old))
+      (λ k d at_k. let x = renewed_same w.files s e (record { file = e.file; inode_type = e.inode_type; references = e.references + 1 }) k d at refl refl at_k in (x.0, x.1, x.3)))
+      (λ old. offsets_put w.files s (Some (record { file = e.file; inode_type = e.inode_type; references = e.references + 1 })) (λ d is. subst (λ (x : Entry). x.file.offset ≤ largest_size) (same_Some _ d is) (old s e at)) old))
   double_same w s e false a u at room q = ran_same h w w u (Some None) a q (all_same h w)
 
   doubled_same : (w : above.World) (o : Option ℕ) (e : Option Entry) (a : Option (Option ℕ)) (u : above.World) → entry_at w.files o ≡ e → double_at h w o e ≡ Ran a u → SameInodes h w u
@@ -223,7 +223,7 @@ module _ (l : Labels) (laws : Laws (labelled l)) (keeps : Keeps l) (h : ℕ) (lt
       (λ v c shows inv base may. (
         lt,
         λ x t.
-            subst (λ (d : Did Doubled World). CameTo l laws keeps h (Double fd) v ⊥ d doubled_to (λ a. c)) (sym (in_tables_is h (steps.Double fd) v.real (λ a o. refl) (λ s. refl) (λ a l. refl) (double_descriptor h fd (tables_of v.real))))
+            subst (λ (d : ExecResult Doubled World). CameTo l laws keeps h (Double fd) v ⊥ d doubled_to (λ a. c)) (sym (in_tables_is h (steps.Double fd) v.real (λ a o. refl) (λ s. refl) (λ a l. refl) (double_descriptor h fd (tables_of v.real))))
             (from_both (Double fd) v ⊥ doubled_to (λ a b. a ≡ doubled_as b) c (double_descriptor h fd (tables_of v.real)) (above_exec.exec h above.Room (Double fd) v.seen) refl
             (descriptors_are_doubled h fd (tables_of v.real) v.seen (loaded (tables_of v.real)) shows.tables inv (runs_here v may.0))
             (doubled_runs v.seen (slot_at v.seen h fd) (entry_of v.seen h fd)) (λ a b e. ap doubled_to e ∙ doubled_back b) (λ a u. doubled_same v.seen (slot_at v.seen h fd) (entry_of v.seen h fd) a u refl) shows base may.0),
@@ -238,7 +238,7 @@ module _ (l : Labels) (laws : Laws (labelled l)) (keeps : Keeps l) (h : ℕ) (lt
   close_same w fd s e false a u none at q =
       ran_same h w (above_exec.close_less h w fd s e) u _ a q
       (desk_same w (above_exec.close_less h w fd s e) (record (w.desks h) { fds = put (w.desks h).fds fd None }) refl refl refl refl refl refl refl refl (λ i mine. absurd (none i mine))
-      (λ old. offsets_put w.files s (Some (record { file = e.file; sort = e.sort; references = e.references - 1 })) (λ d is. subst (λ (x : Entry). x.file.offset ≤ largest_size) (same_Some _ d is) (old s e at)) old))
+      (λ old. offsets_put w.files s (Some (record { file = e.file; inode_type = e.inode_type; references = e.references - 1 })) (λ d is. subst (λ (x : Entry). x.file.offset ≤ largest_size) (same_Some _ d is) (old s e at)) old))
 
   closed_same : (w : above.World) (fd : ℕ) (o : Option ℕ) (e : Option Entry) (a : Option (Option ℕ)) (u : above.World) → ((i : ℕ) → w.lock i ≢ Some h) → entry_at w.files o ≡ e → close_at h w fd o e ≡ Ran a u → SameInodes h w u
   closed_same w fd None e a u none at q = ran_same h w w u None a q (all_same h w)
@@ -266,7 +266,7 @@ module _ (l : Labels) (laws : Laws (labelled l)) (keeps : Keeps l) (h : ℕ) (lt
       (λ v c shows inv base may. (
         lt,
         λ x t.
-            subst (λ (d : Did shuts.Shut World). CameTo l laws keeps h (Shut fd) v ⊥ d shut_to (λ a. c)) (sym (in_tables_is h (steps.Close fd) v.real (λ a o. refl) (λ s. refl) (λ a l. refl) (shut_descriptor h fd (tables_of v.real))))
+            subst (λ (d : ExecResult shuts.Shut World). CameTo l laws keeps h (Shut fd) v ⊥ d shut_to (λ a. c)) (sym (in_tables_is h (steps.Close fd) v.real (λ a o. refl) (λ s. refl) (λ a l. refl) (shut_descriptor h fd (tables_of v.real))))
             (from_both (Shut fd) v ⊥ shut_to (λ a b. a ≡ shut_as b) c (shut_descriptor h fd (tables_of v.real)) (above_exec.exec h above.Room (Shut fd) v.seen) refl
             (descriptors_are_shut h fd (tables_of v.real) v.seen (loaded (tables_of v.real)) shows.tables inv (runs_here v may.0) (λ i z. may.1.1 z i))
             (closed_runs v.seen fd (slot_at v.seen h fd) (entry_of v.seen h fd)) (λ a b e. ap shut_to e ∙ shut_back b) (λ a u. closed_same v.seen fd (slot_at v.seen h fd) (entry_of v.seen h fd) a u may.1.0 refl) shows base may.0),
@@ -280,13 +280,13 @@ module _ (l : Labels) (laws : Laws (labelled l)) (keeps : Keeps l) (h : ℕ) (lt
     where
       by : (e : Option Entry) (k : Cause) → write_refused e ≡ Some k → cause_if (Some (refused_as k)) ≡ Some k
       by None k q = subst (λ (z : Cause). cause_if (Some (refused_as z)) ≡ Some z) (same_Some _ k q) refl
-      by (Some e) k q = mode e.file.writable e.sort k q
+      by (Some e) k q = mode e.file.writable e.inode_type k q
         where
-          mode : (b : Bool) (sort : Sort) (k : Cause) → mode_refusal b sort ≡ Some k → cause_if (Some (refused_as k)) ≡ Some k
+          mode : (b : Bool) (inode_type : InodeType) (k : Cause) → mode_refusal b inode_type ≡ Some k → cause_if (Some (refused_as k)) ≡ Some k
           mode true OfDirectory k q = absurd (none-some k q)
           mode true OfFile k q = absurd (none-some k q)
           mode true (OfDevice major) k q = subst (λ (z : Cause). cause_if (Some (refused_as z)) ≡ Some z) (same_Some _ k q) refl
-          mode false sort k q = subst (λ (z : Cause). cause_if (Some (refused_as z)) ≡ Some z) (same_Some _ k q) refl
+          mode false inode_type k q = subst (λ (z : Cause). cause_if (Some (refused_as z)) ≡ Some z) (same_Some _ k q) refl
 
   pub check_acts : (fd : ℕ) (m : Option Cause → Option above.Mark) → ActsOnce l h (CheckFile fd) m (check_file fd)
   unfolding steps.exec premises.May premises.MayWait

@@ -113,7 +113,7 @@ places_are_taken h t w load shows runs free = at (position is_free t.files) refl
 
 pub files_are_opened : FilesAreOpened
 unfolding open_file
-files_are_opened h f sort t w load shows inv runs some start = at (w.desks h).hand refl
+files_are_opened h f inode_type t w load shows inv runs some start = at (w.desks h).hand refl
   where
     into : ℕ → ℕ → Desk
     into k fd = record (w.desks h) { fds = put (w.desks h).fds fd (Some k); hand = None; opening = None }
@@ -122,19 +122,19 @@ files_are_opened h f sort t w load shows inv runs some start = at (w.desks h).ha
     back = record (w.desks h) { hand = None }
 
     entry : Entry
-    entry = record { file = f; sort = sort; references = 1 }
+    entry = record { file = f; inode_type = inode_type; references = 1 }
 
     others : (new : Desk) (k j : ℕ) → (w.desks h).hand ≡ Some k → new.hand ≡ None → j ≢ k → is_taken (put w.desks h new) j ≡ is_taken w.desks j
     others new k j e none ne = taken_same w.desks h new j (none_at new.hand j none ∙ sym (ap (λ (o : Option ℕ). is_at o j) e ∙ not_at k j ne))
 
     shown_open : (k fd : ℕ) → (w.desks h).hand ≡ Some k → fd < descriptor_count
-        → Shows (with_desk h (λ d. with_hand None (with_descriptor fd (Some k) d)) (with_place k (Open (opened f.number (new_file f sort))) t)) (installed h w f sort k fd) load
+        → Shows (with_desk h (λ d. with_hand None (with_descriptor fd (Some k) d)) (with_place k (Open (opened f.number (new_file f inode_type))) t)) (installed h w f inode_type k fd) load
     shown_open k fd e lt = record {
-      sound = record { inodes = shows.sound.inodes; files = long_files h t w load shows runs k (Open (opened f.number (new_file f sort))); desks = long_desks h t w load shows runs (λ d. with_hand None (with_descriptor fd (Some k) d)) };
+      sound = record { inodes = shows.sound.inodes; files = long_files h t w load shows runs k (Open (opened f.number (new_file f inode_type))); desks = long_desks h t w load shows runs (λ d. with_hand None (with_descriptor fd (Some k) d)) };
       places = shows.places;
-      files = files_set t.files w.files (put w.files k (Some (record { file = f; sort = sort; references = 1 }))) w.desks (put w.desks h (record (w.desks h) { fds = put (w.desks h).fds fd (Some k); hand = None; opening = None })) k (Open (opened f.number (new_file f sort))) shows.files
-          ((λ z. Open (record { number = f.number; kind = kind_of sort; readable = f.readable; writable = f.writable; offset = sym start z })) ∙ sym (ap (place_with (is_taken (put w.desks h (record (w.desks h) { fds = put (w.desks h).fds fd (Some k); hand = None; opening = None })) k)) (put_same w.files k (Some (record { file = f; sort = sort; references = 1 })))))
-          (λ j ne. (put_other w.files k (Some (record { file = f; sort = sort; references = 1 })) j ne, others (record (w.desks h) { fds = put (w.desks h).fds fd (Some k); hand = None; opening = None }) k j e refl ne));
+      files = files_set t.files w.files (put w.files k (Some (record { file = f; inode_type = inode_type; references = 1 }))) w.desks (put w.desks h (record (w.desks h) { fds = put (w.desks h).fds fd (Some k); hand = None; opening = None })) k (Open (opened f.number (new_file f inode_type))) shows.files
+          ((λ z. Open (record { number = f.number; kind = kind_of inode_type; readable = f.readable; writable = f.writable; offset = sym start z })) ∙ sym (ap (place_with (is_taken (put w.desks h (record (w.desks h) { fds = put (w.desks h).fds fd (Some k); hand = None; opening = None })) k)) (put_same w.files k (Some (record { file = f; inode_type = inode_type; references = 1 })))))
+          (λ j ne. (put_other w.files k (Some (record { file = f; inode_type = inode_type; references = 1 })) j ne, others (record (w.desks h) { fds = put (w.desks h).fds fd (Some k); hand = None; opening = None }) k j e refl ne));
       desks = desk_set h t w load shows runs (λ d. with_hand None (with_descriptor fd (Some k) d)) (record (w.desks h) { fds = put (w.desks h).fds fd (Some k); hand = None; opening = None }) runs.free (λ i. refl)
           (λ d s. card_set d (w.desks h).fds (w.desks h).directory (w.desks h).hand None fd (Some k) s lt);
       lenders = lenders_set w.desks h (record (w.desks h) { fds = put (w.desks h).fds fd (Some k); hand = None; opening = None }) refl shows.lenders;
@@ -160,16 +160,16 @@ files_are_opened h f sort t w load shows inv runs some start = at (w.desks h).ha
             at None q ne = refl
             at (Some l) q ne = eq_not l k (λ z. ne (inv.tied.hands g h k lt runs.below (q ∙ ap (λ (x : ℕ). Some x) z) e))
 
-    at : (o : Option ℕ) → (w.desks h).hand ≡ o → BothCame (λ a b. a ≡ b) (λ a. load) (open_in h f.number (new_file f sort) t (hand_of (slice_get t.desks h))) (install_if h w f sort (w.desks h).hand (has_room (w.desks h).fds))
+    at : (o : Option ℕ) → (w.desks h).hand ≡ o → BothCame (λ a b. a ≡ b) (λ a. load) (open_in h f.number (new_file f inode_type) t (hand_of (slice_get t.desks h))) (install_if h w f inode_type (w.desks h).hand (has_room (w.desks h).fds))
     at None e = absurd (some e)
     at (Some k) e = by_room (has_room (w.desks h).fds) refl
       where
-        below_of : (b : Bool) → has_room (w.desks h).fds ≡ b → open_in h f.number (new_file f sort) t (hand_of (slice_get t.desks h)) ≡ open_by h f.number (new_file f sort) k t (if b then Some (lowest (w.desks h).fds) else None)
-        below_of b q = ap (open_in h f.number (new_file f sort) t) (hand_here h t w load shows runs ∙ e) ∙ ap (open_by h f.number (new_file f sort) k t) (empty_is h t w load shows runs ∙ ap (λ (c : Bool). if c then Some (lowest (w.desks h).fds) else None) q)
+        below_of : (b : Bool) → has_room (w.desks h).fds ≡ b → open_in h f.number (new_file f inode_type) t (hand_of (slice_get t.desks h)) ≡ open_by h f.number (new_file f inode_type) k t (if b then Some (lowest (w.desks h).fds) else None)
+        below_of b q = ap (open_in h f.number (new_file f inode_type) t) (hand_here h t w load shows runs ∙ e) ∙ ap (open_by h f.number (new_file f inode_type) k t) (empty_is h t w load shows runs ∙ ap (λ (c : Bool). if c then Some (lowest (w.desks h).fds) else None) q)
 
-        above_of : (b : Bool) → has_room (w.desks h).fds ≡ b → install_if h w f sort (w.desks h).hand (has_room (w.desks h).fds) ≡ install_if h w f sort (Some k) b
-        above_of b q = λ z. install_if h w f sort (e z) (q z)
+        above_of : (b : Bool) → has_room (w.desks h).fds ≡ b → install_if h w f inode_type (w.desks h).hand (has_room (w.desks h).fds) ≡ install_if h w f inode_type (Some k) b
+        above_of b q = λ z. install_if h w f inode_type (e z) (q z)
 
-        by_room : (b : Bool) → has_room (w.desks h).fds ≡ b → BothCame (λ a b. a ≡ b) (λ a. load) (open_in h f.number (new_file f sort) t (hand_of (slice_get t.desks h))) (install_if h w f sort (w.desks h).hand (has_room (w.desks h).fds))
-        by_room true q = both_ran (λ a b. a ≡ b) (λ a. load) (open_in h f.number (new_file f sort) t (hand_of (slice_get t.desks h))) (install_if h w f sort (w.desks h).hand (has_room (w.desks h).fds)) (Some (lowest (w.desks h).fds)) (Some (lowest (w.desks h).fds)) (with_desk h (λ d. with_hand None (with_descriptor (lowest (w.desks h).fds) (Some k) d)) (with_place k (Open (opened f.number (new_file f sort))) t)) (installed h w f sort k (lowest (w.desks h).fds)) (below_of true q) (above_of true q) refl (shown_open k (lowest (w.desks h).fds) e (below_is (lowest (w.desks h).fds) descriptor_count q))
-        by_room false q = both_ran (λ a b. a ≡ b) (λ a. load) (open_in h f.number (new_file f sort) t (hand_of (slice_get t.desks h))) (install_if h w f sort (w.desks h).hand (has_room (w.desks h).fds)) None None (with_desk h (with_hand None) (with_place k Free t)) (record w { desks = put w.desks h (record (w.desks h) { hand = None }) }) (below_of false q) (above_of false q) refl (shown_back k e)
+        by_room : (b : Bool) → has_room (w.desks h).fds ≡ b → BothCame (λ a b. a ≡ b) (λ a. load) (open_in h f.number (new_file f inode_type) t (hand_of (slice_get t.desks h))) (install_if h w f inode_type (w.desks h).hand (has_room (w.desks h).fds))
+        by_room true q = both_ran (λ a b. a ≡ b) (λ a. load) (open_in h f.number (new_file f inode_type) t (hand_of (slice_get t.desks h))) (install_if h w f inode_type (w.desks h).hand (has_room (w.desks h).fds)) (Some (lowest (w.desks h).fds)) (Some (lowest (w.desks h).fds)) (with_desk h (λ d. with_hand None (with_descriptor (lowest (w.desks h).fds) (Some k) d)) (with_place k (Open (opened f.number (new_file f inode_type))) t)) (installed h w f inode_type k (lowest (w.desks h).fds)) (below_of true q) (above_of true q) refl (shown_open k (lowest (w.desks h).fds) e (below_is (lowest (w.desks h).fds) descriptor_count q))
+        by_room false q = both_ran (λ a b. a ≡ b) (λ a. load) (open_in h f.number (new_file f inode_type) t (hand_of (slice_get t.desks h))) (install_if h w f inode_type (w.desks h).hand (has_room (w.desks h).fds)) None None (with_desk h (with_hand None) (with_place k Free t)) (record w { desks = put w.desks h (record (w.desks h) { hand = None }) }) (below_of false q) (above_of false q) refl (shown_back k e)

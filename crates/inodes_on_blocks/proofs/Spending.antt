@@ -1,5 +1,5 @@
 -- What the steps of a hart make of what its transaction has spent.
-use Rattle.inodes_on_blocks.proofs.Vocabulary.{◌≡◌, ◌≢◌, inl, inr, ℕ, zero, suc, Bool, true, false, List, [], ◌∷◌, length, Option, Some, None, sym, ◌∙◌, ap, subst, arith, slice_get, slice_set, same_Some, Super, get_of, SeatState, Got, joined_count, limit_of, turn_is_out, join_waits, Open, Halted, open_of, Ret, Do, Did, Waits, Ran, Stops, Machine, Wp, ActOf, Both, both, joined, ran_to, Below, Leads, Tracks, Wp-tracks, Refused, TablesState, file_named, refusal_of, lock_inode, lock_file, settle_inode, up_inode, first_free, take_place, open_file, double_descriptor, shut_descriptor, give_next, LogPart, Outside, Passes, Fails, join_if, got_by, read_block, put_block, commit_if, State, in_log, in_tables, joins, join_unless, lock_opened as lock_open, claims, claim_first, up_whom, drop_which, IsWholeLog, After, more, Spent, spent_after, Accounts, World, log_of, came_to, Handler, Carry, below, Labels, labelled, alone, IsDone, Answers, HasSpent, NoMore, LeadsTo, Records, Spends, ProgramsStayWithin}
+use Rattle.inodes_on_blocks.proofs.Vocabulary.{◌≡◌, ◌≢◌, inl, inr, ℕ, zero, suc, Bool, true, false, List, [], ◌∷◌, length, Option, Some, None, sym, ◌∙◌, ap, subst, arith, slice_get, slice_set, same_Some, Super, get_of, SeatState, Got, joined_count, limit_of, turn_is_out, join_waits, Open, Halted, open_of, Ret, Do, ExecResult, Waits, Ran, Stops, Machine, Wp, ActOf, Both, both, joined, ran_to, Below, Leads, Tracks, Wp-tracks, Refused, TablesState, file_named, refusal_of, lock_inode, lock_file, settle_inode, up_inode, first_free, take_place, open_file, double_descriptor, shut_descriptor, give_next, LogPart, Outside, Passes, Fails, join_if, got_by, read_block, put_block, commit_if, State, in_log, in_tables, joins, join_unless, lock_opened as lock_open, claims, claim_first, up_whom, drop_which, IsWholeLog, After, more, Spent, spent_after, Accounts, World, log_of, came_to, Handler, Carry, below, Labels, labelled, alone, IsDone, Answers, HasSpent, NoMore, LeadsTo, Records, Spends, ProgramsStayWithin}
 use Rattle.buffer_cache.specs.declared.got.Got.TheVariants as got
 use Rattle.fs_machine.specs.declared.files.OpenFile.{OpenFile}
 use Rattle.fs_machine.specs.declared.files.Want.TheVariants as want
@@ -22,10 +22,10 @@ module _ (h : ℕ) (st : State) (whole_ : IsWholeLog st.log) where
   abbrev Account : Spent → Spent → LogPart → Type 0
   Account s r l = Accounts h st.log s → Accounts h l r
 
-  abbrev Keeps : {A : Type 0} → Spent → Spent → Did A State → Type 0
+  abbrev Keeps : {A : Type 0} → Spent → Spent → ExecResult A State → Type 0
   Keeps s r d = After (λ t. Account s r t.log) d
 
-  tables_keep : {A : Type 0} (s : Spent) (d : Did A TablesState) → Keeps s s (in_tables st d)
+  tables_keep : {A : Type 0} (s : Spent) (d : ExecResult A TablesState) → Keeps s s (in_tables st d)
   tables_keep s Waits = tt
   tables_keep s (Ran a t) = λ z. z
   tables_keep s (Stops t) = λ z. z
@@ -56,7 +56,7 @@ module _ (h : ℕ) (st : State) (whole_ : IsWholeLog st.log) where
   read_keeps s b Passes = λ z. z
   read_keeps s b (Fails after) = λ z. z
 
-  claims_keep : (s : Spent) (d : Did (Option ℕ) TablesState) → Keeps s s (claims (in_tables st d))
+  claims_keep : (s : Spent) (d : ExecResult (Option ℕ) TablesState) → Keeps s s (claims (in_tables st d))
   claims_keep s Waits = tt
   claims_keep s (Ran None t) = λ z. z
   claims_keep s (Ran (Some m) t) = λ z. z
@@ -77,7 +77,7 @@ module _ (h : ℕ) (st : State) (whole_ : IsWholeLog st.log) where
   put_keeps b bytes s r (inr e) = λ z. subst (λ (q : Spent). Accounts h (put_block h b (Some bytes) st.log) q) (sym e) (other_put h st.log b bytes s z)
 
   -- a step that records nothing
-  quiet : {A : Type 0} (s r : Spent) (d : Did A State) → r ≡ s → Keeps s s d → Keeps s r d
+  quiet : {A : Type 0} (s r : Spent) (d : ExecResult A State) → r ≡ s → Keeps s s d → Keeps s r d
   quiet s r d e keeps = subst (λ (q : Spent). Keeps s q d) (sym e) keeps
 
   step_keeps : (x : Outside) (op : steps.Op) (s r : Spent) → premises.May h op st → LeadsTo st.log.sizes s op r → Keeps s r (steps.exec h x op st)
@@ -94,7 +94,7 @@ module _ (h : ℕ) (st : State) (whole_ : IsWholeLog st.log) where
   step_keeps x (steps.LockFile w fd) s r may to = quiet s r (in_tables st (lock_file h w fd st.tables)) to (tables_keep s (lock_file h w fd st.tables))
   step_keeps x (steps.LockOpen fd) s r may to = quiet s r (in_tables st (lock_open h st.tables (file_named h fd st.tables))) to (tables_keep s (lock_open h st.tables (file_named h fd st.tables)))
   step_keeps x (steps.Unlock v moved) s r may to = λ z. subst (λ (q : Spent). Accounts h st.log q) (sym to) z
-  step_keeps x (steps.Settle v) s r may to = quiet s r (in_tables st (settle_inode h v st.tables)) to (tables_keep s (settle_inode h v st.tables))
+  step_keeps x (steps.SetDirectory v) s r may to = quiet s r (in_tables st (settle_inode h v st.tables)) to (tables_keep s (settle_inode h v st.tables))
   step_keeps x (steps.Up whom) s r may to = quiet s r (in_tables st (up_whom h whom st.tables)) to (tables_keep s (up_whom h whom st.tables))
   step_keeps x (steps.Claim b candidates) s r may to = quiet s r (claim_first h b st (first_free st.tables.entries candidates)) to (claim_keeps s b (first_free st.tables.entries candidates))
   step_keeps x (steps.Down drop) s r may to = quiet s r (in_tables st (drop_which h drop st.tables)) to (tables_keep s (drop_which h drop st.tables))
@@ -103,7 +103,7 @@ module _ (h : ℕ) (st : State) (whole_ : IsWholeLog st.log) where
   step_keeps x (steps.TakeDescriptor n file) s r may to = quiet s r (in_tables st (open_file h n file st.tables)) to (tables_keep s (open_file h n file st.tables))
   step_keeps x (steps.Double fd) s r may to = quiet s r (in_tables st (double_descriptor h fd st.tables)) to (tables_keep s (double_descriptor h fd st.tables))
   step_keeps x (steps.Close fd) s r may to = quiet s r (in_tables st (shut_descriptor h fd st.tables)) to (tables_keep s (shut_descriptor h fd st.tables))
-  step_keeps x (steps.Give child from) s r may to = quiet s r (in_tables st (give_next h child from st.tables)) to (tables_keep s (give_next h child from st.tables))
+  step_keeps x (steps.GiveDescriptor child from) s r may to = quiet s r (in_tables st (give_next h child from st.tables)) to (tables_keep s (give_next h child from st.tables))
   step_keeps x steps.Reply s r may to = λ z. subst (λ (q : Spent). Accounts h st.log q) (sym to) z
 
 -- ---- the steps of a program
@@ -126,11 +126,11 @@ module _ (sizes : Super) (l : Labels) (h : ℕ) where
   leads op mark a s r to x v w inv may honest e has =
       ran (steps.exec h x op v.real.state) (step_keeps h v.real.state inv.0.whole x op s r may (subst (λ (z : Super). LeadsTo z s op r) (sym has.0) to)) (same_sizes h x op v.real.state inv.0.whole may honest) e
     where
-      ran : (d : Did (steps.Answer op) State) → After (λ t. Accounts h v.real.state.log s → Accounts h t.log r) d → After (λ t. t.log.sizes ≡ v.real.state.log.sizes) d
+      ran : (d : ExecResult (steps.Answer op) State) → After (λ t. Accounts h v.real.state.log s → Accounts h t.log r) d → After (λ t. t.log.sizes ≡ v.real.state.log.sizes) d
           → both (labelled l) h mark v.seen (came_to h op v.real d) ≡ Ran a w → HasSpent sizes h r w.real
       ran Waits keeps same e = absurd (cc e)
       ran (Stops t) keeps same e = absurd (cc e)
-      ran (Ran b t) keeps same e = subst (λ (y : W). HasSpent sizes h r y.real) (ap (λ (d : Did (steps.Answer op) W). ran_to w d) e) (same ∙ has.0, keeps has.1)
+      ran (Ran b t) keeps same e = subst (λ (y : W). HasSpent sizes h r y.real) (ap (λ (d : ExecResult (steps.Answer op) W). ran_to w d) e) (same ∙ has.0, keeps has.1)
 
   tracks : {A : Type 0} (p : P A) (s t : Spent) → Records sizes s p t → Tracks M h Has s p t
   tracks (Ret a) s t less = λ w has. more_spent s t w less has

@@ -1,6 +1,6 @@
 -- What the programs of operations record, by their text.
-use Rattle.inodes_on_blocks.proofs.Vocabulary.{◌≡◌, inl, inr, ℕ, zero, suc, ◌+◌, ◌/◌, ◌==◌, Bool, true, false, not, pos, List, [], ◌∷◌, Option, Some, None, refl, arith, if◌then◌else◌, is_some, slice_index, take, Dinode, Super, numbers_in, block_len, dirents_per_block, Name, same_name, Left, Commits, Ret, Do, bind, Handover, LockedState, Refuses, Locks, LogPart, ClaimResult, Claims, NoPlace, NoInode, fetch, read_unless, commit_unless, commits, most_writes, after_leave, free_block, clear_bit, inode_blocks, give_back, inode_block, load_unless, put_inode, store_inode, address, table_of, free_numbers, free_table, free_in_table, free_indirect, freed, without_content, FilledMemory, blocks_between, end_of, fetch_at, fetch_block, fetch_named, fetch_number, filled_with, give_fetched, next_block, part_of, read_blocks, read_from, read_part, direct, Address, Direct, InTable, Aim, Named, block_count, found_in, look_at, lookup, or_next, search, search_from, with_slot, Found, Spent, unspent, with_bitmap, with_contents, with_inode as with_record, Query, AtNothing, AtName, AtEntries, Sort, used, Accounts, IsSpent, Carry, Had, Apart, Has, Emptied, NothingMore, Finds, Opened, give_content, file_locked, give_read, learned, looked, number_found, search_entries, seen_record, stat_loaded, stat_locked, kind_of, claim_at, claim_from, claim_in, clear, clear_in, clear_slot, put_named, slot_found, put_record, record_in, NoMore, Records, ProgramsSpend}
-use Rattle.group_log.specs.declared.log.Left.TheVariants.{Free}
+use Rattle.inodes_on_blocks.proofs.Vocabulary.{◌≡◌, inl, inr, ℕ, zero, suc, ◌+◌, ◌/◌, ◌==◌, Bool, true, false, not, pos, List, [], ◌∷◌, Option, Some, None, refl, arith, if◌then◌else◌, is_some, slice_index, take, Dinode, Super, numbers_in, block_len, dirents_per_block, Name, same_name, AfterLeave, Commits, Ret, Do, bind, Handover, LockedState, Refuses, Locks, LogPart, ClaimResult, Claims, NoPlace, NoInode, fetch, read_unless, commit_unless, commits, most_writes, after_leave, free_block, clear_bit, inode_blocks, give_back, inode_block, load_unless, put_inode, store_inode, address, table_of, free_numbers, free_table, free_in_table, free_indirect, freed, without_content, FilledMemory, blocks_between, end_of, fetch_at, fetch_block, fetch_named, fetch_number, filled_with, give_fetched, next_block, part_of, read_blocks, read_from, read_part, direct, Address, Direct, InTable, Aim, Named, block_count, found_in, look_at, lookup, or_next, search, search_from, with_slot, Found, Spent, unspent, with_bitmap, with_contents, with_inode as with_record, Query, AtNothing, AtName, AtEntries, InodeType, used, Accounts, IsSpent, Carry, Had, Apart, Has, Emptied, NothingMore, Finds, Opened, give_content, file_locked, give_read, learned, looked, number_found, search_entries, seen_record, stat_loaded, stat_locked, kind_of, claim_at, claim_from, claim_in, clear, clear_in, clear_slot, put_named, slot_found, put_record, record_in, NoMore, Records, ProgramsSpend}
+use Rattle.group_log.specs.declared.log.AfterLeave.TheVariants.{Free}
 use Rattle.directory.specs.Programs.{Entry, is_directory, is_live_directory}
 use Rattle.inode_machine.specs.World as above
 use Rattle.inodes_on_blocks.specs.Handlers.{P}
@@ -121,7 +121,7 @@ module _ (sizes : Super) where
     no_writes zero = same s
     no_writes (suc n) = (s, same s, λ b. (s, refl, no_more_writes (commits n) b (no_writes n)))
 
-    no_leave : (a : Left) → Nothing (after_leave a)
+    no_leave : (a : AfterLeave) → Nothing (after_leave a)
     no_leave Free = same s
     no_leave Commits = no_writes most_writes
 
@@ -164,18 +164,18 @@ module _ (sizes : Super) where
         records_bind (fetch (inode_block sizes.inodestart n)) (put_inode (inode_block sizes.inodestart n) n d) s s s (no_fetch s (inode_block sizes.inodestart n)) (λ bytes. (s, same s, λ a. (s, inl (is, refl), same s)))
 
   -- a block looked through, and the record of a new inode in it, whose number isn't known before: a block more
-  claimed_more : (s : Spent) (sort : Sort) (c : Carry) (b : ℕ) (bytes : List ℕ) (more : P (Handover above.ClaimResult Carry)) (a : ClaimResult) → Records sizes s more (with_contents 1 s) → Records sizes s (claim_in more (kind_of sort) b bytes c a) (with_contents 1 s)
-  claimed_more s sort c b bytes more (Claims i) rec = (s, same s, λ _. (with_contents 1 s, inr refl, same (with_contents 1 s)))
-  claimed_more s sort c b bytes more NoPlace rec = (s, same s, λ _. (s, refl, one_more s))
-  claimed_more s sort c b bytes more NoInode rec = rec
+  claimed_more : (s : Spent) (inode_type : InodeType) (c : Carry) (b : ℕ) (bytes : List ℕ) (more : P (Handover above.ClaimResult Carry)) (a : ClaimResult) → Records sizes s more (with_contents 1 s) → Records sizes s (claim_in more (kind_of inode_type) b bytes c a) (with_contents 1 s)
+  claimed_more s inode_type c b bytes more (Claims i) rec = (s, same s, λ _. (with_contents 1 s, inr refl, same (with_contents 1 s)))
+  claimed_more s inode_type c b bytes more NoPlace rec = (s, same s, λ _. (s, refl, one_more s))
+  claimed_more s inode_type c b bytes more NoInode rec = rec
 
-  claims : (s : Spent) (sort : Sort) (c : Carry) (m : above.ClaimResult → Option above.Mark) (n q : ℕ) → Records sizes s (claim_from n sizes sort c m q) (with_contents 1 s)
+  claims : (s : Spent) (inode_type : InodeType) (c : Carry) (m : above.ClaimResult → Option above.Mark) (n q : ℕ) → Records sizes s (claim_from n sizes inode_type c m q) (with_contents 1 s)
   unfolding claim_from
-  claims s sort c m zero q = one_more s
-  claims s sort c m (suc n) q =
-      let more : P (Handover above.ClaimResult Carry) = claim_from n sizes sort c m (q + 1) in
+  claims s inode_type c m zero q = one_more s
+  claims s inode_type c m (suc n) q =
+      let more : P (Handover above.ClaimResult Carry) = claim_from n sizes inode_type c m (q + 1) in
       let b : ℕ = sizes.inodestart + q in
-      records_bind (fetch b) (claim_at more sizes sort c m n q b) s s (with_contents 1 s) (no_fetch s b) (λ bytes. (s, same s, λ a. (s, refl, claimed_more s sort c b bytes more a (claims s sort c m n (q + 1)))))
+      records_bind (fetch b) (claim_at more sizes inode_type c m n q b) s s (with_contents 1 s) (no_fetch s b) (λ bytes. (s, same s, λ a. (s, refl, claimed_more s inode_type c b bytes more a (claims s inode_type c m n (q + 1)))))
 
   emptied : (n : ℕ) (s : Spent) → NoMore s (with_record n (with_bitmap s))
   emptied n s l = let x = bitmap_no_more s l in let y = record_no_more n (with_bitmap s) l in omega (arith, x, y)
@@ -198,7 +198,7 @@ module _ (sizes : Super) where
         records_from (give_content sizes (record_in c n) (bind (store_inode sizes.inodestart n d) (λ _. last))) s r r (emptied n s)
         (gives_content r (inr (refl, refl)) (record_in c n) (bind (store_inode sizes.inodestart n d) (λ _. last)) r
         (records_bind (store_inode sizes.inodestart n d) (λ _. last) r r r (stores_inode r n d is) (λ a. puts_record r (above.Free n) m (tt {0}) n (freed d) Emptied c is)));
-    claim = λ sort c m s. claims s sort c m (inode_blocks sizes.ninodes) 0;
+    claim = λ inode_type c m s. claims s inode_type c m (inode_blocks sizes.ninodes) 0;
     clear = λ n e c m s.
         let r : Spent = with_record n (with_contents 1 s) in
         let t : Spent = with_record n s in
@@ -220,7 +220,7 @@ module _ (sizes : Super) where
         records_from (give_content sizes (record_in c n) last) s r r (emptied n s)
         (gives_content r (inr (refl, refl)) (record_in c n) last r (puts_record r (above.Empty n) m (tt {0}) n d (Has d NothingMore) c (record_spent sizes n (with_bitmap s))));
     slot = λ c m s. (s, same s, λ a. (s, refl, same s));
-    install = λ f sort c m s. (s, same s, λ a. (s, refl, same s));
+    install = λ f inode_type c m s. (s, same s, λ a. (s, refl, same s));
     stat_file = λ fd c m s. (s, same s, λ a. (s, refl, no_stat s c a));
     lock_file = λ fd c m s. (s, same s, λ a. (s, refl, no_file s fd c a));
     lock_open = λ fd n c m s. (

@@ -1,5 +1,5 @@
 -- An operation that locks an inode and loads it acts where the lock is had: so the one that tells a descriptor's state.
-use Rattle.inodes_on_blocks.proofs.Vocabulary.{◌≡◌, ◌≢◌, inl, inr, ℕ, pos, ◌<◌, Bool, false, List, Option, Some, None, refl, sym, ◌∙◌, ap, subst, arith, if◌then◌else◌, IsSome, option_map, MatchOption, none-some, Dinode, Super, Node, Kind, Directory, File, Device, put, hart_count, same_or, put_same, put_other, is_number, is_free, IsInode, IsRecord, type_in, Did, Waits, Ran, did_in, Laws, Wp, Both, joined, Below, Lasts, Acting, acted, s-act, TablesState, file_named, lock_holder, LockedState, Refuses, Locks, refusal_of, lock_file, lock_unless, lock_inode, with_file, Outside, Lock, LockFile, MayLockFile, IsElsewhere, Face, face_of, face_or, Entry, StatFile, entry_at, slot_at, lock_if, locked, stat_at, marked, with_mark, Inv, ours_none, ours_some, lone_file, opens_slots, node_there, loaded, file_of, World, log_of, tables_of, inode_in, exec, Shows, NothingMore, Had, Has, Carry, IsLoaded, InHand, Base, Stands, below, Labels, labelled, Keeps, IsOpened, ActsOnceAt, face_in, sort_at, natural, stat_file, stat_locked, stat_loaded}
+use Rattle.inodes_on_blocks.proofs.Vocabulary.{◌≡◌, ◌≢◌, inl, inr, ℕ, pos, ◌<◌, Bool, false, List, Option, Some, None, refl, sym, ◌∙◌, ap, subst, arith, if◌then◌else◌, IsSome, option_map, MatchOption, none-some, Dinode, Super, Node, NodeKind, Directory, File, Device, put, hart_count, same_or, put_same, put_other, is_number, is_free, IsInode, IsRecord, type_in, ExecResult, Waits, Ran, exec_result_in, Laws, Wp, Both, joined, Below, Lasts, Acting, acted, s-act, TablesState, file_named, lock_holder, LockedState, Refuses, Locks, refusal_of, lock_file, lock_unless, lock_inode, with_file, Outside, Lock, LockFile, MayLockFile, IsElsewhere, Face, face_of, face_or, Entry, StatFile, entry_at, slot_at, lock_if, locked, stat_at, marked, with_mark, Inv, ours_none, ours_some, lone_file, opens_slots, node_there, loaded, file_of, World, log_of, tables_of, inode_in, exec, Shows, NothingMore, Had, Has, Carry, IsLoaded, InHand, Base, Stands, below, Labels, labelled, Keeps, IsOpened, ActsOnceAt, face_in, inode_type_at, natural, stat_file, stat_locked, stat_loaded}
 use Rattle.fs_machine.specs.declared.files.Want.TheVariants as want
 use Rattle.fs_machine.specs.declared.files.OpenFile as files
 use Rattle.fs_machine.specs.declared.files.Refused.TheVariants as refused
@@ -18,10 +18,10 @@ use Rattle.inodes_on_blocks.proofs.SlotSteps.{in_tables_is, came_quiet, all_same
 pub face_is : (d : Dinode) (v : Node) → IsInode d v → face_in d ≡ face_or (face_of (Some v))
 face_is d v is = by_kind v.kind v.count is
   where
-    by_kind : (k : Kind) (count : ℕ) → IsInode d (record { count = count; kind = k }) → face_in d ≡ face_or (face_of (Some (record { count = count; kind = k })))
-    by_kind (Directory slots) count is = λ i. record { sort = sort_at (is.kind i) d.major; count = natural (is.count i); size = is.size i }
-    by_kind (File bytes) count is = λ i. record { sort = sort_at (is.kind i) d.major; count = natural (is.count i); size = is.size i }
-    by_kind (Device major minor size) count is = λ i. record { sort = sort_at (is.kind i) (is.device.0 i); count = natural (is.count i); size = is.size i }
+    by_kind : (k : NodeKind) (count : ℕ) → IsInode d (record { count = count; kind = k }) → face_in d ≡ face_or (face_of (Some (record { count = count; kind = k })))
+    by_kind (Directory slots) count is = λ i. record { inode_type = inode_type_at (is.kind i) d.major; count = natural (is.count i); size = is.size i }
+    by_kind (File bytes) count is = λ i. record { inode_type = inode_type_at (is.kind i) d.major; count = natural (is.count i); size = is.size i }
+    by_kind (Device major minor size) count is = λ i. record { inode_type = inode_type_at (is.kind i) (is.device.0 i); count = natural (is.count i); size = is.size i }
 
 -- so it does of an inode that has a type
 pub face_held : (d : Dinode) (o : Option Node) → IsRecord d o → o ≢ None → face_in d ≡ face_or (face_of o)
@@ -32,7 +32,7 @@ face_held d (Some v) is typed = face_is d v is
 pub in_use : (d : Dinode) (v : Node) → IsInode d v → is_free d ≡ false
 in_use d v is = ap (is_number 0) is.kind ∙ by_kind v.kind
   where
-    by_kind : (k : Kind) → is_number 0 (pos (type_in k)) ≡ false
+    by_kind : (k : NodeKind) → is_number 0 (pos (type_in k)) ≡ false
     by_kind (Directory slots) = refl
     by_kind (File bytes) = refl
     by_kind (Device major minor size) = refl
@@ -175,13 +175,13 @@ module _ (l : Labels) (laws : Laws (labelled l)) (keeps : Keeps l) (h : ℕ) (lt
         Next : LockedState → Option (ℕ × Face) → World → above.World → Type 0
         Next a b u g = (gs : List l.Step) → Inv g → C b gs g → Wp (joined (labelled l) (below sizes)) h B (Below (labelled l) (below sizes) h C) (stat_locked sizes c a) 3 gs (record { real = u; seen = g })
 
-        IsActing : W → Did LockedState World → Type 0
+        IsActing : W → ExecResult LockedState World → Type 0
         IsActing v d = Acting (labelled l) (below sizes) laws (below_laws sizes l keeps) h B (StatFile fd) m C lasts above.Room v (premises.MayWait h (LockFile want.Stat fd) v.real.state) d Next
 
         -- by what the tables come to
-        on_tables : (v : W) (x : Outside) (d : Did LockedState TablesState) → lock_file h want.Stat fd (tables_of v.real) ≡ d → IsActing v (did_in (with_tables v.real) d) → IsActing v (exec h x (LockFile want.Stat fd) v.real)
+        on_tables : (v : W) (x : Outside) (d : ExecResult LockedState TablesState) → lock_file h want.Stat fd (tables_of v.real) ≡ d → IsActing v (exec_result_in (with_tables v.real) d) → IsActing v (exec h x (LockFile want.Stat fd) v.real)
         on_tables v x d is acting =
-            subst (λ (z : Did LockedState World). IsActing v z) (sym (in_tables_is h (LockFile want.Stat fd) v.real (λ a o. refl) (λ s. refl) (λ a l. refl) (lock_file h want.Stat fd (tables_of v.real)) ∙ ap (did_in (with_tables v.real)) is)) acting
+            subst (λ (z : ExecResult LockedState World). IsActing v z) (sym (in_tables_is h (LockFile want.Stat fd) v.real (λ a o. refl) (λ s. refl) (λ a l. refl) (lock_file h want.Stat fd (tables_of v.real)) ∙ ap (exec_result_in (with_tables v.real)) is)) acting
 
         by : (v : W) → Shows v.real v.seen → Inv v.seen → Stands sizes h v.real v.seen c → rules.May h (StatFile fd) v.seen → (o : Option Entry) → entry_of v.seen h fd ≡ o
             → premises.May h (LockFile want.Stat fd) v.real.state × ((x : Outside) → premises.Honest h (LockFile want.Stat fd) v.real.state x → IsActing v (exec h x (LockFile want.Stat fd) v.real))

@@ -1,5 +1,5 @@
 -- A program of one step on the tables acts at it.
-use Rattle.inodes_on_blocks.proofs.Vocabulary.{◌≡◌, ◌≢◌, ℕ, suc, List, Option, None, ap, ◌∙◌, arith, Super, Ret, once, Did, Waits, Ran, Stops, Laws, Wp, Both, joined, Below, Lasts, Acting, s-act, Outside, Own, own_of, IsWholeLog, After, leaves_own, marked, with_mark, Inv, more, World, log_of, owners_after, commits_after, came_to, exec, new_after, Shows, Same, Kept, Carry, Base, Stands, below, Labels, labelled, Keeps, one, ActsOnce}
+use Rattle.inodes_on_blocks.proofs.Vocabulary.{◌≡◌, ◌≢◌, ℕ, suc, List, Option, None, ap, ◌∙◌, arith, Super, Ret, once, ExecResult, Waits, Ran, Stops, Laws, Wp, Both, joined, Below, Lasts, Acting, s-act, Outside, Own, own_of, IsWholeLog, After, leaves_own, marked, with_mark, Inv, more, World, log_of, owners_after, commits_after, came_to, exec, new_after, Shows, Same, Kept, Carry, Base, Stands, below, Labels, labelled, Keeps, one, ActsOnce}
 use Rattle.fs_machine.specs.Steps as steps
 use Rattle.fs_machine.specs.Premises as premises
 use Rattle.inode_machine.specs.World as above
@@ -12,7 +12,7 @@ use Rattle.inodes_on_blocks.proofs.Layer.{below_laws, base_marked}
 pub same_sizes : (h : ℕ) (x : Outside) (op : steps.Op) (s : steps.State) → IsWholeLog s.log → premises.May h op s → premises.Honest h op s x → After (λ t. t.log.sizes ≡ s.log.sizes) (steps.exec h x op s)
 same_sizes h x op s whole may honest = of_own (steps.exec h x op s) (leaves_own h (suc h) x op s (λ e. absurd (omega (arith, e))) whole may honest)
   where
-    of_own : {A : Type 0} (d : Did A steps.State) → After (λ t. own_of (suc h) t.log ≡ own_of (suc h) s.log) d → After (λ t. t.log.sizes ≡ s.log.sizes) d
+    of_own : {A : Type 0} (d : ExecResult A steps.State) → After (λ t. own_of (suc h) t.log ≡ own_of (suc h) s.log) d → After (λ t. t.log.sizes ≡ s.log.sizes) d
     of_own Waits e = tt
     of_own (Ran a t) e = ap (λ (o : Own). o.sizes) e
     of_own (Stops t) e = ap (λ (o : Own). o.sizes) e
@@ -30,7 +30,7 @@ module _ (l : Labels) (laws : Laws (labelled l)) (keeps : Keeps l) (h : ℕ) whe
     pub same : (other : ℕ) → other ≢ h → Same other v.real r
     pub base : Base h r then_ c
 
-  abbrev pub CameTo : (op : above.Op) {A : Type 0} → W → Type 0 → Did A World → (A → above.Answer op) → (A → Carry) → Type 0
+  abbrev pub CameTo : (op : above.Op) {A : Type 0} → W → Type 0 → ExecResult A World → (A → above.Answer op) → (A → Carry) → Type 0
   CameTo op v wait Waits answer carry = wait
   CameTo op v wait (Ran a r) answer carry = Came op v (answer a) r (carry a)
   CameTo op v wait (Stops r) answer carry = ⊥
@@ -49,7 +49,7 @@ module _ (l : Labels) (laws : Laws (labelled l)) (keeps : Keeps l) (h : ℕ) whe
       let r = rule v here.kept here.shows here.inv b.0 may in
       (r.0, λ x t. by v (steps.exec h x lop v.real.state) (same_sizes h x lop v.real.state here.shows.whole r.0 t) b.1 (r.1 x t)))
     where
-      by : (v : W) (d : Did (steps.Answer lop) steps.State) → After (λ s. s.log.sizes ≡ v.real.state.log.sizes) d → (log_of v.real).sizes ≡ sizes → CameTo op v (premises.MayWait h lop v.real.state) (came_to h lop v.real d) answer carry
+      by : (v : W) (d : ExecResult (steps.Answer lop) steps.State) → After (λ s. s.log.sizes ≡ v.real.state.log.sizes) d → (log_of v.real).sizes ≡ sizes → CameTo op v (premises.MayWait h lop v.real.state) (came_to h lop v.real d) answer carry
           → Acting (labelled l) (below sizes) laws (below_laws sizes l keeps) h B op m C lasts above.Room v (premises.MayWait h lop v.real.state) (came_to h lop v.real d)
           (λ a b u g. (gs : List l.Step) → Inv g → C b gs g → Wp (joined (labelled l) (below sizes)) h B (Below (labelled l) (below sizes) h C) (Ret (record { answer = answer a; carry = carry a })) (more op) gs (record { real = u; seen = g }))
       by v Waits kept at came = came

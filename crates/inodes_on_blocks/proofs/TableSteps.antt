@@ -1,5 +1,5 @@
 -- Each operation of one step on the tables acts at it.
-use Rattle.inodes_on_blocks.proofs.Vocabulary.{◌≡◌, ◌≢◌, inl, inr, ℕ, ◌<◌, Bool, true, false, Option, Some, None, refl, sym, ◌∙◌, ap, subst, IsSome, none-some, same_Some, Dinode, Node, put, hart_count, same_or, put_same, put_other, HoldsAt, Ran, Laws, Both, TablesState, unlock_inode, settle_inode, Give, Settle, unlocked, ours_none, ours_some, loaded, World, log_of, tables_of, disk_of, inode_in, Shows, OffsetsShow, on_blocks, Same, Had, Apart, Has, Emptied, Carry, record_had, IsLoaded, InHand, Base, Labels, labelled, Keeps, give, ActsOnce}
+use Rattle.inodes_on_blocks.proofs.Vocabulary.{◌≡◌, ◌≢◌, inl, inr, ℕ, ◌<◌, Bool, true, false, Option, Some, None, refl, sym, ◌∙◌, ap, subst, IsSome, none-some, same_Some, Dinode, Node, put, hart_count, same_or, put_same, put_other, HoldsAt, Ran, Laws, Both, TablesState, unlock_inode, settle_inode, UnlockInode, SetDirectory, unlocked, ours_none, ours_some, loaded, World, log_of, tables_of, disk_of, inode_in, Shows, OffsetsShow, on_blocks, Same, Had, Apart, Has, Emptied, Carry, record_had, IsLoaded, InHand, Base, Labels, labelled, Keeps, give, ActsOnce}
 use Rattle.fs_machine.specs.Steps as steps
 use Rattle.fs_machine.specs.Premises as premises
 use Rattle.inode_machine.specs.World as above
@@ -123,14 +123,14 @@ module _ (l : Labels) (laws : Laws (labelled l)) (keeps : Keeps l) (h : ℕ) (lt
   unlocked_shows t n g load true s = record { sound = s.sound; places = s.places; files = s.files; desks = s.desks; lenders = s.lenders; range = s.range }
   unlocked_shows t n g load false s = record { sound = s.sound; places = s.places; files = s.files; desks = s.desks; lenders = s.lenders; range = s.range }
 
-  pub give_acts : (n : ℕ) (m : Unit {0} → Option above.Mark) → ActsOnce l h (Give n) m (give n)
+  pub give_acts : (n : ℕ) (m : Unit {0} → Option above.Mark) → ActsOnce l h (UnlockInode n) m (give n)
   unfolding steps.exec premises.May
   give_acts n m =
-      one_step l laws keeps h (Give n) m (λ c. steps.Unlock (record { number = n; content = record_had (c n) }) None) (λ c a. tt) (λ c a. put c n Apart) (λ v. tt)
+      one_step l laws keeps h (UnlockInode n) m (λ c. steps.Unlock (record { number = n; content = record_had (c n) }) None) (λ c a. tt) (λ c a. put c n Apart) (λ v. tt)
       (λ v c shows inv base may. (
         (sym (shows.tables.places.holders n) ∙ may.1, tt),
         λ x t.
-            given_came (Give n) n v c tt (unlock_inode h (record { number = n; content = record_had (c n) }) None (tables_of v.real)) (unlocked n v.seen (v.seen.alone n)) shows base may.1 may.0 refl
+            given_came (UnlockInode n) n v c tt (unlock_inode h (record { number = n; content = record_had (c n) }) None (tables_of v.real)) (unlocked n v.seen (v.seen.alone n)) shows base may.1 may.0 refl
             (unlocked_shows _ n v.seen _ (v.seen.alone n) (locks_are_given h (record { number = n; content = record_had (c n) }) (tables_of v.real) v.seen (loaded (tables_of v.real)) shows.tables may.1))
             (unlocked_back n v.seen (v.seen.alone n)),
       ))
@@ -140,14 +140,14 @@ module _ (l : Labels) (laws : Laws (labelled l)) (keeps : Keeps l) (h : ℕ) (lt
   settled_back n g true = record { offsets = λ old. old; opens = λ i ne. open_alike h i g (above_exec.with_directory (unlocked n g true) h n) (part_same (λ d. d.fds) g.desks h (record (g.desks h) { directory = n; left = None }) h refl) refl; disk = refl; lock = refl; refs = refl; keeper = λ i ne. refl; size = refl; joined = λ j. part_same (λ d. d.joined) g.desks h (record (g.desks h) { directory = n; left = None }) j refl; lender = part_same (λ d. d.lender) g.desks h (record (g.desks h) { directory = n; left = None }) h refl }
   settled_back n g false = record { offsets = λ old. old; opens = λ i ne. open_alike h i g (above_exec.with_directory (unlocked n g false) h n) (part_same (λ d. d.fds) g.desks h (record (g.desks h) { directory = n; left = None }) h refl) refl; disk = refl; lock = refl; refs = refl; keeper = λ i ne. put_other g.keeper n None i ne; size = refl; joined = λ j. part_same (λ d. d.joined) g.desks h (record (g.desks h) { directory = n; left = None }) j refl; lender = part_same (λ d. d.lender) g.desks h (record (g.desks h) { directory = n; left = None }) h refl }
 
-  pub settle_acts : (n : ℕ) (m : ℕ → Option above.Mark) → ActsOnce l h (Settle n) m (settle n)
+  pub settle_acts : (n : ℕ) (m : ℕ → Option above.Mark) → ActsOnce l h (SetDirectory n) m (settle n)
   unfolding steps.exec premises.May settle_inode
   settle_acts n m =
-      one_step l laws keeps h (Settle n) m (λ c. steps.Settle (record { number = n; content = record_had (c n) })) (λ c a. a) (λ c a. put c n Apart) (λ v. tt)
+      one_step l laws keeps h (SetDirectory n) m (λ c. steps.SetDirectory (record { number = n; content = record_had (c n) })) (λ c a. a) (λ c a. put c n Apart) (λ v. tt)
       (λ v c shows inv base may.
       let both = directories_are_settled h (record { number = n; content = record_had (c n) }) (tables_of v.real) v.seen (loaded (tables_of v.real)) shows.tables (record { below = lt; free = may.0 }) may.1.0 in (
         (lt, sym (shows.tables.places.holders n) ∙ may.1.0, fewer_owed n (tables_of v.real) v.seen (loaded (tables_of v.real)) shows.tables inv h lt may.1.1),
         λ x t.
-            given_came (Settle n) n v c _ _ (above_exec.with_directory (unlocked n v.seen (v.seen.alone n)) h n) shows base may.1.0 may.0 (ap (λ (d : ℕ). Ran d (above_exec.with_directory (unlocked n v.seen (v.seen.alone n)) h n)) (sym both.0)) both.1
+            given_came (SetDirectory n) n v c _ _ (above_exec.with_directory (unlocked n v.seen (v.seen.alone n)) h n) shows base may.1.0 may.0 (ap (λ (d : ℕ). Ran d (above_exec.with_directory (unlocked n v.seen (v.seen.alone n)) h n)) (sym both.0)) both.1
             (settled_back n v.seen (v.seen.alone n)),
       ))

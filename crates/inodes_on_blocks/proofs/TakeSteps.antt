@@ -1,5 +1,5 @@
 -- The operation that locks an inode, loads it and looks at it acts where the lock is had.
-use Rattle.inodes_on_blocks.proofs.Vocabulary.{◌≡◌, ◌≢◌, inl, inr, ℕ, suc, ◌<◌, Bool, true, false, not, List, Option, Some, None, is_some, refl, sym, ◌∙◌, ap, subst, arith, if◌then◌else◌, none-some, Found, Aim, Named, block_count, search, Dinode, Super, Node, Name, put, live_directory, hart_count, same_or, put_same, put_other, is_free, HoldsAt, Ret, bind, Did, Waits, Ran, did_in, Machine, Laws, P, Wp, Both, Handover, joined, Below, Lasts, Acting, acted, s-act, Wp-more, TablesState, lock_holder, lock_inode, Outside, Lock, Sight, Query, AtNothing, AtName, AtEntries, Take, lock_if, locked, Inv, looking_cost, one_refs, two_refs, loaded, World, log_of, tables_of, disk_of, inode_in, exec, Shows, Same, Kept, Knowledge, NothingMore, Had, Has, Carry, IsKnown, IsLoaded, InHand, Base, Stands, below, Labels, labelled, Keeps, IsOpened, ActsOnceAt, face_in, number_found, learned, seen_record, looked, take_inode as take, load_unless}
+use Rattle.inodes_on_blocks.proofs.Vocabulary.{◌≡◌, ◌≢◌, inl, inr, ℕ, suc, ◌<◌, Bool, true, false, not, List, Option, Some, None, is_some, refl, sym, ◌∙◌, ap, subst, arith, if◌then◌else◌, none-some, Found, Aim, Named, block_count, search, Dinode, Super, Node, Name, put, live_directory, hart_count, same_or, put_same, put_other, is_free, HoldsAt, Ret, bind, ExecResult, Waits, Ran, exec_result_in, Machine, Laws, P, Wp, Both, Handover, joined, Below, Lasts, Acting, acted, s-act, Wp-more, TablesState, lock_holder, lock_inode, Outside, Lock, Sight, Query, AtNothing, AtName, AtEntries, Take, lock_if, locked, Inv, looking_cost, one_refs, two_refs, loaded, World, log_of, tables_of, disk_of, inode_in, exec, Shows, Same, Kept, Knowledge, NothingMore, Had, Has, Carry, IsKnown, IsLoaded, InHand, Base, Stands, below, Labels, labelled, Keeps, IsOpened, ActsOnceAt, face_in, number_found, learned, seen_record, looked, take_inode as take, load_unless}
 use Rattle.directory.specs.Programs.{Entry}
 use Rattle.plain_tree.specs.Tree as tree
 use Rattle.fs_machine.specs.Steps as steps
@@ -147,13 +147,13 @@ module _ (l : Labels) (laws : Laws (labelled l)) (keeps : Keeps l) (h : ℕ) (lt
     abbrev Next : Option Dinode → Sight → World → above.World → Type 0
     Next a b u g = (gs : List l.Step) → Inv g → C b gs g → Wp M h B (Below (labelled l) (below sizes) h C) (rest a) (suc (suc (suc (steps_of looking)))) gs (record { real = u; seen = g })
 
-    abbrev IsActing : W → Did (Option Dinode) World → Type 0
+    abbrev IsActing : W → ExecResult (Option Dinode) World → Type 0
     IsActing v d = Acting (labelled l) (below sizes) laws (below_laws sizes l keeps) h B (Take n looking) m C lasts above.Room v (premises.MayWait h (Lock n) v.real.state) d Next
 
-    on_tables : (v : W) (x : Outside) (d : Did (Option Dinode) TablesState) → lock_inode h n (tables_of v.real) ≡ d → IsActing v (did_in (with_tables v.real) d) → IsActing v (exec h x (Lock n) v.real)
+    on_tables : (v : W) (x : Outside) (d : ExecResult (Option Dinode) TablesState) → lock_inode h n (tables_of v.real) ≡ d → IsActing v (exec_result_in (with_tables v.real) d) → IsActing v (exec h x (Lock n) v.real)
     unfolding steps.exec
     on_tables v x d is acting =
-        subst (λ (z : Did (Option Dinode) World). IsActing v z) (sym (in_tables_is h (Lock n) v.real (λ a o. refl) (λ s. refl) (λ a l. refl) (lock_inode h n (tables_of v.real)) ∙ ap (did_in (with_tables v.real)) is)) acting
+        subst (λ (z : ExecResult (Option Dinode) World). IsActing v z) (sym (in_tables_is h (Lock n) v.real (λ a o. refl) (λ s. refl) (λ a l. refl) (lock_inode h n (tables_of v.real)) ∙ ap (exec_result_in (with_tables v.real)) is)) acting
 
     -- the lock was had
     loads : (v : W) → Shows v.real v.seen → v.seen.lock n ≡ None → v.real.new n ≡ None → 0 < v.seen.refs n → v.seen.disk n ≢ None → (u : TablesState) (g : above.World)

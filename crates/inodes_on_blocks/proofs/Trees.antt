@@ -58,5 +58,5 @@ tree_well disk h =
       descriptors = λ g i id l m is. absurd (let none = no_descriptor disk g i l m in cc (none, is));
       directories = λ g l.
           subst (λ (n : ℕ). IsThere t.nodes n true) (sym (in_root disk g l))
-          (record { node = _; is = nodes_at disk root ∙ directory_there disk root live; sort = refl });
+          (record { node = _; is = nodes_at disk root ∙ directory_there disk root live; inode_type = refl });
     }

@@ -1,5 +1,5 @@
 -- A piece is written into a locked file, and the operation acts where the lock is given up; or it is refused.
-use Rattle.inodes_on_blocks.proofs.Vocabulary.{◌≡◌, ⊎_elim, ℕ, zero, suc, ◌+◌, ◌-◌, ◌/◌, ◌<◌, ◌≤◌, ◌==◌, ◌&&◌, not, nat_lt, Bool, true, false, List, [], ◌∷◌, length, take, drop, Option, Some, None, refl, sym, ◌∙◌, ap, subst, arith, append_assoc, if◌then◌else◌, slice_index, max, unwrap_or, cases_lt, nat_tests, none-some, Dinode, Super, IsBytes, overwrite, IsDinode, largest_size, HoldsAt, Cause, BadOffset, TooBig, Node, Kind, Directory, File, Device, content, node_or, write_kind, hart_count, Ret, bind, Machine, Laws, P, Wp, Both, Handover, joined, Below, Lasts, ToAct, to_act, may_act, bind-assoc, Wp-more, lock_holder, inode_block, no_record, store_inode, Direct, InTable, table_of, blocks_between, WriteResult, front_of, grown, locate_at, locate_in_table, located, name_direct, store_written, take_one, with_table, write_blocks, write_located, Spent, size, with_bitmap, with_contents, with_inode, most_recorded, Wrote, WriteFile, with_bytes, Inv, World, log_of, tables_of, disk_of, inode_in, Apart, Emptied, Has, Had, Carry, IsLoaded, Stands, below, Labels, labelled, Keeps, record_had, IsChanging, HasSpent, Shows, ActsWithin, DoesItWithin, NoMore, record_in, deny_write, give_written, refused_in, write_file, write_unless, Answers, IsDone, alone}
+use Rattle.inodes_on_blocks.proofs.Vocabulary.{◌≡◌, ⊎_elim, ℕ, zero, suc, ◌+◌, ◌-◌, ◌/◌, ◌<◌, ◌≤◌, ◌==◌, ◌&&◌, not, nat_lt, Bool, true, false, List, [], ◌∷◌, length, take, drop, Option, Some, None, refl, sym, ◌∙◌, ap, subst, arith, append_assoc, if◌then◌else◌, slice_index, max, unwrap_or, cases_lt, nat_tests, none-some, Dinode, Super, IsBytes, overwrite, IsDinode, largest_size, HoldsAt, Cause, BadOffset, TooBig, Node, NodeKind, Directory, File, Device, content, node_or, write_kind, hart_count, Ret, bind, Machine, Laws, P, Wp, Both, Handover, joined, Below, Lasts, ToAct, to_act, may_act, bind-assoc, Wp-more, lock_holder, inode_block, no_record, store_inode, Direct, InTable, table_of, blocks_between, WriteResult, front_of, grown, locate_at, locate_in_table, located, name_direct, store_written, take_one, with_table, write_blocks, write_located, Spent, size, with_bitmap, with_contents, with_inode, most_recorded, Wrote, WriteFile, with_bytes, Inv, World, log_of, tables_of, disk_of, inode_in, Apart, Emptied, Has, Had, Carry, IsLoaded, Stands, below, Labels, labelled, Keeps, record_had, IsChanging, HasSpent, Shows, ActsWithin, DoesItWithin, NoMore, record_in, deny_write, give_written, refused_in, write_file, write_unless, Answers, IsDone, alone}
 use Rattle.plain_tree.specs.Steps.{is_file}
 use Rattle.inode_machine.specs.World as above
 use Rattle.inode_machine.specs.Rules as rules
@@ -48,7 +48,7 @@ few_blocks from upto short =
 file_is : (x : Node) → is_file x.kind ≡ true → x ≡ file x.count (content x.kind)
 file_is x e = λ i. record { count = x.count; kind = by x.kind e i }
   where
-    by : (k : Kind) → is_file k ≡ true → k ≡ File (content k)
+    by : (k : NodeKind) → is_file k ≡ true → k ≡ File (content k)
     by (Directory slots) q = absurd cc
     by (File bs) q = refl
     by (Device major minor z) q = absurd cc

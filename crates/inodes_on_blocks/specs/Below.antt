@@ -1,7 +1,7 @@
 -- The machine below: what all harts share, and beside it, for the proof alone, whose each block is and which hart commits.
 use Rattle.std.specs.Prelude.{ℕ, List, Bool, true, false, if◌then◌else◌, Option, Some, None}
-use Rattle.inodes_on_blocks.specs.Vocabulary.{Dinode, put, inode_of, is_free, Commits, Did, Waits, Ran, Stops, TablesState, lock_holder, LogPart, Outside, State, Op, Answer, Put, Commit, Claims}
-use Rattle.group_log.specs.declared.log.Left.TheVariants.{Free}
+use Rattle.inodes_on_blocks.specs.Vocabulary.{Dinode, put, inode_of, is_free, Commits, ExecResult, Waits, Ran, Stops, TablesState, lock_holder, LogPart, Outside, State, Op, Answer, Put, Commit, Claims}
+use Rattle.group_log.specs.declared.log.AfterLeave.TheVariants.{Free}
 use Rattle.fs_machine.specs.Steps as steps
 use Rattle.fs_machine.specs.Steps.{Leave, Claim}
 use Rattle.inodes_on_blocks.specs.OnBlocks.{shown}
@@ -57,7 +57,7 @@ owners_after h (Put b (Some bytes)) was s =
     owners_put (λ i. lock_holder i s.tables) h s.log.sizes.bmapstart b (disk_of was.state.log) (disk_of s.log) (owners_of was)
 owners_after h op was s = owners_of was
 
-abbrev pub came_to : ℕ → (op : Op) → World → Did (Answer op) State → Did (Answer op) World
+abbrev pub came_to : ℕ → (op : Op) → World → ExecResult (Answer op) State → ExecResult (Answer op) World
 came_to h op w Waits = Waits
 came_to h op w (Ran a s) =
     let o = owners_after h op w s in
@@ -71,5 +71,5 @@ came_to h op w (Ran a s) =
     })
 came_to h op w (Stops s) = Stops (record w { state = s })
 
-abbrev pub exec : ℕ → Outside → (op : Op) → World → Did (Answer op) World
+abbrev pub exec : ℕ → Outside → (op : Op) → World → ExecResult (Answer op) World
 exec h x op w = came_to h op w (steps.exec h x op w.state)

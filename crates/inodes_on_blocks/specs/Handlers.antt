@@ -1,6 +1,6 @@
 -- The programs below of operations on whole inodes. c: what the hart has of the inodes whose locks it has.
 use Rattle.std.specs.Prelude.{ℕ, Bool, true, false, Option, Some, None, is_some}
-use Rattle.inodes_on_blocks.specs.Vocabulary.{Prog, Ret, Do, Act, Handover, holding, Cause, OpenFile, put, root, descriptor_count, Dinode, Refused, Doubled, Given, DroppedState, Counts, Keeps, Dies, after_leave, Whom, Number, Held, Walked, Freed, Sort, LoanResult, Lent, Moved, Give, UpStart, Up, WalkDown, Down, Forget, Slot, Install, CheckFile, JoinFile, Double, Shut, Settle, Lend, LendDirectory, Release, Join, Leave, Say}
+use Rattle.inodes_on_blocks.specs.Vocabulary.{Prog, Ret, Do, Act, Handover, holding, Cause, OpenFile, put, root, descriptor_count, Dinode, Refused, Doubled, Given, DroppedState, Counts, Keeps, Dies, after_leave, Whom, Number, Held, Walked, Freed, InodeType, LoanResult, Lent, Moved, UnlockInode, UpStart, Up, WalkDown, Down, Forget, Slot, Install, CheckFile, JoinFile, Double, Shut, SetDirectory, Lend, LendDirectory, Release, Join, Leave, Say}
 use Rattle.plain_tree.specs.declared.answer.Cause.TheVariants as causes
 use Rattle.fs_machine.specs.declared.files.Refused.TheVariants as refused
 use Rattle.fs_machine.specs.declared.files.Want.TheVariants as want
@@ -92,11 +92,11 @@ joining_to (steps.Joins n) = above.Joined n
 -- ---- programs
 
 -- the lock goes back with the inode's record
-abbrev pub give : (n : ℕ) → Handler (Give n)
-give n c m = one (Give n) m (steps.Unlock (record { number = n; content = record_had (c n) }) None) (λ a. tt) (λ a. put c n Apart)
+abbrev pub give : (n : ℕ) → Handler (UnlockInode n)
+give n c m = one (UnlockInode n) m (steps.Unlock (record { number = n; content = record_had (c n) }) None) (λ a. tt) (λ a. put c n Apart)
 
-abbrev pub settle : (n : ℕ) → Handler (Settle n)
-settle n c m = one (Settle n) m (steps.Settle (record { number = n; content = record_had (c n) })) (λ a. a) (λ a. put c n Apart)
+abbrev pub settle : (n : ℕ) → Handler (SetDirectory n)
+settle n c m = one (SetDirectory n) m (steps.SetDirectory (record { number = n; content = record_had (c n) })) (λ a. a) (λ a. put c n Apart)
 
 abbrev pub whom : Bool → Whom
 whom true = Number root
@@ -121,8 +121,8 @@ forget n c m = one (Forget n) m (steps.Down (Freed n)) (λ a. tt) (λ a. c)
 abbrev pub slot : Handler Slot
 slot c m = one Slot m steps.TakePlace (λ a. a) (λ a. c)
 
-abbrev pub install : (f : OpenFile) (sort : Sort) → Handler (Install f sort)
-install f sort c m = one (Install f sort) m (steps.TakeDescriptor f.number (new_file f sort)) (λ a. a) (λ a. c)
+abbrev pub install : (f : OpenFile) (inode_type : InodeType) → Handler (Install f inode_type)
+install f inode_type c m = one (Install f inode_type) m (steps.TakeDescriptor f.number (new_file f inode_type)) (λ a. a) (λ a. c)
 
 abbrev pub double : (fd : ℕ) → Handler (Double fd)
 double fd c m = one (Double fd) m (steps.Double fd) doubled_to (λ a. c)
@@ -138,11 +138,11 @@ say c m = one Say m steps.Reply (λ a. a) (λ a. c)
 
 -- the next descriptor from here on is the child's too, or, where there is none, the directory
 abbrev pub lend : (child from : ℕ) → Handler (Lend child from)
-lend child from c m = one (Lend child from) m (steps.Give child from) lent_to (λ a. c)
+lend child from c m = one (Lend child from) m (steps.GiveDescriptor child from) lent_to (λ a. c)
 
 -- the directory is, past the last descriptor
 abbrev pub lend_directory : (child : ℕ) → Handler (LendDirectory child)
-lend_directory child c m = one (LendDirectory child) m (steps.Give child descriptor_count) old_directory (λ a. c)
+lend_directory child c m = one (LendDirectory child) m (steps.GiveDescriptor child descriptor_count) old_directory (λ a. c)
 
 -- the child runs again, of which the tables see nothing
 abbrev pub release : (child : ℕ) → Handler (Release child)

@@ -4,7 +4,7 @@
 --   nodes   by number: the live ones, and the dead ones (count 0) that something still refers to
 --   owner   by block: the inode that names it, 0 for none
 use Rattle.std.specs.Prelude.{◌≡◌, ◌≢◌, ℕ, zero, suc, ◌*◌, ◌<◌, ◌≤◌, ◌≤ℤ◌, pos, Bool, true, false, List, [], ◌∷◌, ◌++◌, length, map, All, Contains, Option, Some, None, if◌then◌else◌, nat_lt}
-use Rattle.inodes_on_blocks.specs.Vocabulary.{Dinode, Dirent, Used, block_len, dirent_len, sizes_of, DirectorySlot as Slot, Node, Kind, Directory, File, Device, Tree, is_live, raises, IsOnce, times, inode_of, is_free, numbers_of, numbers_by, named_by, last, block_number, content_of, slots_of, IsData, is_marked, largest_size, UpToLog}
+use Rattle.inodes_on_blocks.specs.Vocabulary.{Dinode, Dirent, Used, block_len, dirent_len, sizes_of, DirectorySlot as Slot, Node, NodeKind, Directory, File, Device, Tree, is_live, raises, IsOnce, times, inode_of, is_free, numbers_of, numbers_by, named_by, last, block_number, content_of, slots_of, IsData, is_marked, largest_size, UpToLog}
 use Rattle.fs_layout.specs.declared.entry.Dirent.TheVariants.{Free}
 
 abbrev pub Nodes : Type 0
@@ -13,18 +13,18 @@ Nodes = ℕ → Option Node
 -- ---- what an inode itself says
 
 -- the type of an inode
-abbrev pub type_in : Kind → ℕ
+abbrev pub type_in : NodeKind → ℕ
 type_in (Directory slots) = 1
 type_in (File bytes) = 2
 type_in (Device major minor size) = 3
 
-abbrev pub size_in : Kind → ℕ
+abbrev pub size_in : NodeKind → ℕ
 size_in (Directory slots) = dirent_len * length slots
 size_in (File bytes) = length bytes
 size_in (Device major minor size) = size
 
 -- a device's numbers
-abbrev pub IsDevice : Dinode → Kind → Type 0
+abbrev pub IsDevice : Dinode → NodeKind → Type 0
 IsDevice d (Directory slots) = Unit {0}
 IsDevice d (File bytes) = Unit {0}
 IsDevice d (Device major minor size) = (d.major ≡ major) × (d.minor ≡ minor)
@@ -53,7 +53,7 @@ abbrev pub entry_of : Option Slot → Option Dirent
 entry_of None = Some Free
 entry_of (Some s) = Some (Used s.number s.name)
 
-abbrev pub HasContent : List (List ℕ) → Dinode → Kind → Type 0
+abbrev pub HasContent : List (List ℕ) → Dinode → NodeKind → Type 0
 HasContent disk d (Directory slots) = slots_of disk d ≡ map entry_of slots
 HasContent disk d (File bytes) = content_of disk d ≡ bytes
 HasContent disk d (Device major minor size) = Unit {0}

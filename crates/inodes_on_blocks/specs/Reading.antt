@@ -1,6 +1,6 @@
 -- The programs below of the operations that lock an inode and read it. sizes: of the mounted image.
 use Rattle.std.specs.Prelude.{ℕ, ℤ, pos, negsuc, Bool, true, not, Option, Some, None, is_some, if◌then◌else◌}
-use Rattle.inodes_on_blocks.specs.Vocabulary.{option_map, Ret, Do, bind, Handover, Dinode, Super, Found, is_directory, lookup, search, Lock, LockedState, Refuses, Locks, is_number, is_free, Sort, OfDirectory, OfFile, OfDevice, Face, Sight, Query, AtNothing, AtName, AtEntries, Take, StatFile, load_unless, Name, put}
+use Rattle.inodes_on_blocks.specs.Vocabulary.{option_map, Ret, Do, bind, Handover, Dinode, Super, Found, is_directory, lookup, search, Lock, LockedState, Refuses, Locks, is_number, is_free, InodeType, OfDirectory, OfFile, OfDevice, Face, Sight, Query, AtNothing, AtName, AtEntries, Take, StatFile, load_unless, Name, put}
 use Rattle.directory.specs.Programs.{Entry}
 use Rattle.fs_machine.specs.Steps.{LockFile}
 use Rattle.fs_machine.specs.declared.files.Want.TheVariants as want
@@ -10,15 +10,15 @@ use Rattle.inodes_on_blocks.specs.Basics.{P, Handler, acts, Knowledge, NothingMo
 -- ---- what a record tells
 
 -- its type, by the number that stands for it; a device's with the major
-abbrev pub sort_at : (kind major : ℤ) → Sort
-sort_at kind major = if is_number 1 kind then OfDirectory else (if is_number 2 kind then OfFile else OfDevice major)
+abbrev pub inode_type_at : (kind major : ℤ) → InodeType
+inode_type_at kind major = if is_number 1 kind then OfDirectory else (if is_number 2 kind then OfFile else OfDevice major)
 
 abbrev pub natural : ℤ → ℕ
 natural (pos n) = n
 natural (negsuc n) = 0
 
 abbrev pub face_in : Dinode → Face
-face_in d = record { sort = sort_at d.kind d.major; count = natural d.nlink; size = d.size }
+face_in d = record { inode_type = inode_type_at d.kind d.major; count = natural d.nlink; size = d.size }
 
 -- ---- a descriptor's inode, locked to tell its state
 

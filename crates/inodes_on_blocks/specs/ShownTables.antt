@@ -1,6 +1,6 @@
 -- What the tables that all harts share show of the world of whole inodes, each part over the fields that it speaks of.
 use Rattle.std.specs.Prelude.{◌≡◌, ℕ, ℤ, pos, ◌<◌, ◌≤◌, List, length, Bool, true, false, Option, Some, None, slice_get}
-use Rattle.inodes_on_blocks.specs.Vocabulary.{Dinode, SlotState, Did, Waits, Ran, any_below, OpenFile, Cause, hart_count, descriptor_count, Inode, FilePlace, Taken, NewFile, Refused, Doubled, ShutState as Shut, Given, TablesState, place_of, references_in, holder_in, IsSoundTables, Sort, OfDirectory, OfFile, OfDevice, Entry, Desk, World, LoanResult, Lent, Moved, file_count, is_at}
+use Rattle.inodes_on_blocks.specs.Vocabulary.{Dinode, SlotState, ExecResult, Waits, Ran, any_below, OpenFile, Cause, hart_count, descriptor_count, Inode, FilePlace, Taken, NewFile, Refused, Doubled, ShutState as Shut, Given, TablesState, place_of, references_in, holder_in, IsSoundTables, InodeType, OfDirectory, OfFile, OfDevice, Entry, Desk, World, LoanResult, Lent, Moved, file_count, is_at}
 use Rattle.plain_tree.specs.declared.answer.Cause.TheVariants as causes
 use Rattle.fs_machine.specs.declared.entries.Entry as places
 use Rattle.fs_machine.specs.declared.files.OpenFile as tables
@@ -39,18 +39,24 @@ pub record PlacesShow (entries : List places.Entry) (locks : List (SlotState Ino
 -- ---- open files
 
 -- the type of an inode, as its record has it
-abbrev pub kind_of : Sort → ℤ
+abbrev pub kind_of : InodeType → ℤ
 kind_of OfDirectory = pos 1
 kind_of OfFile = pos 2
 kind_of (OfDevice major) = pos 3
 
 abbrev pub file_of : Entry → tables.OpenFile
 file_of e =
-    record { number = e.file.number; kind = kind_of e.sort; readable = e.file.readable; writable = e.file.writable; offset = e.file.offset }
+    record {
+      number = e.file.number;
+      kind = kind_of e.inode_type;
+      readable = e.file.readable;
+      writable = e.file.writable;
+      offset = e.file.offset;
+    }
 
 -- what is told of a file that is opened
-abbrev pub new_file : OpenFile → Sort → NewFile
-new_file f sort = record { kind = kind_of sort; readable = f.readable; writable = f.writable }
+abbrev pub new_file : OpenFile → InodeType → NewFile
+new_file f inode_type = record { kind = kind_of inode_type; readable = f.readable; writable = f.writable }
 
 -- a hart has the place in hand, for a file that it is about to open
 abbrev pub is_taken : (ℕ → Desk) → ℕ → Bool
@@ -131,7 +137,7 @@ pub record Shows (t : TablesState) (w : World) (load : ℕ → Option Dinode) : 
 
 -- A step of the tables and an operation on whole inodes came to the same: both wait, or both ran, with answers that go
 -- together, and the tables show the world again.
-abbrev pub BothCame : {A B : Type 0} → (A → B → Type 0) → (A → ℕ → Option Dinode) → Did A TablesState → Did B World → Type 0
+abbrev pub BothCame : {A B : Type 0} → (A → B → Type 0) → (A → ℕ → Option Dinode) → ExecResult A TablesState → ExecResult B World → Type 0
 BothCame Fits load Waits Waits = Unit {0}
 BothCame Fits load (Ran a t) (Ran b w) = Fits a b × Shows t w (load a)
 BothCame Fits load _ _ = ⊥

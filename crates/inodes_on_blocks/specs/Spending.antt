@@ -1,6 +1,6 @@
 -- What the programs below of operations record, and that it is no more than their call's transactions may.
 use Rattle.std.specs.Prelude.{◌≡◌, ◌⊎◌, ℕ, suc, Bool, ◌<◌, ◌≤◌, List, [], Option, Some}
-use Rattle.inodes_on_blocks.specs.Vocabulary.{Super, OpenFile, Name, hart_count, Wp, Ret, Do, once, Both, joined, Below, Lasts, Budget, LogPart, Query, Sort, Take, Give, UpStart, Up, WalkDown, Down, Forget, Free, Claim, Store, Clear, Empty, Slot, Install, StatFile, LockFile, ReadFile, LockOpen, CheckFile, JoinFile, Double, Shut, Settle, Lend, LendDirectory, Release, Join, Leave, Say, more, Spent, unspent, size, spent_after, most_recorded, with_contents}
+use Rattle.inodes_on_blocks.specs.Vocabulary.{Super, OpenFile, Name, hart_count, Wp, Ret, Do, once, Both, joined, Below, Lasts, Budget, LogPart, Query, InodeType, Take, UnlockInode, UpStart, Up, WalkDown, Down, Forget, Free, Claim, Store, Clear, Empty, Slot, Install, StatFile, LockFile, ReadFile, LockOpen, CheckFile, JoinFile, Double, Shut, SetDirectory, Lend, LendDirectory, Release, Join, Leave, Say, more, Spent, unspent, size, spent_after, most_recorded, with_contents}
 use Rattle.fs_machine.specs.Steps as steps
 use Rattle.inode_machine.specs.World as above
 use Rattle.inodes_on_blocks.specs.Basics.{World, log_of, Carry, Stands, below, Labels, labelled, P, Handler, give, settle, up_start, up, walk_down, down, forget, slot, install, double, close, check_file, lend, lend_directory, release, join, join_file, leave, say, store, whole, IsDone, Answers, used, Accounts, IsSpent}
@@ -41,19 +41,19 @@ Spends sizes op p = (c : Carry) (m : above.Answer op → Option above.Mark) (s :
 -- so do these
 pub record ProgramsSpend (sizes : Super) : Type 0 where
   pub take : (n : ℕ) (looking : Query) → Spends sizes (Take n looking) (take sizes n looking)
-  pub give : (n : ℕ) → Spends sizes (Give n) (give n)
+  pub give : (n : ℕ) → Spends sizes (UnlockInode n) (give n)
   pub up_start : (absolute : Bool) → Spends sizes (UpStart absolute) (up_start absolute)
   pub up : (n : ℕ) → Spends sizes (Up n) (up n)
   pub walk_down : (n : ℕ) → Spends sizes (WalkDown n) (walk_down n)
   pub down : (n : ℕ) → Spends sizes (Down n) (down n)
   pub forget : (n : ℕ) → Spends sizes (Forget n) (forget n)
   pub free : (n : ℕ) → Spends sizes (Free n) (free sizes n)
-  pub claim : (sort : Sort) → Spends sizes (Claim sort) (claim sizes sort)
+  pub claim : (inode_type : InodeType) → Spends sizes (Claim inode_type) (claim sizes inode_type)
   pub clear : (n : ℕ) (e : Name) → Spends sizes (Clear n e) (clear sizes n e)
   pub store : (n count : ℕ) → Spends sizes (Store n count) (store sizes n count)
   pub empty : (n : ℕ) → Spends sizes (Empty n) (empty sizes n)
   pub slot : Spends sizes Slot slot
-  pub install : (f : OpenFile) (sort : Sort) → Spends sizes (Install f sort) (install f sort)
+  pub install : (f : OpenFile) (inode_type : InodeType) → Spends sizes (Install f inode_type) (install f inode_type)
   pub stat_file : (fd : ℕ) → Spends sizes (StatFile fd) (stat_file sizes fd)
   pub lock_file : (fd : ℕ) → Spends sizes (LockFile fd) (lock_file sizes fd)
   pub lock_open : (fd n : ℕ) → Spends sizes (LockOpen fd n) (lock_open sizes fd n)
@@ -62,7 +62,7 @@ pub record ProgramsSpend (sizes : Super) : Type 0 where
   pub join_file : (fd : ℕ) → Spends sizes (JoinFile fd) (join_file fd)
   pub double : (fd : ℕ) → Spends sizes (Double fd) (double fd)
   pub close : (fd : ℕ) → Spends sizes (Shut fd) (close fd)
-  pub settle : (n : ℕ) → Spends sizes (Settle n) (settle n)
+  pub settle : (n : ℕ) → Spends sizes (SetDirectory n) (settle n)
   pub lend : (child from : ℕ) → Spends sizes (Lend child from) (lend child from)
   pub lend_directory : (child : ℕ) → Spends sizes (LendDirectory child) (lend_directory child)
   pub release : (child : ℕ) → Spends sizes (Release child) (release child)

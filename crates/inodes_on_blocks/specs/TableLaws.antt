@@ -1,6 +1,6 @@
 -- Each step of the tables is an operation on whole inodes. load: of each inode whose lock isn't out, what is loaded.
 use Rattle.std.specs.Prelude.{◌≡◌, ◌≢◌, ℕ, ◌+◌, ◌<◌, ◌≤◌, Option, Some, None, Bool, false, is_some, if◌then◌else◌, ◌==◌}
-use Rattle.inodes_on_blocks.specs.Vocabulary.{option_map, Dinode, Tree, put, Inode, fresh, TablesState, file_named, hart_count, descriptor_count, root, lock_inode, unlock_inode, up_inode, up_directory, dead_of, DroppedState, Counts, Keeps, Dies, drop_inode, drop_walked, settle_inode, refusal_of, LockedState, Refuses, Locks, lock_file, take_place, open_file, double_descriptor, shut_descriptor, give_next, Cause, OpenFile, Sort, Query, Entry, World, LockResult, NotLocked, LocksIt, Room, Take, Up, UpStart, WalkDown, Down, Slot, Install, Double, Shut, Settle, StatFile, LockFile, Lend, LendDirectory, Release, exec, start_number, is_dead, slot_at, entry_of, read_refused, write_refused, with_offset, released, Inv, Asks, at_rest}
+use Rattle.inodes_on_blocks.specs.Vocabulary.{option_map, Dinode, Tree, put, Inode, fresh, TablesState, file_named, hart_count, descriptor_count, root, lock_inode, unlock_inode, up_inode, up_directory, dead_of, DroppedState, Counts, Keeps, Dies, drop_inode, drop_walked, settle_inode, refusal_of, LockedState, Refuses, Locks, lock_file, take_place, open_file, double_descriptor, shut_descriptor, give_next, Cause, OpenFile, InodeType, Query, Entry, World, LockResult, NotLocked, LocksIt, Room, Take, Up, UpStart, WalkDown, Down, Slot, Install, Double, Shut, SetDirectory, StatFile, LockFile, Lend, LendDirectory, Release, exec, start_number, is_dead, slot_at, entry_of, read_refused, write_refused, with_offset, released, Inv, Asks, at_rest}
 use Rattle.fs_machine.specs.declared.slots.Given.TheVariants as given
 use Rattle.fs_machine.specs.declared.files.Refused.TheVariants as refused
 use Rattle.fs_machine.specs.declared.files.Want.TheVariants as want
@@ -72,9 +72,9 @@ PlacesAreTaken =
 -- A file is opened there, at its beginning, by the lowest free descriptor; where there is none the place is given back.
 abbrev pub FilesAreOpened : Type 0
 FilesAreOpened =
-    (h : ℕ) (f : OpenFile) (sort : Sort) (t : TablesState) (w : World) (load : ℕ → Option Dinode) → Shows t w load → Inv w → Runs h w
-    → (w.desks h).hand ≢ None → f.offset ≡ 0
-    → BothCame (λ a b. a ≡ b) (λ a. load) (open_file h f.number (new_file f sort) t) (exec h Room (Install f sort) w)
+    (h : ℕ) (f : OpenFile) (inode_type : InodeType) (t : TablesState) (w : World) (load : ℕ → Option Dinode) → Shows t w load
+    → Inv w → Runs h w → (w.desks h).hand ≢ None → f.offset ≡ 0
+    → BothCame (λ a b. a ≡ b) (λ a. load) (open_file h f.number (new_file f inode_type) t) (exec h Room (Install f inode_type) w)
 
 -- One more descriptor names what a descriptor names.
 abbrev pub DescriptorsAreDoubled : Type 0
@@ -93,7 +93,7 @@ DescriptorsAreShut =
 abbrev pub DirectoriesAreSettled : Type 0
 DirectoriesAreSettled =
     (h : ℕ) (v : Inode) (t : TablesState) (w : World) (load : ℕ → Option Dinode) → Shows t w load → Runs h w → w.lock v.number ≡ Some h
-    → BothCame (λ a b. a ≡ b) (λ a. put load v.number v.content) (settle_inode h v t) (exec h Room (Settle v.number) w)
+    → BothCame (λ a b. a ≡ b) (λ a. put load v.number v.content) (settle_inode h v t) (exec h Room (SetDirectory v.number) w)
 
 -- What a descriptor names, and why it isn't to be had for a thing.
 abbrev pub DescriptorsNameFiles : Type 0

@@ -1,15 +1,15 @@
 -- What the crates below call things: the words that this crate's definitions and contracts use.
 pub use Rattle.image_tree.specs.Vocabulary.{IsOutsideLog, bit_of, block_at, block_len, dinode_at, dirent_len, dirents_per_block, inodes_per_block, magic, numbers_in, super_block, super_magic_at}
 unfoldable pub use Rattle.image_tree.specs.Vocabulary.{logged, recovered, sizes_of, u32_at}
-pub use Rattle.fs_machine.specs.Vocabulary.{Did, Do, HasRoom, IsHome, IsMember, Prog, Ran, Ret, SeatState, SlotState, Stops, Waits, count_of, has, holder_of, is_held_by, joined as joined_count, kept, once, option_map, seen_in, unmarked, unwrap_or}
+pub use Rattle.fs_machine.specs.Vocabulary.{ExecResult, Do, HasRoom, IsHome, IsMember, Prog, Ran, Ret, SeatState, SlotState, Stops, Waits, count_of, has, holder_of, is_held_by, joined as joined_count, kept, once, option_map, seen_in, unmarked, unwrap_or}
 pub use Rattle.inode_data.specs.Vocabulary.{Answer, Counts, Dies, DroppedState, Freed, Held, Keeps, Put, bind, fetch, free_block, inode_block, numbers_per_block, overwrite, store as store_inode, take_block}
 pub use Rattle.inode_machine.specs.Vocabulary.{Machine, Name, Tree, all_slots, descriptor_count, dot, dotdot, hart_count, is_live, root, tree_of}
 unfoldable pub use Rattle.inode_machine.specs.Vocabulary.{any_below, one_if, put, same_name, settle}
 pub use Rattle.directory.specs.Vocabulary.{FetchedBlock, IsDirent, WriteResult, fetch_block, most_blocks, spell_dirent, write_part}
 pub use Rattle.inode_table.specs.Vocabulary.{Claims, IsDinode}
-pub use Rattle.atomic_programs.specs.Joined.{Act, Below, Both, Handover, Lasts, Lower, holding, joined}
+pub use Rattle.atomic_programs.specs.Joined.{Act, Below, Both, Handover, Lasts, LowerLayer, holding, joined}
 pub use Rattle.image_tree.specs.Checks.{IsData, IsGoodSuper, is_marked, largest_size}
-pub use Rattle.inode_machine.specs.Inodes.{AtEntries, AtName, AtNothing, Face, OfDevice, OfDirectory, OfFile, Query, Sight, Sort}
+pub use Rattle.inode_machine.specs.Inodes.{AtEntries, AtName, AtNothing, Face, OfDevice, OfDirectory, OfFile, Query, Sight, InodeType}
 pub use Rattle.block_device.specs.Blocks.{HasBytes, HasWholeBlocks}
 pub use Rattle.fs_machine.specs.LogPart.{LogPart, Outside, put_block}
 pub use Rattle.inode_machine.specs.Rules.{Asks, Idle, Inv, KeepsFiles, if_kept, is_hart, more, own_of}
@@ -17,7 +17,7 @@ pub use Rattle.fs_machine.specs.Shown.{seen_of}
 pub use Rattle.image_tree.specs.Damage.{IsWellFormed, UpToLog}
 pub use Rattle.image_tree.specs.Trees.{tree_in}
 unfoldable pub use Rattle.image_tree.specs.Trees.{node_of}
-pub use Rattle.inode_machine.specs.World.Op.{CheckFile, Claim, Clear, Double, Down, Empty, Enter, Fill, Forget, Free, Give, Install, Join, JoinFile, Leave, Lend, LendDirectory, LockFile, LockOpen, ReadFile, Release, Say, Settle, Shut, Slot, StatFile, Store, Take, Up, UpStart, WalkDown, WriteFile}
+pub use Rattle.inode_machine.specs.World.Op.{CheckFile, Claim, Clear, Double, Down, Empty, Enter, Fill, Forget, Free, UnlockInode, Install, Join, JoinFile, Leave, Lend, LendDirectory, LockFile, LockOpen, ReadFile, Release, Say, SetDirectory, Shut, Slot, StatFile, Store, Take, Up, UpStart, WalkDown, WriteFile}
 pub use Rattle.atomic_programs.specs.Logic.{Wp}
 pub use Rattle.fs_machine.specs.Tables.{TablesState, file_named, holder_in, holder_of as lock_holder, place_of, references_in}
 pub use Rattle.image_tree.specs.Inodes.{block_number, content_of, direct, is_block, is_free, is_number, last, named_by, slots_of}
@@ -72,12 +72,12 @@ pub use Rattle.fs_layout.specs.declared.entry.Dirent.TheVariants.{Used}
 pub use Rattle.fs_layout.specs.declared.inode.Dinode.{Dinode}
 pub use Rattle.fs_layout.specs.declared.superblock.Super.{Super}
 pub use Rattle.fs_machine.specs.declared.entries.Inode.{Inode}
-pub use Rattle.group_log.specs.declared.log.Left.TheVariants.{Commits}
+pub use Rattle.group_log.specs.declared.log.AfterLeave.TheVariants.{Commits}
 pub use Rattle.group_log.specs.declared.phase.Phase.{Phase}
 pub use Rattle.group_log.specs.declared.phase.Phase.TheVariants.{Halted, Open}
 pub use Rattle.plain_tree.specs.declared.answer.Cause.{Cause}
-pub use Rattle.plain_tree.specs.declared.node.Kind.{Kind}
-pub use Rattle.plain_tree.specs.declared.node.Kind.TheVariants.{Device, Directory, File}
+pub use Rattle.plain_tree.specs.declared.node.NodeKind.{NodeKind}
+pub use Rattle.plain_tree.specs.declared.node.NodeKind.TheVariants.{Device, Directory, File}
 pub use Rattle.plain_tree.specs.declared.node.Node.{Node}
 pub use Rattle.plain_tree.specs.declared.node.Slot.{Slot as DirectorySlot}
 pub use Rattle.plain_tree.specs.declared.tree.Hold.{Hold}

@@ -1,18 +1,18 @@
 //! Operations on whole inodes as programs below: each acts at one moment, whatever the other harts do.
 
 ghost use Rattle.std.specs.Prelude.{ℕ, Bool};
-ghost use Rattle.inodes_on_blocks.specs.Vocabulary.{OpenFile, Sort, Give, UpStart, Up, WalkDown, Down, Forget, Slot, Install, CheckFile, JoinFile, Double, Shut, Settle, Lend, LendDirectory, Release, Join, Leave, Say};
+ghost use Rattle.inodes_on_blocks.specs.Vocabulary.{OpenFile, InodeType, UnlockInode, UpStart, Up, WalkDown, Down, Forget, Slot, Install, CheckFile, JoinFile, Double, Shut, SetDirectory, Lend, LendDirectory, Release, Join, Leave, Say};
 ghost use Rattle.inodes_on_blocks.specs.Handlers.{give, settle, up_start, up, walk_down, down, forget, slot, install, double, close, check_file, lend, lend_directory, release, join, join_file, leave, say};
 ghost use Rattle.inodes_on_blocks.specs.Acting.{DoesIt};
 
 /// A lock given back is one step, with the record that the hart has of the inode.
 pub fn gives_act_once()
-    ensures { (n : ℕ) → DoesIt (Give n) (give n) }
+    ensures { (n : ℕ) → DoesIt (UnlockInode n) (give n) }
 {}
 
 /// And so where the inode becomes the hart's directory.
 pub fn settles_act_once()
-    ensures { (n : ℕ) → DoesIt (Settle n) (settle n) }
+    ensures { (n : ℕ) → DoesIt (SetDirectory n) (settle n) }
 {}
 
 /// A reference more to a path's start is one step.
@@ -47,7 +47,7 @@ pub fn slots_act_once()
 
 /// A file opened by the lowest free descriptor is one step.
 pub fn installs_act_once()
-    ensures { (f : OpenFile) (sort : Sort) → DoesIt (Install f sort) (install f sort) }
+    ensures { (f : OpenFile) (inode_type : InodeType) → DoesIt (Install f inode_type) (install f inode_type) }
 {}
 
 /// A descriptor doubled is one step.

@@ -3,7 +3,7 @@
 //! that.
 
 ghost use Rattle.std.specs.Prelude.{ℕ};
-ghost use Rattle.inodes_on_blocks.specs.Vocabulary.{Super, Name, Sort, Claim, Enter, Fill};
+ghost use Rattle.inodes_on_blocks.specs.Vocabulary.{Super, Name, InodeType, Claim, Enter, Fill};
 ghost use Rattle.inodes_on_blocks.specs.Entering.{enter, fill};
 ghost use Rattle.inodes_on_blocks.specs.Making.{claim, HasInodes, IsMade};
 ghost use Rattle.inodes_on_blocks.specs.Spending.{DoesItWithin};
@@ -12,7 +12,8 @@ ghost use Rattle.inodes_on_blocks.specs.Spending.{DoesItWithin};
 /// then its record is put with its type, of which nothing is seen above; or there is no place for it in memory; or, in the last
 /// block, there is none.
 pub fn claims_act_once()
-    ensures { (sizes : Super) (sort : Sort) → IsMade sort → HasInodes sizes → DoesItWithin sizes (Claim sort) (claim sizes sort) }
+    ensures { (sizes : Super) (inode_type : InodeType) → IsMade inode_type → HasInodes sizes
+        → DoesItWithin sizes (Claim inode_type) (claim sizes inode_type) }
 {}
 
 /// A new directory's two names act where its record is put, after they were written into a block that was taken; or, where no block

@@ -1,6 +1,6 @@
 //! Worked runs, each with a list of steps that explains it, and what becomes of that list where one entry is another.
 //! What finds no memory is tried once more.
-use crate::story::{Change, Story, Told, bytes, opened};
+use crate::story::{Change, Story, StoryResult, bytes, opened};
 use plain_tree::{Action, Answer, Call, Cause, Full, NoMemory, NodeType, Stat, StepAnswer};
 use std::alloc::Global;
 use std::test::Fail;
@@ -31,13 +31,13 @@ fn refused(cause: Cause) -> StepAnswer {
     StepAnswer::Failed { cause }
 }
 
-fn read(alloc: Global, text: &[u8]) -> Told<StepAnswer> {
+fn read(alloc: Global, text: &[u8]) -> StoryResult<StepAnswer> {
     let bytes = bytes(alloc, text)?;
     Ok(StepAnswer::Bytes { bytes })
 }
 
 /// A piece that is written through descriptor 0.
-fn piece(alloc: Global, text: &[u8]) -> Told<Action> {
+fn piece(alloc: Global, text: &[u8]) -> StoryResult<Action> {
     let bytes = bytes(alloc, text)?;
     Ok(Action::WritePart { fd: 0, bytes })
 }
@@ -53,45 +53,45 @@ fn stat(nlink: u16) -> Stat {
     }
 }
 
-fn open(alloc: Global, path: &str, flags: u32) -> Told<Call> {
+fn open(alloc: Global, path: &str, flags: u32) -> StoryResult<Call> {
     let path = bytes(alloc, path.as_bytes())?;
     Ok(Call::Open { path, flags })
 }
 
-fn mkdir(alloc: Global, path: &str) -> Told<Call> {
+fn mkdir(alloc: Global, path: &str) -> StoryResult<Call> {
     let path = bytes(alloc, path.as_bytes())?;
     Ok(Call::Mkdir { path })
 }
 
-fn unlink(alloc: Global, path: &str) -> Told<Call> {
+fn unlink(alloc: Global, path: &str) -> StoryResult<Call> {
     let path = bytes(alloc, path.as_bytes())?;
     Ok(Call::Unlink { path })
 }
 
 /// A link of "/f" as "/g".
-fn link(alloc: Global) -> Told<Call> {
+fn link(alloc: Global) -> StoryResult<Call> {
     let old = bytes(alloc, b"/f")?;
     let new = bytes(alloc, b"/g")?;
     Ok(Call::Link { old, new })
 }
 
-fn enter(alloc: Global) -> Told<Action> {
+fn enter(alloc: Global) -> StoryResult<Action> {
     let new = bytes(alloc, b"/g")?;
     Ok(Action::Enter { new })
 }
 
-fn buffer(alloc: Global, text: &[u8]) -> Told<Call> {
+fn buffer(alloc: Global, text: &[u8]) -> StoryResult<Call> {
     let buf = bytes(alloc, text)?;
     Ok(Call::Read { fd: 0, buf })
 }
 
-fn write(alloc: Global, text: &[u8]) -> Told<Call> {
+fn write(alloc: Global, text: &[u8]) -> StoryResult<Call> {
     let bytes = bytes(alloc, text)?;
     Ok(Call::Write { fd: 0, bytes })
 }
 
 /// What the reader of `pieces` hands back: the first piece, in its buffer.
-fn first_piece_read(alloc: Global) -> Told<Call> {
+fn first_piece_read(alloc: Global) -> StoryResult<Call> {
     let mut filled = [0; 4000];
     for i in 0..3072 {
         filled[i] = 7;
@@ -99,7 +99,7 @@ fn first_piece_read(alloc: Global) -> Told<Call> {
     buffer(alloc, &filled)
 }
 
-fn pieces_calls(alloc: Global, story: &mut Story) -> Told {
+fn pieces_calls(alloc: Global, story: &mut Story) -> StoryResult {
     story.call(0, (0, 2), open(alloc, "/f", 0x201)?, Answer::Fd(0))?;
     story.call(1, (3, 5), open(alloc, "/f", 0)?, Answer::Fd(0))?;
     let text = write(alloc, &[7; 3073])?;
@@ -110,7 +110,7 @@ fn pieces_calls(alloc: Global, story: &mut Story) -> Told {
     Ok(())
 }
 
-fn pieces_list(alloc: Global, story: &mut Story) -> Told {
+fn pieces_list(alloc: Global, story: &mut Story) -> StoryResult {
     story.acts((1, 0, 2), opened(0, 0))?;
     story.acts((4, 1, 0), opened(0, 1))?;
     story.step((8, 2, 0), piece(alloc, &[7; 3072])?, DONE)?;
@@ -118,14 +118,14 @@ fn pieces_list(alloc: Global, story: &mut Story) -> Told {
     story.step((10, 2, 0), piece(alloc, &[7; 1])?, DONE)
 }
 
-fn pieces(alloc: Global) -> Told<Story> {
+fn pieces(alloc: Global) -> StoryResult<Story> {
     let mut story = Story::begin(alloc, 12);
     pieces_calls(alloc, &mut story)?;
     pieces_list(alloc, &mut story)?;
     Ok(story)
 }
 
-fn made_anew_calls(alloc: Global, story: &mut Story) -> Told {
+fn made_anew_calls(alloc: Global, story: &mut Story) -> StoryResult {
     let nothing = Answer::Failed(Cause::NoEntry);
     story.done(1, (0, 2), mkdir(alloc, "/d")?)?;
     story.call(1, (3, 5), open(alloc, "/d/f", 0x200)?, Answer::Fd(0))?;
@@ -137,7 +137,7 @@ fn made_anew_calls(alloc: Global, story: &mut Story) -> Told {
     story.call(1, (19, 21), open(alloc, "/d/f", 0x200)?, Answer::Fd(0))
 }
 
-fn made_anew_list(story: &mut Story) -> Told {
+fn made_anew_list(story: &mut Story) -> StoryResult {
     story.acts((1, 0, 2), DONE)?;
     story.acts((4, 1, 3), opened(0, 0))?;
     story.acts((7, 2, 0), DONE)?;
@@ -148,14 +148,14 @@ fn made_anew_list(story: &mut Story) -> Told {
     story.acts((20, 7, 4), opened(0, 0))
 }
 
-fn made_anew(alloc: Global) -> Told<Story> {
+fn made_anew(alloc: Global) -> StoryResult<Story> {
     let mut story = Story::begin(alloc, 24);
     made_anew_calls(alloc, &mut story)?;
     made_anew_list(&mut story)?;
     Ok(story)
 }
 
-fn unlinked_while_linked_calls(alloc: Global, story: &mut Story) -> Told {
+fn unlinked_while_linked_calls(alloc: Global, story: &mut Story) -> StoryResult {
     story.call(1, (0, 2), open(alloc, "/f", 0x201)?, Answer::Fd(0))?;
     story.call(1, (3, 5), write(alloc, b"A")?, Answer::Count(1))?;
     story.done(0, (6, 14), link(alloc)?)?;
@@ -166,7 +166,7 @@ fn unlinked_while_linked_calls(alloc: Global, story: &mut Story) -> Told {
     Ok(())
 }
 
-fn unlinked_while_linked_list(alloc: Global, story: &mut Story) -> Told {
+fn unlinked_while_linked_list(alloc: Global, story: &mut Story) -> StoryResult {
     story.acts((1, 0, 2), opened(0, 0))?;
     story.acts((4, 1, 0), DONE)?;
     story.acts((8, 2, 0), DONE)?;
@@ -177,14 +177,14 @@ fn unlinked_while_linked_list(alloc: Global, story: &mut Story) -> Told {
     story.acts((19, 5, 0), read(alloc, b"A")?)
 }
 
-fn unlinked_while_linked(alloc: Global) -> Told<Story> {
+fn unlinked_while_linked(alloc: Global) -> StoryResult<Story> {
     let mut story = Story::begin(alloc, 21);
     unlinked_while_linked_calls(alloc, &mut story)?;
     unlinked_while_linked_list(alloc, &mut story)?;
     Ok(story)
 }
 
-fn refused_link_calls(alloc: Global, story: &mut Story) -> Told {
+fn refused_link_calls(alloc: Global, story: &mut Story) -> StoryResult {
     let there = Answer::Failed(Cause::Exists);
     story.call(1, (0, 2), open(alloc, "/f", 0x200)?, Answer::Fd(0))?;
     story.call(1, (3, 5), open(alloc, "/g", 0x200)?, Answer::Fd(1))?;
@@ -193,7 +193,7 @@ fn refused_link_calls(alloc: Global, story: &mut Story) -> Told {
     story.call(1, (15, 17), Call::Fstat { fd: 0 }, Answer::Stat(stat(1)))
 }
 
-fn refused_link_list(alloc: Global, story: &mut Story) -> Told {
+fn refused_link_list(alloc: Global, story: &mut Story) -> StoryResult {
     story.acts((1, 0, 2), opened(0, 0))?;
     story.acts((4, 1, 3), opened(1, 1))?;
     story.acts((8, 2, 0), DONE)?;
@@ -204,14 +204,14 @@ fn refused_link_list(alloc: Global, story: &mut Story) -> Told {
     story.acts((16, 4, 0), StepAnswer::Stat { stat: stat(1) })
 }
 
-fn refused_link(alloc: Global) -> Told<Story> {
+fn refused_link(alloc: Global) -> StoryResult<Story> {
     let mut story = Story::begin(alloc, 18);
     refused_link_calls(alloc, &mut story)?;
     refused_link_list(alloc, &mut story)?;
     Ok(story)
 }
 
-fn two_at_once(alloc: Global) -> Told<Story> {
+fn two_at_once(alloc: Global) -> StoryResult<Story> {
     let mut story = Story::begin(alloc, 9);
     for hart in 0..2 {
         let path = bytes(alloc, b"/")?;
@@ -223,7 +223,7 @@ fn two_at_once(alloc: Global) -> Told<Story> {
     Ok(story)
 }
 
-fn without_room(alloc: Global) -> Told<Story> {
+fn without_room(alloc: Global) -> StoryResult<Story> {
     let full = Full::Descriptors;
     let is_file = false;
     let mut story = Story::begin(alloc, 100);
@@ -237,7 +237,7 @@ fn without_room(alloc: Global) -> Told<Story> {
     Ok(story)
 }
 
-fn doubled(alloc: Global) -> Told<Story> {
+fn doubled(alloc: Global) -> StoryResult<Story> {
     let mut story = Story::begin(alloc, 10);
     story.call(0, (0, 3), open(alloc, "/f", 0x602)?, Answer::Fd(0))?;
     story.call(0, (4, 6), Call::Dup { fd: 0 }, Answer::Fd(1))?;
@@ -249,7 +249,7 @@ fn doubled(alloc: Global) -> Told<Story> {
     Ok(story)
 }
 
-pub(crate) fn told(alloc: Global, run: Run) -> Told<Story> {
+pub(crate) fn told(alloc: Global, run: Run) -> StoryResult<Story> {
     match run {
         Run::Nothing => Ok(Story::begin(alloc, 0)),
         Run::Pieces => pieces(alloc),
@@ -262,7 +262,7 @@ pub(crate) fn told(alloc: Global, run: Run) -> Told<Story> {
     }
 }
 
-fn changed(alloc: Global, run: Run, one: Change, two: Change) -> Told<bool> {
+fn changed(alloc: Global, run: Run, one: Change, two: Change) -> StoryResult<bool> {
     let mut story = told(alloc, run)?;
     story.change(one)?;
     story.change(two)?;

@@ -12,7 +12,7 @@ use arrayvec::ArrayVec;
 use block_device::{BLOCK_LEN, Device, Fault, Fused, MemoryDisk};
 use buffer_cache::{BUFFERS_OF_A_HART, Buffers, Cache, Got, HARTS};
 use fs_layout::{Super, write_super};
-use group_log::{Left, Log, Marks, Phase, Progress, Txn};
+use group_log::{AfterLeave, Log, Marks, Phase, Progress, Txn};
 use image_tree::{MountFault, find_layout, recover};
 use std::alloc::{AllocError, Global};
 use std::process::Abort;
@@ -113,7 +113,7 @@ fn waits<D: Device>(rt: &impl Abort, log: &mut Log<D>, hart: u8) {
     }
 }
 
-fn leave<D: Device>(rt: &impl Abort, log: &mut Log<D>, txn: Txn) -> Left {
+fn leave<D: Device>(rt: &impl Abort, log: &mut Log<D>, txn: Txn) -> AfterLeave {
     assert!(rt; log.is_member(&txn) && log.phase() != Phase::Halted);
     log.leave(txn)
 }
@@ -182,7 +182,7 @@ fn a_commit_writes_in_order(rt: HostRuntime) -> Result<(), Fail> {
     }
     assert!(rt; log.is_recorded(46) && log.is_recorded(48) && !log.is_recorded(47));
     assert!(rt; log.is_home(46) && !log.is_home(1) && !log.is_home(32) && !log.is_home(2000));
-    assert!(rt; leave(&rt, &mut log, txn) == Left::Commits);
+    assert!(rt; leave(&rt, &mut log, txn) == AfterLeave::Commits);
     assert!(rt; commit(&rt, &mut log, 0) == (6, Progress::Ended));
     assert!(rt; !log.is_recorded(46));
     let (_ended, _slots, disk) = log.retire();
@@ -216,12 +216,12 @@ fn a_join_waits_for_room(rt: HostRuntime) -> Result<(), Fail> {
             Some(txn) => {
                 assert!(rt; third);
                 waits(&rt, &mut log, 3);
-                assert!(rt; leave(&rt, &mut log, txn) == Left::Free);
+                assert!(rt; leave(&rt, &mut log, txn) == AfterLeave::Free);
             }
             None => assert!(rt; !third),
         }
-        assert!(rt; leave(&rt, &mut log, first) == Left::Free);
-        assert!(rt; leave(&rt, &mut log, second) == Left::Free);
+        assert!(rt; leave(&rt, &mut log, first) == AfterLeave::Free);
+        assert!(rt; leave(&rt, &mut log, second) == AfterLeave::Free);
         let _ = log.retire();
     }
     Ok(())
@@ -237,13 +237,13 @@ fn a_join_counts_what_was_recorded(rt: HostRuntime) -> Result<(), Fail> {
     assert!(rt; log.is_member(&first) && !log.has_room(&first));
     let mut second = join(&rt, &mut log, 1).expect(&rt, "ten are recorded, and one is in");
     assert!(rt; change(&rt, &mut log, &mut second, 57, 1) == Ok(()));
-    assert!(rt; leave(&rt, &mut log, first) == Left::Free);
+    assert!(rt; leave(&rt, &mut log, first) == AfterLeave::Free);
     waits(&rt, &mut log, 2);
-    assert!(rt; leave(&rt, &mut log, second) == Left::Commits);
+    assert!(rt; leave(&rt, &mut log, second) == AfterLeave::Commits);
     waits(&rt, &mut log, 2);
     assert!(rt; commit(&rt, &mut log, 1) == (24, Progress::Ended));
     let again = join(&rt, &mut log, 2).expect(&rt, "nothing is recorded");
-    assert!(rt; leave(&rt, &mut log, again) == Left::Free);
+    assert!(rt; leave(&rt, &mut log, again) == AfterLeave::Free);
     let _ = log.retire();
     Ok(())
 }
@@ -259,7 +259,7 @@ fn a_group_is_there_whole_or_not_at_all(rt: HostRuntime) -> Result<(), Fail> {
         for b in 48..51 {
             assert!(rt; change(&rt, &mut log, &mut txn, b, 9) == Ok(()));
         }
-        assert!(rt; leave(&rt, &mut log, txn) == Left::Commits);
+        assert!(rt; leave(&rt, &mut log, txn) == AfterLeave::Commits);
         let want = if writes < 8 {
             Progress::Failed
         } else {
@@ -341,9 +341,9 @@ fn harts_join_and_leave_for_a_hundred_commits(rt: HostRuntime) -> Result<(), Fai
         let mut first = join(&rt, &mut log, one).expect(&rt, "there is room");
         let mut second = join(&rt, &mut log, other).expect(&rt, "there is room");
         assert!(rt; change(&rt, &mut log, &mut first, 48 + (round % 5) as u32, round) == Ok(()));
-        assert!(rt; leave(&rt, &mut log, first) == Left::Free);
+        assert!(rt; leave(&rt, &mut log, first) == AfterLeave::Free);
         assert!(rt; change(&rt, &mut log, &mut second, 53 + (round % 5) as u32, round) == Ok(()));
-        assert!(rt; leave(&rt, &mut log, second) == Left::Commits);
+        assert!(rt; leave(&rt, &mut log, second) == AfterLeave::Commits);
         assert!(rt; commit(&rt, &mut log, other) == (6, Progress::Ended));
     }
     let (_ended, _slots, disk) = log.retire();

@@ -3,7 +3,7 @@ use crate::by_hand::{Change, FRESH, RICH, SMALL, fresh, with};
 use crate::told_images::holds;
 use block_device::{Device, Fused, MemoryDisk};
 use image_tree::{MountFault, Shape};
-use plain_tree::{Kind, Node, Slot, Tree};
+use plain_tree::{Node, NodeKind, Slot, Tree};
 use std::alloc::{AllocError, Global};
 use std::test::Fail;
 
@@ -175,7 +175,7 @@ fn slots_of(tree: &Tree, number: usize, links: u16) -> &[Option<Slot>] {
         Some(
             Node {
                 count,
-                kind: Kind::Directory { slots },
+                kind: NodeKind::Directory { slots },
             },
         ) if *count == links => slots.as_slice(),
         _ => &[],
@@ -188,7 +188,7 @@ fn bytes_of(tree: &Tree, number: usize, links: u16) -> &[u8] {
         Some(
             Node {
                 count,
-                kind: Kind::File { bytes },
+                kind: NodeKind::File { bytes },
             },
         ) if *count == links => bytes.as_slice(),
         _ => &[],
@@ -200,7 +200,7 @@ fn is_device(node: Option<&Node>) -> bool {
         node,
         Some(Node {
             count: 1,
-            kind: Kind::Device {
+            kind: NodeKind::Device {
                 major: 1,
                 minor: 2,
                 size: 0

@@ -4,7 +4,7 @@ use crate::made_images::examine;
 use crate::told_images::holds;
 use block_device::{Device, Fused, MemoryDisk};
 use image_tree::{Damage, MountFault, Shape, recover, recovered_tree};
-use plain_tree::{Kind, Tree};
+use plain_tree::{NodeKind, Tree};
 use std::alloc::{AllocError, Global};
 use std::test::Fail;
 
@@ -105,7 +105,7 @@ fn the_tree_is_there_after_any_stop(rt: HostRuntime) -> Result<(), Fail> {
             return Err(Fail::new("no root"));
         };
         assert!(rt; root.count == 1);
-        let Kind::Directory { slots } = &root.kind else {
+        let NodeKind::Directory { slots } = &root.kind else {
             return Err(Fail::new("the root is no directory"));
         };
         assert!(rt; slots.as_slice().len() == 64);

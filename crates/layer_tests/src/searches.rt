@@ -1,12 +1,12 @@
 //! The search for a list that explains a run: it is found for each worked run, and not where a reply can't be.
 //! What finds no memory is tried once more.
 use crate::explains::{Run, told};
-use crate::story::{Change, Told};
+use crate::story::{Change, StoryResult};
 use plain_tree::NoMemory;
 use std::alloc::Global;
 use std::test::Fail;
 
-fn sought(alloc: Global, run: Run, change: Change) -> Told<bool> {
+fn sought(alloc: Global, run: Run, change: Change) -> StoryResult<bool> {
     let mut story = told(alloc, run)?;
     story.change(change)?;
     story.is_explicable(6)

@@ -2,7 +2,7 @@
 //! What finds no memory is tried once more.
 use crate::story::bytes;
 use plain_tree::{
-    Action, ApplyRefused, Cause, Kind, NoMemory, Node, Slot, Slots, StepAnswer, Tree, TreeStep,
+    Action, ApplyRefused, Cause, NoMemory, Node, NodeKind, Slot, Slots, StepAnswer, Tree, TreeStep,
 };
 use std::alloc::Global;
 use std::test::Fail;
@@ -65,7 +65,7 @@ fn astray(alloc: Global) -> Result<Tree, NoMemory> {
     nodes.push(None)?;
     nodes.push(Some(Node {
         count: 1,
-        kind: Kind::Directory { slots },
+        kind: NodeKind::Directory { slots },
     }))?;
     Ok(Tree::of_nodes(alloc, nodes))
 }
@@ -74,7 +74,7 @@ fn astray(alloc: Global) -> Result<Tree, NoMemory> {
 fn file_in(tree: &Tree, number: usize) -> Option<(u16, usize)> {
     let node = tree.node(number)?;
     match &node.kind {
-        Kind::File { bytes } => Some((node.count, bytes.as_slice().len())),
+        NodeKind::File { bytes } => Some((node.count, bytes.as_slice().len())),
         _ => None,
     }
 }

@@ -42,7 +42,7 @@ pub(crate) struct Story {
 }
 
 /// What is told, where there is memory for it.
-pub(crate) type Told<T = ()> = Result<T, NoMemory>;
+pub(crate) type StoryResult<T = ()> = Result<T, NoMemory>;
 
 /// The answer that nothing has in these runs.
 const OTHER: Cause = Cause::NotDirectory;
@@ -52,12 +52,12 @@ pub(crate) fn opened(fd: u32, id: usize) -> StepAnswer {
     StepAnswer::Opened { fd, id, is_file }
 }
 
-pub(crate) fn bytes(alloc: Global, text: &[u8]) -> Told<Bytes> {
+pub(crate) fn bytes(alloc: Global, text: &[u8]) -> StoryResult<Bytes> {
     Ok(Bytes::new(Vec::from_slice(alloc, text)?))
 }
 
 /// The first step of the call; all bytes of a write.
-fn first_step(call: &Call) -> Told<Action> {
+fn first_step(call: &Call) -> StoryResult<Action> {
     let call = call.clone()?;
     Ok(match call {
         Call::Open { path, flags } => Action::Open { path, flags },
@@ -88,7 +88,13 @@ impl Story {
     }
 
     /// The next call of the hart, from one event to the other, with its answer.
-    pub(crate) fn call(&mut self, hart: u8, life: (u64, u64), call: Call, answer: Answer) -> Told {
+    pub(crate) fn call(
+        &mut self,
+        hart: u8,
+        life: (u64, u64),
+        call: Call,
+        answer: Answer,
+    ) -> StoryResult {
         let (start, end) = life;
         let reply = Reply {
             answer,
@@ -105,7 +111,7 @@ impl Story {
     }
 
     /// The next call, which was done.
-    pub(crate) fn done(&mut self, hart: u8, life: (u64, u64), call: Call) -> Told {
+    pub(crate) fn done(&mut self, hart: u8, life: (u64, u64), call: Call) -> StoryResult {
         self.call(hart, life, call, Answer::Done)
     }
 
@@ -124,7 +130,7 @@ impl Story {
         at: (u64, usize, u16),
         action: Action,
         answer: StepAnswer,
-    ) -> Told {
+    ) -> StoryResult {
         let (event, call, new) = at;
         let hart = self.calls.get(call).map_or(0, |traced| traced.hart);
         let step = TreeStep { hart, new, action };
@@ -138,7 +144,7 @@ impl Story {
     }
 
     /// The next entry, the call's first step.
-    pub(crate) fn acts(&mut self, at: (u64, usize, u16), answer: StepAnswer) -> Told {
+    pub(crate) fn acts(&mut self, at: (u64, usize, u16), answer: StepAnswer) -> StoryResult {
         if let Some(traced) = self.calls.get(at.1) {
             let action = first_step(&traced.call)?;
             self.step(at, action, answer)?;
@@ -146,7 +152,7 @@ impl Story {
         Ok(())
     }
 
-    fn moved(&mut self, from: usize, to: usize) -> Told {
+    fn moved(&mut self, from: usize, to: usize) -> StoryResult {
         if from < self.list.len() && to < self.list.len() {
             let event = self.list[to].event;
             let mut entry = self.list.remove(from);
@@ -180,7 +186,7 @@ impl Story {
         }
     }
 
-    pub(crate) fn change(&mut self, change: Change) -> Told {
+    pub(crate) fn change(&mut self, change: Change) -> StoryResult {
         match change {
             Change::Nothing => {}
             Change::Moved(from, to) => self.moved(from, to)?,
@@ -209,7 +215,7 @@ impl Story {
 
     /// Whether a list was found that explains what the calls were told, from a fresh tree of so many numbers. It is
     /// checked too.
-    pub(crate) fn is_explicable(self, ninodes: u16) -> Told<bool> {
+    pub(crate) fn is_explicable(self, ninodes: u16) -> StoryResult<bool> {
         let Story {
             alloc,
             calls,
@@ -226,7 +232,7 @@ impl Story {
     }
 
     /// From a fresh tree of 200 numbers the list explains what the calls were told.
-    pub(crate) fn is_explained(self) -> Told<bool> {
+    pub(crate) fn is_explained(self) -> StoryResult<bool> {
         let Story {
             alloc,
             calls,

@@ -1,9 +1,9 @@
 -- Wherever a call's program ends, the reply hands the call back: of all calls but read.
-use Rattle.locked_world.proofs.Vocabulary.{◌≡◌, ℕ, zero, suc, ◌+◌, ◌-◌, ◌==◌, ◌||◌, Bool, true, false, List, [], ◌∷◌, Option, Some, None, if◌then◌else◌, refl, Reply, Cause, Call, Action, NoEntry, Name, elements, same_name, dot, dotdot, creates, descriptor_count, Prog, Ret, Do, bind, plain, unmarked, Machine, PartOf, Lower, Handlers, lowered, Face, Sort, is_directory_face, is_live_face, is_directory_sort, face_or, Mark, ClaimResult, New, NoInode, NoPlace, EntryResult, InPlace, NoBlock, NoSlot, JoinResult, NotJoined, Joined, Wrote, Whole, Short, LoanResult, Lent, Moved, Store, Above as P, done, failed, say, give_up, free_all, tail, NotThere, NoMemory, stopped, leave_directory, with_last, walk_step, walk, see_parent, walk_parent, start_on, start, program}
+use Rattle.locked_world.proofs.Vocabulary.{◌≡◌, ℕ, zero, suc, ◌+◌, ◌-◌, ◌==◌, ◌||◌, Bool, true, false, List, [], ◌∷◌, Option, Some, None, if◌then◌else◌, refl, Reply, Cause, Call, Action, NoEntry, Name, elements, same_name, dot, dotdot, creates, descriptor_count, Prog, Ret, Do, bind, plain, unmarked, Machine, PartOf, LowerLayer, Handlers, lowered, Face, InodeType, is_directory_face, is_live_face, is_directory_type, face_or, Mark, ClaimResult, New, NoInode, NoPlace, EntryResult, InPlace, NoBlock, NoSlot, JoinResult, NotJoined, Joined, Wrote, Whole, Short, LoanResult, Lent, Moved, Store, Above as P, done, failed, say, give_up, free_all, tail, NotThere, NoMemory, stopped, leave_directory, with_last, walk_step, walk, see_parent, walk_parent, start_on, start, program}
 use Rattle.plain_tree.specs.declared.call.Call.TheVariants as calls
 use Rattle.plain_tree.specs.declared.step.Action.TheVariants as actions
 use Rattle.inode_machine.specs.World.{Refused}
-use Rattle.inode_machine.specs.Parts.{drop, Stop}
+use Rattle.inode_machine.specs.Parts.{drop, WalkStop}
 use Rattle.inode_machine.specs.Descriptors as fds
 use Rattle.inode_machine.specs.Opening as opening
 use Rattle.inode_machine.specs.Naming as naming
@@ -23,7 +23,7 @@ leaves_plain Is (Ret a) e = e
 leaves_plain Is (Do op m k) e = λ a. leaves_plain Is (k a) (e a)
 
 -- what ends so above ends so below
-pub leaves_lowered : (U : Machine) (R : Lower U.World) (handler : Handlers U R) {A : Type 0} (Is : A → Type 0) (c : R.Carry) (p : PartOf U A) → Leaves Is p → Leaves Is (lowered U R handler c p)
+pub leaves_lowered : (U : Machine) (R : LowerLayer U.World) (handler : Handlers U R) {A : Type 0} (Is : A → Type 0) (c : R.Carry) (p : PartOf U A) → Leaves Is p → Leaves Is (lowered U R handler c p)
 leaves_lowered U R handler Is c (Ret a) e = e
 leaves_lowered U R handler Is c (Do op m k) e = leaves_bind Is (handler c op m) (λ r. lowered U R handler r.carry (k r.answer)) (λ r. leaves_lowered U R handler Is r.carry (k r.answer) (e r.answer))
 
@@ -53,7 +53,7 @@ module _ (Is : Reply → Type 0) where
   leave_ends : (d : ℕ) (ns : List ℕ) (k : List ℕ → P Reply) → ((ms : List ℕ) → Leaves Is (k ms)) → Leaves Is (leave_directory d ns k)
   leave_ends d ns k e = λ a last. e (with_last ns d last)
 
-  step_ends : (d : ℕ) (ns : List ℕ) (go : ℕ → List ℕ → P Reply) (lost : Stop → List ℕ → P Reply) (o : Option ℕ) → ((j : ℕ) (ms : List ℕ) → Leaves Is (go j ms)) → ((why : Stop) (ms : List ℕ) → Leaves Is (lost why ms)) → Leaves Is (walk_step d ns go lost o)
+  step_ends : (d : ℕ) (ns : List ℕ) (go : ℕ → List ℕ → P Reply) (lost : WalkStop → List ℕ → P Reply) (o : Option ℕ) → ((j : ℕ) (ms : List ℕ) → Leaves Is (go j ms)) → ((why : WalkStop) (ms : List ℕ) → Leaves Is (lost why ms)) → Leaves Is (walk_step d ns go lost o)
   step_ends d ns go lost None g l = leave_ends d ns (lost NotThere) (l NotThere)
   step_ends d ns go lost (Some j) g l = λ there. leave_ends d ns (if there then go j else lost NoMemory) (by there)
     where
@@ -61,36 +61,36 @@ module _ (Is : Reply → Type 0) where
       by true ms = g j ms
       by false ms = l NoMemory ms
 
-  walk_ends : (s : Action) (d : ℕ) (es : List Name) (ns : List ℕ) (found : ℕ → List ℕ → P Reply) (lost : Stop → List ℕ → P Reply) → ((j : ℕ) (ms : List ℕ) → Leaves Is (found j ms)) → ((why : Stop) (ms : List ℕ) → Leaves Is (lost why ms)) → Leaves Is (walk s d es ns found lost)
+  walk_ends : (s : Action) (d : ℕ) (es : List Name) (ns : List ℕ) (found : ℕ → List ℕ → P Reply) (lost : WalkStop → List ℕ → P Reply) → ((j : ℕ) (ms : List ℕ) → Leaves Is (found j ms)) → ((why : WalkStop) (ms : List ℕ) → Leaves Is (lost why ms)) → Leaves Is (walk s d es ns found lost)
   walk_ends s d [] ns found lost f l = f d ns
   walk_ends s d (e ∷ es) ns found lost f l = λ a. step_ends d ns (λ j ms. walk s j es ms found lost) lost a.found (λ j ms. walk_ends s j es ms found lost f l) l
 
-  see_ends : (s : Action) (d : ℕ) (ns : List ℕ) (found : List ℕ → P Reply) (lost : Stop → List ℕ → P Reply) → ((ms : List ℕ) → Leaves Is (found ms)) → ((why : Stop) (ms : List ℕ) → Leaves Is (lost why ms)) → Leaves Is (see_parent s d ns found lost)
+  see_ends : (s : Action) (d : ℕ) (ns : List ℕ) (found : List ℕ → P Reply) (lost : WalkStop → List ℕ → P Reply) → ((ms : List ℕ) → Leaves Is (found ms)) → ((why : WalkStop) (ms : List ℕ) → Leaves Is (lost why ms)) → Leaves Is (see_parent s d ns found lost)
   see_ends s d ns found lost f l = λ a. if_ends (is_directory_face a.face) _ _ (λ b. f ns) (leave_ends d ns (lost NotThere) (l NotThere))
 
-  parent_ends : (s : Action) (d : ℕ) (e : Name) (es : List Name) (ns : List ℕ) (found : ℕ → Name → List ℕ → P Reply) (lost : Stop → List ℕ → P Reply) → ((j : ℕ) (x : Name) (ms : List ℕ) → Leaves Is (found j x ms)) → ((why : Stop) (ms : List ℕ) → Leaves Is (lost why ms)) → Leaves Is (walk_parent s d e es ns found lost)
+  parent_ends : (s : Action) (d : ℕ) (e : Name) (es : List Name) (ns : List ℕ) (found : ℕ → Name → List ℕ → P Reply) (lost : WalkStop → List ℕ → P Reply) → ((j : ℕ) (x : Name) (ms : List ℕ) → Leaves Is (found j x ms)) → ((why : WalkStop) (ms : List ℕ) → Leaves Is (lost why ms)) → Leaves Is (walk_parent s d e es ns found lost)
   parent_ends s d e [] ns found lost f l = see_ends s d ns (found d e) lost (f d e) l
   parent_ends s d e (x ∷ es) ns found lost f l = λ a. step_ends d ns (λ j ms. walk_parent s j x es ms found lost) lost a.found (λ j ms. parent_ends s j x es ms found lost f l) l
 
-  on_ends : (go : ℕ → P Reply) (lost : Stop → List ℕ → P Reply) (ns : List ℕ) (o : Option ℕ) → ((d : ℕ) → Leaves Is (go d)) → ((why : Stop) (ms : List ℕ) → Leaves Is (lost why ms)) → Leaves Is (start_on go lost ns o)
+  on_ends : (go : ℕ → P Reply) (lost : WalkStop → List ℕ → P Reply) (ns : List ℕ) (o : Option ℕ) → ((d : ℕ) → Leaves Is (go d)) → ((why : WalkStop) (ms : List ℕ) → Leaves Is (lost why ms)) → Leaves Is (start_on go lost ns o)
   on_ends go lost ns None g l = l NoMemory ns
   on_ends go lost ns (Some d) g l = g d
 
-  start_ends : (s : Action) (path ns : List ℕ) (go : ℕ → P Reply) (lost : Stop → List ℕ → P Reply) → ((d : ℕ) → Leaves Is (go d)) → ((why : Stop) (ms : List ℕ) → Leaves Is (lost why ms)) → Leaves Is (start s path ns go lost)
+  start_ends : (s : Action) (path ns : List ℕ) (go : ℕ → P Reply) (lost : WalkStop → List ℕ → P Reply) → ((d : ℕ) → Leaves Is (go d)) → ((why : WalkStop) (ms : List ℕ) → Leaves Is (lost why ms)) → Leaves Is (start s path ns go lost)
   start_ends s path ns go lost g l = λ o. on_ends go lost ns o g l
 
 -- the reply is of this call
 abbrev pub OfCall : Call → Reply → Type 0
 OfCall call reply = reply.call ≡ call
 
-stopped_is : (c : Call) (why : Stop) → OfCall c (stopped c why)
+stopped_is : (c : Call) (why : WalkStop) → OfCall c (stopped c why)
 stopped_is c NotThere = refl
 stopped_is c NoMemory = refl
 
-abbrev lost : Call → Stop → List ℕ → P Reply
+abbrev lost : Call → WalkStop → List ℕ → P Reply
 lost c why ns = tail ns (stopped c why)
 
-lost_ends : (c : Call) (why : Stop) (ns : List ℕ) → Leaves (OfCall c) (lost c why ns)
+lost_ends : (c : Call) (why : WalkStop) (ns : List ℕ) → Leaves (OfCall c) (lost c why ns)
 lost_ends c why ns = tail_ends (OfCall c) ns (stopped c why) (stopped_is c why)
 
 -- ---- dup, close, fstat
@@ -148,12 +148,12 @@ module _ (path : List ℕ) (flags : ℕ) where
   installed_ends n ns k None e = give_up_ends OfOpen n _ (tail_ends OfOpen ns _ refl)
   installed_ends n ns k (Some fd) e = e fd
 
-  descriptor_ends : (n : ℕ) (sort : Sort) (ns : List ℕ) (mark : ℕ → Option Mark) (k : ℕ → P Reply) → ((fd : ℕ) → Leaves OfOpen (k fd)) → Leaves OfOpen (opening.take_descriptor path flags n sort ns mark k)
-  descriptor_ends n sort ns mark k e = λ there. if_ends OfOpen there _ _ (λ o. installed_ends n ns k o e) (give_up_ends OfOpen n _ (tail_ends OfOpen ns _ refl))
+  descriptor_ends : (n : ℕ) (inode_type : InodeType) (ns : List ℕ) (mark : ℕ → Option Mark) (k : ℕ → P Reply) → ((fd : ℕ) → Leaves OfOpen (k fd)) → Leaves OfOpen (opening.take_descriptor path flags n inode_type ns mark k)
+  descriptor_ends n inode_type ns mark k e = λ there. if_ends OfOpen there _ _ (λ o. installed_ends n ns k o e) (give_up_ends OfOpen n _ (tail_ends OfOpen ns _ refl))
 
-  face_ends : (n : ℕ) (ns : List ℕ) (sort : Sort) (o : Option Cause) → Leaves OfOpen (opening.open_face path flags n ns sort o)
-  face_ends n ns sort (Some c) = give_up_ends OfOpen n _ (tail_ends OfOpen ns _ refl)
-  face_ends n ns sort None = descriptor_ends n sort ns _ _ (λ fd. if_ends OfOpen (opening.empties flags sort) _ _ (λ a. opened_ends n fd ns) (opened_ends n fd ns))
+  face_ends : (n : ℕ) (ns : List ℕ) (inode_type : InodeType) (o : Option Cause) → Leaves OfOpen (opening.open_face path flags n ns inode_type o)
+  face_ends n ns inode_type (Some c) = give_up_ends OfOpen n _ (tail_ends OfOpen ns _ refl)
+  face_ends n ns inode_type None = descriptor_ends n inode_type ns _ _ (λ fd. if_ends OfOpen (opening.empties flags inode_type) _ _ (λ a. opened_ends n fd ns) (opened_ends n fd ns))
 
   at_ends : (n : ℕ) (ns : List ℕ) → Leaves OfOpen (opening.open_at path flags n ns)
   at_ends n ns = λ a. face_ends n ns _ _
@@ -164,15 +164,15 @@ module _ (path : List ℕ) (flags : ℕ) where
   unmake_ends : (n d : ℕ) (ns : List ℕ) (r : Reply) → OfOpen r → Leaves OfOpen (opening.unmake n d ns r)
   unmake_ends n d ns r e = λ a. give_up_ends OfOpen n _ (give_up_ends OfOpen d _ (tail_ends OfOpen ns r e))
 
-  make_on_ends : (n : ℕ) (sort : Sort) (d : ℕ) (ns : List ℕ) (a : EntryResult) → Leaves OfOpen (opening.make_on path flags n sort d ns a)
-  make_on_ends n sort d ns InPlace = λ a. drop_ends OfOpen d _ (descriptor_ends n sort ns _ _ (λ fd. opened_ends n fd ns))
-  make_on_ends n sort d ns NoBlock = unmake_ends n d ns _ refl
-  make_on_ends n sort d ns NoSlot = unmake_ends n d ns _ refl
+  make_on_ends : (n : ℕ) (inode_type : InodeType) (d : ℕ) (ns : List ℕ) (a : EntryResult) → Leaves OfOpen (opening.make_on path flags n inode_type d ns a)
+  make_on_ends n inode_type d ns InPlace = λ a. drop_ends OfOpen d _ (descriptor_ends n inode_type ns _ _ (λ fd. opened_ends n fd ns))
+  make_on_ends n inode_type d ns NoBlock = unmake_ends n d ns _ refl
+  make_on_ends n inode_type d ns NoSlot = unmake_ends n d ns _ refl
 
   make_with_ends : (d : ℕ) (e : Name) (ns : List ℕ) (a : ClaimResult) → Leaves OfOpen (opening.make_with path flags d e ns a)
   make_with_ends d e ns NoInode = give_up_ends OfOpen d _ (tail_ends OfOpen ns _ refl)
   make_with_ends d e ns NoPlace = give_up_ends OfOpen d _ (tail_ends OfOpen ns _ refl)
-  make_with_ends d e ns (New n) = if_ends OfOpen (n == d) _ _ (λ u. give_up_ends OfOpen d _ (tail_ends OfOpen ns _ refl)) (λ a b c. make_on_ends n (face_or a.face).sort d ns c)
+  make_with_ends d e ns (New n) = if_ends OfOpen (n == d) _ _ (λ u. give_up_ends OfOpen d _ (tail_ends OfOpen ns _ refl)) (λ a b c. make_on_ends n (face_or a.face).inode_type d ns c)
 
   found_ends : (d : ℕ) (e : Name) (ns : List ℕ) (o : Option ℕ) → Leaves OfOpen (opening.create_found path flags d e ns o)
   found_ends d e ns None = λ a. make_with_ends d e ns a
@@ -208,7 +208,7 @@ module _ (path : List ℕ) where
   cleared_ends d ns n g = give_up_ends OfUnlink d _ (λ b. refused_ends n ns _ refl)
 
   clear_ends : (d : ℕ) (e : Name) (ns : List ℕ) (f : Face) (n : ℕ) (g : Face) → Leaves OfUnlink (naming.clear_name path d e ns f n g)
-  clear_ends d e ns f n g = λ a. if_ends OfUnlink (is_directory_sort g.sort) _ _ (λ b. cleared_ends d ns n g) (cleared_ends d ns n g)
+  clear_ends d e ns f n g = λ a. if_ends OfUnlink (is_directory_type g.inode_type) _ _ (λ b. cleared_ends d ns n g) (cleared_ends d ns n g)
 
   child_ends : (d : ℕ) (e : Name) (ns : List ℕ) (f : Face) (n : ℕ) → Leaves OfUnlink (naming.unlink_child path d e ns f n)
   child_ends d e ns f n = λ a. if_ends OfUnlink a.empty _ _ (clear_ends d e ns f n (face_or a.face)) (give_up_ends OfUnlink n _ (refused_ends d ns _ refl))
@@ -275,10 +275,10 @@ module _ (old new : List ℕ) where
   link_in_ends : (n d : ℕ) (e : Name) (ns : List ℕ) → Leaves OfLink (naming.link_in old new n d e ns)
   link_in_ends n d e ns = λ a. if_ends OfLink (is_live_face a.face) _ _ (link_found_ends n d e ns a.found) (give_up_ends OfLink d _ (lower_ends n _ ns refl))
 
-  abbrev link_lost : ℕ → Stop → List ℕ → P Reply
+  abbrev link_lost : ℕ → WalkStop → List ℕ → P Reply
   link_lost n why ns = naming.lower old new n (stopped (calls.Link old new) why) ns
 
-  link_lost_ends : (n : ℕ) (why : Stop) (ns : List ℕ) → Leaves OfLink (link_lost n why ns)
+  link_lost_ends : (n : ℕ) (why : WalkStop) (ns : List ℕ) → Leaves OfLink (link_lost n why ns)
   link_lost_ends n why ns = lower_ends n _ ns (stopped_is (calls.Link old new) why)
 
   link_name_ends : (n : ℕ) (ns : List ℕ) (es : List Name) → Leaves OfLink (naming.link_name old new n ns es)
@@ -290,7 +290,7 @@ module _ (old new : List ℕ) where
   link_raise_ends n ns f None = λ a. link_name_ends n ns (elements new)
 
   link_at_ends : (n : ℕ) (ns : List ℕ) → Leaves OfLink (naming.link_at old new n ns)
-  link_at_ends n ns = λ a. if_ends OfLink (is_directory_sort (face_or a.face).sort) _ _ (give_up_ends OfLink n _ (tail_ends OfLink ns _ refl)) (link_raise_ends n ns (face_or a.face) _)
+  link_at_ends n ns = λ a. if_ends OfLink (is_directory_type (face_or a.face).inode_type) _ _ (give_up_ends OfLink n _ (tail_ends OfLink ns _ refl)) (link_raise_ends n ns (face_or a.face) _)
 
   link_ends : Leaves OfLink (naming.link_program old new)
   link_ends = λ a. start_ends OfLink (actions.Find old) old [] (λ d. walk (actions.Find old) d (elements old) [] (naming.link_at old new) (lost (calls.Link old new))) (lost (calls.Link old new)) (λ d. walk_ends OfLink (actions.Find old) d (elements old) [] (naming.link_at old new) (lost (calls.Link old new)) link_at_ends (lost_ends (calls.Link old new))) (lost_ends (calls.Link old new))

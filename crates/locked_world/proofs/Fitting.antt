@@ -1,5 +1,5 @@
 -- A hart is answered no block that is longer than a block.
-use Rattle.locked_world.proofs.Vocabulary.{◌≡◌, ◌≢◌, ℕ, ◌<◌, ◌≤◌, Bool, true, false, List, [], length, Option, Some, None, refl, sym, ◌∙◌, ap, subst, arith, IfSome, nat_lt, unwrap_or, nat_tests, get_or_past, IsOutsideLog, block_len, block_at, get_of, SeatState, kept, Got, GetLaws, get_laws, Phase, Open, Staging, Installing, Halted, CleanFrom, DiskFits, Did, Waits, Ran, Stops, did_in, LogPart, Outside, Passes, Fails, got_by, read_block, May, seen_of, State, Op, Answer, exec, in_log, IsWholeLog, FitsBlock}
+use Rattle.locked_world.proofs.Vocabulary.{◌≡◌, ◌≢◌, ℕ, ◌<◌, ◌≤◌, Bool, true, false, List, [], length, Option, Some, None, refl, sym, ◌∙◌, ap, subst, arith, IfSome, nat_lt, unwrap_or, nat_tests, get_or_past, IsOutsideLog, block_len, block_at, get_of, SeatState, kept, Got, GetLaws, get_laws, Phase, Open, Staging, Installing, Halted, CleanFrom, DiskFits, ExecResult, Waits, Ran, Stops, exec_result_in, LogPart, Outside, Passes, Fails, got_by, read_block, May, seen_of, State, Op, Answer, exec, in_log, IsWholeLog, FitsBlock}
 use Rattle.buffer_cache.specs.declared.got.Got.TheVariants as got
 use Rattle.fs_machine.specs.Steps as steps
 
@@ -62,7 +62,7 @@ module _ (s : State) (whole : IsWholeLog s.log) (runs : s.log.phase ≢ Halted) 
   op_fits h x (steps.LockFile want fd) a t may e = tt
   op_fits h x (steps.LockOpen fd) a t may e = tt
   op_fits h x (steps.Unlock v moved) a t may e = tt
-  op_fits h x (steps.Settle v) a t may e = tt
+  op_fits h x (steps.SetDirectory v) a t may e = tt
   op_fits h x (steps.Up whom) a t may e = tt
   op_fits h x (steps.Claim b candidates) a t may e = tt
   op_fits h x (steps.Down drop) a t may e = tt
@@ -71,10 +71,10 @@ module _ (s : State) (whole : IsWholeLog s.log) (runs : s.log.phase ≢ Halted) 
   op_fits h x (steps.TakeDescriptor n file) a t may e = tt
   op_fits h x (steps.Double fd) a t may e = tt
   op_fits h x (steps.Close fd) a t may e = tt
-  op_fits h x (steps.Give child from) a t may e = tt
+  op_fits h x (steps.GiveDescriptor child from) a t may e = tt
   op_fits h x steps.Reply a t may e = tt
 
-pub ran_in : {A S T : Type 0} (f : S → T) (d : Did A S) (a : A) (t : T) → did_in f d ≡ Ran a t → (u : S) × (d ≡ Ran a u)
+pub ran_in : {A S T : Type 0} (f : S → T) (d : ExecResult A S) (a : A) (t : T) → exec_result_in f d ≡ Ran a t → (u : S) × (d ≡ Ran a u)
 ran_in f Waits a t e = absurd (let z = e in cc (z))
 ran_in f (Ran b u) a t e =
     let same : b ≡ a = (let z = e in cc (z)) in

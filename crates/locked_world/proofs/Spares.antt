@@ -1,5 +1,5 @@
 -- A copy of each call that is under way is laid by: events keep that.
-use Rattle.locked_world.proofs.Vocabulary.{◌≡◌, ℕ, Bool, true, false, Option, Some, None, if◌then◌else◌, nat_eq, inl, inr, refl, sym, ◌∙◌, subst, eqb_tells, Super, Reply, Call, Ret, Do, Did, Waits, Ran, Stops, Refused, DidWait, DidEnd, Began, Refuses, Begins, changed, Plain, PlainMade, MayOf, plain_step, plain_unless, plain_prog, plain_tried, plain_moved, plain_start, plain_begun, Kind, Outside, P, Op, Answer, May, Refusal, SharedState, exec_shared, block_calls, block_code, HandsBack, FitsBlock, EndsWith, SpareFits}
+use Rattle.locked_world.proofs.Vocabulary.{◌≡◌, ℕ, Bool, true, false, Option, Some, None, if◌then◌else◌, nat_eq, inl, inr, refl, sym, ◌∙◌, subst, eqb_tells, Super, Reply, Call, Ret, Do, ExecResult, Waits, Ran, Stops, Refused, DidWait, DidEnd, Began, Refuses, Begins, changed, Plain, PlainMade, MayOf, plain_step, plain_unless, plain_prog, plain_tried, plain_moved, plain_start, plain_begun, Kind, Outside, P, Op, Answer, May, Refusal, SharedState, exec_shared, block_calls, block_code, HandsBack, FitsBlock, EndsWith, SpareFits}
 
 -- In this state, where the device answers x, every block that hart h is answered fits, where it may ask.
 abbrev pub AnswersFit : ℕ → Outside → SharedState → Type 0
@@ -44,13 +44,13 @@ module _ (sizes : Super) (h : ℕ) (x : Outside) (spares : ℕ → Option Call) 
   moved_keeps call spare kind t (Do op m k) e = put_fits spares p.running h (Some (Do op m k)) fits (call, spare, e)
 
   module _ (answers : AnswersFit h x p.shared) where
-    tried_keeps : (call : Call) → spares h ≡ Some call → (op : Op) → May h op p.shared.state → (k : Answer op → P Reply) → ((a : Answer op) → FitsBlock op a → EndsWith (λ reply. HandsBack call reply.call) (k a)) → (d : Did (Answer op) SharedState) → exec_shared h x op p.shared ≡ d
+    tried_keeps : (call : Call) → spares h ≡ Some call → (op : Op) → May h op p.shared.state → (k : Answer op → P Reply) → ((a : Answer op) → FitsBlock op a → EndsWith (λ reply. HandsBack call reply.call) (k a)) → (d : ExecResult (Answer op) SharedState) → exec_shared h x op p.shared ≡ d
         → Keeps (plain_tried (block_calls sizes) (block_code sizes) h p op k d)
     tried_keeps call spare op may k e Waits is = fits
     tried_keeps call spare op may k e (Ran a t) is = moved_keeps call spare ((block_code sizes).kind op a) t (k a) (e a (answers op a t may is))
     tried_keeps call spare op may k e (Stops t) is = fits
 
-    tried_ends : (call : Call) → spares h ≡ Some call → (op : Op) → May h op p.shared.state → (k : Answer op → P Reply) → ((a : Answer op) → FitsBlock op a → EndsWith (λ reply. HandsBack call reply.call) (k a)) → (d : Did (Answer op) SharedState) → exec_shared h x op p.shared ≡ d
+    tried_ends : (call : Call) → spares h ≡ Some call → (op : Op) → May h op p.shared.state → (k : Answer op → P Reply) → ((a : Answer op) → FitsBlock op a → EndsWith (λ reply. HandsBack call reply.call) (k a)) → (d : ExecResult (Answer op) SharedState) → exec_shared h x op p.shared ≡ d
         → IfEnds (plain_tried (block_calls sizes) (block_code sizes) h p op k d)
     tried_ends call spare op may k e Waits is reply r = absurd (let q = r in cc (q))
     tried_ends call spare op may k e (Ran a t) is reply r = moved_ends call spare ((block_code sizes).kind op a) t (k a) (e a (answers op a t may is)) reply r
@@ -92,7 +92,7 @@ module _ (sizes : Super) (h : ℕ) (x : Outside) (p : Plain (block_calls sizes) 
   moved_waits kind t (Ret r) e = absurd (let z = e in cc (z))
   moved_waits kind t (Do op m k) e = absurd (let z = e in cc (z))
 
-  tried_waits : (op : Op) (k : Answer op → P Reply) (d : Did (Answer op) SharedState) → IfWaits (plain_tried (block_calls sizes) (block_code sizes) h p op k d)
+  tried_waits : (op : Op) (k : Answer op → P Reply) (d : ExecResult (Answer op) SharedState) → IfWaits (plain_tried (block_calls sizes) (block_code sizes) h p op k d)
   tried_waits op k Waits e = refl
   tried_waits op k (Ran a t) e = moved_waits ((block_code sizes).kind op a) t (k a) e
   tried_waits op k (Stops t) e = absurd (let z = e in cc (z))

@@ -10,8 +10,8 @@ use Rattle.locked_world.specs.declared.locked.Halt.{Halt}
 use Rattle.locked_world.specs.declared.locked.Halt.TheVariants.{DeviceFault, Halted, NoMemory}
 use Rattle.locked_world.specs.declared.locked.NotStarted.{NotStarted}
 use Rattle.locked_world.specs.declared.locked.NotStarted.TheVariants.{Refused, NoMemory as NoRoom}
-use Rattle.locked_world.specs.declared.locked.Told.{Told}
-use Rattle.locked_world.specs.declared.locked.Told.TheVariants as told
+use Rattle.locked_world.specs.declared.locked.LockedOutcome.{LockedOutcome}
+use Rattle.locked_world.specs.declared.locked.LockedOutcome.TheVariants as told
 
 -- ---- what is made of the world
 
@@ -60,7 +60,7 @@ HaltAnswers s h Halted t = Steps s h (outcome.Stopped stop.Halted) t
 HaltAnswers s h NoMemory t = t ≡ s
 
 -- The answer of a step of hart h, before which there was s, and t after it; the share counts a, and then b.
-abbrev pub Answers : {L : _} → LockedRun → ℕ → Told L → LockedRun → ℕ → ℕ → Type 0
+abbrev pub Answers : {L : _} → LockedRun → ℕ → LockedOutcome L → LockedRun → ℕ → ℕ → Type 0
 Answers s h told.Idle t a b = Steps s h outcome.Idle t × (b ≡ a)
 Answers s h told.Waits t a b = Waits s h t × (b ≡ a)
 Answers s h (told.Ran kind) t a b = Steps s h (outcome.Ran kind) t × (b ≡ a)

@@ -16,5 +16,5 @@ mod story;
 pub use crate::closed::Closed;
 pub use crate::handing::{filled, is_handed_back, is_same};
 pub use crate::lent::{CameRef, EventRef, Iter};
-pub use crate::locked::{Begun, Halt, Locked, NotStarted, Receipt, Share, Told};
+pub use crate::locked::{Begun, Halt, Locked, LockedOutcome, NotStarted, Receipt, Share};
 pub use hart_core::StartRefused;

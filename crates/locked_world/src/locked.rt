@@ -58,7 +58,7 @@ pub enum Halt {
 
 /// What a step of the locked world came to.
 #[derive(Drop)]
-pub enum Told<L: Ledger> {
+pub enum LockedOutcome<L: Ledger> {
     /// The hart has no call.
     Idle,
     /// It waits, for another hart or for the log. That isn't stored.
@@ -263,22 +263,22 @@ impl<L: Ledger> Locked<L> {
 
     /// One event: a step of a hart, with at most one call of the device. A try that waits is not stored, and changes nothing; for want of
     /// memory, which is asked for first, nothing changes either.
-    pub fn step(&mut self, share: &mut Share<L>, hart: u8) -> Told<L>
+    pub fn step(&mut self, share: &mut Share<L>, hart: u8) -> LockedOutcome<L>
         ensures answer { Answers self.old hart result self.new share.old.tally.amount share.new.tally.amount }
         ensures hart { share.new.hart ≡ share.old.hart }
     {
         if self.story.make_room().is_err() {
-            return Told::Stopped(Halt::NoMemory);
+            return LockedOutcome::Stopped(Halt::NoMemory);
         }
         match self.world.step(hart) {
             Outcome::Idle => {
                 self.story.idle(hart);
-                Told::Idle
+                LockedOutcome::Idle
             }
-            Outcome::Waits => Told::Waits,
+            Outcome::Waits => LockedOutcome::Waits,
             Outcome::Ran(kind) => {
                 self.story.ran(hart, kind);
-                Told::Ran(kind)
+                LockedOutcome::Ran(kind)
             }
             Outcome::Done(reply) => {
                 let at = hart as usize;
@@ -293,7 +293,7 @@ impl<L: Ledger> Locked<L> {
                 self.given[at] = place + 1;
                 self.story.done(hart, copy);
                 self.book.add(&mut share.tally, 1);
-                Told::Done(Receipt {
+                LockedOutcome::Done(Receipt {
                     hart,
                     place,
                     reply,
@@ -302,7 +302,7 @@ impl<L: Ledger> Locked<L> {
             }
             Outcome::Stopped(stop) => {
                 self.story.stopped(hart, stop);
-                Told::Stopped(halt_of(stop))
+                LockedOutcome::Stopped(halt_of(stop))
             }
         }
     }

@@ -25,6 +25,6 @@ pub use Rattle.fs_layout.specs.declared.entry.Dirent.{Dirent}
 pub use Rattle.fs_layout.specs.declared.entry.Dirent.TheVariants.{Used}
 pub use Rattle.fs_layout.specs.declared.inode.Dinode.{Dinode}
 pub use Rattle.fs_layout.specs.declared.superblock.Super.{Super}
-pub use Rattle.plain_tree.specs.declared.node.Kind.TheVariants.{Directory, File}
+pub use Rattle.plain_tree.specs.declared.node.NodeKind.TheVariants.{Directory, File}
 pub use Rattle.plain_tree.specs.declared.node.Node.{Node}
 pub use Rattle.plain_tree.specs.declared.node.Slot.{Slot}

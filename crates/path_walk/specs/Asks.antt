@@ -22,8 +22,8 @@ use Rattle.path_walk.specs.declared.asks.Query.{Query}
 use Rattle.path_walk.specs.declared.asks.Query.TheVariants as query
 use Rattle.path_walk.specs.declared.asks.Ask.{Ask}
 use Rattle.path_walk.specs.declared.asks.Ask.TheVariants as ask
-use Rattle.path_walk.specs.declared.asks.Sort.{Sort}
-use Rattle.path_walk.specs.declared.asks.Sort.TheVariants as sort
+use Rattle.path_walk.specs.declared.asks.InodeType.{InodeType}
+use Rattle.path_walk.specs.declared.asks.InodeType.TheVariants as inode_type
 use Rattle.path_walk.specs.declared.asks.Face.{Face}
 use Rattle.path_walk.specs.declared.asks.Sight.{Sight}
 use Rattle.path_walk.specs.declared.asks.Heard.{Heard}
@@ -35,10 +35,10 @@ use Rattle.path_walk.specs.declared.asks.Mark.TheVariants as mark
 
 -- ---- what is asked, by a call with this path, or with these bytes
 
-abbrev pub sort_of : Sort → whole.Sort
-sort_of sort.Directory = whole.OfDirectory
-sort_of sort.File = whole.OfFile
-sort_of (sort.Device major) = whole.OfDevice major
+abbrev pub type_of : InodeType → whole.InodeType
+type_of inode_type.Directory = whole.OfDirectory
+type_of inode_type.File = whole.OfFile
+type_of (inode_type.Device major) = whole.OfDevice major
 
 abbrev pub query_in : List ℕ → Query → whole.Query
 query_in path query.Nothing = whole.AtNothing
@@ -47,7 +47,7 @@ query_in path query.Entries = whole.AtEntries
 
 abbrev pub op_in : List ℕ → Ask → Op
 op_in path (ask.Take n q) = world.Take n (query_in path q)
-op_in path (ask.Give n) = world.Give n
+op_in path (ask.UnlockInode n) = world.UnlockInode n
 op_in path (ask.UpStart absolute) = world.UpStart absolute
 op_in path (ask.Up n) = world.Up n
 op_in path (ask.WalkDown n) = world.WalkDown n
@@ -55,13 +55,13 @@ op_in path (ask.Down n) = world.Down n
 op_in path (ask.Free n) = world.Free n
 op_in path (ask.Forget n) = world.Forget n
 op_in path (ask.Store n count) = world.Store n count
-op_in path (ask.Claim s) = world.Claim (sort_of s)
+op_in path (ask.Claim s) = world.Claim (type_of s)
 op_in path (ask.Fill n d) = world.Fill n d
 op_in path (ask.Enter d e n) = world.Enter d (name_in path e) n
 op_in path (ask.Clear d e) = world.Clear d (name_in path e)
 op_in path (ask.Empty n) = world.Empty n
 op_in path ask.Slot = world.Slot
-op_in path (ask.Install n flags s) = world.Install (file_for n flags) (sort_of s)
+op_in path (ask.Install n flags s) = world.Install (file_for n flags) (type_of s)
 op_in path (ask.LockFile fd) = world.LockFile fd
 op_in path (ask.ReadFile fd n offset count) = world.ReadFile fd n offset count
 op_in path (ask.CheckFile fd) = world.CheckFile fd
@@ -74,7 +74,7 @@ op_in path (ask.LendDirectory child) = world.LendDirectory child
 op_in path (ask.Release child) = world.Release child
 op_in path (ask.StatFile fd) = world.StatFile fd
 op_in path (ask.Double fd) = world.Double fd
-op_in path (ask.Settle n) = world.Settle n
+op_in path (ask.SetDirectory n) = world.SetDirectory n
 op_in path ask.Join = world.Join
 op_in path ask.Leave = world.Leave
 op_in path ask.Say = world.Say
@@ -117,7 +117,7 @@ OnlySeeks a = Unit {0}
 -- ---- what is heard
 
 abbrev pub face_of : Face → whole.Face
-face_of f = record { sort = sort_of f.sort; count = f.count; size = f.size }
+face_of f = record { inode_type = type_of f.inode_type; count = f.count; size = f.size }
 
 abbrev pub sight_of : Sight → whole.Sight
 sight_of s = record { face = option_map face_of s.face; found = s.found; empty = s.empty }
@@ -224,7 +224,7 @@ number_in x = 0
 -- an operation's answer; text: the call's buffer, where what is read stands at the front
 abbrev pub answer_to : List ℕ → (op : Op) → Heard → Answer op
 answer_to text (world.Take n looking) x = sight_in x
-answer_to text (world.Give n) x = tt
+answer_to text (world.UnlockInode n) x = tt
 answer_to text (world.UpStart absolute) x = start_in x
 answer_to text (world.Up n) x = bool_in x
 answer_to text (world.WalkDown n) x = bool_in x
@@ -248,7 +248,7 @@ answer_to text (world.LockOpen fd n) x = at_in x
 answer_to text (world.WriteFile fd n offset bytes) x = wrote_in x
 answer_to text (world.Double fd) x = doubled_in x
 answer_to text (world.Shut fd) x = shut_in x
-answer_to text (world.Settle n) x = number_in x
+answer_to text (world.SetDirectory n) x = number_in x
 answer_to text (world.Lend child from) x = loan_in x
 answer_to text (world.LendDirectory child) x = number_in x
 answer_to text (world.Release child) x = tt
@@ -300,7 +300,7 @@ part_of_piece s i k = s
 abbrev pub mark_in : Action → Mark → world.Mark
 mark_in s mark.Begin = world.Makes (moves.Begin s 0)
 mark_in s (mark.Look new) = world.Makes (moves.Look new)
-mark_in s mark.Quit = world.Makes (moves.Quit s)
+mark_in s mark.GiveUpWalk = world.Makes (moves.GiveUpWalk s)
 mark_in s mark.Own = world.Makes (moves.Own s 0)
 mark_in s (mark.Truncate fd) = world.Makes (moves.Own (steps.Truncate fd) 0)
 mark_in s mark.Bump = world.Makes (moves.Own steps.Bump 0)

@@ -5,7 +5,7 @@ pub use Rattle.std.specs.Option.{option_map}
 pub use Rattle.inode_machine.specs.Inodes.{AtName, face_or, is_directory_face, is_live_face}
 pub use Rattle.inode_machine.specs.Opening.{file_for}
 pub use Rattle.inode_machine.specs.World.{Answer, Op}
-pub use Rattle.inode_machine.specs.World.Op.{Give, Take, WalkDown}
+pub use Rattle.inode_machine.specs.World.Op.{UnlockInode, Take, WalkDown}
 pub use Rattle.plain_tree.specs.Code.{with_element}
 pub use Rattle.plain_tree.specs.declared.answer.Answer.{Answer as CallAnswer}
 pub use Rattle.std.specs.List.{list_all}

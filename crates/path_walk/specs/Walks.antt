@@ -1,6 +1,6 @@
 -- What is left of a walk.
 use Rattle.std.specs.Prelude.{◌≤◌, ℕ, ◌+◌, List, [], ◌∷◌, drop, length, Option, Some, None, IfSome}
-use Rattle.path_walk.specs.Vocabulary.{option_map, Name, elements, Reply, Action, Do, unmarked, AtName, Take, Give, WalkDown, P, leave_directory, looks_or_quits, see_parent, start, walk, walk_parent, walk_step, with_last}
+use Rattle.path_walk.specs.Vocabulary.{option_map, Name, elements, Reply, Action, Do, unmarked, AtName, Take, UnlockInode, WalkDown, P, leave_directory, looks_or_quits, see_parent, start, walk, walk_parent, walk_step, with_last}
 use Rattle.path_walk.specs.Elements.{name_in, IsElement}
 use Rattle.inode_machine.specs.Parts as parts
 use Rattle.path_walk.specs.declared.walk.Goal.{Goal}
@@ -14,14 +14,14 @@ use Rattle.path_walk.specs.declared.walk.Walk.TheVariants as walking
 use Rattle.path_walk.specs.declared.walk.Walked.{Walked}
 use Rattle.path_walk.specs.declared.walk.Walked.TheVariants as walked
 
-abbrev pub stop_of : Lost → parts.Stop
+abbrev pub stop_of : Lost → parts.WalkStop
 stop_of lost.NotThere = parts.NotThere
 stop_of lost.NoMemory = parts.NoMemory
 
 -- what comes after a walk: at this directory, with the last name where it is one to the parent; or where it is lost
 pub record After : Type 0 where
   pub found : ℕ → Option Name → List ℕ → P Reply
-  pub lost : parts.Stop → List ℕ → P Reply
+  pub lost : parts.WalkStop → List ℕ → P Reply
 
 module _ (s : Action) (path : List ℕ) (after : After) where
   -- from directory d through these elements
@@ -41,9 +41,9 @@ module _ (s : Action) (path : List ℕ) (after : After) where
       (λ a. walk_step d ns (λ j ms. onward to j (elements (drop e.rest path)) ms) after.lost a.found)
   walk_of to ns (walking.See d e) = see_parent s d ns (after.found d (Some (name_in path e))) after.lost
   walk_of to ns (walking.Up d j rest) = walk_step d ns (λ j ms. onward to j (elements (drop rest path)) ms) after.lost (Some j)
-  walk_of to ns (walking.Give d then_) = leave_directory d ns (next_of to then_)
+  walk_of to ns (walking.UnlockInode d then_) = leave_directory d ns (next_of to then_)
   walk_of to ns (walking.Down d then_) = Do (WalkDown d) unmarked (λ last. next_of to then_ (with_last ns d last))
-  walk_of to ns (walking.Leave d e) = Do (Give d) unmarked (λ _. after.found d (Some (name_in path e)) ns)
+  walk_of to ns (walking.Leave d e) = Do (UnlockInode d) unmarked (λ _. after.found d (Some (name_in path e)) ns)
 
   abbrev pub walked_to : Goal → List ℕ → Walked → P Reply
   walked_to to ns (walked.Walks w) = walk_of to ns w
@@ -65,7 +65,7 @@ most_left path walking.Start = length (elements path)
 most_left path (walking.Look d e) = 1 + elements_from path e.rest
 most_left path (walking.See d e) = 1
 most_left path (walking.Up d j rest) = 1 + elements_from path rest
-most_left path (walking.Give d then_) = 1 + most_next path then_
+most_left path (walking.UnlockInode d then_) = 1 + most_next path then_
 most_left path (walking.Down d then_) = 1 + most_next path then_
 most_left path (walking.Leave d e) = 0
 
@@ -84,7 +84,7 @@ Stands path walking.Start = Unit {0}
 Stands path (walking.Look d e) = IsElement path e
 Stands path (walking.See d e) = IsElement path e
 Stands path (walking.Up d j rest) = rest ≤ length path
-Stands path (walking.Give d then_) = next_stands path then_
+Stands path (walking.UnlockInode d then_) = next_stands path then_
 Stands path (walking.Down d then_) = next_stands path then_
 Stands path (walking.Leave d e) = IsElement path e
 

@@ -21,7 +21,7 @@ pub enum Ask {
     /// An inode's lock is taken, and the inode looked at ..
     Take(u32, Query),
     /// .. and given up.
-    Give(u32),
+    UnlockInode(u32),
     /// A reference more: to the start of a path (true: to the root), or to what was found.
     UpStart(bool),
     Up(u32),
@@ -34,7 +34,7 @@ pub enum Ask {
     /// An inode's count.
     Store(u32, u32),
     /// An inode of this type, that nobody refers to.
-    Claim(Sort),
+    Claim(InodeType),
     /// The two entries of a new directory.
     Fill(u32, u32),
     /// A directory's name with its number; a name's slot is cleared; a file has no bytes.
@@ -43,7 +43,7 @@ pub enum Ask {
     Empty(u32),
     /// A place for an open file; the lowest descriptor for a file that is opened with these flags.
     Slot,
-    Install(u32, u32, Sort),
+    Install(u32, u32, InodeType),
     /// The lock of a descriptor's inode is taken, to read of it ..
     LockFile(u32),
     /// .. from this offset on, at most so many bytes; and given up.
@@ -65,7 +65,7 @@ pub enum Ask {
     /// One more descriptor for a descriptor's open file.
     Double(u32),
     /// An inode's lock is given up, and it is the hart's current directory.
-    Settle(u32),
+    SetDirectory(u32),
     /// A transaction is joined, and left; the reply is given.
     Join,
     Leave,
@@ -91,7 +91,7 @@ impl Ask {
 
 /// The type of an inode; a device with its major.
 #[derive(Clone, Copy)]
-pub enum Sort {
+pub enum InodeType {
     Directory,
     File,
     Device(i16),
@@ -100,7 +100,7 @@ pub enum Sort {
 /// What an inode's record tells without its content.
 #[derive(Clone, Copy)]
 pub struct Face {
-    pub sort: Sort,
+    pub inode_type: InodeType,
     pub count: u16,
     pub size: u64,
 }
@@ -173,7 +173,7 @@ pub enum Heard {
     Shut(Option<Option<u32>>),
     Loan(Loan),
     /// It was done.
-    Did,
+    WasDone,
     /// What an inode is that was taken.
     Saw(Sight),
     /// The number of a path's start, if there is a place for it.
@@ -373,7 +373,7 @@ pub enum Mark {
     /// The next element is looked up; a node that is made there has this number.
     Look(u32),
     /// The walk, which is lost, is given up.
-    Quit,
+    GiveUpWalk,
     /// A step without a path.
     Own,
     Truncate(u32),

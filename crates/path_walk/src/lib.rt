@@ -10,7 +10,8 @@ mod numbers;
 mod walk;
 
 pub use crate::asks::{
-    Ask, Claimed, Entered, Face, Heard, Joined, Loan, Locked, Mark, Query, Sight, Sort, Turn, Wrote,
+    Ask, Claimed, Entered, Face, Heard, InodeType, Joined, Loan, Locked, Mark, Query, Sight, Turn,
+    Wrote,
 };
 pub use crate::elements::{Element, is_absolute, next_element};
 pub use crate::numbers::{MOST_LISTED, Numbers};

@@ -4,7 +4,7 @@ ghost use Rattle.path_walk.specs.Vocabulary.{elements, Action, is_directory_face
 ghost use Rattle.path_walk.specs.Asks.{asks, hears, mark_at, marked_as, op_in, sight_of, reply_to, face_of, IsNamed, OnlySeeks};
 ghost use Rattle.path_walk.specs.Walks.{After, Stands, StandsAt, elements_from, most_left, most_walked, onward, walk_of, walked_to, most_next, next_of, next_stands, stop_of};
 
-use crate::asks::{Ask, Face, Heard, Mark, Query, Sight, Sort};
+use crate::asks::{Ask, Face, Heard, InodeType, Mark, Query, Sight};
 use crate::elements::{Element, is_absolute, next_element};
 use crate::numbers::{MOST_LISTED, Numbers};
 use plain_tree::{Answer, Cause, Full};
@@ -42,7 +42,7 @@ pub enum Walk {
     /// A reference to what was found is taken.
     Up(u32, u32, usize),
     /// The directory's lock is given up ..
-    Give(u32, Next),
+    UnlockInode(u32, Next),
     /// .. and the reference to it dropped.
     Down(u32, Next),
     /// The lock of the parent that was reached is given up.
@@ -97,8 +97,8 @@ pub fn is_directory(sight: &Sight) -> bool
     ensures { result ≡ is_directory_face (sight_of sight.now).face }
 {
     match sight.face {
-        Some(face) => match face.sort {
-            Sort::Directory => true,
+        Some(face) => match face.inode_type {
+            InodeType::Directory => true,
             _ => false,
         },
         None => false,
@@ -110,8 +110,8 @@ pub fn is_live(sight: &Sight) -> bool
     ensures { result ≡ is_live_face (sight_of sight.now).face }
 {
     match sight.face {
-        Some(face) => match face.sort {
-            Sort::Directory => face.count > 0,
+        Some(face) => match face.inode_type {
+            InodeType::Directory => face.count > 0,
             _ => false,
         },
         None => false,
@@ -130,7 +130,9 @@ impl Walk {
             Walk::Look(directory, element) => Ask::Take(*directory, Query::Name(*element)),
             Walk::See(directory, _) => Ask::Take(*directory, Query::Nothing),
             Walk::Up(_, number, _) => Ask::Up(*number),
-            Walk::Give(directory, _) | Walk::Leave(directory, _) => Ask::Give(*directory),
+            Walk::UnlockInode(directory, _) | Walk::Leave(directory, _) => Ask::UnlockInode(
+                *directory,
+            ),
             Walk::Down(directory, _) => Ask::WalkDown(*directory),
         }
     }
@@ -151,13 +153,13 @@ impl Walk {
             },
             Walk::Look(directory, element) => match heard.sight().found {
                 Some(number) => Walked::Walks(Walk::Up(directory, number, element.rest)),
-                None => Walked::Walks(Walk::Give(directory, Next::Quits(Lost::NotThere))),
+                None => Walked::Walks(Walk::UnlockInode(directory, Next::Quits(Lost::NotThere))),
             },
             Walk::See(directory, element) => {
                 if is_directory(&heard.sight()) {
                     Walked::Walks(Walk::Leave(directory, element))
                 } else {
-                    Walked::Walks(Walk::Give(directory, Next::Quits(Lost::NotThere)))
+                    Walked::Walks(Walk::UnlockInode(directory, Next::Quits(Lost::NotThere)))
                 }
             }
             Walk::Up(directory, number, rest) => {
@@ -166,9 +168,9 @@ impl Walk {
                 } else {
                     Next::Quits(Lost::NoMemory)
                 };
-                Walked::Walks(Walk::Give(directory, next))
+                Walked::Walks(Walk::UnlockInode(directory, next))
             }
-            Walk::Give(directory, next) => Walked::Walks(Walk::Down(directory, next)),
+            Walk::UnlockInode(directory, next) => Walked::Walks(Walk::Down(directory, next)),
             Walk::Down(directory, next) => {
                 if heard.is() {
                     list.push(directory);
@@ -193,14 +195,14 @@ impl Walk {
                 if is_live(&heard.sight()) {
                     Some(Mark::Look(0))
                 } else {
-                    Some(Mark::Quit)
+                    Some(Mark::GiveUpWalk)
                 }
             }
             Walk::See(_, _) => {
                 if is_directory(&heard.sight()) {
                     None
                 } else {
-                    Some(Mark::Quit)
+                    Some(Mark::GiveUpWalk)
                 }
             }
             Walk::Up(_, _, _) => { if heard.is() { None } else { Some(Mark::Mends) } }
@@ -226,7 +228,7 @@ pub fn face_or(sight: &Sight) -> Face
     match sight.face {
         Some(face) => face,
         None => Face {
-            sort: Sort::File,
+            inode_type: InodeType::File,
             count: 0,
             size: 0,
         },

@@ -1,5 +1,5 @@
 -- What the proofs of this crate's functions use: its lemmas, and what they speak of.
-pub use Rattle.plain_tree.proofs.Vocabulary.{Directory, File, Hold, Kind, List, MarksReached, Node, None, OpenFileEntry, Option, Progress, Slot, Some, Tree, TreeData, [], ap, applied, arith, at_hold, at_node, closed, descriptor_count, drop, drop_hold, elements, emptied, entry_bytes, false, fd_names, file_at, get_or, has_room, hold_names, if◌then◌else◌, is_marked, is_nothing, length, live_directory, lowered, lowest, node_at, not, parent, part, raised, read_count, refl, replicate, resolve, settled_below, slots_of, subst, sym, take, tree_of, true, written_kind, ℕ, ◌++◌, ◌+◌, ◌-◌, ◌<◌, ◌==◌, ◌||◌, ◌↔◌, ◌∙◌, ◌≡◌, ◌≢◌, ◌≤◌}
+pub use Rattle.plain_tree.proofs.Vocabulary.{Directory, File, Hold, NodeKind, List, MarksReached, Node, None, OpenFileEntry, Option, Progress, Slot, Some, Tree, TreeData, [], ap, applied, arith, at_hold, at_node, closed, descriptor_count, drop, drop_hold, elements, emptied, entry_bytes, false, fd_names, file_at, get_or, has_room, hold_names, if◌then◌else◌, is_marked, is_nothing, length, live_directory, lowered, lowest, node_at, not, parent, part, raised, read_count, refl, replicate, resolve, settled_below, slots_of, subst, sym, take, tree_of, true, written_kind, ℕ, ◌++◌, ◌+◌, ◌-◌, ◌<◌, ◌==◌, ◌||◌, ◌↔◌, ◌∙◌, ◌≡◌, ◌≢◌, ◌≤◌}
 unfoldable pub use Rattle.plain_tree.proofs.Vocabulary.{AllBelong, Follows, Rises, acts_of, answer_with, any_below, any_used, cleared, effect_with, entries, file_in, first_cause, first_free, first_slot, follow, had_room, has_fd, is_named, look, lowest_from, pieces, place_of, put, refusal_with, same_name, settle}
 unfoldable pub use Rattle.plain_tree.specs.Tree.{parent_from, parent_of}
 unfoldable pub use Rattle.plain_tree.specs.Fresh.{answers}

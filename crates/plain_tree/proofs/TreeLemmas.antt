@@ -1,5 +1,5 @@
 -- A tree's data changed in one place, and what its functions then say.
-use Rattle.plain_tree.proofs.Vocabulary.{◌^◌, ◌&&◌, nat_lt, Result, Ok, Err, MatchResult, ◌≡◌, ◌≢◌, ℕ, zero, suc, ◌+◌, ◌<◌, ◌≤◌, Bool, true, false, List, [], ◌∷◌, ◌++◌, length, take, get_or, ◌==◌, ◌⊎◌, inl, inr, refl, sym, ◌∙◌, ap, arith, Option, Some, None, replicate, get_or-set_other, get_or-set_same, fun_ext, set, get_or-eq_default, take_more, set-get_or, cases_eq, cases_Bool, nat_tests, Node, Kind, Directory, File, Device, OpenFile, OpenFileEntry, Hart, Hold, Advances, IsEntryOf, TreeData, Tree, tree_of, hart_at, resting, file_in, put, and_then, is_directory, live_directory, slots_of, at_node, node_or, node_at, with_nodes, moved}
+use Rattle.plain_tree.proofs.Vocabulary.{◌^◌, ◌&&◌, nat_lt, Result, Ok, Err, MatchResult, ◌≡◌, ◌≢◌, ℕ, zero, suc, ◌+◌, ◌<◌, ◌≤◌, Bool, true, false, List, [], ◌∷◌, ◌++◌, length, take, get_or, ◌==◌, ◌⊎◌, inl, inr, refl, sym, ◌∙◌, ap, arith, Option, Some, None, replicate, get_or-set_other, get_or-set_same, fun_ext, set, get_or-eq_default, take_more, set-get_or, cases_eq, cases_Bool, nat_tests, Node, NodeKind, Directory, File, Device, OpenFile, OpenFileEntry, Hart, Hold, Advances, IsEntryOf, TreeData, Tree, tree_of, hart_at, resting, file_in, put, and_then, is_directory, live_directory, slots_of, at_node, node_or, node_at, with_nodes, moved}
 
 pub eq_true : (n k : ℕ) → n ≡ k → (n == k) ≡ true
 eq_true n k e = grind (arith, nat_tests)
@@ -157,14 +157,14 @@ not_and_false : (b : Bool) → (b && false) ≡ true → ⊥
 not_and_false true h = absurd cc
 not_and_false false h = absurd cc
 
-live_kind : (k : ℕ) (kd : Kind) → (nat_lt 0 k && is_directory kd) ≡ true → kd ≡ Directory (slots_of kd)
+live_kind : (k : ℕ) (kd : NodeKind) → (nat_lt 0 k && is_directory kd) ≡ true → kd ≡ Directory (slots_of kd)
 live_kind k (Directory ss) h = refl
 live_kind k (File bs) h = absurd (not_and_false (nat_lt 0 k) h)
 live_kind k (Device x y z) h = absurd (not_and_false (nat_lt 0 k) h)
 
 pub live_is : (v : Option Node) → live_directory v ≡ true → v ≡ Some (record { count = (node_or v).count; kind = Directory (slots_of (node_or v).kind) })
 live_is None h = absurd cc
-live_is (Some v) h = ap (λ (kd : Kind). Some (record v { kind = kd })) (live_kind v.count v.kind h)
+live_is (Some v) h = ap (λ (kd : NodeKind). Some (record v { kind = kd })) (live_kind v.count v.kind h)
 
 cases_le : (m n : ℕ) → (m ≤ n) ⊎ (n < m)
 cases_le m n = elim (cases_Bool (nat_lt n m)) [ inl y ↦ inr (grind (arith, nat_tests)) | inr y ↦ inl (grind (arith, nat_tests)) ]

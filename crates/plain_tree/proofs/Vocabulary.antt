@@ -22,7 +22,7 @@ pub use Rattle.plain_tree.specs.declared.tree.Hold.{Hold}
 pub use Rattle.plain_tree.specs.declared.tree.OpenFileEntry.{OpenFileEntry}
 pub use Rattle.std.proofs.Math.Path.{fun_ext}
 pub use Rattle.plain_tree.specs.HartRow.{Key, key_at, key_is, key_names, key_of, row_names, row_of}
-pub use Rattle.plain_tree.specs.declared.node.Kind.TheVariants.{Device, Directory, File}
+pub use Rattle.plain_tree.specs.declared.node.NodeKind.TheVariants.{Device, Directory, File}
 pub use Rattle.plain_tree.specs.declared.node.Slot.{Slot}
 pub use Rattle.std.proofs.Math.ListN.{get_or-eq_default, length-set, set}
 pub use Rattle.plain_tree.specs.Applied.{IsApplied, IsAppliedAt, IsBadChoice, Outcome, applied, in_place, out_of_place}
@@ -42,7 +42,7 @@ unfoldable pub use Rattle.plain_tree.specs.Progress.{last_of}
 pub use Rattle.plain_tree.specs.declared.answer.Full.TheVariants.{Descriptors}
 pub use Rattle.plain_tree.specs.declared.call.Call.{Call}
 pub use Rattle.plain_tree.specs.declared.call.Call.TheVariants.{Chdir as ChdirCall, Close as CloseCall, Dup as DupCall, Fstat as FstatCall, Inherit as InheritCall, Link, Mkdir as MkdirCall, Open as OpenCall, Read as ReadCall, Unlink as UnlinkCall, Write}
-pub use Rattle.plain_tree.specs.declared.node.Kind.{Kind}
+pub use Rattle.plain_tree.specs.declared.node.NodeKind.{NodeKind}
 pub use Rattle.plain_tree.specs.declared.progress.Last.TheVariants.{Nothing}
 pub use Rattle.plain_tree.specs.declared.progress.Progress.{Progress}
 pub use Rattle.plain_tree.specs.declared.trace.Trace.{Trace}

@@ -1,7 +1,7 @@
 -- A fresh tree, and what a list of steps answers.
 use Rattle.std.specs.Prelude.{ℕ, ◌-◌, List, [], ◌∷◌, length, Option, Some, None, replicate}
 use Rattle.plain_tree.specs.declared.node.Node.{Node}
-use Rattle.plain_tree.specs.declared.node.Kind.TheVariants.{Directory}
+use Rattle.plain_tree.specs.declared.node.NodeKind.TheVariants.{Directory}
 use Rattle.plain_tree.specs.declared.step.TreeStep.{TreeStep}
 use Rattle.plain_tree.specs.declared.step.StepAnswer.{StepAnswer}
 use Rattle.plain_tree.specs.declared.tree.Hart.{Hart}

@@ -8,8 +8,8 @@ use Rattle.plain_tree.specs.declared.answer.NodeType.TheVariants.{Directory as D
 use Rattle.plain_tree.specs.declared.answer.Stat.{Stat}
 use Rattle.plain_tree.specs.declared.node.Slot.{Slot}
 use Rattle.plain_tree.specs.declared.node.Node.{Node}
-use Rattle.plain_tree.specs.declared.node.Kind.{Kind}
-use Rattle.plain_tree.specs.declared.node.Kind.TheVariants.{Directory, File, Device}
+use Rattle.plain_tree.specs.declared.node.NodeKind.{NodeKind}
+use Rattle.plain_tree.specs.declared.node.NodeKind.TheVariants.{Directory, File, Device}
 use Rattle.plain_tree.specs.declared.tree.OpenFile.{OpenFile}
 use Rattle.plain_tree.specs.declared.tree.Hold.{Hold}
 use Rattle.plain_tree.specs.declared.step.Action.{Action}
@@ -50,22 +50,22 @@ unfoldable pub entries : List (Option Slot) → List ℕ
 entries [] = []
 entries (s ∷ ss) = entry_bytes s ++ entries ss
 
-abbrev pub content : Kind → List ℕ
+abbrev pub content : NodeKind → List ℕ
 content (Directory slots) = entries slots
 content (File bytes) = bytes
 content (Device major minor size) = []
 
-abbrev pub size_of : Kind → ℕ
+abbrev pub size_of : NodeKind → ℕ
 size_of (Directory slots) = dirent_len * length slots
 size_of (File bytes) = length bytes
 size_of (Device major minor size) = size
 
-abbrev pub type_of : Kind → NodeType
+abbrev pub type_of : NodeKind → NodeType
 type_of (Directory slots) = DirectoryType
 type_of (File bytes) = FileType
 type_of (Device major minor size) = DeviceType
 
-abbrev pub is_file : Kind → Bool
+abbrev pub is_file : NodeKind → Bool
 is_file (Directory slots) = false
 is_file (File bytes) = true
 is_file (Device major minor size) = false
@@ -101,7 +101,7 @@ abbrev pub has_driver : ℤ → Bool
 has_driver (pos n) = nat_lt n major_limit
 has_driver (negsuc n) = false
 
-abbrev pub open_kind : ℕ → Kind → Option Cause
+abbrev pub open_kind : ℕ → NodeKind → Option Cause
 open_kind flags (Directory slots) = if flags == 0 then None else Some IsDirectory
 open_kind flags (File bytes) = None
 open_kind flags (Device major minor size) = if has_driver major then None else Some NoDriver
@@ -119,7 +119,7 @@ abbrev pub open_new : Tree → ℕ → Option (ℕ × Name) → Option Cause
 open_new t flags None = Some NoEntry
 open_new t flags (Some q) = open_there t flags (look t.nodes q.0 q.1)
 
-abbrev pub no_driver : Kind → Option Cause
+abbrev pub no_driver : NodeKind → Option Cause
 no_driver (Directory slots) = None
 no_driver (File bytes) = None
 no_driver (Device major minor size) = Some NoDriver
@@ -133,7 +133,7 @@ part_refusal offset size [] = None
 part_refusal offset size (b ∷ bs) =
     if nat_lt size offset then Some BadOffset else (if nat_lt largest_size (offset + length (b ∷ bs)) then Some TooBig else None)
 
-abbrev pub write_kind : Kind → ℕ → List ℕ → Option Cause
+abbrev pub write_kind : NodeKind → ℕ → List ℕ → Option Cause
 write_kind (Directory slots) offset b = part_refusal offset (size_of (Directory slots)) b
 write_kind (File bytes) offset b = part_refusal offset (length bytes) b
 write_kind (Device major minor size) offset b = Some NoDriver
@@ -166,7 +166,7 @@ unfoldable pub any_used : List (Option Slot) → Bool
 any_used [] = false
 any_used (s ∷ ss) = is_used s || any_used ss
 
-abbrev pub not_empty : Kind → Option Cause
+abbrev pub not_empty : NodeKind → Option Cause
 not_empty (Directory slots) = if any_used (drop 2 slots) then Some NotEmpty else None
 not_empty (File bytes) = None
 not_empty (Device major minor size) = None
@@ -319,7 +319,7 @@ abbrev pub part : Tree → Option OpenFile → ℕ → List ℕ
 part t None n = []
 part t (Some f) n = take n (drop f.offset (content (node_at t f.number).kind))
 
-abbrev pub written_kind : Kind → ℕ → List ℕ → Kind
+abbrev pub written_kind : NodeKind → ℕ → List ℕ → NodeKind
 written_kind (File bytes) offset b = File (take offset bytes ++ b ++ drop (offset + length b) bytes)
 written_kind (Directory slots) offset b = Directory slots
 written_kind (Device major minor size) offset b = Device major minor size
@@ -333,7 +333,7 @@ abbrev pub wrote : Tree → ℕ → ℕ → List ℕ → Tree
 wrote t h fd [] = t
 wrote t h fd (b ∷ bs) = moved (written t (file_at t h fd) (b ∷ bs)) (t.fds h fd) (length (b ∷ bs))
 
-abbrev pub emptied : Kind → Kind
+abbrev pub emptied : NodeKind → NodeKind
 emptied (File bytes) = File []
 emptied (Directory slots) = Directory slots
 emptied (Device major minor size) = Device major minor size

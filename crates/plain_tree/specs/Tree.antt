@@ -2,8 +2,8 @@
 use Rattle.std.specs.Prelude.{ℕ, zero, suc, Bool, true, false, ◌&&◌, ◌||◌, not, List, [], ◌∷◌, ◌++◌, take, map, filter, ◌==◌, nat_lt, if◌then◌else◌, Option, Some, None, slice_index_or}
 use Rattle.plain_tree.specs.declared.node.Slot.{Slot}
 use Rattle.plain_tree.specs.declared.node.Node.{Node}
-use Rattle.plain_tree.specs.declared.node.Kind.{Kind}
-use Rattle.plain_tree.specs.declared.node.Kind.TheVariants.{Directory, File, Device}
+use Rattle.plain_tree.specs.declared.node.NodeKind.{NodeKind}
+use Rattle.plain_tree.specs.declared.node.NodeKind.TheVariants.{Directory, File, Device}
 use Rattle.plain_tree.specs.declared.tree.OpenFile.{OpenFile}
 use Rattle.plain_tree.specs.declared.tree.OpenFileEntry.{OpenFileEntry}
 use Rattle.plain_tree.specs.declared.tree.Hold.{Hold}
@@ -95,12 +95,12 @@ climbs path = climbs_in (elements path)
 
 -- Live directories, and what they find.
 
-abbrev pub is_directory : Kind → Bool
+abbrev pub is_directory : NodeKind → Bool
 is_directory (Directory slots) = true
 is_directory (File bytes) = false
 is_directory (Device major minor size) = false
 
-abbrev pub slots_of : Kind → List (Option Slot)
+abbrev pub slots_of : NodeKind → List (Option Slot)
 slots_of (Directory slots) = slots
 slots_of (File bytes) = []
 slots_of (Device major minor size) = []

@@ -7,7 +7,7 @@ ghost use Rattle.plain_tree.specs.Tree.{file_in, live_directory, look, put, tree
 use crate::answer_of::bytes_read;
 use crate::bytes::Bytes;
 use crate::look::Found;
-use crate::node::{Kind, Node, Slot, Slots};
+use crate::node::{Node, NodeKind, Slot, Slots};
 use crate::refusal::has_flag;
 use crate::refused::Attempt;
 use crate::step::{Action, StepAnswer};
@@ -51,7 +51,7 @@ fn new_directory(alloc: Global, number: u16, parent: u16) -> Attempt<Node>
     let slots = Slots::new(slots);
     Ok(Node {
         count: 1,
-        kind: Kind::Directory { slots },
+        kind: NodeKind::Directory { slots },
     })
 }
 
@@ -118,7 +118,7 @@ impl Tree {
         let bytes = Bytes::new(Vec::new(alloc));
         let node = Node {
             count: 1,
-            kind: Kind::File { bytes },
+            kind: NodeKind::File { bytes },
         };
         self.add_node(alloc, directory, name, number, node)
     }

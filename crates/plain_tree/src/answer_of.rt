@@ -7,7 +7,7 @@ ghost use Rattle.plain_tree.specs.Tree.{and_then, look, tree_of};
 use crate::answer::{Full, NodeType, Stat};
 use crate::bytes::Bytes;
 use crate::look::Found;
-use crate::node::Kind;
+use crate::node::NodeKind;
 use crate::refusal::has_flag;
 use crate::refused::Attempt;
 use crate::slots::entries;
@@ -35,23 +35,23 @@ fn cut_out(alloc: Global, bytes: &[u8], offset: u64, count: usize) -> Attempt<Ve
     Ok(Vec::from_slice(alloc, &rest[..end])?)
 }
 
-fn node_type(kind: &Kind) -> NodeType
+fn node_type(kind: &NodeKind) -> NodeType
     ensures { result ≡ type_of kind.now }
 {
     match kind {
-        Kind::Directory { .. } => NodeType::Directory,
-        Kind::File { .. } => NodeType::File,
-        Kind::Device { .. } => NodeType::Device,
+        NodeKind::Directory { .. } => NodeType::Directory,
+        NodeKind::File { .. } => NodeType::File,
+        NodeKind::Device { .. } => NodeType::Device,
     }
 }
 
-fn size(kind: &Kind) -> u64
+fn size(kind: &NodeKind) -> u64
     ensures { result ≡ size_of kind.now }
 {
     match kind {
-        Kind::Directory { slots } => slots.as_slice().len() as u64 * DIRENT_LEN as u64,
-        Kind::File { bytes } => bytes.as_slice().len() as u64,
-        Kind::Device { size, .. } => u64::from(*size),
+        NodeKind::Directory { slots } => slots.as_slice().len() as u64 * DIRENT_LEN as u64,
+        NodeKind::File { bytes } => bytes.as_slice().len() as u64,
+        NodeKind::Device { size, .. } => u64::from(*size),
     }
 }
 
@@ -76,12 +76,12 @@ impl Tree {
         match self.node(usize::from(file.number)) {
             None => cut_out(alloc, &[], file.offset, count),
             Some(node) => match &node.kind {
-                Kind::Directory { slots } => {
+                NodeKind::Directory { slots } => {
                     let content = entries(alloc, slots.as_slice())?;
                     cut_out(alloc, &content, file.offset, count)
                 }
-                Kind::File { bytes } => cut_out(alloc, bytes.as_slice(), file.offset, count),
-                Kind::Device { .. } => cut_out(alloc, &[], file.offset, count),
+                NodeKind::File { bytes } => cut_out(alloc, bytes.as_slice(), file.offset, count),
+                NodeKind::Device { .. } => cut_out(alloc, &[], file.offset, count),
             },
         }
     }

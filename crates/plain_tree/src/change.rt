@@ -2,10 +2,10 @@
 ghost use Rattle.std.specs.Prelude.{◌≡◌, ◌+◌, ◌-◌, ◌<◌, ◌≤◌, ◌^◌, ◌++◌, take, drop, length, true, IfOk, MatchOption, MatchResult, if◌then◌else◌};
 ghost use Rattle.plain_tree.specs.Steps.{at_node, cleared, emptied, entered, lowered, node_at, raised, written_kind};
 ghost use Rattle.plain_tree.specs.Tree.{live_directory, put, slots_of, tree_of};
-ghost use Rattle.plain_tree.specs.declared.node.Kind.TheVariants.{Directory, File};
+ghost use Rattle.plain_tree.specs.declared.node.NodeKind.TheVariants.{Directory, File};
 
 use crate::bytes::Bytes;
-use crate::node::{Kind, Node, Slot, Slots};
+use crate::node::{Node, NodeKind, Slot, Slots};
 use crate::refused::Attempt;
 use crate::slots::{clear_slot, enter_slot};
 use crate::tree::{Hold, Tree};
@@ -31,21 +31,21 @@ fn overwritten(alloc: Global, old: &[u8], offset: u64, bytes: &[u8]) -> Attempt<
 }
 
 /// The slots of a directory; none of another kind.
-fn into_slots(alloc: Global, kind: Kind) -> Vec<Option<Slot>>
+fn into_slots(alloc: Global, kind: NodeKind) -> Vec<Option<Slot>>
     ensures { result.items ≡ slots_of kind }
 {
     match kind {
-        Kind::Directory { slots } => slots.into_vec(),
+        NodeKind::Directory { slots } => slots.into_vec(),
         _ => Vec::new(alloc),
     }
 }
 
 /// A file without its bytes; another kind as it is.
-fn without_bytes(alloc: Global, kind: Kind) -> Kind
+fn without_bytes(alloc: Global, kind: NodeKind) -> NodeKind
     ensures { result ≡ emptied kind }
 {
     match kind {
-        Kind::File { .. } => Kind::File {
+        NodeKind::File { .. } => NodeKind::File {
             bytes: Bytes::new(Vec::new(alloc)),
         },
         other => other,
@@ -122,14 +122,14 @@ impl Tree {
     {
         match self.node(number) {
             Some(node) => match &node.kind {
-                Kind::File { bytes: old } => Ok(Some(overwritten(
+                NodeKind::File { bytes: old } => Ok(Some(overwritten(
                     alloc,
                     old.as_slice(),
                     offset,
                     bytes,
                 )?)),
-                Kind::Directory { .. } => Ok(None),
-                Kind::Device { .. } => Ok(None),
+                NodeKind::Directory { .. } => Ok(None),
+                NodeKind::Device { .. } => Ok(None),
             },
             None => Ok(Some(overwritten(alloc, &[], offset, bytes)?)),
         }
@@ -153,7 +153,7 @@ impl Tree {
         };
         self.reach(number)?;
         let count = self.take_node(alloc, number).count;
-        let kind = Kind::File {
+        let kind = NodeKind::File {
             bytes: Bytes::new(new),
         };
         self.set_node(number, Node { count, kind });
@@ -176,7 +176,7 @@ impl Tree {
         let Node { count, kind } = self.take_node(alloc, directory);
         let mut slots = into_slots(alloc, kind);
         let entered = enter_slot(&mut slots, Slot { name, number });
-        let kind = Kind::Directory {
+        let kind = NodeKind::Directory {
             slots: Slots::new(slots),
         };
         self.set_node(directory, Node { count, kind });
@@ -195,7 +195,7 @@ impl Tree {
         let mut slots = into_slots(alloc, kind);
         clear_slot(&mut slots, name);
         let count = fewer(count, lowers);
-        let kind = Kind::Directory {
+        let kind = NodeKind::Directory {
             slots: Slots::new(slots),
         };
         self.set_node(directory, Node { count, kind });

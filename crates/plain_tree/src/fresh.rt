@@ -3,7 +3,7 @@ ghost use Rattle.std.specs.Prelude.{◌≡◌, ◌++◌, ◌-◌, ◌∷◌, IfO
 ghost use Rattle.plain_tree.specs.Fresh.{fresh_hart, fresh_root};
 
 use crate::act::slot;
-use crate::node::{Kind, Node, Slots};
+use crate::node::{Node, NodeKind, Slots};
 use crate::refused::{Attempt, NoMemory};
 use crate::tree::Hart;
 use crate::widths::{DESCRIPTOR_COUNT, DOT, DOTDOT, FRESH_SLOTS, ROOT};
@@ -34,7 +34,7 @@ fn fresh_root(alloc: Global) -> Attempt<Node>
     let slots = Slots::new(slots);
     Ok(Node {
         count: 1,
-        kind: Kind::Directory { slots },
+        kind: NodeKind::Directory { slots },
     })
 }
 

@@ -38,7 +38,7 @@ pub use crate::answer::{Answer, Cause, Full, NodeType, Reply, Stat};
 pub use crate::bytes::Bytes;
 pub use crate::call::Call;
 pub use crate::explains::check;
-pub use crate::node::{Kind, Node, Slot, Slots};
+pub use crate::node::{Node, NodeKind, Slot, Slots};
 pub use crate::one_end::{chains_to_one, steps_to_one};
 pub use crate::refused::{ApplyRefused, NoMemory};
 pub use crate::step::{Action, StepAnswer, TreeStep};

@@ -3,7 +3,7 @@ ghost use Rattle.std.specs.Prelude.{◌≡◌, IfSome, true};
 ghost use Rattle.plain_tree.specs.Code.{with_name};
 ghost use Rattle.plain_tree.specs.Tree.{first_slot, live_directory, look, parent, resolve, start_of, tree_of};
 
-use crate::node::{Kind, Slot};
+use crate::node::{NodeKind, Slot};
 use crate::paths::{begins_at_root, next_element, same};
 use crate::tree::Tree;
 use crate::widths::ROOT;
@@ -36,7 +36,7 @@ impl Tree {
         ensures { result ≡ live_directory ((tree_of self.now).nodes number) }
     {
         match self.node(usize::from(number)) {
-            Some(node) => node.count > 0 && matches!(&node.kind, Kind::Directory { .. }),
+            Some(node) => node.count > 0 && matches!(&node.kind, NodeKind::Directory { .. }),
             None => false,
         }
     }
@@ -48,7 +48,7 @@ impl Tree {
     {
         let node = self.node(usize::from(directory))?;
         match &node.kind {
-            Kind::Directory { slots } if node.count > 0 => number_of(slots.as_slice(), name),
+            NodeKind::Directory { slots } if node.count > 0 => number_of(slots.as_slice(), name),
             _ => None,
         }
     }

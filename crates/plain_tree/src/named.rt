@@ -5,7 +5,7 @@ ghost use Rattle.plain_tree.specs.Marks.{FindsMarked, FindsNew, IsClosed, IsNext
 ghost use Rattle.plain_tree.specs.Tree.{tree_of};
 
 use crate::look::number_of;
-use crate::node::{Kind, Node, Slot};
+use crate::node::{Node, NodeKind, Slot};
 use crate::refused::{Attempt, NoMemory};
 use crate::tree::Tree;
 use crate::widths::ROOT;
@@ -56,7 +56,7 @@ impl Tree {
     {
         let node = self.node(directory)?;
         match &node.kind {
-            Kind::Directory { slots } if node.count > 0 => new_among(slots.as_slice(), marks),
+            NodeKind::Directory { slots } if node.count > 0 => new_among(slots.as_slice(), marks),
             _ => None,
         }
     }

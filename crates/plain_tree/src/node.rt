@@ -62,7 +62,7 @@ impl Slots {
 
 /// What a node is.
 #[derive(Clone, Drop)]
-pub enum Kind {
+pub enum NodeKind {
     Directory { slots: Slots },
     File { bytes: Bytes },
     /// A device as its image has it: `size` is the size that the inode says, and has no bytes behind it.
@@ -73,5 +73,5 @@ pub enum Kind {
 #[derive(Clone, Drop)]
 pub struct Node {
     pub count: u16,
-    pub kind: Kind,
+    pub kind: NodeKind,
 }

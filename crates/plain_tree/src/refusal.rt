@@ -7,7 +7,7 @@ ghost use Rattle.plain_tree.specs.Tree.{is_directory, tree_of};
 use crate::answer::Cause;
 use crate::bytes::Bytes;
 use crate::look::Found;
-use crate::node::{Kind, Slot};
+use crate::node::{NodeKind, Slot};
 use crate::paths::same;
 use crate::step::Action;
 use crate::tree::{Hold, OpenFile, Tree};
@@ -23,12 +23,12 @@ pub(crate) fn has_flag(flags: u32, bit: u32) -> bool
     flags & bit != 0
 }
 
-fn kind_refuses_open(flags: u32, kind: &Kind) -> Option<Cause>
+fn kind_refuses_open(flags: u32, kind: &NodeKind) -> Option<Cause>
     ensures { result ≡ open_kind flags kind.now }
 {
     match kind {
-        Kind::Directory { .. } if flags != 0 => Some(Cause::IsDirectory),
-        Kind::Device { major, .. } if !(0 <= *major && *major < MAJOR_LIMIT) => Some(
+        NodeKind::Directory { .. } if flags != 0 => Some(Cause::IsDirectory),
+        NodeKind::Device { major, .. } if !(0 <= *major && *major < MAJOR_LIMIT) => Some(
             Cause::NoDriver,
         ),
         _ => None,
@@ -49,17 +49,17 @@ fn part_refuses(offset: u64, size: u64, bytes: &[u8]) -> Option<Cause>
     }
 }
 
-fn kind_refuses_write(kind: &Kind, offset: u64, bytes: &[u8]) -> Option<Cause>
+fn kind_refuses_write(kind: &NodeKind, offset: u64, bytes: &[u8]) -> Option<Cause>
     ensures { result ≡ write_kind kind.now offset bytes.now }
 {
     match kind {
-        Kind::Directory { slots } => part_refuses(
+        NodeKind::Directory { slots } => part_refuses(
             offset,
             slots.as_slice().len() as u64 * DIRENT_LEN as u64,
             bytes,
         ),
-        Kind::File { bytes: old } => part_refuses(offset, old.as_slice().len() as u64, bytes),
-        Kind::Device { .. } => Some(Cause::NoDriver),
+        NodeKind::File { bytes: old } => part_refuses(offset, old.as_slice().len() as u64, bytes),
+        NodeKind::Device { .. } => Some(Cause::NoDriver),
     }
 }
 
@@ -87,7 +87,7 @@ impl Tree {
         ensures { result ≡ is_directory (node_at (tree_of self.now) number).kind }
     {
         match self.node(usize::from(number)) {
-            Some(node) => matches!(&node.kind, Kind::Directory { .. }),
+            Some(node) => matches!(&node.kind, NodeKind::Directory { .. }),
             None => false,
         }
     }
@@ -96,7 +96,7 @@ impl Tree {
         ensures { result ≡ is_file (node_at (tree_of self.now) number).kind }
     {
         match self.node(usize::from(number)) {
-            Some(node) => matches!(&node.kind, Kind::File { .. }),
+            Some(node) => matches!(&node.kind, NodeKind::File { .. }),
             None => true,
         }
     }
@@ -115,7 +115,7 @@ impl Tree {
     {
         let node = self.node(usize::from(number))?;
         match &node.kind {
-            Kind::Directory { slots } if has_entries(slots.as_slice()) => Some(Cause::NotEmpty),
+            NodeKind::Directory { slots } if has_entries(slots.as_slice()) => Some(Cause::NotEmpty),
             _ => None,
         }
     }
@@ -169,7 +169,7 @@ impl Tree {
         }
         let node = self.node(usize::from(file.number))?;
         match &node.kind {
-            Kind::Device { .. } => Some(Cause::NoDriver),
+            NodeKind::Device { .. } => Some(Cause::NoDriver),
             _ => None,
         }
     }

@@ -7,7 +7,7 @@ ghost use Rattle.plain_tree.specs.Tree.{file_in, hart_at, put, tree_of};
 
 use crate::bytes::Bytes;
 use crate::fresh::{fresh_hart, fresh_nodes, push_absent};
-use crate::node::{Kind, Node};
+use crate::node::{Node, NodeKind};
 use crate::refused::{Attempt, NoMemory};
 use crate::widths::{DESCRIPTOR_COUNT, HARTS, ROOT};
 use std::alloc::Global;
@@ -237,7 +237,7 @@ impl Tree {
             Some(node) => node,
             None => Node {
                 count: 0,
-                kind: Kind::File {
+                kind: NodeKind::File {
                     bytes: Bytes::new(Vec::new(alloc)),
                 },
             },

@@ -1,6 +1,6 @@
 -- Each operation's program is marked at its first step or at its last one.
-use Rattle.run_laws.proofs.Vocabulary.{◌≡◌, ◌⊎◌, inl, inr, ◌<◌, ◌+◌, ◌-◌, ◌*◌, ◌/◌, ◌==◌, nat_lt, if◌then◌else◌, ℕ, zero, suc, Bool, true, false, is_some, Option, Some, None, List, [], ◌∷◌, length, take, slice_index, refl, subst, arith, option_map, nat_tests, Dinode, Used, Super, dirent_at, spell_dirent, numbers_in, Cause, Name, same_name, Handover, Ret, Do, bind, unmarked, Left, first_below, first_clear_below, clear_bit, free_block, take_first, zero_found, FirstIs, first_is, LockedState, Locks, after_leave, commit_unless, commits, fetch, read_unless, inode_blocks, give_back, inode_block, load_unless, put_inode, store, Address, Direct, InTable, address, table_of, free_in_table, free_indirect, free_numbers, free_table, FilledMemory, blocks_between, end_of, fetch_at, fetch_block, fetch_named, fetch_number, filled_with, give_fetched, next_block, part_of, read_blocks, read_from, read_part, direct, WriteResult, front_of, locate, locate_at, locate_in_table, located, look_up, name_direct, name_in_table, put_part, store_written, take_one, with_address, with_table, write_blocks, write_in, write_part, Query, AtNothing, AtName, AtEntries, Sort, ClaimResult, EntryResult, Wrote, Take, Give, UpStart, Up, WalkDown, Down, Free, Forget, Claim, Store, Fill, Enter, Clear, Empty, Slot, Install, StatFile, LockFile, ReadFile, CheckFile, JoinFile, LockOpen, WriteFile, Double, Shut, Settle, Lend, LendDirectory, Release, Join, Leave, Say, give_content, dots, enter_in, entered_to, filled_to, if_none, look_last, put_grown, search_full, Acts, acts, Apart, Carry, Emptied, Finds, Had, Has, NothingMore, Opened, HasInodes, claim_at, claim_from, clear_in, clear_slot, slot_found, slot_of, looked, number_found, learned, search_entries, seen_record, stat_loaded, stat_locked, file_locked, give_read, handlers, put_record, record_in, give_written, refused_in, write_unless, Found, slot_for, Aim, Named, Unused, block_count, found_at, found_in, is_directory, is_live_directory, look_at, lookup, most_slots, or_next, search, search_from, slot_count, slots_in, is_free, IsAtEnd, MarksLast, MarksNone, MarksOne, OperationsActFirstOrLast}
-use Rattle.group_log.specs.declared.log.Left.TheVariants as left
+use Rattle.run_laws.proofs.Vocabulary.{◌≡◌, ◌⊎◌, inl, inr, ◌<◌, ◌+◌, ◌-◌, ◌*◌, ◌/◌, ◌==◌, nat_lt, if◌then◌else◌, ℕ, zero, suc, Bool, true, false, is_some, Option, Some, None, List, [], ◌∷◌, length, take, slice_index, refl, subst, arith, option_map, nat_tests, Dinode, Used, Super, dirent_at, spell_dirent, numbers_in, Cause, Name, same_name, Handover, Ret, Do, bind, unmarked, AfterLeave, first_below, first_clear_below, clear_bit, free_block, take_first, zero_found, FirstIs, first_is, LockedState, Locks, after_leave, commit_unless, commits, fetch, read_unless, inode_blocks, give_back, inode_block, load_unless, put_inode, store, Address, Direct, InTable, address, table_of, free_in_table, free_indirect, free_numbers, free_table, FilledMemory, blocks_between, end_of, fetch_at, fetch_block, fetch_named, fetch_number, filled_with, give_fetched, next_block, part_of, read_blocks, read_from, read_part, direct, WriteResult, front_of, locate, locate_at, locate_in_table, located, look_up, name_direct, name_in_table, put_part, store_written, take_one, with_address, with_table, write_blocks, write_in, write_part, Query, AtNothing, AtName, AtEntries, InodeType, ClaimResult, EntryResult, Wrote, Take, UnlockInode, UpStart, Up, WalkDown, Down, Free, Forget, Claim, Store, Fill, Enter, Clear, Empty, Slot, Install, StatFile, LockFile, ReadFile, CheckFile, JoinFile, LockOpen, WriteFile, Double, Shut, SetDirectory, Lend, LendDirectory, Release, Join, Leave, Say, give_content, dots, enter_in, entered_to, filled_to, if_none, look_last, put_grown, search_full, Acts, acts, Apart, Carry, Emptied, Finds, Had, Has, NothingMore, Opened, HasInodes, claim_at, claim_from, clear_in, clear_slot, slot_found, slot_of, looked, number_found, learned, search_entries, seen_record, stat_loaded, stat_locked, file_locked, give_read, handlers, put_record, record_in, give_written, refused_in, write_unless, Found, slot_for, Aim, Named, Unused, block_count, found_at, found_in, is_directory, is_live_directory, look_at, lookup, most_slots, or_next, search, search_from, slot_count, slots_in, is_free, IsAtEnd, MarksLast, MarksNone, MarksOne, OperationsActFirstOrLast}
+use Rattle.group_log.specs.declared.log.AfterLeave.TheVariants as left
 use Rattle.fs_machine.specs.Inodes.{Refuses}
 use Rattle.fs_machine.specs.Steps as steps
 use Rattle.inode_machine.specs.World as above
@@ -173,7 +173,7 @@ commits_none : (n : ℕ) → MarksNone (commits {M = Acts} n)
 commits_none zero = tt
 commits_none (suc n) = λ a. (refl, unless_none (commits n) (commits_none n) a)
 
-leave_none : (a : Left) → MarksNone (after_leave {M = Acts} a)
+leave_none : (a : AfterLeave) → MarksNone (after_leave {M = Acts} a)
 leave_none left.Free = tt
 leave_none left.Commits = commits_none 62
 
@@ -317,55 +317,55 @@ module _ (sizes : Super) (c : Carry) where
   empties_last : (n : ℕ) (m : Unit {0} → Option above.Mark) → MarksLast (handlers sizes c (Empty n) m)
   empties_last n m = content_last sizes (record_in c n) _ (record_last (Empty n) m tt (inode_block sizes.inodestart n) n _ _ c)
 
-  module _ (sort : Sort) (m : ClaimResult → Option above.Mark) where
+  module _ (inode_type : InodeType) (m : ClaimResult → Option above.Mark) where
     abbrev Made : Type 0
     Made = Handover ClaimResult Carry
 
     -- the last block is looked through
-    looks_last : (q : ℕ) (block : List ℕ) (more : P Made) → MarksNone more → MarksOne (claim_at more sizes sort c m 0 q (sizes.inodestart + q) block)
+    looks_last : (q : ℕ) (block : List ℕ) (more : P Made) → MarksNone more → MarksOne (claim_at more sizes inode_type c m 0 q (sizes.inodestart + q) block)
     looks_last q block more none (steps.Claims i) = inl (refl, λ a. (refl, tt))
     looks_last q block more none steps.NoPlace = inl (refl, λ a. (refl, tt))
     looks_last q block more none steps.NoInode = inl (refl, none)
 
     -- one is before others
-    looks_on : (n q : ℕ) (block : List ℕ) (more : P Made) → MarksOne more → MarksOne (claim_at more sizes sort c m (suc n) q (sizes.inodestart + q) block)
+    looks_on : (n q : ℕ) (block : List ℕ) (more : P Made) → MarksOne more → MarksOne (claim_at more sizes inode_type c m (suc n) q (sizes.inodestart + q) block)
     looks_on n q block more one (steps.Claims i) = inl (refl, λ a. (refl, tt))
     looks_on n q block more one steps.NoPlace = inl (refl, λ a. (refl, tt))
     looks_on n q block more one steps.NoInode = inr (refl, one)
 
-    claim_one : (n q : ℕ) → MarksOne (claim_from (suc n) sizes sort c m q)
+    claim_one : (n q : ℕ) → MarksOne (claim_from (suc n) sizes inode_type c m q)
     unfolding claim_from
     claim_one zero q =
-        one_bind (fetch (sizes.inodestart + q)) (claim_at (claim_from 0 sizes sort c m (q + 1)) sizes sort c m 0 q (sizes.inodestart + q)) (fetch_none (sizes.inodestart + q)) (λ block. looks_last q block (claim_from 0 sizes sort c m (q + 1)) tt)
+        one_bind (fetch (sizes.inodestart + q)) (claim_at (claim_from 0 sizes inode_type c m (q + 1)) sizes inode_type c m 0 q (sizes.inodestart + q)) (fetch_none (sizes.inodestart + q)) (λ block. looks_last q block (claim_from 0 sizes inode_type c m (q + 1)) tt)
     claim_one (suc n) q =
-        one_bind (fetch (sizes.inodestart + q)) (claim_at (claim_from (suc n) sizes sort c m (q + 1)) sizes sort c m (suc n) q (sizes.inodestart + q)) (fetch_none (sizes.inodestart + q))
-        (λ block. looks_on n q block (claim_from (suc n) sizes sort c m (q + 1)) (claim_one n (q + 1)))
+        one_bind (fetch (sizes.inodestart + q)) (claim_at (claim_from (suc n) sizes inode_type c m (q + 1)) sizes inode_type c m (suc n) q (sizes.inodestart + q)) (fetch_none (sizes.inodestart + q))
+        (λ block. looks_on n q block (claim_from (suc n) sizes inode_type c m (q + 1)) (claim_one n (q + 1)))
 
-    claims_one : HasInodes sizes → MarksOne (handlers sizes c (Claim sort) m)
+    claims_one : HasInodes sizes → MarksOne (handlers sizes c (Claim inode_type) m)
     claims_one inodes =
         let some = inodes.some in
         let is : suc (inode_blocks sizes.ninodes - 1) ≡ inode_blocks sizes.ninodes = omega (arith, some) in
-        subst (λ (k : ℕ). MarksOne (claim_from k sizes sort c m 0)) is (claim_one (inode_blocks sizes.ninodes - 1) 0)
+        subst (λ (k : ℕ). MarksOne (claim_from k sizes inode_type c m 0)) is (claim_one (inode_blocks sizes.ninodes - 1) 0)
 
 -- ---- all of them
 
 pub first_or_last : OperationsActFirstOrLast
 first_or_last sizes inodes c (Take n looking) m = λ content. (refl, none_bind (load_unless sizes.inodestart n content) (looked looking c n) (load_none sizes.inodestart n content) (looked_none looking c n))
-first_or_last sizes inodes c (Give n) m = λ a. inl (refl, tt)
+first_or_last sizes inodes c (UnlockInode n) m = λ a. inl (refl, tt)
 first_or_last sizes inodes c (UpStart absolute) m = λ a. inl (refl, tt)
 first_or_last sizes inodes c (Up n) m = λ a. inl (refl, tt)
 first_or_last sizes inodes c (WalkDown n) m = λ a. inl (refl, tt)
 first_or_last sizes inodes c (Down n) m = λ a. inl (refl, tt)
 first_or_last sizes inodes c (Free n) m = frees_last sizes c n m
 first_or_last sizes inodes c (Forget n) m = λ a. inl (refl, tt)
-first_or_last sizes inodes c (Claim sort) m = claims_one sizes c sort m inodes
+first_or_last sizes inodes c (Claim inode_type) m = claims_one sizes c inode_type m inodes
 first_or_last sizes inodes c (Store n count) m = record_last (Store n count) m tt (inode_block sizes.inodestart n) n _ _ c
 first_or_last sizes inodes c (Fill n d) m = fills_last sizes c n d m
 first_or_last sizes inodes c (Enter d e n) m = enters_last sizes c d e n m
 first_or_last sizes inodes c (Clear n e) m = clears_last sizes c n e m
 first_or_last sizes inodes c (Empty n) m = empties_last sizes c n m
 first_or_last sizes inodes c Slot m = λ a. inl (refl, tt)
-first_or_last sizes inodes c (Install f sort) m = λ a. inl (refl, tt)
+first_or_last sizes inodes c (Install f inode_type) m = λ a. inl (refl, tt)
 first_or_last sizes inodes c (StatFile fd) m = λ a. (refl, stat_none sizes c a)
 first_or_last sizes inodes c (LockFile fd) m = λ a. (refl, file_none sizes fd c a)
 first_or_last sizes inodes c (ReadFile fd n offset count) m = reads_last sizes c fd n offset count m
@@ -375,7 +375,7 @@ first_or_last sizes inodes c (JoinFile fd) m = λ a. inl (refl, tt)
 first_or_last sizes inodes c (WriteFile fd n offset bytes) m = writes_last sizes c fd n offset bytes m (refused_in (record_in c n) offset bytes)
 first_or_last sizes inodes c (Double fd) m = λ a. inl (refl, tt)
 first_or_last sizes inodes c (Shut fd) m = λ a. inl (refl, tt)
-first_or_last sizes inodes c (Settle n) m = λ a. inl (refl, tt)
+first_or_last sizes inodes c (SetDirectory n) m = λ a. inl (refl, tt)
 first_or_last sizes inodes c (Lend child from) m = λ a. inl (refl, tt)
 first_or_last sizes inodes c (LendDirectory child) m = λ a. inl (refl, tt)
 first_or_last sizes inodes c (Release child) m = λ a. inl (refl, tt)

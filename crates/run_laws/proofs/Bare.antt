@@ -1,16 +1,16 @@
 -- What a run comes to doesn't depend on the history that is kept beside: the state without it, and what an event makes of that.
-use Rattle.run_laws.proofs.Vocabulary.{◌≡◌, ℕ, suc, nat_eq, if◌then◌else◌, Bool, true, false, Option, Some, None, List, [], refl, ◌∙◌, ap, Prog, Ret, Do, asks, OfNext, Did, Waits, Ran, Stops, PartOf as P, OpWithAnswer, own, onto, Theory, Began, Refuses, Begins, Run, State, EventOf as Event, Start, Step, OutcomeOf as Outcome, Started, WasRefused as Refused, WasIdle, DidWait, DidRun, DidEnd, DidStop, WasStopped, Made, HonestStep, IsHonest, all_told, begun, busy_in, changed, is_called as is_some, makes, moved, start_run, step_prog, step_run, step_unless, told, tried}
+use Rattle.run_laws.proofs.Vocabulary.{◌≡◌, ℕ, suc, nat_eq, if◌then◌else◌, Bool, true, false, Option, Some, None, List, [], refl, ◌∙◌, ap, Prog, Ret, Do, asks, OfNext, ExecResult, Waits, Ran, Stops, PartOf as P, OpWithAnswer, own, onto, Theory, Began, Refuses, Begins, Run, State, EventOf as Event, Start, Step, OutcomeOf as Outcome, Started, WasRefused as Refused, WasIdle, DidWait, DidRun, DidEnd, DidStop, WasStopped, Made, HonestStep, IsHonest, all_told, begun, busy_in, changed, is_called as is_some, makes, moved, start_run, step_prog, step_run, step_unless, told, tried}
 
 pub record Bare (World Program : Type 0) : Type 0 where
   pub world : World
   pub stopped : Bool
   pub running : ℕ → Option Program
 
-pub record BareMade (World Program Did Reply Refusal : Type 0) : Type 0 where
-  pub came : Outcome Did Reply Refusal
+pub record BareMade (World Program What Reply Refusal : Type 0) : Type 0 where
+  pub came : Outcome What Reply Refusal
   pub after : Bare World Program
 
-module _ {Op : Type 0} {Answer : Op → Type 0} {Mark World Outside Call Reply Refusal : Type 0} (go : ℕ → Outside → (op : Op) → (Answer op → Option Mark) → World → Did (Answer op) World) (start : ℕ → Call → (ℕ → Bool) → World → Began Refusal World) (busy : Refusal)
+module _ {Op : Type 0} {Answer : Op → Type 0} {Mark World Outside Call Reply Refusal : Type 0} (go : ℕ → Outside → (op : Op) → (Answer op → Option Mark) → World → ExecResult (Answer op) World) (start : ℕ → Call → (ℕ → Bool) → World → Began Refusal World) (busy : Refusal)
     (program : Call → Prog Op Answer Mark Reply) where
   abbrev B : Type 0
   B = Bare World (Prog Op Answer Mark Reply)
@@ -22,7 +22,7 @@ module _ {Op : Type 0} {Answer : Op → Type 0} {Mark World Outside Call Reply R
   bare_moved h b did (Ret reply) w = record { came = DidEnd reply; after = record { world = w; stopped = b.stopped; running = changed b.running h None } }
   bare_moved h b did (Do op m k) w = record { came = DidRun did; after = record { world = w; stopped = b.stopped; running = changed b.running h (Some (Do op m k)) } }
 
-  abbrev bare_tried : ℕ → B → (op : Op) → (Answer op → Prog Op Answer Mark Reply) → Did (Answer op) World → M
+  abbrev bare_tried : ℕ → B → (op : Op) → (Answer op → Prog Op Answer Mark Reply) → ExecResult (Answer op) World → M
   bare_tried h b op k Waits = record { came = DidWait; after = b }
   bare_tried h b op k (Ran a w) = bare_moved h b (op, a) (k a) w
   bare_tried h b op k (Stops w) = record { came = DidStop; after = record { world = w; stopped = true; running = b.running } }
@@ -100,7 +100,7 @@ module _ (L : Theory) where
         after = record { world = w; stopped = s.stopped; running = λ j. changed_in ps s.running h (Some (record { call = r.call; start = r.start; prog = Do op m k; count = suc r.count; done = onto (own h ps) r.done })) j i };
       }
 
-  tried_bare : (h : ℕ) (s : State L) (r : Run L) (op : L.M.Op) (ps : L.M.Answer op → List (ℕ × L.M.Step)) (k : L.M.Answer op → P L.M L.Reply) (d : Did (L.M.Answer op) L.M.World)
+  tried_bare : (h : ℕ) (s : State L) (r : Run L) (op : L.M.Op) (ps : L.M.Answer op → List (ℕ × L.M.Step)) (k : L.M.Answer op → P L.M L.Reply) (d : ExecResult (L.M.Answer op) L.M.World)
       → bare_made (tried L h s r op ps k d) ≡ bare_tried L.M.go L.start L.busy L.program h (bare s) op k d
   tried_bare h s r op ps k Waits = refl
   tried_bare h s r op ps k (Ran a w) = moved_bare h s r (op, a) (ps a) (k a) w

@@ -1,5 +1,5 @@
 -- Programs below do beside the children as they do without, under any history: who has a lender stays the child of that one's call.
-use Rattle.run_laws.proofs.Vocabulary.{ℕ, List, [], ◌∷◌, Option, Some, None, suc, Super, Ret, Do, Did, Waits, Ran, Stops, did_in, PartOf as P, onto, Goes, placed_with, Good, Wp, ActOf, Both, joined, both, seen_after, Handlers, Below, Budget, AtomicWithin, more, exec_blocks, Labels, labelled, below, World, Reserves, layer, acts_reserve}
+use Rattle.run_laws.proofs.Vocabulary.{ℕ, List, [], ◌∷◌, Option, Some, None, suc, Super, Ret, Do, ExecResult, Waits, Ran, Stops, exec_result_in, PartOf as P, onto, Goes, placed_with, Good, Wp, ActOf, Both, joined, both, seen_after, Handlers, Below, Budget, AtomicWithin, more, exec_blocks, Labels, labelled, below, World, Reserves, layer, acts_reserve}
 use Rattle.inode_machine.specs.World as above
 use Rattle.inodes_on_blocks.specs.Below.{World as Blocks}
 
@@ -15,11 +15,11 @@ module _ (sizes : Super) (l : Labels) where
   goes_on t [] u g = g
   goes_on t (p ∷ ps) u g = (g.0, g.1, goes_on g.0 ps u g.2)
 
-  good_on : {A : Type 0} (h : ℕ) (m : A → Option (ActOf (labelled l))) (ps : A → List (ℕ × l.Step)) (n : ℕ) (B : List l.Step → Type 0) (es : List l.Step) (v : Both World above.World) (wait : Type 0) (d : Did A Blocks)
+  good_on : {A : Type 0} (h : ℕ) (m : A → Option (ActOf (labelled l))) (ps : A → List (ℕ × l.Step)) (n : ℕ) (B : List l.Step → Type 0) (es : List l.Step) (v : Both World above.World) (wait : Type 0) (d : ExecResult A Blocks)
       (M : ℕ → A → Both Blocks above.World → Type 0) (N : ℕ → A → Both World above.World → Type 0) → Reserves v.real.children v.seen
       → ((k : ℕ) (a : A) (w : Both World above.World) → M k a (alone w) → N k a w)
       → Good (joined (labelled l) (below sizes)) A h ps 0 n B es (alone v) wait (both (labelled l) h m v.seen d) M
-      → Good (joined (labelled l) (layer sizes)) A h ps 0 n B es v wait (both (labelled l) h m v.seen (did_in (λ r. record (v.real) { blocks = r }) d)) N
+      → Good (joined (labelled l) (layer sizes)) A h ps 0 n B es v wait (both (labelled l) h m v.seen (exec_result_in (λ r. record (v.real) { blocks = r }) d)) N
   good_on h m ps n B es v wait Waits M N r f g = g
   good_on h m ps n B es v wait (Ran a u) M N r f g = record {
     inv = ((g.inv.0, still_reserve v.real.children h (m a) v.seen r), g.inv.1);

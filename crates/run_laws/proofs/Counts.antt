@@ -1,5 +1,5 @@
 -- The number of a call's steps that a state keeps is the one that its events show; so no call takes more than its limit.
-use Rattle.run_laws.proofs.Vocabulary.{◌≡◌, ◌≢◌, ◌≤◌, ◌+◌, ℕ, suc, Bool, true, false, nat_eq, if◌then◌else◌, Option, Some, None, List, [], ◌∷◌, refl, sym, ◌∙◌, ap, subst, inl, arith, eqb-true, eqb-false, Ret, Do, Did, Waits, Ran, Stops, PartOf as P, OpWithAnswer, own, onto, Theory, Began, Refuses, Begins, Lawful, Run, FinishedCall, State, Made, EventOf as Event, Start, Step, hart_of, AllHonest, changed, told, all_told, moved, tried, step_prog, step_unless, step_run, begun, busy_in, start_run, makes, next, outcomes, In, Keeps, Keeps-next, changed_same, changed_other, Some-inj, with_outcome, steps_ran, OfBegun, OfEachCall}
+use Rattle.run_laws.proofs.Vocabulary.{◌≡◌, ◌≢◌, ◌≤◌, ◌+◌, ℕ, suc, Bool, true, false, nat_eq, if◌then◌else◌, Option, Some, None, List, [], ◌∷◌, refl, sym, ◌∙◌, ap, subst, inl, arith, eqb-true, eqb-false, Ret, Do, ExecResult, Waits, Ran, Stops, PartOf as P, OpWithAnswer, own, onto, Theory, Began, Refuses, Begins, Lawful, Run, FinishedCall, State, Made, EventOf as Event, Start, Step, hart_of, AllHonest, changed, told, all_told, moved, tried, step_prog, step_unless, step_run, begun, busy_in, start_run, makes, next, outcomes, In, Keeps, Keeps-next, changed_same, changed_other, Some-inj, with_outcome, steps_ran, OfBegun, OfEachCall}
 
 -- hart h's call is r, and later so many of its steps run
 module _ (L : Theory) (h : ℕ) (s : State L) (r : Run L) (is : s.running h ≡ Some r) (later : ℕ) where
@@ -44,7 +44,7 @@ module _ (L : Theory) (h : ℕ) (s : State L) (r : Run L) (is : s.running h ≡ 
           (let a : suc q.count + later ≤ L.limit q.call = f.going new (changed_same (all_told L ps s.running) g (Some new) h (sym (eqb-true g h t))) in omega (arith, a))
       by false t = other g (eqb-false g h t) (moved L g s q did ps (Do op m k) w) (own h ps) (Some new) (all_told L ps s.running) refl (ap (told L (own h ps)) is) f
 
-  after_tried : (g : ℕ) (q : Run L) (op : L.M.Op) (ps : L.M.Answer op → List (ℕ × L.M.Step)) (k : L.M.Answer op → P L.M L.Reply) (d : Did (L.M.Answer op) L.M.World) → s.running g ≡ Some q → Fits (tried L g s q op ps k d) → Within g (tried L g s q op ps k d)
+  after_tried : (g : ℕ) (q : Run L) (op : L.M.Op) (ps : L.M.Answer op → List (ℕ × L.M.Step)) (k : L.M.Answer op → P L.M L.Reply) (d : ExecResult (L.M.Answer op) L.M.World) → s.running g ≡ Some q → Fits (tried L g s q op ps k d) → Within g (tried L g s q op ps k d)
   after_tried g q op ps k Waits at f = quiet g (tried L g s q op ps k Waits) refl is f
   after_tried g q op ps k (Ran a w) at f = ran g q (op, a) (ps a) (k a) w at f
   after_tried g q op ps k (Stops w) at f = quiet g (tried L g s q op ps k (Stops w)) refl is f

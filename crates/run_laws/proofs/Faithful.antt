@@ -1,5 +1,5 @@
 -- Each operation of a program above acts once within its own program below, with the answer that this program ends with.
-use Rattle.run_laws.proofs.Vocabulary.{◌≡◌, ◌≢◌, ◌⊎◌, inl, inr, ◌<◌, ◌+◌, ◌-◌, ℕ, suc, true, Option, Some, None, is_some, List, [], ◌∷◌, ◌++◌, refl, sym, ◌∙◌, ap, subst, arith, ne_eqb, Ret, Do, bind, Did, Waits, Ran, Stops, Machine, OpWithAnswer, PartOf as P, own, onto, oldest_first, placed_with, Grown, Good, Wp, Laws, Lower, Both, joined, LowerLaws, Handover, Handlers, lowered, Lasts, Below, Uses, Budget, Affords, AtomicWithin, Alone, own_one, Wp-weaker, Wp-more, Wp-bind, Wp-others, EndsWith, IsFaithful, IsUnderWay, Notes, StepNote, stepwise}
+use Rattle.run_laws.proofs.Vocabulary.{◌≡◌, ◌≢◌, ◌⊎◌, inl, inr, ◌<◌, ◌+◌, ◌-◌, ℕ, suc, true, Option, Some, None, is_some, List, [], ◌∷◌, ◌++◌, refl, sym, ◌∙◌, ap, subst, arith, ne_eqb, Ret, Do, bind, ExecResult, Waits, Ran, Stops, Machine, OpWithAnswer, PartOf as P, own, onto, oldest_first, placed_with, Grown, Good, Wp, Laws, LowerLayer, Both, joined, LowerLaws, Handover, Handlers, lowered, Lasts, Below, Uses, Budget, Affords, AtomicWithin, Alone, own_one, Wp-weaker, Wp-more, Wp-bind, Wp-others, EndsWith, IsFaithful, IsUnderWay, Notes, StepNote, stepwise}
 use Rattle.run_laws.specs.Faithful.{ActsWithin}
 
 -- ---- a machine with its notes
@@ -55,7 +55,7 @@ acts_open : (L : Machine) {A C : Type 0} (IsOf : A → L.Step → Type 0) (Open 
 acts_open L IsOf Open Then (Ret x) t = absurd t
 acts_open L IsOf Open Then (Do op m k) t = t
 
-module _ (U : Machine) (R : Lower U.World) (handler : Handlers U R) (IsOf : (op : U.Op) → (U.Answer op → Option U.Mark) → U.Answer op → U.Step → Type 0) where
+module _ (U : Machine) (R : LowerLayer U.World) (handler : Handlers U R) (IsOf : (op : U.Op) → (U.Answer op → Option U.Mark) → U.Answer op → U.Step → Type 0) where
   -- a program that is under way may be at its start
   pub none_noted : {A : Type 0} (c : R.Carry) (p : P U A) → IsFaithful U R handler IsOf None c p []
   none_noted c (Ret a) = tt
@@ -154,7 +154,7 @@ module _ (L : Machine) (alone : Alone L) (clean : (w : L.World) → L.Clean w) (
 
         made : (v : L.World)
             → ((b : L.Answer op) (l : ℕ) (ys : List L.Step) (es : Notes L) (u : L.World) → Stage (k b) ys es → Wp L h OneStep G (k b) l ys u → Wp (stepwise L) h SoFar Q (k b) l es u)
-            → (d : Did (L.Answer op) L.World)
+            → (d : ExecResult (L.Answer op) L.World)
             → Good L (L.Answer op) h (placed_with L h op m v) (L.more op) n OneStep gs v (L.MayWait h op v) d (λ l b u. Wp L h OneStep G (k b) l (onto (own h (placed_with L h op m v b)) gs) u)
             → Good (stepwise L) (L.Answer op) h (placed_with (stepwise L) h op m v) (L.more op) n SoFar fs v (L.MayWait h op v) d (λ l b u. Wp (stepwise L) h SoFar Q (k b) l (onto (own h (placed_with (stepwise L) h op m v b)) fs) u)
         made v ih Waits f = f
@@ -181,7 +181,7 @@ PlacesItself U IsOf =
     (h : ℕ) (op : U.Op) (m : U.Answer op → Option U.Mark) (a : U.Answer op) (w : U.World) → (s : U.Step) × (U.places h op a (m a) w ≡ (h, s) ∷ []) × IsOf op m a s
 
 -- At each seam between two of its operations the notes so far are those of all before.
-module _ (U : Machine) (R : Lower U.World) (handler : Handlers U R) (IsOf : (op : U.Op) → (U.Answer op → Option U.Mark) → U.Answer op → U.Step → Type 0) (alone : Alone U) (clean : (w : U.World) → U.Clean w) (itself : PlacesItself U IsOf)
+module _ (U : Machine) (R : LowerLayer U.World) (handler : Handlers U R) (IsOf : (op : U.Op) → (U.Answer op → Option U.Mark) → U.Answer op → U.Step → Type 0) (alone : Alone U) (clean : (w : U.World) → U.Clean w) (itself : PlacesItself U IsOf)
     (above : Laws U) (below : LowerLaws U R) (h : ℕ) (b : Budget U) (Has : R.World → b.Spent → Type 0) {A : Type 0} (whole : P U A) (B : List U.Step → Type 0) (Q : A → List U.Step → U.World → Type 0) (lasts : Lasts U h B Q)
     (idle : (a : A) (es : List U.Step) (w : U.World) → Q a es w → U.Idle h w) where
   abbrev J : Machine
@@ -254,7 +254,7 @@ module _ (U : Machine) (R : Lower U.World) (handler : Handlers U R) (IsOf : (op 
             x.2,
           )
 
-      one : (v : U.World) (ys gs : List U.Step) → gs ≡ [] → (d : Did (U.Answer op) U.World)
+      one : (v : U.World) (ys gs : List U.Step) → gs ≡ [] → (d : ExecResult (U.Answer op) U.World)
           → Good U (U.Answer op) h (placed_with U h op m v) (U.more op) n B ys v (U.MayWait h op v) d (λ l a u. Wp U h B Q (k a) l (onto (own h (U.places h op a (m a) v)) ys) u)
           → Good U (U.Answer op) h (placed_with U h op m v) (U.more op) (suc (U.more op)) One gs v (U.MayWait h op v) d (λ l a u. Then a (onto (own h (U.places h op a (m a) v)) gs) u)
       one v ys gs e Waits q = q

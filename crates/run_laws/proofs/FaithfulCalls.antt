@@ -1,5 +1,5 @@
 -- The calls of a layer below are right with what is noted of them, where each operation acts with the answer that its program ends with.
-use Rattle.run_laws.proofs.Vocabulary.{◌≡◌, ◌⊎◌, inl, inr, ◌+◌, ℕ, Bool, false, Option, Some, None, [], refl, sym, ◌∙◌, ap, subst, arith, Ret, bind, oldest_first, Wp, Theory, Began, Begins, Begun, Ends, Lawful, Lower, Both, joined, LowerLaws, Handlers, Lasts, BeginsSome, IsStarted, Uses, Starts, StartsBoth, began_to, lowered_calls, Budget, Affords, AtomicWithin, whole_begins, ends_last, begun_both, Alone, Wp-weaker, Wp-more, Wp-bind, IsFaithful, Notes, stepwise}
+use Rattle.run_laws.proofs.Vocabulary.{◌≡◌, ◌⊎◌, inl, inr, ◌+◌, ℕ, Bool, false, Option, Some, None, [], refl, sym, ◌∙◌, ap, subst, arith, Ret, bind, oldest_first, Wp, Theory, Began, Begins, Begun, Ends, Lawful, LowerLayer, Both, joined, LowerLaws, Handlers, Lasts, BeginsSome, IsStarted, Uses, Starts, StartsBoth, began_to, lowered_calls, Budget, Affords, AtomicWithin, whole_begins, ends_last, begun_both, Alone, Wp-weaker, Wp-more, Wp-bind, IsFaithful, Notes, stepwise}
 use Rattle.run_laws.proofs.Faithful.{PlacesItself, handles, none_noted, stepwise_laws}
 
 -- The same calls, with their notes. Each ends with Some of its reply; so what explains a call by None is of one that is under way.
@@ -17,7 +17,7 @@ telling L AreOf =
       limit = L.limit;
     }
 
-module _ (T : Theory) (R : Lower T.M.World) (handler : Handlers T.M R) (begin : Starts T R) (IsOf : (op : T.M.Op) → (T.M.Answer op → Option T.M.Mark) → T.M.Answer op → T.M.Step → Type 0) where
+module _ (T : Theory) (R : LowerLayer T.M.World) (handler : Handlers T.M R) (begin : Starts T R) (IsOf : (op : T.M.Op) → (T.M.Answer op → Option T.M.Mark) → T.M.Answer op → T.M.Step → Type 0) where
   abbrev L : Theory
   L = lowered_calls T R handler begin
 

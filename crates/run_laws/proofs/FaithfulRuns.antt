@@ -1,5 +1,5 @@
 -- In each run of a mounted world the calls go on as their operations acted.
-use Rattle.run_laws.proofs.Vocabulary.{◌≡◌, ◌<◌, ◌∙◌, ℕ, true, List, refl, sym, subst, Option, None, Some, ap, Super, sizes_of, Call, put, hart_count, Theory, AllHonest, EventOf, Lawful, fresh, run, IsExplained, history, steps_of, ActOf, Both, placed_at, BeginsSome, IsStarted, Uses, own, placed_with, Did, Waits, Ran, Stops, explains, Alone, own_one, Outside, AnswerBelow, Op, unspent, program, transactions_are_small, nothing, IsMountable, handlers, HasSpent, recorded_blocks, mounts_show_their_trees, affords, first, World, layer, shared_of, begins, block_calls, child_of, serves, first_holds, first_idle, served_is, begun_here, below_count, AllAnswer, IsHistory, WorldOf, all_honest, mountable, rests_erased, AreOf, AreOfFinished, CallsGoOnAsTheyActed, GoOnAsTheyActed, IsOperation, noted_inode_calls, Operation, inode_calls, lowered_inode_calls, operations, told_by, whole_inodes}
+use Rattle.run_laws.proofs.Vocabulary.{◌≡◌, ◌<◌, ◌∙◌, ℕ, true, List, refl, sym, subst, Option, None, Some, ap, Super, sizes_of, Call, put, hart_count, Theory, AllHonest, EventOf, Lawful, fresh, run, IsExplained, history, steps_of, ActOf, Both, placed_at, BeginsSome, IsStarted, Uses, own, placed_with, ExecResult, Waits, Ran, Stops, explains, Alone, own_one, Outside, AnswerBelow, Op, unspent, program, transactions_are_small, nothing, IsMountable, handlers, HasSpent, recorded_blocks, mounts_show_their_trees, affords, first, World, layer, shared_of, begins, block_calls, child_of, serves, first_holds, first_idle, served_is, begun_here, below_count, AllAnswer, IsHistory, WorldOf, all_honest, mountable, rests_erased, AreOf, AreOfFinished, CallsGoOnAsTheyActed, GoOnAsTheyActed, IsOperation, noted_inode_calls, Operation, inode_calls, lowered_inode_calls, operations, told_by, whole_inodes}
 use Rattle.inode_machine.specs.World as above
 use Rattle.run_laws.proofs.CallFits.{call_fits, most_written}
 use Rattle.run_laws.proofs.Faithful.{PlacesItself, faithful_shorter}
@@ -24,7 +24,7 @@ module _ (sizes : Super) where
   alone_places h op a None w = refl
   alone_places h op a (Some t) w = at (whole_inodes.go h t.outside t.op t.mark w.seen)
     where
-      at : (d : Did (above.Answer t.op) above.World)
+      at : (d : ExecResult (above.Answer t.op) above.World)
           → placed_at (placed_with whole_inodes h t.op t.mark w.seen) d ≡ all_by h (own h (placed_at (placed_with whole_inodes h t.op t.mark w.seen) d))
       at Waits = refl
       at (Ran b u) = ap (λ (xs : List Operation). all_by h xs) (sym (own_one {A = Operation} h (record { op = t.op; answer = b; mark = t.mark b; told = told_by h (t.mark b) w.seen })))

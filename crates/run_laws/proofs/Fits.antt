@@ -6,7 +6,7 @@ use Rattle.run_laws.proofs.Telling.{spoils}
 
 -- no more than so many bytes are written at once
 abbrev pub Fits : ℕ → Op → Type 0
-Fits most (Claim sort) = IsMade sort
+Fits most (Claim inode_type) = IsMade inode_type
 Fits most (Enter d e n) = length e ≤ 14
 Fits most (WriteFile fd n offset bytes) = (0 < length bytes) × IsBytes bytes × (length bytes ≤ most)
 Fits most op = Unit {0}

@@ -1,5 +1,5 @@
 -- A world that has stopped has a call under way: that of the hart whose step stopped it.
-use Rattle.run_laws.proofs.Vocabulary.{◌≡◌, ℕ, Bool, true, false, Option, Some, None, List, [], ◌∷◌, if◌then◌else◌, refl, sym, ◌∙◌, ap, nat_eq, Ret, Do, Did, Waits, Ran, Stops, PartOf as P, OpWithAnswer, Theory, Began, Refuses, Begins, Run, State, EventOf as Event, Start, Step, changed, fresh, is_called as is_some, run, moved, tried, step_prog, step_unless, step_run, begun, busy_in, start_run, next}
+use Rattle.run_laws.proofs.Vocabulary.{◌≡◌, ℕ, Bool, true, false, Option, Some, None, List, [], ◌∷◌, if◌then◌else◌, refl, sym, ◌∙◌, ap, nat_eq, Ret, Do, ExecResult, Waits, Ran, Stops, PartOf as P, OpWithAnswer, Theory, Began, Refuses, Begins, Run, State, EventOf as Event, Start, Step, changed, fresh, is_called as is_some, run, moved, tried, step_prog, step_unless, step_run, begun, busy_in, start_run, next}
 
 module _ (L : Theory) where
   record HasCall (s : State L) : Type 0 where
@@ -39,7 +39,7 @@ module _ (L : Theory) where
     went_on did ps (Do op m k) w runs = runs_on _ runs
 
     came_to : (op : L.M.Op) (ps : L.M.Answer op → List (ℕ × L.M.Step)) (k : L.M.Answer op → P L.M L.Reply)
-        → (d : Did (L.M.Answer op) L.M.World) → s.stopped ≡ false → StopsInCalls (tried L h s r op ps k d).after
+        → (d : ExecResult (L.M.Answer op) L.M.World) → s.stopped ≡ false → StopsInCalls (tried L h s r op ps k d).after
     came_to op ps k Waits runs = runs_on _ runs
     came_to op ps k (Ran a w) runs = went_on (op, a) (ps a) (k a) w runs
     came_to op ps k (Stops w) runs = λ on. record { hart = h; busy = ap (is_some {A = Run L}) is }

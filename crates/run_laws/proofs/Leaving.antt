@@ -1,5 +1,5 @@
 -- What a program's operations have changed where it ends for want of room: of a run of it, and of the parts of which calls are made.
-use Rattle.run_laws.proofs.Vocabulary.{◌≡◌, ◌⊎◌, inl, inr, ℕ, Bool, true, false, if◌then◌else◌, List, [], ◌∷◌, ◌++◌, Option, Some, None, refl, sym, ◌∙◌, ap, subst, append_assoc, append-nil, Full, MemInodes, Reply, Call, Action, Name, elements, is_absolute, eq_self, In, Ret, Do, unmarked, AtName, AtNothing, is_directory_face, NoMemory, NotThere, P, Stop, drop, free_all, full, give_up, leave_directory, say, see_parent, start, start_on, stopped, tail, walk, walk_parent, walk_step, with_last, Answer, Forget, Free, Give, Leave, Take, Up, UpStart, Frees, Change, Freed, Sighting, by_free, changed_by, changes_after, seen_by, Stands, wanted, HasWanted, IsRunOf, Operation}
+use Rattle.run_laws.proofs.Vocabulary.{◌≡◌, ◌⊎◌, inl, inr, ℕ, Bool, true, false, if◌then◌else◌, List, [], ◌∷◌, ◌++◌, Option, Some, None, refl, sym, ◌∙◌, ap, subst, append_assoc, append-nil, Full, MemInodes, Reply, Call, Action, Name, elements, is_absolute, eq_self, In, Ret, Do, unmarked, AtName, AtNothing, is_directory_face, NoMemory, NotThere, P, WalkStop, drop, free_all, full, give_up, leave_directory, say, see_parent, start, start_on, stopped, tail, walk, walk_parent, walk_step, with_last, Answer, Forget, Free, UnlockInode, Leave, Take, Up, UpStart, Frees, Change, Freed, Sighting, by_free, changed_by, changes_after, seen_by, Stands, wanted, HasWanted, IsRunOf, Operation}
 use Rattle.plain_tree.specs.declared.answer.Answer.TheVariants as answers
 use Rattle.inode_machine.specs.World.{Op}
 
@@ -101,9 +101,9 @@ module _ (call : Call) where
     where
       ifs : (last : Bool)
           → Leaves b cs
-          (if last then Do (Free n) (λ _. Some (Frees n)) (λ _. Do (Give n) unmarked (λ _. Do (Forget n) unmarked (λ _. k))) else k)
+          (if last then Do (Free n) (λ _. Some (Frees n)) (λ _. Do (UnlockInode n) unmarked (λ _. Do (Forget n) unmarked (λ _. k))) else k)
       ifs true =
-          λ _. subst (λ (z : List Change). Leaves b z (Do (Give n) unmarked (λ _. Do (Forget n) unmarked (λ _. k)))) (none_freed cs n)
+          λ _. subst (λ (z : List Change). Leaves b z (Do (UnlockInode n) unmarked (λ _. Do (Forget n) unmarked (λ _. k)))) (none_freed cs n)
           (λ _ _. goes)
       ifs false = goes
 
@@ -116,7 +116,7 @@ module _ (call : Call) where
       λ _ _ _. subst (λ (z : List Change). Leaves b z rest) (none_freed cs n) (λ _ _ _. free_all_l b cs ns r ends)
     where
       rest : P Reply
-      rest = Do (Give n) unmarked (λ _. Do (Forget n) unmarked (λ _. Do Leave unmarked (λ _. free_all ns (say r))))
+      rest = Do (UnlockInode n) unmarked (λ _. Do (Forget n) unmarked (λ _. Do Leave unmarked (λ _. free_all ns (say r))))
 
   pub tail_l : (b : Bool) (cs : List Change) (ns : List ℕ) (r : Reply) → Ends b cs r → Leaves b cs (tail ns r)
   tail_l b cs ns r ends = λ _. free_all_l b cs ns r ends
@@ -131,7 +131,7 @@ module _ (call : Call) where
   -- ---- walks
 
   -- these change nothing, and where there is no place in memory they are lost
-  module _ (cs : List Change) (lost : Stop → List ℕ → P Reply)
+  module _ (cs : List Change) (lost : WalkStop → List ℕ → P Reply)
       (missing : (ns : List ℕ) → Leaves false cs (lost NotThere ns)) (placeless : (ns : List ℕ) → Leaves true cs (lost NoMemory ns)) where
     step_l : (seen : Option Sighting) (d : ℕ) (ns : List ℕ) (go : ℕ → List ℕ → P Reply)
         → ((n : ℕ) (ms : List ℕ) → Leaves false cs (go n ms)) → (o : Option ℕ) → LeavesFrom seen false cs (walk_step d ns go lost o)
@@ -166,7 +166,7 @@ module _ (call : Call) where
         where
           by : (seen : Option Sighting) (b : Bool)
               → LeavesFrom seen false cs
-              (if b then Do (Give d) unmarked (λ _. found d e ns) else leave_directory d ns (lost NotThere))
+              (if b then Do (UnlockInode d) unmarked (λ _. found d e ns) else leave_directory d ns (lost NotThere))
           by seen true = λ _. found_l d e ns
           by seen false = leave_l false cs d ns (lost NotThere) missing
 

@@ -1,5 +1,5 @@
 -- What each call's program has changed where it ends for want of room.
-use Rattle.run_laws.proofs.Vocabulary.{◌≡◌, inl, inr, ◌+◌, ◌-◌, ◌==◌, ◌||◌, ℕ, zero, suc, Bool, true, false, if◌then◌else◌, List, [], ◌∷◌, ◌++◌, Option, Some, None, length, refl, append_assoc, Cause, Exists, NoDirectory, DotName, NoEntry, NotDirectory, NotEmpty, BadDescriptor, Full, Blocks, Descriptors, Directory, DiskInodes, MemInodes, OpenFiles, Reply, Call, Action, creates, Name, dot, dotdot, elements, same_name, descriptor_count, Ret, Do, unmarked, close_on, dup_on, read_on, read_reply, stat_on, stat_reply, Face, OfDirectory, OfFile, Sort, face_or, is_directory_face, is_directory_sort, is_live_face, AtEntries, AtName, AtNothing, open_refusal, chdir_at, chdir_program, inherit_end, lend_from, lend_on, bump_refused, clear_name, in_parent, link_at, link_found, link_in, link_name, link_program, link_raise, lower, mkdir_in, mkdir_on, mkdir_other, mkdir_refused, mkdir_with, name_directory, named_on, or_missing, unlink_child, unlink_dots, unlink_found, unlink_in, unlink_named, unlink_other, create_found, create_in, empties, entered_file, file_for, installed_on, installs, make_on, make_other, make_with, open_at, open_end, open_face, open_made, open_new, open_old, opened_reply, take_descriptor, truncates, unmake, P, done, drop, failed, full, give_up, own_step, say, stopped, tail, program, Answer, Lent, LoanResult, LockResult, LocksIt, Moved, New, NotLocked, Claim, Double, Empty, Enter, Fill, Forget, Install, Leave, Lend, LendDirectory, ReadFile, Release, Settle, Shut, Store, Take, Up, Change, Claimed, Cleared, Counted, Entered, Filled, GaveBack, Sighting, TookPlace, seen_by, MadeFileAtMost, Stands, raised, wanted}
+use Rattle.run_laws.proofs.Vocabulary.{◌≡◌, inl, inr, ◌+◌, ◌-◌, ◌==◌, ◌||◌, ℕ, zero, suc, Bool, true, false, if◌then◌else◌, List, [], ◌∷◌, ◌++◌, Option, Some, None, length, refl, append_assoc, Cause, Exists, NoDirectory, DotName, NoEntry, NotDirectory, NotEmpty, BadDescriptor, Full, Blocks, Descriptors, Directory, DiskInodes, MemInodes, OpenFiles, Reply, Call, Action, creates, Name, dot, dotdot, elements, same_name, descriptor_count, Ret, Do, unmarked, close_on, dup_on, read_on, read_reply, stat_on, stat_reply, Face, OfDirectory, OfFile, InodeType, face_or, is_directory_face, is_directory_type, is_live_face, AtEntries, AtName, AtNothing, open_refusal, chdir_at, chdir_program, inherit_end, lend_from, lend_on, bump_refused, clear_name, in_parent, link_at, link_found, link_in, link_name, link_program, link_raise, lower, mkdir_in, mkdir_on, mkdir_other, mkdir_refused, mkdir_with, name_directory, named_on, or_missing, unlink_child, unlink_dots, unlink_found, unlink_in, unlink_named, unlink_other, create_found, create_in, empties, entered_file, file_for, installed_on, installs, make_on, make_other, make_with, open_at, open_end, open_face, open_made, open_new, open_old, opened_reply, take_descriptor, truncates, unmake, P, done, drop, failed, full, give_up, own_step, say, stopped, tail, program, Answer, Lent, LoanResult, LockResult, LocksIt, Moved, New, NotLocked, Claim, Double, Empty, Enter, Fill, Forget, Install, Leave, Lend, LendDirectory, ReadFile, Release, SetDirectory, Shut, Store, Take, Up, Change, Claimed, Cleared, Counted, Entered, Filled, GaveBack, Sighting, TookPlace, seen_by, MadeFileAtMost, Stands, raised, wanted}
 use Rattle.plain_tree.specs.declared.answer.Answer.TheVariants as answers
 use Rattle.plain_tree.specs.declared.call.Call.TheVariants as calls
 use Rattle.plain_tree.specs.declared.step.Action.TheVariants as actions
@@ -28,10 +28,10 @@ module _ (path : List ℕ) where
     where
       by : (seen : Option Sighting) (b : Bool)
           → LeavesFrom turn seen false []
-          (if b then Do (Settle n) unmarked (λ old. drop old (tail ns (done turn))) else give_up n (tail ns (failed turn NotDirectory)))
+          (if b then Do (SetDirectory n) unmarked (λ old. drop old (tail ns (done turn))) else give_up n (tail ns (failed turn NotDirectory)))
       by seen true =
-          λ old. drop_l turn false (after [] (Settle n) old) old (tail ns (done turn))
-          (tail_only turn (after [] (Settle n) old) ns (done turn))
+          λ old. drop_l turn false (after [] (SetDirectory n) old) old (tail ns (done turn))
+          (tail_only turn (after [] (SetDirectory n) old) ns (done turn))
       by seen false = give_up_only turn [] n ns (failed turn NotDirectory)
 
   chdir_l : Leaves turn false [] (chdir_program path)
@@ -49,31 +49,31 @@ module _ (path : List ℕ) (flags : ℕ) where
   end_l cs n ns fd = λ _. tail_only c cs ns (opened_reply path flags fd)
 
   -- a place for an open file, and a descriptor
-  descriptor_l : (made : List Change) → MadeFileAtMost flags made → (n : ℕ) (sort : Sort) (ns : List ℕ) (mark : ℕ → Option above.Mark)
+  descriptor_l : (made : List Change) → MadeFileAtMost flags made → (n : ℕ) (inode_type : InodeType) (ns : List ℕ) (mark : ℕ → Option above.Mark)
       (k : ℕ → P Reply) → ((cs : List Change) (fd : ℕ) → Leaves c false cs (k fd))
-      → Leaves c false made (take_descriptor path flags n sort ns mark k)
-  descriptor_l made is n sort ns mark k goes = λ there. by there
+      → Leaves c false made (take_descriptor path flags n inode_type ns mark k)
+  descriptor_l made is n inode_type ns mark k goes = λ there. by there
     where
       installed : (fd : Option ℕ)
-          → Leaves c (or_wanted (wanted (Install (file_for n flags) sort) fd) false)
-          (after (made ++ TookPlace ∷ []) (Install (file_for n flags) sort) fd) (installed_on path flags n ns k fd)
+          → Leaves c (or_wanted (wanted (Install (file_for n flags) inode_type) fd) false)
+          (after (made ++ TookPlace ∷ []) (Install (file_for n flags) inode_type) fd) (installed_on path flags n ns k fd)
       installed None =
           let cs : List Change = (made ++ TookPlace ∷ []) ++ GaveBack ∷ [] in
           refused_l c true cs n ns (full c Descriptors)
           (ends_full c true cs Descriptors (made, is, append_assoc made (TookPlace ∷ []) (GaveBack ∷ [])))
-      installed (Some fd) = goes (after (made ++ TookPlace ∷ []) (Install (file_for n flags) sort) (Some fd)) fd
+      installed (Some fd) = goes (after (made ++ TookPlace ∷ []) (Install (file_for n flags) inode_type) (Some fd)) fd
 
       by : (there : Bool)
           → Leaves c (or_wanted (wanted above.Slot there) false) (after made above.Slot there)
-          (if there then Do (Install (file_for n flags) sort) (installs mark) (installed_on path flags n ns k)
+          (if there then Do (Install (file_for n flags) inode_type) (installs mark) (installed_on path flags n ns k)
           else give_up n (tail ns (full c OpenFiles)))
       by true = λ fd. installed fd
       by false = refused_l c true made n ns (full c OpenFiles) (ends_full c true made OpenFiles is)
 
-  face_l : (seen : Option Sighting) (n : ℕ) (ns : List ℕ) (sort : Sort) (o : Option Cause)
-      → LeavesFrom c seen false [] (open_face path flags n ns sort o)
-  face_l seen n ns sort (Some why) = give_up_only c [] n ns (failed c why)
-  face_l seen n ns sort None = descriptor_l [] (inl refl) n sort ns (λ fd. None) _ (λ cs fd. opened cs fd (empties flags sort))
+  face_l : (seen : Option Sighting) (n : ℕ) (ns : List ℕ) (inode_type : InodeType) (o : Option Cause)
+      → LeavesFrom c seen false [] (open_face path flags n ns inode_type o)
+  face_l seen n ns inode_type (Some why) = give_up_only c [] n ns (failed c why)
+  face_l seen n ns inode_type None = descriptor_l [] (inl refl) n inode_type ns (λ fd. None) _ (λ cs fd. opened cs fd (empties flags inode_type))
     where
       opened : (cs : List Change) (fd : ℕ) (b : Bool)
           → Leaves c false cs
@@ -82,7 +82,7 @@ module _ (path : List ℕ) (flags : ℕ) where
       opened cs fd false = end_l cs n ns fd
 
   open_at_l : (n : ℕ) (ns : List ℕ) → Leaves c false [] (open_at path flags n ns)
-  open_at_l n ns = λ a. face_l (seen_by (Take n AtNothing) a) n ns (face_or a.face).sort (open_refusal (flags == 0) (face_or a.face).sort)
+  open_at_l n ns = λ a. face_l (seen_by (Take n AtNothing) a) n ns (face_or a.face).inode_type (open_refusal (flags == 0) (face_or a.face).inode_type)
 
   open_l : Leaves c false [] (open_old path flags)
   open_l =
@@ -99,19 +99,19 @@ module _ (path : List ℕ) (flags : ℕ) where
       (refused_l c true cs d ns (full c kind) (ends_full c true cs kind stands))
 
   module _ (asks : creates flags ≡ true) where
-    named_l : (n : ℕ) (sort : Sort) (d : ℕ) (ns : List ℕ) (e : Name) (a : above.EntryResult)
+    named_l : (n : ℕ) (inode_type : InodeType) (d : ℕ) (ns : List ℕ) (e : Name) (a : above.EntryResult)
         → Leaves c (or_wanted (wanted (Enter d e n) a) false)
-        (after (Claimed n ∷ Counted n 1 ∷ []) (Enter d e n) a) (make_on path flags n sort d ns a)
-    named_l n sort d ns e above.InPlace =
+        (after (Claimed n ∷ Counted n 1 ∷ []) (Enter d e n) a) (make_on path flags n inode_type d ns a)
+    named_l n inode_type d ns e above.InPlace =
         let made : List Change = Claimed n ∷ Counted n 1 ∷ Entered d e n ∷ [] in
-        λ _. drop_l c false made d (open_made path flags n sort ns)
-        (descriptor_l made (inr (asks, (n, d, e, refl))) n sort ns (truncates flags) (open_end path flags n ns)
+        λ _. drop_l c false made d (open_made path flags n inode_type ns)
+        (descriptor_l made (inr (asks, (n, d, e, refl))) n inode_type ns (truncates flags) (open_end path flags n ns)
         (λ cs fd. end_l cs n ns fd))
-    named_l n sort d ns e above.NoBlock = unmake_l n d ns Blocks (n, Counted n 1 ∷ [], (refl, tt), refl)
-    named_l n sort d ns e above.NoSlot = unmake_l n d ns Directory (n, Counted n 1 ∷ [], (refl, tt), refl)
+    named_l n inode_type d ns e above.NoBlock = unmake_l n d ns Blocks (n, Counted n 1 ∷ [], (refl, tt), refl)
+    named_l n inode_type d ns e above.NoSlot = unmake_l n d ns Directory (n, Counted n 1 ∷ [], (refl, tt), refl)
 
     file_l : (d : ℕ) (e : Name) (ns : List ℕ) (n : ℕ) → Leaves c false (Claimed n ∷ []) (make_other path flags d e ns n)
-    file_l d e ns n = λ a _ r. named_l n (face_or a.face).sort d ns e r
+    file_l d e ns n = λ a _ r. named_l n (face_or a.face).inode_type d ns e r
 
     file_with_l : (d : ℕ) (e : Name) (ns : List ℕ) (a : above.ClaimResult)
         → Leaves c (or_wanted (wanted (Claim OfFile) a) false) (after [] (Claim OfFile) a) (make_with path flags d e ns a)
@@ -223,7 +223,7 @@ module _ (path : List ℕ) where
   gone = calls.Unlink path
 
   clear_l : (d : ℕ) (e : Name) (ns : List ℕ) (f : Face) (n : ℕ) (g : Face) → Leaves gone false [] (clear_name path d e ns f n g)
-  clear_l d e ns f n g = λ _. by (is_directory_sort g.sort)
+  clear_l d e ns f n g = λ _. by (is_directory_type g.inode_type)
     where
       child : P Reply
       child = Do (Store n (g.count - 1)) unmarked (λ _. give_up n (tail ns (done gone)))
@@ -335,7 +335,7 @@ module _ (old new : List ℕ) where
   raise_l n ns f None = λ _. name_l n f.count ns (elements new)
 
   link_at_l : (n : ℕ) (ns : List ℕ) → Leaves link false [] (link_at old new n ns)
-  link_at_l n ns = λ a. by (face_or a.face) (is_directory_sort (face_or a.face).sort)
+  link_at_l n ns = λ a. by (face_or a.face) (is_directory_type (face_or a.face).inode_type)
     where
       by : (f : Face) (b : Bool)
           → LeavesFrom link (Some (record { number = n; count = f.count })) false []

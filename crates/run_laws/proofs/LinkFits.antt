@@ -1,5 +1,5 @@
 -- What link asks for fits.
-use Rattle.run_laws.proofs.Vocabulary.{ℕ, Bool, true, false, if◌then◌else◌, List, [], ◌∷◌, Option, Some, None, refl, Cause, NoEntry, Exists, NoDirectory as IsDirectory, Blocks, Directory, Reply, Name, elements, Face, face_or, is_directory_sort, is_live_face, lower, named_on, link_found, link_in, link_name, bump_refused, link_raise, link_at, link_program, is_there, failed, full, done, drop, give_up, tail, stopped}
+use Rattle.run_laws.proofs.Vocabulary.{ℕ, Bool, true, false, if◌then◌else◌, List, [], ◌∷◌, Option, Some, None, refl, Cause, NoEntry, Exists, NoDirectory as IsDirectory, Blocks, Directory, Reply, Name, elements, Face, face_or, is_directory_type, is_live_face, lower, named_on, link_found, link_in, link_name, bump_refused, link_raise, link_at, link_program, is_there, failed, full, done, drop, give_up, tail, stopped}
 use Rattle.plain_tree.specs.declared.call.Call.TheVariants as calls
 use Rattle.plain_tree.specs.declared.step.Action.TheVariants as actions
 use Rattle.inode_machine.specs.World as above
@@ -51,7 +51,7 @@ module _ (old new : List ℕ) where
   raise_fits n ns f None = (tt, λ _. refl, λ _. name_fits n ns (elements new) (elements_short new))
 
   at_fits : (n : ℕ) (ns : List ℕ) → AllFit (link_at old new n ns)
-  at_fits n ns = (tt, λ a. bump_tells (face_or a.face), λ a. by (face_or a.face) (is_directory_sort (face_or a.face).sort))
+  at_fits n ns = (tt, λ a. bump_tells (face_or a.face), λ a. by (face_or a.face) (is_directory_type (face_or a.face).inode_type))
     where
       by : (f : Face) (b : Bool) → AllFit (if b then give_up n (tail ns (failed (calls.Link old new) IsDirectory)) else link_raise old new n ns f (bump_refused f))
       by f true = refused_fits n ns (failed (calls.Link old new) IsDirectory)

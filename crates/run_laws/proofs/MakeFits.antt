@@ -1,5 +1,5 @@
 -- What open with CREATE and mkdir ask for fits.
-use Rattle.run_laws.proofs.Vocabulary.{ℕ, ◌==◌, Bool, true, false, if◌then◌else◌, List, [], ◌∷◌, Option, Some, None, refl, Cause, NoEntry, Blocks, Descriptors, Directory, DiskInodes, MemInodes, OpenFiles, Reply, Name, elements, Do, unmarked, Sort, Face, face_or, is_live_face, in_parent, is_refused, mkdir_in, mkdir_on, mkdir_other, mkdir_program, mkdir_refused, mkdir_with, name_directory, create_found, create_in, entered_file, file_for, installs, installed_on, make_on, make_other, make_with, open_at, open_end, open_made, open_new, truncates, unmake, P, is_there, failed, full, done, give_up, tail, stopped, Enter, Forget, Install}
+use Rattle.run_laws.proofs.Vocabulary.{ℕ, ◌==◌, Bool, true, false, if◌then◌else◌, List, [], ◌∷◌, Option, Some, None, refl, Cause, NoEntry, Blocks, Descriptors, Directory, DiskInodes, MemInodes, OpenFiles, Reply, Name, elements, Do, unmarked, InodeType, Face, face_or, is_live_face, in_parent, is_refused, mkdir_in, mkdir_on, mkdir_other, mkdir_program, mkdir_refused, mkdir_with, name_directory, create_found, create_in, entered_file, file_for, installs, installed_on, make_on, make_other, make_with, open_at, open_end, open_made, open_new, truncates, unmake, P, is_there, failed, full, done, give_up, tail, stopped, Enter, Forget, Install}
 use Rattle.plain_tree.specs.declared.call.Call.TheVariants as calls
 use Rattle.plain_tree.specs.declared.step.Action.TheVariants as actions
 use Rattle.inode_machine.specs.World as above
@@ -23,24 +23,24 @@ other_or n d ns r k uses = by (n == d)
 -- ---- open
 
 module _ (path : List ℕ) (flags : ℕ) where
-  made_fits : (n : ℕ) (sort : Sort) (ns : List ℕ) → AllFit (open_made path flags n sort ns)
-  made_fits n sort ns = (tt, mends_tell, λ there. by there)
+  made_fits : (n : ℕ) (inode_type : InodeType) (ns : List ℕ) → AllFit (open_made path flags n inode_type ns)
+  made_fits n inode_type ns = (tt, mends_tell, λ there. by there)
     where
       installed : (fd : Option ℕ) → AllFit (installed_on path flags n ns (open_end path flags n ns) fd)
       installed None = refused_fits n ns (full (calls.Open path flags) Descriptors)
       installed (Some fd) = end_fits path flags n ns fd
 
-      by : (there : Bool) → AllFit (if there then Do (Install (file_for n flags) sort) (installs (truncates flags)) (installed_on path flags n ns (open_end path flags n ns)) else give_up n (tail ns (full (calls.Open path flags) OpenFiles)))
+      by : (there : Bool) → AllFit (if there then Do (Install (file_for n flags) inode_type) (installs (truncates flags)) (installed_on path flags n ns (open_end path flags n ns)) else give_up n (tail ns (full (calls.Open path flags) OpenFiles)))
       by true = (tt, install_tells (truncates flags) (truncate_tells flags), λ fd. installed fd)
       by false = refused_fits n ns (full (calls.Open path flags) OpenFiles)
 
-  named_fits : (n : ℕ) (sort : Sort) (d : ℕ) (ns : List ℕ) (a : above.EntryResult) → AllFit (make_on path flags n sort d ns a)
-  named_fits n sort d ns above.InPlace = give_up_fits d (open_made path flags n sort ns) (made_fits n sort ns)
-  named_fits n sort d ns above.NoBlock = unmake_fits n d ns (full (calls.Open path flags) Blocks)
-  named_fits n sort d ns above.NoSlot = unmake_fits n d ns (full (calls.Open path flags) Directory)
+  named_fits : (n : ℕ) (inode_type : InodeType) (d : ℕ) (ns : List ℕ) (a : above.EntryResult) → AllFit (make_on path flags n inode_type d ns a)
+  named_fits n inode_type d ns above.InPlace = give_up_fits d (open_made path flags n inode_type ns) (made_fits n inode_type ns)
+  named_fits n inode_type d ns above.NoBlock = unmake_fits n d ns (full (calls.Open path flags) Blocks)
+  named_fits n inode_type d ns above.NoSlot = unmake_fits n d ns (full (calls.Open path flags) Directory)
 
   file_fits : (d : ℕ) (e : Name) (ns : List ℕ) (n : ℕ) → Short14 e → AllFit (make_other path flags d e ns n)
-  file_fits d e ns n short = (tt, λ _. refl, λ a. (tt, λ _. refl, λ _. (short, entry_tells n, λ r. named_fits n (face_or a.face).sort d ns r)))
+  file_fits d e ns n short = (tt, λ _. refl, λ a. (tt, λ _. refl, λ _. (short, entry_tells n, λ r. named_fits n (face_or a.face).inode_type d ns r)))
 
   file_with_fits : (d : ℕ) (e : Name) (ns : List ℕ) → Short14 e → (a : above.ClaimResult) → AllFit (make_with path flags d e ns a)
   file_with_fits d e ns short above.NoInode = refused_fits d ns (full (calls.Open path flags) DiskInodes)

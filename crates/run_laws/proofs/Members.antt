@@ -1,5 +1,5 @@
 -- A hart's steps open and end its transaction just as the log has it for a member.
-use Rattle.run_laws.proofs.Vocabulary.{◌≡◌, ℕ, zero, suc, Bool, true, false, List, [], ◌∷◌, length, is_some, Option, Some, None, refl, sym, ◌∙◌, ap, ◌↔◌, IsSome, if◌then◌else◌, replicate, slice_get, slice_set, option_map, get_of, SeatState, Got, IsMember, has, joined_count, one_more, with_block, limit_of, turn_is_out, join_waits, Did, Waits, Ran, Stops, RefusedState as Refused, TablesState, file_named, refusal_of, lock_inode, lock_file, settle_inode, up_inode, first_free, take_place, open_file, double_descriptor, shut_descriptor, give_next, LogPart, Outside, Passes, Fails, join_if, got_by, read_block, commit_if, Op, in_log, in_tables, joins, join_unless, lock_open, claims, claim_first, up_whom, drop_which, is_joined, has_members, member_at, after_join, recorded_after}
+use Rattle.run_laws.proofs.Vocabulary.{◌≡◌, ℕ, zero, suc, Bool, true, false, List, [], ◌∷◌, length, is_some, Option, Some, None, refl, sym, ◌∙◌, ap, ◌↔◌, IsSome, if◌then◌else◌, replicate, slice_get, slice_set, option_map, get_of, SeatState, Got, IsMember, has, joined_count, one_more, with_block, limit_of, turn_is_out, join_waits, ExecResult, Waits, Ran, Stops, RefusedState as Refused, TablesState, file_named, refusal_of, lock_inode, lock_file, settle_inode, up_inode, first_free, take_place, open_file, double_descriptor, shut_descriptor, give_next, LogPart, Outside, Passes, Fails, join_if, got_by, read_block, commit_if, Op, in_log, in_tables, joins, join_unless, lock_open, claims, claim_first, up_whom, drop_which, is_joined, has_members, member_at, after_join, recorded_after}
 use Rattle.buffer_cache.specs.declared.got.Got.TheVariants as got
 use Rattle.fs_machine.specs.declared.files.OpenFile.{OpenFile}
 use Rattle.fs_machine.specs.declared.files.Want.TheVariants as want
@@ -75,15 +75,15 @@ mapped f (Some blocks) = refl
 
 module _ (h : ℕ) (st : State) (o : Recorded) (was : Agrees h st.log o) where
   -- so it is after a step, where that ran
-  abbrev pub AgreesAfter : {A : Type 0} → (A → Recorded) → Did A State → Type 0
+  abbrev pub AgreesAfter : {A : Type 0} → (A → Recorded) → ExecResult A State → Type 0
   AgreesAfter f Waits = Unit {0}
   AgreesAfter f (Ran a t) = Agrees h t.log (f a)
   AgreesAfter f (Stops t) = Unit {0}
 
-  abbrev Same : {A : Type 0} → Did A State → Type 0
+  abbrev Same : {A : Type 0} → ExecResult A State → Type 0
   Same d = AgreesAfter (λ a. o) d
 
-  tables_same : {A : Type 0} (d : Did A TablesState) → Same (in_tables st d)
+  tables_same : {A : Type 0} (d : ExecResult A TablesState) → Same (in_tables st d)
   tables_same Waits = tt
   tables_same (Ran a t) = was
   tables_same (Stops t) = tt
@@ -117,7 +117,7 @@ module _ (h : ℕ) (st : State) (o : Recorded) (was : Agrees h st.log o) where
       by true = refl
       by false = one_more_in st.log.members h
 
-  claims_same : (d : Did (Option ℕ) TablesState) → Same (claims (in_tables st d))
+  claims_same : (d : ExecResult (Option ℕ) TablesState) → Same (claims (in_tables st d))
   claims_same Waits = tt
   claims_same (Ran None t) = was
   claims_same (Ran (Some m) t) = was
@@ -146,7 +146,7 @@ module _ (h : ℕ) (st : State) (o : Recorded) (was : Agrees h st.log o) where
   own_agrees x (steps.LockFile w fd) may = tables_same (lock_file h w fd st.tables)
   own_agrees x (steps.LockOpen fd) may = tables_same (lock_open h st.tables (file_named h fd st.tables))
   own_agrees x (steps.Unlock v moved) may = was
-  own_agrees x (steps.Settle v) may = tables_same (settle_inode h v st.tables)
+  own_agrees x (steps.SetDirectory v) may = tables_same (settle_inode h v st.tables)
   own_agrees x (steps.Up whom) may = tables_same (up_whom h whom st.tables)
   own_agrees x (steps.Claim b candidates) may = claim_same b (first_free st.tables.entries candidates)
   own_agrees x (steps.Down drop) may = tables_same (drop_which h drop st.tables)
@@ -155,7 +155,7 @@ module _ (h : ℕ) (st : State) (o : Recorded) (was : Agrees h st.log o) where
   own_agrees x (steps.TakeDescriptor n file) may = tables_same (open_file h n file st.tables)
   own_agrees x (steps.Double fd) may = tables_same (double_descriptor h fd st.tables)
   own_agrees x (steps.Close fd) may = tables_same (shut_descriptor h fd st.tables)
-  own_agrees x (steps.Give child start) may = tables_same (give_next h child start st.tables)
+  own_agrees x (steps.GiveDescriptor child start) may = tables_same (give_next h child start st.tables)
   own_agrees x steps.Reply may = was
 
   -- a hart that joins is in none

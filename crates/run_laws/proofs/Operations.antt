@@ -1,6 +1,6 @@
 -- Each operation on whole inodes that fits acts at one moment below, within what its call's transactions may record: under the history that is the operations
 -- themselves.
-use Rattle.run_laws.proofs.Vocabulary.{◌<◌, ℕ, Option, Super, hart_count, Uses, Ret, Do, AtomicWithin, P, Take, Give, UpStart, Up, WalkDown, Down, Free, Forget, Claim, Store, Fill, Enter, Clear, Empty, Slot, Install, StatFile, LockFile, ReadFile, LockOpen, CheckFile, JoinFile, WriteFile, Double, Shut, Settle, Lend, LendDirectory, Release, Join, Leave, Say, ActsOnceAt, HasInodes, HasSpent, recorded_blocks, ActsWithin, ProgramsSpend, Spends, up_acts, up_start_acts, walk_down_acts, down_acts, forget_acts, join_file_acts, join_acts, leave_acts, lend_acts, lend_directory_acts, release_acts, claim_within, enter_within, fill_within, file_acts, open_acts, read_acts, slot_acts, install_acts, double_acts, close_acts, check_acts, say_acts, programs_spend, stat_acts, give_acts, settle_acts, take_acts, acts_within, store_within, clear_within, empty_within, free_within, write_within, handlers, layer, operations, whole_inodes}
+use Rattle.run_laws.proofs.Vocabulary.{◌<◌, ℕ, Option, Super, hart_count, Uses, Ret, Do, AtomicWithin, P, Take, UnlockInode, UpStart, Up, WalkDown, Down, Free, Forget, Claim, Store, Fill, Enter, Clear, Empty, Slot, Install, StatFile, LockFile, ReadFile, LockOpen, CheckFile, JoinFile, WriteFile, Double, Shut, SetDirectory, Lend, LendDirectory, Release, Join, Leave, Say, ActsOnceAt, HasInodes, HasSpent, recorded_blocks, ActsWithin, ProgramsSpend, Spends, up_acts, up_start_acts, walk_down_acts, down_acts, forget_acts, join_file_acts, join_acts, leave_acts, lend_acts, lend_directory_acts, release_acts, claim_within, enter_within, fill_within, file_acts, open_acts, read_acts, slot_acts, install_acts, double_acts, close_acts, check_acts, say_acts, programs_spend, stat_acts, give_acts, settle_acts, take_acts, acts_within, store_within, clear_within, empty_within, free_within, write_within, handlers, layer, operations, whole_inodes}
 use Rattle.inode_machine.specs.World as above
 use Rattle.run_laws.proofs.Beside.{within_beside}
 use Rattle.run_laws.proofs.Fits.{AllFitUpTo, Fits}
@@ -27,21 +27,21 @@ module _ (sizes : Super) (h : ℕ) where
     module _ (inodes : HasInodes sizes) where
       within : (most : ℕ) (op : above.Op) (m : above.Answer op → Option above.Mark) → Fits most op → Within op m
       within most (Take n looking) m fits = acting (Take n looking) m (spend.take n looking) (take_acts operations whole_laws keeps_whole h lt sizes n looking m)
-      within most (Give n) m fits = acting (Give n) m (spend.give n) (give_acts operations whole_laws keeps_whole h lt n m sizes)
+      within most (UnlockInode n) m fits = acting (UnlockInode n) m (spend.give n) (give_acts operations whole_laws keeps_whole h lt n m sizes)
       within most (UpStart absolute) m fits = acting (UpStart absolute) m (spend.up_start absolute) (up_start_acts operations whole_laws keeps_whole h lt absolute m sizes)
       within most (Up n) m fits = acting (Up n) m (spend.up n) (up_acts operations whole_laws keeps_whole h lt n m sizes)
       within most (WalkDown n) m fits = acting (WalkDown n) m (spend.walk_down n) (walk_down_acts operations whole_laws keeps_whole h lt n m sizes)
       within most (Down n) m fits = acting (Down n) m (spend.down n) (down_acts operations whole_laws keeps_whole h lt n m sizes)
       within most (Free n) m fits = recorded (Free n) m (free_within sizes operations whole_laws keeps_whole h lt n m)
       within most (Forget n) m fits = acting (Forget n) m (spend.forget n) (forget_acts operations whole_laws keeps_whole h lt n m sizes)
-      within most (Claim sort) m fits = recorded (Claim sort) m (claim_within sizes operations whole_laws keeps_whole h lt sort fits inodes m)
+      within most (Claim inode_type) m fits = recorded (Claim inode_type) m (claim_within sizes operations whole_laws keeps_whole h lt inode_type fits inodes m)
       within most (Store n count) m fits = recorded (Store n count) m (store_within sizes operations whole_laws keeps_whole h lt n count m)
       within most (Fill n d) m fits = recorded (Fill n d) m (fill_within sizes operations whole_laws keeps_whole h lt n d m)
       within most (Enter d e n) m fits = recorded (Enter d e n) m (enter_within sizes operations whole_laws keeps_whole h lt d e n m)
       within most (Clear n e) m fits = recorded (Clear n e) m (clear_within sizes operations whole_laws keeps_whole h lt n e m)
       within most (Empty n) m fits = recorded (Empty n) m (empty_within sizes operations whole_laws keeps_whole h lt n m)
       within most Slot m fits = acting Slot m spend.slot (slot_acts operations whole_laws keeps_whole h lt m sizes)
-      within most (Install f sort) m fits = acting (Install f sort) m (spend.install f sort) (install_acts operations whole_laws keeps_whole h lt f sort m sizes)
+      within most (Install f inode_type) m fits = acting (Install f inode_type) m (spend.install f inode_type) (install_acts operations whole_laws keeps_whole h lt f inode_type m sizes)
       within most (StatFile fd) m fits = acting (StatFile fd) m (spend.stat_file fd) (stat_acts operations whole_laws keeps_whole h lt sizes fd m)
       within most (LockFile fd) m fits = acting (LockFile fd) m (spend.lock_file fd) (file_acts operations whole_laws keeps_whole h lt sizes fd m)
       within most (ReadFile fd n offset count) m fits = acting (ReadFile fd n offset count) m (spend.read_file fd n offset count) (read_acts operations whole_laws keeps_whole h lt sizes fd n offset count m)
@@ -51,7 +51,7 @@ module _ (sizes : Super) (h : ℕ) where
       within most (WriteFile fd n offset bytes) m fits = recorded (WriteFile fd n offset bytes) m (write_within sizes operations whole_laws keeps_whole h lt fd n offset bytes fits.0 fits.1 m)
       within most (Double fd) m fits = acting (Double fd) m (spend.double fd) (double_acts operations whole_laws keeps_whole h lt fd m sizes)
       within most (Shut fd) m fits = acting (Shut fd) m (spend.close fd) (close_acts operations whole_laws keeps_whole h lt fd m sizes)
-      within most (Settle n) m fits = acting (Settle n) m (spend.settle n) (settle_acts operations whole_laws keeps_whole h lt n m sizes)
+      within most (SetDirectory n) m fits = acting (SetDirectory n) m (spend.settle n) (settle_acts operations whole_laws keeps_whole h lt n m sizes)
       within most (Lend child from) m fits = acting (Lend child from) m (spend.lend child from) (lend_acts operations whole_laws keeps_whole h lt child from m sizes)
       within most (LendDirectory child) m fits = acting (LendDirectory child) m (spend.lend_directory child) (lend_directory_acts operations whole_laws keeps_whole h lt child m sizes)
       within most (Release child) m fits = acting (Release child) m (spend.release child) (release_acts operations whole_laws keeps_whole h lt child m sizes)

@@ -1,5 +1,5 @@
 -- What a call records in its transactions: at most ten blocks in each.
-use Rattle.run_laws.proofs.Vocabulary.{◌≡◌, ◌≤◌, ◌+◌, ◌-◌, ℕ, zero, suc, true, List, [], ◌∷◌, Option, None, refl, sym, subst, arith, Super, Blocks, Reply, Call, Cause, piece, piece_count, one_if, Left, Ret, Do, unmarked, holding, lowered, after_leave, HasRoom, Spent, size, spent_after, unspent, with_bitmap, with_contents, with_record, checked_reply, joined_on, refused_to, write_from, write_piece, write_program, write_reply, writes, wrote_on, P as Above, failed, full, own_step, say, program, machine, JoinResult, Joined, NotJoined, Refused, Short, Whole, Wrote, Take, Give, UpStart, Up, WalkDown, Down, Free, Forget, Claim, Store, Fill, Enter, Clear, Empty, Slot, Install, StatFile, LockFile, ReadFile, CheckFile, JoinFile, LockOpen, WriteFile, Double, Shut, Settle, Lend, LendDirectory, Release, Join, Leave, Say, transactions_are_small, join, join_file, leave, Carry, nothing, handlers, layer, is_served, AreAtMostTen, recorded_after}
+use Rattle.run_laws.proofs.Vocabulary.{◌≡◌, ◌≤◌, ◌+◌, ◌-◌, ℕ, zero, suc, true, List, [], ◌∷◌, Option, None, refl, sym, subst, arith, Super, Blocks, Reply, Call, Cause, piece, piece_count, one_if, AfterLeave, Ret, Do, unmarked, holding, lowered, after_leave, HasRoom, Spent, size, spent_after, unspent, with_bitmap, with_contents, with_record, checked_reply, joined_on, refused_to, write_from, write_piece, write_program, write_reply, writes, wrote_on, P as Above, failed, full, own_step, say, program, machine, JoinResult, Joined, NotJoined, Refused, Short, Whole, Wrote, Take, UnlockInode, UpStart, Up, WalkDown, Down, Free, Forget, Claim, Store, Fill, Enter, Clear, Empty, Slot, Install, StatFile, LockFile, ReadFile, CheckFile, JoinFile, LockOpen, WriteFile, Double, Shut, SetDirectory, Lend, LendDirectory, Release, Join, Leave, Say, transactions_are_small, join, join_file, leave, Carry, nothing, handlers, layer, is_served, AreAtMostTen, recorded_after}
 use Rattle.plain_tree.specs.declared.call.Call.TheVariants as calls
 use Rattle.plain_tree.specs.declared.step.Action.TheVariants as actions
 use Rattle.fs_machine.specs.Steps as steps
@@ -36,28 +36,28 @@ module _ (sizes : Super) where
     leaves : (m : Unit {0} → Option above.Mark) → Within sizes s (leave c m) s
     leaves m = record { stays = λ o covers. (small_of sizes o s covers few, λ _ a. (rest a).stays None tt) }
       where
-        rest : (a : Left) → Within sizes s (holding c (after_leave a)) s
+        rest : (a : AfterLeave) → Within sizes s (holding c (after_leave a)) s
         rest a = then_ sizes (after_leave a) (λ b. Ret (record { answer = b; carry = c })) (no_commit sizes s few a) (λ b. ended sizes)
 
     -- each records what it spends
     operation : (op : above.Op) (m : above.Answer op → Option above.Mark) → Fits 0 op → size (spent_after op s) ≤ 10
         → Within sizes s (handlers sizes c op m) (spent_after op s)
     operation (Take n looking) m fits ok = takes sizes s few n looking c m
-    operation (Give n) m fits ok = quiet sizes few (λ a o. refl) (λ a. ended sizes)
+    operation (UnlockInode n) m fits ok = quiet sizes few (λ a o. refl) (λ a. ended sizes)
     operation (UpStart absolute) m fits ok = quiet sizes few (λ a o. refl) (λ a. ended sizes)
     operation (Up n) m fits ok = quiet sizes few (λ a o. refl) (λ a. ended sizes)
     operation (WalkDown n) m fits ok = quiet sizes few (λ a o. refl) (λ a. ended sizes)
     operation (Down n) m fits ok = quiet sizes few (λ a o. refl) (λ a. ended sizes)
     operation (Free n) m fits ok = frees_inode sizes n c s m ok
     operation (Forget n) m fits ok = quiet sizes few (λ a o. refl) (λ a. ended sizes)
-    operation (Claim sort) m fits ok = claims_inode sizes s few sort c m
+    operation (Claim inode_type) m fits ok = claims_inode sizes s few inode_type c m
     operation (Store n count) m fits ok = stores sizes n c s count m ok
     operation (Fill n d) m fits ok = fills sizes n d c m s ok
     operation (Enter d e n) m fits ok = enters sizes d e n c m s fits ok
     operation (Clear n e) m fits ok = clears sizes n c s e m ok
     operation (Empty n) m fits ok = empties sizes n c s m ok
     operation Slot m fits ok = quiet sizes few (λ a o. refl) (λ a. ended sizes)
-    operation (Install f sort) m fits ok = quiet sizes few (λ a o. refl) (λ a. ended sizes)
+    operation (Install f inode_type) m fits ok = quiet sizes few (λ a o. refl) (λ a. ended sizes)
     operation (StatFile fd) m fits ok = stats sizes s few fd c m
     operation (LockFile fd) m fits ok = locks_file sizes s few fd c m
     operation (ReadFile fd n offset count) m fits ok = reads_file sizes s few fd n offset count c m
@@ -67,7 +67,7 @@ module _ (sizes : Super) where
     operation (WriteFile fd n offset bytes) m fits ok = absurd (let some = fits.0 in let none = fits.2 in omega (arith, some, none))
     operation (Double fd) m fits ok = quiet sizes few (λ a o. refl) (λ a. ended sizes)
     operation (Shut fd) m fits ok = quiet sizes few (λ a o. refl) (λ a. ended sizes)
-    operation (Settle n) m fits ok = quiet sizes few (λ a o. refl) (λ a. ended sizes)
+    operation (SetDirectory n) m fits ok = quiet sizes few (λ a o. refl) (λ a. ended sizes)
     operation (Lend child start) m fits ok = quiet sizes few (λ a o. refl) (λ a. ended sizes)
     operation (LendDirectory child) m fits ok = quiet sizes few (λ a o. refl) (λ a. ended sizes)
     operation (Release child) m fits ok = quiet sizes few (λ a o. refl) (λ a. ended sizes)

@@ -1,6 +1,6 @@
 -- What the programs of most operations record: what the operations spend.
-use Rattle.run_laws.proofs.Vocabulary.{◌≤◌, inr, ℕ, zero, suc, ◌+◌, ◌/◌, ◌==◌, Bool, true, false, not, pos, List, [], ◌∷◌, Option, Some, None, refl, arith, is_some, slice_index, take, Dinode, Super, numbers_in, block_len, dirents_per_block, Name, same_name, Left, Commits, Ret, bind, Handover, LockedState, Locks, ClaimedState as ClaimResult, Claims, HasNoPlace as NoPlace, NoInode, fetch, read_unless, commit_unless, commits, most_writes, after_leave, free_block, clear_bit, inode_blocks, give_back, inode_block, load_unless, put_inode, store as store_inode, address, table_of, free_numbers, free_table, free_in_table, free_indirect, freed, without_content, FilledMemory, blocks_between, end_of, fetch_at, fetch_block, fetch_named, fetch_number, filled_with, give_fetched, next_block, part_of, read_blocks, read_from, read_part, direct, Address, Direct, InTable, Aim, Named, block_count, found_in, is_directory, is_live_directory, look_at, lookup, or_next, search, search_from, with_slot, Found, Spent, size, with_bitmap, with_contents, with_record, AtEntries, AtName, AtNothing, Query, Sight, Sort, IsSpent, empty, free, give_content, file_locked, give_read, read_file, with_file, Apart, Carry, Emptied, Finds, Had, Has, NothingMore, Opened, claim_at, claim_from, claim_in, clear, clear_in, clear_slot, put_named, slot_found, slot_of, learned, looked, number_found, search_entries, seen_record, stat_file, stat_loaded, stat_locked, take_inode, put_record, record_in, NoMore, bitmap_no_more, record_no_more, record_spent, kind_of}
-use Rattle.group_log.specs.declared.log.Left.TheVariants.{Free}
+use Rattle.run_laws.proofs.Vocabulary.{◌≤◌, inr, ℕ, zero, suc, ◌+◌, ◌/◌, ◌==◌, Bool, true, false, not, pos, List, [], ◌∷◌, Option, Some, None, refl, arith, is_some, slice_index, take, Dinode, Super, numbers_in, block_len, dirents_per_block, Name, same_name, AfterLeave, Commits, Ret, bind, Handover, LockedState, Locks, ClaimedState as ClaimResult, Claims, HasNoPlace as NoPlace, NoInode, fetch, read_unless, commit_unless, commits, most_writes, after_leave, free_block, clear_bit, inode_blocks, give_back, inode_block, load_unless, put_inode, store as store_inode, address, table_of, free_numbers, free_table, free_in_table, free_indirect, freed, without_content, FilledMemory, blocks_between, end_of, fetch_at, fetch_block, fetch_named, fetch_number, filled_with, give_fetched, next_block, part_of, read_blocks, read_from, read_part, direct, Address, Direct, InTable, Aim, Named, block_count, found_in, is_directory, is_live_directory, look_at, lookup, or_next, search, search_from, with_slot, Found, Spent, size, with_bitmap, with_contents, with_record, AtEntries, AtName, AtNothing, Query, Sight, InodeType, IsSpent, empty, free, give_content, file_locked, give_read, read_file, with_file, Apart, Carry, Emptied, Finds, Had, Has, NothingMore, Opened, claim_at, claim_from, claim_in, clear, clear_in, clear_slot, put_named, slot_found, slot_of, learned, looked, number_found, search_entries, seen_record, stat_file, stat_loaded, stat_locked, take_inode, put_record, record_in, NoMore, bitmap_no_more, record_no_more, record_spent, kind_of}
+use Rattle.group_log.specs.declared.log.AfterLeave.TheVariants.{Free}
 use Rattle.fs_machine.specs.Inodes.{Refuses}
 use Rattle.directory.specs.Programs.{Entry}
 use Rattle.inode_machine.specs.World as above
@@ -105,7 +105,7 @@ module _ (sizes : Super) where
     no_writes zero = ended sizes
     no_writes (suc n) = quiet sizes few (λ a o. refl) (λ b. no_more_writes (commits n) b (no_writes n))
 
-    pub no_commit : (a : Left) → Nothing (after_leave a)
+    pub no_commit : (a : AfterLeave) → Nothing (after_leave a)
     no_commit Free = ended sizes
     no_commit Commits = no_writes most_writes
 
@@ -164,21 +164,21 @@ module _ (sizes : Super) where
         (no_fetch (inode_block sizes.inodestart n)) (λ bytes. records sizes few is (λ a. ended sizes))
 
     -- a block looked through, and the record of a new inode in it, whose number isn't known before: a block more
-    claimed_more : (sort : Sort) (c : Carry) (b : ℕ) (bytes : List ℕ) (more : P (Handover above.ClaimResult Carry)) (a : ClaimResult)
-        → Within sizes s more (with_contents 1 s) → Within sizes s (claim_in more (kind_of sort) b bytes c a) (with_contents 1 s)
-    claimed_more sort c b bytes more (Claims i) rec = records_one sizes few (λ _. ended sizes)
-    claimed_more sort c b bytes more NoPlace rec = quiet sizes few (λ a o. refl) (λ _. ended_with sizes (one_more s))
-    claimed_more sort c b bytes more NoInode rec = rec
+    claimed_more : (inode_type : InodeType) (c : Carry) (b : ℕ) (bytes : List ℕ) (more : P (Handover above.ClaimResult Carry)) (a : ClaimResult)
+        → Within sizes s more (with_contents 1 s) → Within sizes s (claim_in more (kind_of inode_type) b bytes c a) (with_contents 1 s)
+    claimed_more inode_type c b bytes more (Claims i) rec = records_one sizes few (λ _. ended sizes)
+    claimed_more inode_type c b bytes more NoPlace rec = quiet sizes few (λ a o. refl) (λ _. ended_with sizes (one_more s))
+    claimed_more inode_type c b bytes more NoInode rec = rec
 
-    pub claims : (sort : Sort) (c : Carry) (m : above.ClaimResult → Option above.Mark) (n q : ℕ)
-        → Within sizes s (claim_from n sizes sort c m q) (with_contents 1 s)
+    pub claims : (inode_type : InodeType) (c : Carry) (m : above.ClaimResult → Option above.Mark) (n q : ℕ)
+        → Within sizes s (claim_from n sizes inode_type c m q) (with_contents 1 s)
     unfolding claim_from
-    claims sort c m zero q = ended_with sizes (one_more s)
-    claims sort c m (suc n) q =
-        let more : P (Handover above.ClaimResult Carry) = claim_from n sizes sort c m (q + 1) in
+    claims inode_type c m zero q = ended_with sizes (one_more s)
+    claims inode_type c m (suc n) q =
+        let more : P (Handover above.ClaimResult Carry) = claim_from n sizes inode_type c m (q + 1) in
         let b : ℕ = sizes.inodestart + q in
-        then_ sizes (fetch b) (claim_at more sizes sort c m n q b) (no_fetch b)
-        (λ bytes. quiet sizes few (λ a o. refl) (λ a. claimed_more sort c b bytes more a (claims sort c m n (q + 1))))
+        then_ sizes (fetch b) (claim_at more sizes inode_type c m n q b) (no_fetch b)
+        (λ bytes. quiet sizes few (λ a o. refl) (λ a. claimed_more inode_type c b bytes more a (claims inode_type c m n (q + 1))))
 
   -- ---- operations that record
 
@@ -252,6 +252,6 @@ module _ (sizes : Super) where
         (no_read s few (blocks_between offset (end_of d offset count)) d offset (end_of d offset count) (record { count = 0; bytes = [] }))
         (λ f. quiet sizes few (λ a o. refl) (λ a. ended sizes))
 
-    pub claims_inode : (sort : Sort) (c : Carry) (m : above.ClaimResult → Option above.Mark)
-        → Within sizes s (claim_from (inode_blocks sizes.ninodes) sizes sort c m 0) (with_contents 1 s)
-    claims_inode sort c m = claims s few sort c m (inode_blocks sizes.ninodes) 0
+    pub claims_inode : (inode_type : InodeType) (c : Carry) (m : above.ClaimResult → Option above.Mark)
+        → Within sizes s (claim_from (inode_blocks sizes.ninodes) sizes inode_type c m 0) (with_contents 1 s)
+    claims_inode inode_type c m = claims s few inode_type c m (inode_blocks sizes.ninodes) 0

@@ -1,5 +1,5 @@
 -- Runs of calls with their notes come to the same where each call ends with Some of its reply.
-use Rattle.run_laws.proofs.Vocabulary.{◌≡◌, inl, inr, ℕ, suc, Option, Some, None, Bool, true, false, List, [], ◌∷◌, refl, sym, ◌∙◌, ap, subst, nat_eq, if◌then◌else◌, Ret, Do, bind, Did, Waits, Ran, Stops, asks, OfNext, PartOf as P, OpWithAnswer, own, onto, Theory, Began, Refuses, Begins, IsBeginning, Run, PlacedStep, FinishedCall, State, EventOf as Event, Start, Step, changed, is_called as is_some, start_of, placed, told, all_told, moved, tried, step_prog, step_unless, step_run, begun, busy_in, start_run, HonestStep, IsHonest, AllHonest, next, run, fresh, In, IsExplained, history, steps_of, Notes, with_steps}
+use Rattle.run_laws.proofs.Vocabulary.{◌≡◌, inl, inr, ℕ, suc, Option, Some, None, Bool, true, false, List, [], ◌∷◌, refl, sym, ◌∙◌, ap, subst, nat_eq, if◌then◌else◌, Ret, Do, bind, ExecResult, Waits, Ran, Stops, asks, OfNext, PartOf as P, OpWithAnswer, own, onto, Theory, Began, Refuses, Begins, IsBeginning, Run, PlacedStep, FinishedCall, State, EventOf as Event, Start, Step, changed, is_called as is_some, start_of, placed, told, all_told, moved, tried, step_prog, step_unless, step_run, begun, busy_in, start_run, HonestStep, IsHonest, AllHonest, next, run, fresh, In, IsExplained, history, steps_of, Notes, with_steps}
 use Rattle.run_laws.proofs.FaithfulCalls.{telling}
 
 module _ (L : Theory) (Written : L.Call → Notes L.M → L.Reply → Type 0) (AreOf : L.Call → Option L.Reply → Notes L.M → Type 0) where
@@ -80,7 +80,7 @@ module _ (L : Theory) (Written : L.Call → Notes L.M → L.Reply → Type 0) (A
         now = suc s.now;
       }
 
-  tried_there : (h : ℕ) (s : State N) (r : Run N) (op : L.M.Op) (ps : L.M.Answer op → List (ℕ × N.M.Step)) (k : L.M.Answer op → P L.M L.Reply) (d : Did (L.M.Answer op) L.M.World)
+  tried_there : (h : ℕ) (s : State N) (r : Run N) (op : L.M.Op) (ps : L.M.Answer op → List (ℕ × N.M.Step)) (k : L.M.Answer op → P L.M L.Reply) (d : ExecResult (L.M.Answer op) L.M.World)
       → there (tried N h s r op ps k d).after ≡ (tried O h (there s) (call_there r) op ps (λ a. tells (k a)) d).after
   tried_there h s r op ps k Waits = refl
   tried_there h s r op ps k (Ran a w) = moved_there h s r (op, a) (ps a) (k a) w

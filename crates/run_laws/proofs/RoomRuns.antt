@@ -1,5 +1,5 @@
 -- A run found room at each step just where none of its operations found none.
-use Rattle.run_laws.proofs.Vocabulary.{◌≡◌, inl, inr, ℕ, ◌+◌, Bool, true, false, ◌&&◌, ◌||◌, not, nat_eq, if◌then◌else◌, Option, Some, None, List, [], ◌∷◌, ◌++◌, refl, sym, ◌∙◌, ap, subst, eq-eqb, Super, sizes_of, Call, put, and_true, Theory, Began, Refuses, Begins, EventOf, FinishedCall, PlacedStep, Run, Start, Started, State, begun, busy_in, fresh, makes, next, run, start_run, Chain, In, IsOfCall, history, steps_of, Both, ran_to, PartOf as P, began_to, Ret, Do, Did, Waits, Ran, Stops, EventReport, IsTraced, happened, begun_both, traced, Outside, exec, first_from, is_nothing, or_zero, made_by, marked, roomy, with_mark, program, machine, Refusal, Mark, Fills, Frees, Makes, Mends, Orphans, Spoils, first_world, first, World, shared_of, begins, block_calls, child_of, served_calls, serves, served_is, begun_here, WorldOf, IsRunFrom, RefinesWholeInodes, operations_made, operations_of, RoomIsToldByAnswers, finds_no_room, says_no_room, IsRunOf, IsStep, Operation, lowered_inode_calls, told_by, unreserved}
+use Rattle.run_laws.proofs.Vocabulary.{◌≡◌, inl, inr, ℕ, ◌+◌, Bool, true, false, ◌&&◌, ◌||◌, not, nat_eq, if◌then◌else◌, Option, Some, None, List, [], ◌∷◌, ◌++◌, refl, sym, ◌∙◌, ap, subst, eq-eqb, Super, sizes_of, Call, put, and_true, Theory, Began, Refuses, Begins, EventOf, FinishedCall, PlacedStep, Run, Start, Started, State, begun, busy_in, fresh, makes, next, run, start_run, Chain, In, IsOfCall, history, steps_of, Both, ran_to, PartOf as P, began_to, Ret, Do, ExecResult, Waits, Ran, Stops, EventReport, IsTraced, happened, begun_both, traced, Outside, exec, first_from, is_nothing, or_zero, made_by, marked, roomy, with_mark, program, machine, Refusal, Mark, Fills, Frees, Makes, Mends, Orphans, Spoils, first_world, first, World, shared_of, begins, block_calls, child_of, served_calls, serves, served_is, begun_here, WorldOf, IsRunFrom, RefinesWholeInodes, operations_made, operations_of, RoomIsToldByAnswers, finds_no_room, says_no_room, IsRunOf, IsStep, Operation, lowered_inode_calls, told_by, unreserved}
 use Rattle.inode_machine.specs.World as above
 use Rattle.run_laws.proofs.CallFits.{call_fits, most_written}
 use Rattle.run_laws.proofs.Fits.{AllFitUpTo}
@@ -27,7 +27,7 @@ told_same h (Some Fills) w u e = refl
 told_same h (Some Mends) w u e = refl
 told_same h (Some (Spoils s)) w u e = refl
 
-after_clean : {A : Type 0} (h : ℕ) (k : Option Mark) (before after : above.World) (a : A) (d : Did A above.World) → Goes h before d → with_mark h (λ _. k) d ≡ Ran a after
+after_clean : {A : Type 0} (h : ℕ) (k : Option Mark) (before after : above.World) (a : A) (d : ExecResult A above.World) → Goes h before d → with_mark h (λ _. k) d ≡ Ran a after
     → after.clean ≡ (not (spoils k) && (roomy (told_by h k before) && before.clean))
 after_clean h k before after a Waits g e = cc
 after_clean h k before after a (Stops u) g e = absurd g

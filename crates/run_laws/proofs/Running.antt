@@ -1,25 +1,25 @@
 -- No operation on whole inodes stops the world, and what its mark is to change it leaves alone. And each has some answer.
-use Rattle.run_laws.proofs.Vocabulary.{◌≢◌, ◌⊎◌, inl, inr, ◌+◌, ◌-◌, length, take, ◌≡◌, ℕ, ◌==◌, Bool, true, false, nat_lt, if◌then◌else◌, List, [], Option, Some, None, refl, sym, ◌∙◌, ap, Cause, OpenFile, has_room, node_or, write_kind, Name, Tree, put, put_is, Walk, Did, Waits, Ran, Stops, changed_record, claim_if, claimed, close_at, close_if, counted_down, counted_up, double_at, double_if, down_if, enter_if, entry_of, exec, file_count, fill_if, first_from, has_place, install_if, is_empty_slot, is_full_directory, is_last, join_at, lend_if, lend_last, lock_at, lock_if, locked, moved_in, next_used, offset_of, place_count, read_at, read_refused, referenced, slot_at, slot_if, start_if, start_number, stat_at, unlocked, up_if, walk_down_if, with_bytes, with_found, with_lent, with_offset, with_refs, write_at, write_if, write_refused, wrote_in, Sort, face_of, face_or, seen_in, go, with_mark, Answer, ClaimResult, Entry, Mine, InPlace, Joined, LocksIt, Mark, Moved, New, NoPlace, Picks, Room, RoomFor, Whole, Take, Give, UpStart, Up, WalkDown, Down, Free, Forget, Claim, Store, Fill, Enter, Clear, Empty, Slot, Install, StatFile, LockFile, ReadFile, CheckFile, JoinFile, LockOpen, WriteFile, Double, Shut, Settle, Lend, LendDirectory, Release, Join, Leave, Say}
+use Rattle.run_laws.proofs.Vocabulary.{◌≢◌, ◌⊎◌, inl, inr, ◌+◌, ◌-◌, length, take, ◌≡◌, ℕ, ◌==◌, Bool, true, false, nat_lt, if◌then◌else◌, List, [], Option, Some, None, refl, sym, ◌∙◌, ap, Cause, OpenFile, has_room, node_or, write_kind, Name, Tree, put, put_is, Walk, ExecResult, Waits, Ran, Stops, changed_record, claim_if, claimed, close_at, close_if, counted_down, counted_up, double_at, double_if, down_if, enter_if, entry_of, exec, file_count, fill_if, first_from, has_place, install_if, is_empty_slot, is_full_directory, is_last, join_at, lend_if, lend_last, lock_at, lock_if, locked, moved_in, next_used, offset_of, place_count, read_at, read_refused, referenced, slot_at, slot_if, start_if, start_number, stat_at, unlocked, up_if, walk_down_if, with_bytes, with_found, with_lent, with_offset, with_refs, write_at, write_if, write_refused, wrote_in, InodeType, face_of, face_or, seen_in, go, with_mark, Answer, ClaimResult, Entry, Mine, InPlace, Joined, LocksIt, Mark, Moved, New, NoPlace, Picks, Room, RoomFor, Whole, Take, UnlockInode, UpStart, Up, WalkDown, Down, Free, Forget, Claim, Store, Fill, Enter, Clear, Empty, Slot, Install, StatFile, LockFile, ReadFile, CheckFile, JoinFile, LockOpen, WriteFile, Double, Shut, SetDirectory, Lend, LendDirectory, Release, Join, Leave, Say}
 use Rattle.inode_machine.specs.Exec.{enter_in, part_of, write_in}
 use Rattle.inode_machine.specs.World.{NoInode, Op, Outside, World}
 
 pub some_answer : (op : Op) → Answer op
 some_answer (Take n looking) = record { face = None; found = None; empty = true }
-some_answer (Give n) = tt
+some_answer (UnlockInode n) = tt
 some_answer (UpStart absolute) = None
 some_answer (Up n) = true
 some_answer (WalkDown n) = true
 some_answer (Down n) = true
 some_answer (Free n) = tt
 some_answer (Forget n) = tt
-some_answer (Claim sort) = NoInode
+some_answer (Claim inode_type) = NoInode
 some_answer (Store n count) = tt
 some_answer (Fill n d) = true
 some_answer (Enter d e n) = InPlace
 some_answer (Clear n e) = tt
 some_answer (Empty n) = tt
 some_answer Slot = true
-some_answer (Install f sort) = None
+some_answer (Install f inode_type) = None
 some_answer (StatFile fd) = None
 some_answer (LockFile fd) = LocksIt 0 0
 some_answer (ReadFile fd n offset count) = []
@@ -29,7 +29,7 @@ some_answer (LockOpen fd n) = (0, 0)
 some_answer (WriteFile fd n offset bytes) = Whole
 some_answer (Double fd) = None
 some_answer (Shut fd) = None
-some_answer (Settle n) = 0
+some_answer (SetDirectory n) = 0
 some_answer (Lend child from) = Moved 0
 some_answer (LendDirectory child) = 0
 some_answer (Release child) = tt
@@ -38,9 +38,9 @@ some_answer Leave = tt
 some_answer Say = tt
 
 -- no inode is claimed by it
-pub none_claimed : (sort : Sort) (n : ℕ) → New n ≢ some_answer (Claim sort)
+pub none_claimed : (inode_type : InodeType) (n : ℕ) → New n ≢ some_answer (Claim inode_type)
 unfolding some_answer
-none_claimed sort n e = let z : New n ≡ NoInode = e in cc
+none_claimed inode_type n e = let z : New n ≡ NoInode = e in cc
 
 -- ---- what stays
 
@@ -55,7 +55,7 @@ abbrev pub kept_of : ℕ → World → Kept
 kept_of h w = record { clean = w.clean; all = w.all; next = w.next; walk = (w.harts h).walk }
 
 -- an operation of hart h that ran left it, and none stops
-abbrev pub Goes : {A : Type 0} → ℕ → World → Did A World → Type 0
+abbrev pub Goes : {A : Type 0} → ℕ → World → ExecResult A World → Type 0
 Goes h w Waits = Unit {0}
 Goes h w (Ran a u) = kept_of h u ≡ kept_of h w
 Goes h w (Stops u) = ⊥
@@ -134,14 +134,14 @@ down_on : (h n : ℕ) (w : World) (b : Bool) → Goes h w (down_if h n w b)
 down_on h n w true = refl
 down_on h n w false = down_kept h n w
 
-picks_on : (h n : ℕ) (sort : Sort) (w : World) (b : Bool) → Goes {A = ClaimResult} h w (if b then Ran (New n) (claimed h sort w n) else Ran NoPlace w)
-picks_on h n sort w true = refs_kept h w w.harts h n ((w.harts h).refs n + 1)
-picks_on h n sort w false = refl
+picks_on : (h n : ℕ) (inode_type : InodeType) (w : World) (b : Bool) → Goes {A = ClaimResult} h w (if b then Ran (New n) (claimed h inode_type w n) else Ran NoPlace w)
+picks_on h n inode_type w true = refs_kept h w w.harts h n ((w.harts h).refs n + 1)
+picks_on h n inode_type w false = refl
 
-claim_on : (h : ℕ) (sort : Sort) (w : World) (x : Outside) → Goes h w (claim_if h sort w x)
-claim_on h sort w (Picks n) = picks_on h n sort w (nat_lt (referenced w) place_count)
-claim_on h sort w Room = refl
-claim_on h sort w (RoomFor k) = refl
+claim_on : (h : ℕ) (inode_type : InodeType) (w : World) (x : Outside) → Goes h w (claim_if h inode_type w x)
+claim_on h inode_type w (Picks n) = picks_on h n inode_type w (nat_lt (referenced w) place_count)
+claim_on h inode_type w Room = refl
+claim_on h inode_type w (RoomFor k) = refl
 
 fill_on : (h n d : ℕ) (w : World) (x : Outside) → Goes h w (fill_if n d w x)
 fill_on h n d w Room = refl
@@ -161,10 +161,10 @@ slot_on : (h : ℕ) (w : World) (o : Option ℕ) → Goes h w (slot_if h w o)
 slot_on h w None = refl
 slot_on h w (Some s) = refl
 
-install_on : (h : ℕ) (w : World) (f : OpenFile) (sort : Sort) (o : Option ℕ) (b : Bool) → Goes h w (install_if h w f sort o b)
-install_on h w f sort None b = refl
-install_on h w f sort (Some s) false = refl
-install_on h w f sort (Some s) true = refs_kept h w w.harts h f.number ((w.harts h).refs f.number - 1)
+install_on : (h : ℕ) (w : World) (f : OpenFile) (inode_type : InodeType) (o : Option ℕ) (b : Bool) → Goes h w (install_if h w f inode_type o b)
+install_on h w f inode_type None b = refl
+install_on h w f inode_type (Some s) false = refl
+install_on h w f inode_type (Some s) true = refs_kept h w w.harts h f.number ((w.harts h).refs f.number - 1)
 
 stat_on : (h : ℕ) (w : World) (o : Option Entry) → Goes h w (stat_at h w o)
 stat_on h w None = refl
@@ -221,21 +221,21 @@ lend_on h w child (Some i) = lent_kept h child (with_lent w h i) (next_used (i +
 
 pub goes_on : (h : ℕ) (x : Outside) (op : Op) (w : World) → Goes h w (exec h x op w)
 goes_on h x (Take n looking) w = lock_on h n (seen_in n looking (w.disk n)) w (locked h n w) refl (w.lock n)
-goes_on h x (Give n) w = unlocked_kept h n w (w.alone n)
+goes_on h x (UnlockInode n) w = unlocked_kept h n w (w.alone n)
 goes_on h x (UpStart absolute) w = start_on h (start_number (w.desks h) absolute) w (has_place w (start_number (w.desks h) absolute))
 goes_on h x (Up n) w = up_on h n w (has_place w n)
 goes_on h x (WalkDown n) w = walk_down_on h n w (is_last w n)
 goes_on h x (Down n) w = down_on h n w (is_last w n)
 goes_on h x (Free n) w = refl
 goes_on h x (Forget n) w = down_kept h n w
-goes_on h x (Claim sort) w = claim_on h sort w x
+goes_on h x (Claim inode_type) w = claim_on h inode_type w x
 goes_on h x (Store n count) w = refl
 goes_on h x (Fill n d) w = fill_on h n d w x
 goes_on h x (Enter d e n) w = enter_on h d e n w x (is_full_directory (w.disk d))
 goes_on h x (Clear d e) w = refl
 goes_on h x (Empty n) w = refl
 goes_on h x Slot w = slot_on h w (first_from file_count 0 (is_empty_slot w))
-goes_on h x (Install f sort) w = install_on h w f sort (w.desks h).hand (has_room (w.desks h).fds)
+goes_on h x (Install f inode_type) w = install_on h w f inode_type (w.desks h).hand (has_room (w.desks h).fds)
 goes_on h x (StatFile fd) w = stat_on h w (entry_of w h fd)
 goes_on h x (LockFile fd) w = file_on h w (entry_of w h fd) (read_refused (entry_of w h fd))
 goes_on h x (ReadFile fd n offset count) w = read_on h w n count (slot_at w h fd) (entry_of w h fd)
@@ -245,7 +245,7 @@ goes_on h x (LockOpen fd n) w = lock_on h n (n, offset_of (entry_of w h fd)) w (
 goes_on h x (WriteFile fd n offset bytes) w = write_on h w (slot_at w h fd) n bytes x (entry_of w h fd)
 goes_on h x (Double fd) w = double_on h w (slot_at w h fd) (entry_of w h fd)
 goes_on h x (Shut fd) w = close_on h w fd (slot_at w h fd) (entry_of w h fd)
-goes_on h x (Settle n) w = unlocked_kept h n w (w.alone n)
+goes_on h x (SetDirectory n) w = unlocked_kept h n w (w.alone n)
 goes_on h x (Lend child from) w = lend_on h w child (next_used from (w.desks h).fds)
 goes_on h x (LendDirectory child) w = moved_kept h child w
 goes_on h x (Release child) w = refl
@@ -256,7 +256,7 @@ goes_on h x Say w = refl
 pub never_stops : (h : ℕ) (x : Outside) (op : Op) (m : Answer op → Option Mark) (w u : World) → go h x op m w ≡ Stops u → ⊥
 never_stops h x op m w u is = at (exec h x op w) (goes_on h x op w) is
   where
-    at : (d : Did (Answer op) World) → Goes h w d → with_mark h m d ≡ Stops u → ⊥
+    at : (d : ExecResult (Answer op) World) → Goes h w d → with_mark h m d ≡ Stops u → ⊥
     at Waits g e = cc
     at (Ran a v) g e = cc
     at (Stops v) g e = g

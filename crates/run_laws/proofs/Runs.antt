@@ -1,5 +1,5 @@
 -- A run of a mounted world takes few steps.
-use Rattle.run_laws.proofs.Vocabulary.{◌≡◌, ℕ, nat_eq, if◌then◌else◌, List, [], ◌∷◌, refl, sym, ◌∙◌, ap, subst, Super, sizes_of, Reply, Call, Theory, State, EventOf, Start, Step, OutcomeOf, Started, WasRefused as Refused, WasIdle, DidWait, DidRun, DidEnd, DidStop, WasStopped, Came as CameOf, hart_of, AllHonest, asked, all_asked, fresh, next, outcomes, Code, PlainMade, by_kind, all_by_kind, erase, plain_outcomes, erase-makes, erase-outcomes, honest_event, Outside, first, block_calls, block_code, is_code, Event, HartsOf, Rests, events_of, outcomes_of, AllAnswer, IsHistory, WorldOf, mountable, rests_erased, AreFew, RunsTakeFewSteps, with_outcome, steps_ran, OfBegun, OfEachCall}
+use Rattle.run_laws.proofs.Vocabulary.{◌≡◌, ℕ, nat_eq, if◌then◌else◌, List, [], ◌∷◌, refl, sym, ◌∙◌, ap, subst, Super, sizes_of, Reply, Call, Theory, State, EventOf, Start, Step, OutcomeOf, Started, WasRefused as Refused, WasIdle, DidWait, DidRun, DidEnd, DidStop, WasStopped, EventOutcome, hart_of, AllHonest, asked, all_asked, fresh, next, outcomes, Code, PlainMade, by_kind, all_by_kind, erase, plain_outcomes, erase-makes, erase-outcomes, honest_event, Outside, first, block_calls, block_code, is_code, Event, HartsOf, Rests, events_of, outcomes_of, AllAnswer, IsHistory, WorldOf, mountable, rests_erased, AreFew, RunsTakeFewSteps, with_outcome, steps_ran, OfBegun, OfEachCall}
 use Rattle.hart_core.specs.declared.events.Came.{Came}
 use Rattle.run_laws.proofs.Bounds.{calls_few}
 
@@ -10,7 +10,7 @@ module _ (L : Theory) (C : Code L) where
   same_hart (Start h call) = refl
   same_hart (Step h x) = refl
 
-  same_outcome : (o : CameOf L) (later : ℕ) → with_outcome (by_kind L C o) later ≡ with_outcome o later
+  same_outcome : (o : EventOutcome L) (later : ℕ) → with_outcome (by_kind L C o) later ≡ with_outcome o later
   same_outcome Started later = refl
   same_outcome (Refused why) later = refl
   same_outcome WasIdle later = refl
@@ -20,7 +20,7 @@ module _ (L : Theory) (C : Code L) where
   same_outcome DidStop later = refl
   same_outcome WasStopped later = refl
 
-  same_steps : (h : ℕ) (es : List (EventOf L.Call L.M.Outside)) (os : List (CameOf L)) → steps_ran h (all_asked es) (all_by_kind L C os) ≡ steps_ran h es os
+  same_steps : (h : ℕ) (es : List (EventOf L.Call L.M.Outside)) (os : List (EventOutcome L)) → steps_ran h (all_asked es) (all_by_kind L C os) ≡ steps_ran h es os
   same_steps h [] os = refl
   same_steps h (e ∷ es) [] = refl
   same_steps h (e ∷ es) (o ∷ os) =
@@ -28,7 +28,7 @@ module _ (L : Theory) (C : Code L) where
       ∙ ap (λ (z : ℕ). if nat_eq (hart_of e) h then z else steps_ran h es os) (same_outcome o (steps_ran h es os))
 
   module _ (Is : L.Call → ℕ → Type 0) where
-    begun_start : (h : ℕ) (call : L.Call) (o : CameOf L) (es : List (EventOf L.Call L.M.Outside)) (os : List (CameOf L)) → OfBegun Is (Start h call) o es os → OfBegun Is (Start h call) (by_kind L C o) (all_asked es) (all_by_kind L C os)
+    begun_start : (h : ℕ) (call : L.Call) (o : EventOutcome L) (es : List (EventOf L.Call L.M.Outside)) (os : List (EventOutcome L)) → OfBegun Is (Start h call) o es os → OfBegun Is (Start h call) (by_kind L C o) (all_asked es) (all_by_kind L C os)
     begun_start h call Started es os b = subst (Is call) (sym (same_steps h es os)) b
     begun_start h call (Refused why) es os b = tt
     begun_start h call WasIdle es os b = tt
@@ -38,11 +38,11 @@ module _ (L : Theory) (C : Code L) where
     begun_start h call DidStop es os b = tt
     begun_start h call WasStopped es os b = tt
 
-    begun_as_asked : (e : EventOf L.Call L.M.Outside) (o : CameOf L) (es : List (EventOf L.Call L.M.Outside)) (os : List (CameOf L)) → OfBegun Is e o es os → OfBegun Is (asked e) (by_kind L C o) (all_asked es) (all_by_kind L C os)
+    begun_as_asked : (e : EventOf L.Call L.M.Outside) (o : EventOutcome L) (es : List (EventOf L.Call L.M.Outside)) (os : List (EventOutcome L)) → OfBegun Is e o es os → OfBegun Is (asked e) (by_kind L C o) (all_asked es) (all_by_kind L C os)
     begun_as_asked (Start h call) o es os b = begun_start h call o es os b
     begun_as_asked (Step h x) o es os b = tt
 
-    as_asked : (es : List (EventOf L.Call L.M.Outside)) (os : List (CameOf L)) → OfEachCall Is es os → OfEachCall Is (all_asked es) (all_by_kind L C os)
+    as_asked : (es : List (EventOf L.Call L.M.Outside)) (os : List (EventOutcome L)) → OfEachCall Is es os → OfEachCall Is (all_asked es) (all_by_kind L C os)
     as_asked [] [] a = tt
     as_asked [] (o ∷ os) a = absurd a
     as_asked (e ∷ es) [] a = absurd a

@@ -1,5 +1,5 @@
 -- The calls on blocks come to the same with either history beside them: the moves on the tree, or the operations on whole inodes.
-use Rattle.run_laws.proofs.Vocabulary.{◌≡◌, ℕ, Option, Some, None, List, [], ◌∷◌, refl, sym, ◌∙◌, ap, subst, Super, Reply, Call, Prog, Ret, Do, bind, Did, Waits, Ran, Stops, PartOf as P, Theory, State, EventOf as Event, AllHonest, Came, makes, next, outcomes, run, ActOf, Both, both, lowered, seen_after, Outside, AnswerBelow as Answer, Op, program, machine, Carry, nothing, handlers, World, layer, block_calls, lowered_inode_calls, whole_inodes}
+use Rattle.run_laws.proofs.Vocabulary.{◌≡◌, ℕ, Option, Some, None, List, [], ◌∷◌, refl, sym, ◌∙◌, ap, subst, Super, Reply, Call, Prog, Ret, Do, bind, ExecResult, Waits, Ran, Stops, PartOf as P, Theory, State, EventOf as Event, AllHonest, EventOutcome, makes, next, outcomes, run, ActOf, Both, both, lowered, seen_after, Outside, AnswerBelow as Answer, Op, program, machine, Carry, nothing, handlers, World, layer, block_calls, lowered_inode_calls, whole_inodes}
 use Rattle.inode_machine.specs.World as above
 use Rattle.calls_on_blocks.specs.Layer.{exec}
 use Rattle.run_laws.proofs.Bare.{Bare, HonestBare, bare, bare_honest, bare_made, bare_makes, honest_bare, makes_bare}
@@ -8,7 +8,7 @@ seen_same : (h : ℕ) (t : Option (ActOf machine)) (g : above.World) → seen_af
 seen_same h None g = refl
 seen_same h (Some t) g = refl
 
-both_same : {A : Type 0} (h : ℕ) (m : A → Option (ActOf machine)) (g : above.World) (d : Did A World) → both whole_inodes h m g d ≡ both machine h m g d
+both_same : {A : Type 0} (h : ℕ) (m : A → Option (ActOf machine)) (g : above.World) (d : ExecResult A World) → both whole_inodes h m g d ≡ both machine h m g d
 both_same h m g Waits = refl
 both_same h m g (Ran a r) = λ i. Ran a (record { real = r; seen = seen_same h (m a) g i })
 both_same h m g (Stops r) = refl
@@ -24,7 +24,7 @@ module _ (sizes : Super) where
   Program = Prog Op Answer (ActOf machine) Reply
 
   abbrev Go : Type 0
-  Go = ℕ → Outside → (op : Op) → (Answer op → Option (ActOf machine)) → Both World above.World → Did (Answer op) (Both World above.World)
+  Go = ℕ → Outside → (op : Op) → (Answer op → Option (ActOf machine)) → Both World above.World → ExecResult (Answer op) (Both World above.World)
 
   program_same : {A : Type 0} (c : Carry) (p : P machine A) → lowered whole_inodes (layer sizes) (handlers sizes) c p ≡ lowered machine (layer sizes) (handlers sizes) c p
   program_same c (Ret a) = refl
@@ -48,7 +48,7 @@ module _ (sizes : Super) where
   after_same e s t is = λ i. (makes_same e s t is i).after
 
   pub outcomes_same : (es : List (Event Call Outside)) (s : State (block_calls sizes)) (t : State (lowered_inode_calls sizes)) → bare (lowered_inode_calls sizes) t ≡ bare (block_calls sizes) s
-      → ◌≡◌ {A = List (Came (block_calls sizes))} (outcomes (lowered_inode_calls sizes) es t) (outcomes (block_calls sizes) es s)
+      → ◌≡◌ {A = List (EventOutcome (block_calls sizes))} (outcomes (lowered_inode_calls sizes) es t) (outcomes (block_calls sizes) es s)
   outcomes_same [] s t is = refl
   outcomes_same (e ∷ es) s t is = λ i. (makes_same e s t is i).came ∷ outcomes_same es (next L e s) (next N e t) (after_same e s t is) i
 

@@ -1,5 +1,5 @@
 -- What each operation on whole inodes has seen whose program ends without room.
-use Rattle.run_laws.proofs.Vocabulary.{◌≡◌, ◌⊎◌, inl, inr, ◌<◌, ◌≤◌, ◌+◌, ◌-◌, ◌*◌, ◌/◌, ◌%◌, ℕ, zero, suc, ◌==◌, Bool, true, false, ◌&&◌, nat_lt, if◌then◌else◌, List, [], ◌∷◌, ◌++◌, length, Option, Some, None, IsSome, is_some, is_none, find, refl, sym, ◌∙◌, ap, subst, arith, length-append, nat_tests, length-replicate, Used, Dinode, Super, spell_dirent, dinode_at, length-u16_bytes, Cause, Full, Blocks, Descriptors, Directory, DiskInodes, MemInodes, OpenFiles, Name, dot, dotdot, eq_self, same_or, In, Handover, Ret, Did, Ran, Stops, Waits, bind, first_free, is_unreferenced, up_inode, place_in_memory, fetch, AnswerBelow as Answer, Op, claim_first, claims, in_tables, blocks_between, WriteResult, grown, store_written, write_blocks, write_part, free_among, free_in, inode_blocks, is_free_in, is_zero, inode_block, place_of, store, Sort, ClaimResult, EntryResult, Wrote, Take, Give, UpStart, Up, WalkDown, Down, Free, Forget, Claim, Store, Fill, Enter, Clear, Empty, Slot, Install, StatFile, LockFile, ReadFile, CheckFile, JoinFile, LockOpen, WriteFile, Double, Shut, Settle, Lend, LendDirectory, Release, Join, Leave, Say, dots, enter_in, entered_to, filled_to, put_grown, seek_free, Acts, acts, Carry, claim_at, claim_from, claim_in, put_named, handlers, record_in, give_written, refused_in, write_unless, kind_of, slot_for, most_slots, AnsweredStep, ClaimsFindReferences, ComesTo, HasRead, SawInUse, SawNoBlock, SawNoInode, SawNone, SearchesSeeAll, wanted_to_claim, wanted_to_double, wanted_to_enter, wanted_to_write, wanted_unless, wanted_without}
+use Rattle.run_laws.proofs.Vocabulary.{◌≡◌, ◌⊎◌, inl, inr, ◌<◌, ◌≤◌, ◌+◌, ◌-◌, ◌*◌, ◌/◌, ◌%◌, ℕ, zero, suc, ◌==◌, Bool, true, false, ◌&&◌, nat_lt, if◌then◌else◌, List, [], ◌∷◌, ◌++◌, length, Option, Some, None, IsSome, is_some, is_none, find, refl, sym, ◌∙◌, ap, subst, arith, length-append, nat_tests, length-replicate, Used, Dinode, Super, spell_dirent, dinode_at, length-u16_bytes, Cause, Full, Blocks, Descriptors, Directory, DiskInodes, MemInodes, OpenFiles, Name, dot, dotdot, eq_self, same_or, In, Handover, Ret, ExecResult, Ran, Stops, Waits, bind, first_free, is_unreferenced, up_inode, place_in_memory, fetch, AnswerBelow as Answer, Op, claim_first, claims, in_tables, blocks_between, WriteResult, grown, store_written, write_blocks, write_part, free_among, free_in, inode_blocks, is_free_in, is_zero, inode_block, place_of, store, InodeType, ClaimResult, EntryResult, Wrote, Take, UnlockInode, UpStart, Up, WalkDown, Down, Free, Forget, Claim, Store, Fill, Enter, Clear, Empty, Slot, Install, StatFile, LockFile, ReadFile, CheckFile, JoinFile, LockOpen, WriteFile, Double, Shut, SetDirectory, Lend, LendDirectory, Release, Join, Leave, Say, dots, enter_in, entered_to, filled_to, put_grown, seek_free, Acts, acts, Carry, claim_at, claim_from, claim_in, put_named, handlers, record_in, give_written, refused_in, write_unless, kind_of, slot_for, most_slots, AnsweredStep, ClaimsFindReferences, ComesTo, HasRead, SawInUse, SawNoBlock, SawNoInode, SawNone, SearchesSeeAll, wanted_to_claim, wanted_to_double, wanted_to_enter, wanted_to_write, wanted_unless, wanted_without}
 use Rattle.fs_machine.specs.Steps as steps
 use Rattle.fs_machine.specs.Steps.{State, exec}
 use Rattle.inode_machine.specs.World as above
@@ -261,7 +261,7 @@ module _ (sizes : Super) where
         claims = subst (λ (z : List AnsweredStep). In e z) (sym is) (in_back e xs ys s.claims);
       }
 
-  module _ (sort : Sort) (c : Carry) (m : ClaimResult → Option above.Mark) where
+  module _ (inode_type : InodeType) (c : Carry) (m : ClaimResult → Option above.Mark) where
     abbrev Made : Type 0
     Made = Handover ClaimResult Carry
 
@@ -279,7 +279,7 @@ module _ (sizes : Super) where
       goes : ComesTo more later r
 
     passes : (k q : ℕ) (block : List ℕ) (more : P Made) (ys : List AnsweredStep) (r : Made) → wanted_to_claim r.answer ≡ Some DiskInodes
-        → ComesTo (claim_at more sizes sort c m k q (sizes.inodestart + q) block) ys r → Passes q block more ys r
+        → ComesTo (claim_at more sizes inode_type c m k q (sizes.inodestart + q) block) ys r → Passes q block more ys r
     passes k q block more [] r want p = absurd p
     passes k q block more (y ∷ ys) r want p = at p.0 p.1 ys p.2
       where
@@ -287,7 +287,7 @@ module _ (sizes : Super) where
         b = sizes.inodestart + q
 
         at : (a : steps.ClaimResult) → y ≡ (steps.Claim b (free_in sizes.ninodes q block), a) → (ys : List AnsweredStep)
-            → ComesTo (claim_in more (kind_of sort) b block c a) ys r → Passes q block more (y ∷ ys) r
+            → ComesTo (claim_in more (kind_of inode_type) b block c a) ys r → Passes q block more (y ∷ ys) r
         at steps.NoInode is ys p = record { claims = inl (sym is); step = y; later = ys; is = refl; goes = p }
         at steps.NoPlace is [] p = absurd p
         at steps.NoPlace is (z ∷ ys) p = absurd (let e : Some MemInodes ≡ Some DiskInodes = no_answer above.NoPlace ys r want p.2 in cc)
@@ -315,12 +315,12 @@ module _ (sizes : Super) where
 
     -- block q is passed over, and then the ones behind it
     claim_passes : (k q : ℕ) (es : List AnsweredStep) (r : Made) → wanted_to_claim r.answer ≡ Some DiskInodes
-        → ComesTo (claim_from k sizes sort c m q) es r → (j : ℕ) → j < k → PassedBlock es (q + j)
+        → ComesTo (claim_from k sizes inode_type c m q) es r → (j : ℕ) → j < k → PassedBlock es (q + j)
     unfolding claim_from
     claim_passes zero q es r want p j lt = absurd (omega (arith, lt))
     claim_passes (suc k) q es r want p j lt =
-        let more = claim_from k sizes sort c m (q + 1) in
-        let s = split (fetch (sizes.inodestart + q)) (claim_at more sizes sort c m k q (sizes.inodestart + q)) es r p in
+        let more = claim_from k sizes inode_type c m (q + 1) in
+        let s = split (fetch (sizes.inodestart + q)) (claim_at more sizes inode_type c m k q (sizes.inodestart + q)) es r p in
         pick k q es s.front s.back r s.value s.is (fetched (sizes.inodestart + q) s.front s.value s.first) more
         (passes k q s.value more s.back r want s.then_) (λ zs goes i below. claim_passes k (q + 1) zs r want goes i below) j lt
 
@@ -342,7 +342,7 @@ module _ (sizes : Super) where
         alone true e same = inl same
         alone false e same = absurd (let z : false ≡ true = e in cc)
 
-    claim_sees : (es : List AnsweredStep) (r : Made) → ComesTo (handlers sizes c (Claim sort) m) es r
+    claim_sees : (es : List AnsweredStep) (r : Made) → ComesTo (handlers sizes c (Claim inode_type) m) es r
         → wanted_to_claim r.answer ≡ Some DiskInodes → SawNoInode sizes es
     claim_sees es r q want n some below =
         let at : n / 16 < inode_blocks sizes.ninodes = omega (arith, below) in
@@ -370,7 +370,7 @@ module _ (sizes : Super) where
             inr (subst (λ (z : ℕ). In z (free_in sizes.ninodes (n / 16) block)) place
             (is_among (16 * (n / 16)) block 16 (n % 16) (omega arith) (ap (is_free_in sizes.ninodes block) place ∙ free)))
 
-    claim_ends : (es : List AnsweredStep) (r : Made) → ComesTo (handlers sizes c (Claim sort) m) es r
+    claim_ends : (es : List AnsweredStep) (r : Made) → ComesTo (handlers sizes c (Claim inode_type) m) es r
         → (room : Full) → wanted_to_claim r.answer ≡ Some room → SawNone sizes es room
     claim_ends es r q MemInodes want = tt
     claim_ends es r q OpenFiles want = tt
@@ -407,16 +407,16 @@ module _ (sizes : Super) where
 pub all_see : SearchesSeeAll
 all_see sizes c (UpStart absolute) m es r room fits q want = without_room sizes es MemInodes tt r.answer room want
 all_see sizes c (Up n) m es r room fits q want = unless_room sizes es MemInodes tt r.answer room want
-all_see sizes c (Claim sort) m es r room fits q want = claim_ends sizes sort c m es r q room want
+all_see sizes c (Claim inode_type) m es r room fits q want = claim_ends sizes inode_type c m es r q room want
 all_see sizes c (Fill n d) m es r room fits q want = fill_sees sizes n d c m es r q room want
 all_see sizes c (Enter d e n) m es r room fits q want = enter_sees sizes d e n fits c m es r q room want
 all_see sizes c Slot m es r room fits q want = unless_room sizes es OpenFiles tt r.answer room want
-all_see sizes c (Install f sort) m es r room fits q want = without_room sizes es Descriptors tt r.answer room want
+all_see sizes c (Install f inode_type) m es r room fits q want = without_room sizes es Descriptors tt r.answer room want
 all_see sizes c (WriteFile fd n offset bytes) m es r room fits q want =
     unless_sees sizes fd n offset bytes c m (refused_in (record_in c n) offset bytes) es r q room want
 all_see sizes c (Double fd) m es r room fits q want = double_room sizes es r.answer room want
 all_see sizes c (Take n looking) m es r room fits q want = nothing_wanted sizes es room want
-all_see sizes c (Give n) m es r room fits q want = nothing_wanted sizes es room want
+all_see sizes c (UnlockInode n) m es r room fits q want = nothing_wanted sizes es room want
 all_see sizes c (WalkDown n) m es r room fits q want = nothing_wanted sizes es room want
 all_see sizes c (Down n) m es r room fits q want = nothing_wanted sizes es room want
 all_see sizes c (Free n) m es r room fits q want = nothing_wanted sizes es room want
@@ -431,7 +431,7 @@ all_see sizes c (CheckFile fd) m es r room fits q want = nothing_wanted sizes es
 all_see sizes c (JoinFile fd) m es r room fits q want = nothing_wanted sizes es room want
 all_see sizes c (LockOpen fd n) m es r room fits q want = nothing_wanted sizes es room want
 all_see sizes c (Shut fd) m es r room fits q want = nothing_wanted sizes es room want
-all_see sizes c (Settle n) m es r room fits q want = nothing_wanted sizes es room want
+all_see sizes c (SetDirectory n) m es r room fits q want = nothing_wanted sizes es room want
 all_see sizes c (Lend child from) m es r room fits q want = nothing_wanted sizes es room want
 all_see sizes c (LendDirectory child) m es r room fits q want = nothing_wanted sizes es room want
 all_see sizes c (Release child) m es r room fits q want = nothing_wanted sizes es room want
@@ -453,7 +453,7 @@ pub claims_find : ClaimsFindReferences
 unfolding exec
 claims_find h x b candidates s t e n i = at (first_free s.tables.entries candidates) refl e
   where
-    never : (d : Did (Option ℕ) State) → claims d ≡ Ran steps.NoInode t → ⊥
+    never : (d : ExecResult (Option ℕ) State) → claims d ≡ Ran steps.NoInode t → ⊥
     never Waits q = cc
     never (Ran None u) q = cc
     never (Ran (Some k) u) q = cc

@@ -1,5 +1,5 @@
 -- Each call's steps on the blocks are a run of its program; so a call that ends for want of a block or of an inode has looked everywhere.
-use Rattle.run_laws.proofs.Vocabulary.{◌≡◌, ◌≢◌, ◌⊎◌, inl, inr, ◌<◌, ◌≤◌, ℕ, suc, Bool, true, false, List, [], ◌∷◌, ◌++◌, Option, Some, None, IsSome, refl, sym, ◌∙◌, ap, subst, arith, Super, Full, Blocks, DiskInodes, MemInodes, Reply, Call, Theory, Began, Begins, Refuses, EventOf, FinishedCall, Run, Start, State, Step, all_told, begun, busy_in, fresh, moved, next, run, start_run, step_prog, step_run, step_unless as step_of, told, tried, unchanged, In, Both, Handover, both, lowered, OpWithAnswer, PartOf as P, onto, own, Ret, Do, Did, Ran, Stops, Waits, did_in, Some-inj, changed_tells, Outside, AnswerBelow as Answer, NoInode, Op, dinode_at, place_in_memory, is_zero, inode_block, place_of, program, machine, nothing, P as Above, Acts, came_to, Carry, handlers, first, World, layer, block_calls, WorldOf, AnsweredStep, ComesTo, SawInUse, SawNone, AreItsOwn, CallsLookEverywhere, IsInUse, IsReferredTo, MadeStep, SeesNoBlock, SeesNoInode, answered, if_ran, step_of_call, step_of_event, step_of_program, steps_made}
+use Rattle.run_laws.proofs.Vocabulary.{◌≡◌, ◌≢◌, ◌⊎◌, inl, inr, ◌<◌, ◌≤◌, ℕ, suc, Bool, true, false, List, [], ◌∷◌, ◌++◌, Option, Some, None, IsSome, refl, sym, ◌∙◌, ap, subst, arith, Super, Full, Blocks, DiskInodes, MemInodes, Reply, Call, Theory, Began, Begins, Refuses, EventOf, FinishedCall, Run, Start, State, Step, all_told, begun, busy_in, fresh, moved, next, run, start_run, step_prog, step_run, step_unless as step_of, told, tried, unchanged, In, Both, Handover, both, lowered, OpWithAnswer, PartOf as P, onto, own, Ret, Do, ExecResult, Ran, Stops, Waits, exec_result_in, Some-inj, changed_tells, Outside, AnswerBelow as Answer, NoInode, Op, dinode_at, place_in_memory, is_zero, inode_block, place_of, program, machine, nothing, P as Above, Acts, came_to, Carry, handlers, first, World, layer, block_calls, WorldOf, AnsweredStep, ComesTo, SawInUse, SawNone, AreItsOwn, CallsLookEverywhere, IsInUse, IsReferredTo, MadeStep, SeesNoBlock, SeesNoInode, answered, if_ran, step_of_call, step_of_event, step_of_program, steps_made}
 use Rattle.plain_tree.specs.declared.answer.Answer.TheVariants as answers
 use Rattle.fs_machine.specs.Steps as steps
 use Rattle.fs_machine.specs.Steps.{Claim}
@@ -187,7 +187,7 @@ module _ (sizes : Super) where
 
     after_tried : (h : ℕ) (r : Run L) → s.running h ≡ Some r → (op : Op) (m : Answer op → Option Acts) (k : Answer op → Calling)
         → r.prog ≡ Do op m k
-        → (ps : Answer op → List (ℕ × L.M.Step)) (d : Did (Answer op) L.M.World)
+        → (ps : Answer op → List (ℕ × L.M.Step)) (d : ExecResult (Answer op) L.M.World)
         → Keeps (And (if_ran s.now h s.world op d)) (tried L h s r op ps k d).after
     after_tried h r is op m k asks ps Waits = quietly (And []) (λ x v. inl v)
     after_tried h r is op m k asks ps (Ran a w) = after_moved h r is op m k asks a (op, a) (ps a) w (k a) refl
@@ -280,10 +280,10 @@ module _ (sizes : Super) where
   Happened e = (x : Outside) × (t : steps.State) × (steps.exec e.hart x e.step.0 e.before ≡ Ran e.step.1 t)
 
   ran_happened : (s : State (block_calls sizes)) (h : ℕ) (x : Outside) (op : Op) (m : Answer op
-      → Option Acts) (d : Did (Answer op) steps.State)
+      → Option Acts) (d : ExecResult (Answer op) steps.State)
       → steps.exec h x op s.world.real.blocks.state ≡ d → (e : MadeStep)
       → In e (if_ran s.now h s.world op (both machine h m s.world.seen
-      (did_in (λ v. record (s.world.real) { blocks = v }) (came_to h op s.world.real.blocks d)))) → Happened e
+      (exec_result_in (λ v. record (s.world.real) { blocks = v }) (came_to h op s.world.real.blocks d)))) → Happened e
   ran_happened s h x op m Waits is e i = absurd i
   ran_happened s h x op m (Stops t) is e i = absurd i
   ran_happened s h x op m (Ran a t) is e (inl q) = subst Happened (sym q) (x, t, is)

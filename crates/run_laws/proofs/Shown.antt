@@ -1,5 +1,5 @@
 -- What a run's events show of calls is what those of its history do.
-use Rattle.run_laws.proofs.Vocabulary.{◌≡◌, ℕ, List, [], ◌∷◌, refl, ◌∙◌, Super, Call, EventOf, Start, Step, Started, WasRefused as Refused, WasIdle, DidWait, DidRun, DidEnd, DidStop, WasStopped, Came as CameOf, all_asked, asked, all_by_kind, by_kind, Outside, shown_by, block_calls, block_code, Event, Outcome, all_shown, events_of, outcomes_of, shown}
+use Rattle.run_laws.proofs.Vocabulary.{◌≡◌, ℕ, List, [], ◌∷◌, refl, ◌∙◌, Super, Call, EventOf, Start, Step, Started, WasRefused as Refused, WasIdle, DidWait, DidRun, DidEnd, DidStop, WasStopped, EventOutcome, all_asked, asked, all_by_kind, by_kind, Outside, shown_by, block_calls, block_code, Event, Outcome, all_shown, events_of, outcomes_of, shown}
 use Rattle.hart_core.specs.declared.events.Came.{Came}
 use Rattle.hart_core.specs.declared.events.Came.TheVariants as came
 use Rattle.hart_core.specs.declared.events.Event.TheVariants as event
@@ -10,7 +10,7 @@ use Rattle.hart_core.proofs.Histories.{zipped, all_same}
 
 module _ (sizes : Super) where
   -- of which kind an operation was isn't shown
-  kind_start : (h : ℕ) (call : Call) (o : CameOf (block_calls sizes)) → shown_by {Outside = Outside} (Start h call) o ≡ shown_by {Outside = Unit {0}} (Start h call) (by_kind (block_calls sizes) (block_code sizes) o)
+  kind_start : (h : ℕ) (call : Call) (o : EventOutcome (block_calls sizes)) → shown_by {Outside = Outside} (Start h call) o ≡ shown_by {Outside = Unit {0}} (Start h call) (by_kind (block_calls sizes) (block_code sizes) o)
   kind_start h call Started = refl
   kind_start h call (Refused why) = refl
   kind_start h call WasIdle = refl
@@ -20,7 +20,7 @@ module _ (sizes : Super) where
   kind_start h call DidStop = refl
   kind_start h call WasStopped = refl
 
-  kind_step : (h : ℕ) (x : Outside) (o : CameOf (block_calls sizes)) → shown_by (Step h x) o ≡ shown_by {Outside = Unit {0}} (Step h tt) (by_kind (block_calls sizes) (block_code sizes) o)
+  kind_step : (h : ℕ) (x : Outside) (o : EventOutcome (block_calls sizes)) → shown_by (Step h x) o ≡ shown_by {Outside = Unit {0}} (Step h tt) (by_kind (block_calls sizes) (block_code sizes) o)
   kind_step h x Started = refl
   kind_step h x (Refused why) = refl
   kind_step h x WasIdle = refl
@@ -30,15 +30,15 @@ module _ (sizes : Super) where
   kind_step h x DidStop = refl
   kind_step h x WasStopped = refl
 
-  kind_same : (e : EventOf Call Outside) (o : CameOf (block_calls sizes)) → shown_by e o ≡ shown_by (asked e) (by_kind (block_calls sizes) (block_code sizes) o)
+  kind_same : (e : EventOf Call Outside) (o : EventOutcome (block_calls sizes)) → shown_by e o ≡ shown_by (asked e) (by_kind (block_calls sizes) (block_code sizes) o)
   kind_same (Start h call) o = kind_start h call o
   kind_same (Step h x) o = kind_step h x o
 
-  kinds_same : (es : List (EventOf Call Outside)) (os : List (CameOf (block_calls sizes))) → all_shown_by sizes es os ≡ zipped (all_asked es) (all_by_kind (block_calls sizes) (block_code sizes) os)
+  kinds_same : (es : List (EventOf Call Outside)) (os : List (EventOutcome (block_calls sizes))) → all_shown_by sizes es os ≡ zipped (all_asked es) (all_by_kind (block_calls sizes) (block_code sizes) os)
   kinds_same [] os = refl
   kinds_same (e ∷ es) [] = refl
   kinds_same (e ∷ es) (o ∷ os) = λ i. kind_same e o i ∷ kinds_same es os i
 
-  pub shown_same : (es : List (EventOf Call Outside)) (os : List (CameOf (block_calls sizes))) (events : List Event) (cs : List Came) → all_asked es ≡ events_of events → all_by_kind (block_calls sizes) (block_code sizes) os ≡ outcomes_of cs
+  pub shown_same : (es : List (EventOf Call Outside)) (os : List (EventOutcome (block_calls sizes))) (events : List Event) (cs : List Came) → all_asked es ≡ events_of events → all_by_kind (block_calls sizes) (block_code sizes) os ≡ outcomes_of cs
       → all_shown_by sizes es os ≡ all_shown events cs
   shown_same es os events cs asks come = kinds_same es os ∙ (λ i. zipped (asks i) (come i)) ∙ all_same events cs

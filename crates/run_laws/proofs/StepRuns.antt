@@ -1,5 +1,5 @@
 -- What is noted of a run changes nothing of it.
-use Rattle.run_laws.proofs.Vocabulary.{◌≡◌, ℕ, suc, Option, Some, None, Bool, true, false, List, [], ◌∷◌, refl, sym, ◌∙◌, ap, subst, nat_eq, if◌then◌else◌, Ret, Do, Did, Waits, Ran, Stops, PartOf as P, OpWithAnswer, own, onto, Theory, Began, Refuses, Begins, Run, PlacedStep, FinishedCall, State, EventOf as Event, Start, Step, Came, Started, DidRun, DidEnd, Made, changed, is_called as is_some, start_of, placed, told, all_told, moved, tried, step_prog, step_unless, step_run, begun, busy_in, start_run, HonestStep, IsHonest, AllHonest, makes, next, run, outcomes, fresh, Notes, StepNote, entries_of, with_entries, with_steps}
+use Rattle.run_laws.proofs.Vocabulary.{◌≡◌, ℕ, suc, Option, Some, None, Bool, true, false, List, [], ◌∷◌, refl, sym, ◌∙◌, ap, subst, nat_eq, if◌then◌else◌, Ret, Do, ExecResult, Waits, Ran, Stops, PartOf as P, OpWithAnswer, own, onto, Theory, Began, Refuses, Begins, Run, PlacedStep, FinishedCall, State, EventOf as Event, Start, Step, EventOutcome, Started, DidRun, DidEnd, Made, changed, is_called as is_some, start_of, placed, told, all_told, moved, tried, step_prog, step_unless, step_run, begun, busy_in, start_run, HonestStep, IsHonest, AllHonest, makes, next, run, outcomes, fresh, Notes, StepNote, entries_of, with_entries, with_steps}
 
 -- steps that are all of this hart
 abbrev pub all_by : {A : Type 0} → ℕ → List A → List (ℕ × A)
@@ -112,7 +112,7 @@ module _ (L : Theory) (Written : L.Call → Notes L.M → L.Reply → Type 0)
       new_is : run_alone (Some new) ≡ Some (record { call = r.call; start = r.start; prog = Do op m k; count = suc r.count; done = onto (own h (all_by h xs)) (steps_alone r.done) })
       new_is = λ i. Some (record { call = r.call; start = r.start; prog = Do op m k; count = suc r.count; done = done_alone h h did xs r.done i })
 
-  tried_alone : (h : ℕ) (s : State N) (r : Run N) (op : L.M.Op) (ps : L.M.Answer op → List (ℕ × L.M.Step)) → ((a : L.M.Answer op) → ps a ≡ all_by h (own h (ps a))) → (k : L.M.Answer op → P L.M L.Reply) (d : Did (L.M.Answer op) L.M.World)
+  tried_alone : (h : ℕ) (s : State N) (r : Run N) (op : L.M.Op) (ps : L.M.Answer op → List (ℕ × L.M.Step)) → ((a : L.M.Answer op) → ps a ≡ all_by h (own h (ps a))) → (k : L.M.Answer op → P L.M L.Reply) (d : ExecResult (L.M.Answer op) L.M.World)
       → made_alone (tried N h s r op (λ a. (h, step (op, a) (own h (ps a))) ∷ []) k d) ≡ tried L h (alone s) (call_alone r) op ps k d
   tried_alone h s r op ps by k Waits = refl
   tried_alone h s r op ps by k (Ran a w) = moved_alone h s r (op, a) (own h (ps a)) (k a) w ∙ ap (λ (zs : List (ℕ × L.M.Step)). moved L h (alone s) (call_alone r) (op, a) zs (k a) w) (sym (by a))
@@ -164,7 +164,7 @@ module _ (L : Theory) (Written : L.Call → Notes L.M → L.Reply → Type 0)
   run_is [] s t e = e
   run_is (x ∷ es) s t e = run_is es (next N x s) (next L x t) ((λ i. (makes_alone x s i).after) ∙ ap (next L x) e)
 
-  outcomes_is : (es : List (Event L.Call L.M.Outside)) (s : State N) (t : State L) → alone s ≡ t → ◌≡◌ {A = List (Came L)} (outcomes N es s) (outcomes L es t)
+  outcomes_is : (es : List (Event L.Call L.M.Outside)) (s : State N) (t : State L) → alone s ≡ t → ◌≡◌ {A = List (EventOutcome L)} (outcomes N es s) (outcomes L es t)
   outcomes_is [] s t e = refl
   outcomes_is (x ∷ es) s t e = λ i. (came_is i).came ∷ outcomes_is es (next N x s) (next L x t) (λ j. (came_is j).after) i
     where

@@ -1,5 +1,5 @@
 -- An operation's mark says that there was no room just where its answer says so.
-use Rattle.run_laws.proofs.Vocabulary.{◌≡◌, ℕ, Bool, true, false, not, if◌then◌else◌, List, Option, Some, None, refl, Action, empty_it, dups, refused_read, refused_to, writes, is_nothing, Face, Sight, is_directory_sort, is_live_face, lends, bump_refused, bumps_if, enters, is_refused, entered_file, installs, mends_unless_new, truncates, begins_unless_full, looks_if, looks_or_quits, looks_where, mends_if_full, own_step, quits_unless, ClaimResult, EntryResult, InPlace, JoinResult, Joined, Lent, LoanResult, LockResult, LocksIt, Mark, Moved, New, NoBlock, NoPlace, NoSlot, NotJoined, NotLocked, Refused, Short, Whole, Wrote, Fills, Frees, Makes, Mends, Orphans, Spoils, Move, Look, Quit, is_no_descriptor, is_no_entry, is_no_inode, is_short}
+use Rattle.run_laws.proofs.Vocabulary.{◌≡◌, ℕ, Bool, true, false, not, if◌then◌else◌, List, Option, Some, None, refl, Action, empty_it, dups, refused_read, refused_to, writes, is_nothing, Face, Sight, is_directory_type, is_live_face, lends, bump_refused, bumps_if, enters, is_refused, entered_file, installs, mends_unless_new, truncates, begins_unless_full, looks_if, looks_or_quits, looks_where, mends_if_full, own_step, quits_unless, ClaimResult, EntryResult, InPlace, JoinResult, Joined, Lent, LoanResult, LockResult, LocksIt, Mark, Moved, New, NoBlock, NoPlace, NoSlot, NotJoined, NotLocked, Refused, Short, Whole, Wrote, Fills, Frees, Makes, Mends, Orphans, Spoils, Move, Look, GiveUpWalk, is_no_descriptor, is_no_entry, is_no_inode, is_short}
 use Rattle.plain_tree.specs.declared.step.Action.TheVariants as actions
 use Rattle.plain_tree.specs.Steps.{has}
 use Rattle.inode_machine.specs.Parts.{makes}
@@ -29,7 +29,7 @@ either_move v u true = refl
 either_move v u false = refl
 
 pub looks_tell : (s : Action) (a : Sight) → spoils (looks_or_quits s a) ≡ false
-looks_tell s a = either_move (Look 0) (Quit s) (is_live_face a.face)
+looks_tell s a = either_move (Look 0) (GiveUpWalk s) (is_live_face a.face)
 
 pub quits_tell : (s : Action) (b : Bool) → spoils (quits_unless s b) ≡ false
 quits_tell s true = refl
@@ -42,12 +42,12 @@ if_tells false = refl
 pub where_tells : (s : Action) (refuses : Sight → Bool) (a : Sight) → spoils (looks_where s refuses a) ≡ false
 where_tells s refuses a = by (is_live_face a.face) (refuses a)
   where
-    by : (live b : Bool) → spoils (if live then looks_if b else makes (Quit s)) ≡ false
+    by : (live b : Bool) → spoils (if live then looks_if b else makes (GiveUpWalk s)) ≡ false
     by true b = if_tells b
     by false b = refl
 
 pub bump_tells : (f : Face) → spoils (bumps_if f) ≡ false
-bump_tells f = by (is_directory_sort f.sort) (is_refused (bump_refused f))
+bump_tells f = by (is_directory_type f.inode_type) (is_refused (bump_refused f))
   where
     by : (b c : Bool) → spoils (if b then None else (if c then own_step actions.Bump else None)) ≡ false
     by true c = refl

@@ -1,5 +1,5 @@
 -- What a run shows of its calls, event by event, matches the calls that its state has.
-use Rattle.run_laws.proofs.Vocabulary.{◌≡◌, ◌≢◌, ◌⊎◌, inl, inr, ℕ, suc, ◌&&◌, ◌==◌, if◌then◌else◌, Bool, true, false, Option, Some, None, List, [], ◌∷◌, ◌++◌, map, refl, sym, ◌∙◌, ap, subst, arith, Super, Reply, Call, Trace, TracedCall, Shown, ends_at, no_calls, noted, trace_from, Other, no_fd as is_nothing, eq_is, eq_isnt, same_or, Theory, Began, Refuses, Begins, EventOf, FinishedCall, Run, Start, Step, State, all_told, begun, busy_in, fresh, makes, moved, next, outcomes, run, start_run, step_prog, step_run, step_unless, told, tried, unchanged, Came, In, Both, PartOf as P, OpWithAnswer, own, onto, Ret, Do, Did, Waits, Ran, Stops, Some-inj, changed_other, changed_same, Outside, shown_by, Refusal, World, block_calls, lowered_inode_calls}
+use Rattle.run_laws.proofs.Vocabulary.{◌≡◌, ◌≢◌, ◌⊎◌, inl, inr, ℕ, suc, ◌&&◌, ◌==◌, if◌then◌else◌, Bool, true, false, Option, Some, None, List, [], ◌∷◌, ◌++◌, map, refl, sym, ◌∙◌, ap, subst, arith, Super, Reply, Call, Trace, TracedCall, Shown, ends_at, no_calls, noted, trace_from, Other, no_fd as is_nothing, eq_is, eq_isnt, same_or, Theory, Began, Refuses, Begins, EventOf, FinishedCall, Run, Start, Step, State, all_told, begun, busy_in, fresh, makes, moved, next, outcomes, run, start_run, step_prog, step_run, step_unless, told, tried, unchanged, EventOutcome, In, Both, PartOf as P, OpWithAnswer, own, onto, Ret, Do, ExecResult, Waits, Ran, Stops, Some-inj, changed_other, changed_same, Outside, shown_by, Refusal, World, block_calls, lowered_inode_calls}
 use Rattle.inode_machine.specs.World as above
 
 in_append : {A : Type 0} (c x : A) (xs : List A) → In c (xs ++ x ∷ []) → In c xs ⊎ (c ≡ x)
@@ -121,7 +121,7 @@ module _ (sizes : Super) where
           let one : r ≡ q.0 = Some-inj r q.0 (sym is ∙ ap s.running (sym (eq_is d.hart h is_b)) ∙ q.1) in
           (ended, inl refl, ap (λ (z : Run N). z.call) one ∙ q.2, ap (λ (z : Run N). z.start) one ∙ q.3, refl)
 
-  tried_matches : (h : ℕ) (x : Outside) (s : State N) (t : Trace) (r : Run N) (op : N.M.Op) (ps : N.M.Answer op → List (ℕ × N.M.Step)) (k : N.M.Answer op → P N.M Reply) (d : Did (N.M.Answer op) (Both World above.World)) → s.running h ≡ Some r → Matches s t
+  tried_matches : (h : ℕ) (x : Outside) (s : State N) (t : Trace) (r : Run N) (op : N.M.Op) (ps : N.M.Answer op → List (ℕ × N.M.Step)) (k : N.M.Answer op → P N.M Reply) (d : ExecResult (N.M.Answer op) (Both World above.World)) → s.running h ≡ Some r → Matches s t
       → Matches (tried N h s r op ps k d).after (noted t (shown_by (Step h x) (tried N h s r op ps k d).came))
   tried_matches h x s t r op ps k Waits is m = quiet s t m
   tried_matches h x s t r op ps k (Ran a w) is m = moved_matches h x s t r (op, a) (ps a) (k a) w is m
@@ -144,7 +144,7 @@ module _ (sizes : Super) where
   next_matches (Step h x) s t m = step_matches h x s t (s.running h) refl m
 
   -- what events with these outcomes show
-  abbrev pub all_shown_by : List (EventOf Call Outside) → List (Came (block_calls sizes)) → List Shown
+  abbrev pub all_shown_by : List (EventOf Call Outside) → List (EventOutcome (block_calls sizes)) → List Shown
   all_shown_by [] os = []
   all_shown_by (e ∷ es) [] = []
   all_shown_by (e ∷ es) (o ∷ os) = shown_by e o ∷ all_shown_by es os

@@ -1,5 +1,5 @@
 -- In each run a transaction records at most ten different blocks.
-use Rattle.run_laws.proofs.Vocabulary.{◌≡◌, ◌≢◌, ◌⊎◌, inl, inr, ◌<◌, ℕ, suc, ◌==◌, Bool, true, false, List, [], ◌∷◌, ◌++◌, Option, Some, None, if◌then◌else◌, refl, sym, ◌∙◌, ap, subst, slice_get, Super, sizes_of, Reply, Call, put, hart_count, either, eq_is, eq_self, Theory, AllHonest, Began, Begins, Refuses, EventOf, HonestStep, IsHonest, Run, Sound, Start, State, Step, all_told, begun, busy_in, changed, fresh, moved, next, start_run, step_prog, step_run, step_unless as step_of, told, tried, unchanged, Holds, IsExplained, Both, both, OpWithAnswer, PartOf as P, onto, own, began_to, Ret, Do, Did, OfNext, Ran, Stops, Waits, asks, did_in, Some-inj, changed_tells, begun_both, sound_explained, sound_fresh, sound_run, Outside, Own, own_of, AnswerBelow as Answer, Op, After, leaves_own, machine, Refusal, came_to, Acts, IsMountable, ShowsItsTree, mounts_show_their_trees, first, World, shared_of, begins, block_calls, child_of, served_calls, first_holds, first_idle, lawful, served_is, BeginsHere, begun_here, below_count, AllAnswer, IsHistory, WorldOf, all_honest, mountable, rests_erased, MadeStep, if_ran, step_of_call, step_of_event, step_of_program, steps_made, AreAtMostTen, JoinAndLeaveInTheLog, RecordAtMostTen, RecordInTransactions, TransactionsRecordAtMostTen, recorded_after, recorded_from, recorded_with}
+use Rattle.run_laws.proofs.Vocabulary.{◌≡◌, ◌≢◌, ◌⊎◌, inl, inr, ◌<◌, ℕ, suc, ◌==◌, Bool, true, false, List, [], ◌∷◌, ◌++◌, Option, Some, None, if◌then◌else◌, refl, sym, ◌∙◌, ap, subst, slice_get, Super, sizes_of, Reply, Call, put, hart_count, either, eq_is, eq_self, Theory, AllHonest, Began, Begins, Refuses, EventOf, HonestStep, IsHonest, Run, Sound, Start, State, Step, all_told, begun, busy_in, changed, fresh, moved, next, start_run, step_prog, step_run, step_unless as step_of, told, tried, unchanged, Holds, IsExplained, Both, both, OpWithAnswer, PartOf as P, onto, own, began_to, Ret, Do, ExecResult, OfNext, Ran, Stops, Waits, asks, exec_result_in, Some-inj, changed_tells, begun_both, sound_explained, sound_fresh, sound_run, Outside, Own, own_of, AnswerBelow as Answer, Op, After, leaves_own, machine, Refusal, came_to, Acts, IsMountable, ShowsItsTree, mounts_show_their_trees, first, World, shared_of, begins, block_calls, child_of, served_calls, first_holds, first_idle, lawful, served_is, BeginsHere, begun_here, below_count, AllAnswer, IsHistory, WorldOf, all_honest, mountable, rests_erased, MadeStep, if_ran, step_of_call, step_of_event, step_of_program, steps_made, AreAtMostTen, JoinAndLeaveInTheLog, RecordAtMostTen, RecordInTransactions, TransactionsRecordAtMostTen, recorded_after, recorded_from, recorded_with}
 use Rattle.fs_machine.specs.Premises as premises
 use Rattle.fs_machine.specs.Steps as steps
 use Rattle.inode_machine.specs.World as above
@@ -60,7 +60,7 @@ module _ (sizes : Super) where
   abbrev blocks_of : Both World above.World → steps.State
   blocks_of w = w.real.blocks.state
 
-  ran_one : (number h : ℕ) (w : Both World above.World) (b : Bool) → b ≡ false → (op : Op) (d : Did (Answer op) (Both World above.World))
+  ran_one : (number h : ℕ) (w : Both World above.World) (b : Bool) → b ≡ false → (op : Op) (d : ExecResult (Answer op) (Both World above.World))
       → premises.May h op (blocks_of w) → IsOneIn (blocks_of w) b (if_ran number h w op d)
   ran_one number h w b runs op Waits may = tt
   ran_one number h w b runs op (Ran a u) may = (refl, runs, may)
@@ -230,10 +230,10 @@ module _ (sizes : Super) where
 
     module _ (h : ℕ) (r : Run L) (is : s.running h ≡ Some r) (runs : s.stopped ≡ false) (op : Op) (m : Answer op → Option Acts)
         (k : Answer op → Calling) (asked : r.prog ≡ Do op m k) (may : premises.May h op (blocks_of s.world)) where
-      tried_so : (ps : Answer op → List (ℕ × L.M.Step)) (d : Did (Answer op) steps.State)
+      tried_so : (ps : Answer op → List (ℕ × L.M.Step)) (d : ExecResult (Answer op) steps.State)
           → AgreesAfter h (blocks_of s.world) (o h) (keeps.agrees runs h) (λ a. recorded_after op a (o h)) d
           → ((j : ℕ) → j ≢ h → After (λ t. own_of j t.log ≡ own_of j (blocks_of s.world).log) d)
-          → let went = both machine h m s.world.seen (did_in (λ v. record (s.world.real) { blocks = v }) (came_to h op s.world.real.blocks d)) in
+          → let went = both machine h m s.world.seen (exec_result_in (λ v. record (s.world.real) { blocks = v }) (came_to h op s.world.real.blocks d)) in
           Keeps (tried L h s r op ps k went).after (λ j. recorded_from j (o j) (if_ran s.now h s.world op went))
       tried_so ps Waits mine others = quietly
       tried_so ps (Stops t) mine others = stopped _

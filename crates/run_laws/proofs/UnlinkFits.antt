@@ -1,5 +1,5 @@
 -- What unlink asks for fits.
-use Rattle.run_laws.proofs.Vocabulary.{ℕ, ◌-◌, ◌==◌, ◌||◌, Bool, true, false, not, if◌then◌else◌, List, [], ◌∷◌, Option, Some, None, refl, NoEntry, NotEmpty, DotName, MemInodes, Reply, Name, elements, same_name, dot, dotdot, Do, unmarked, Face, face_or, is_directory_sort, is_live_face, always, clear_name, in_parent, is_missing, or_missing, unlink_child, unlink_dots, unlink_found, unlink_in, unlink_named, unlink_other, unlink_program, P, failed, full, done, give_up, tail, stopped, Store}
+use Rattle.run_laws.proofs.Vocabulary.{ℕ, ◌-◌, ◌==◌, ◌||◌, Bool, true, false, not, if◌then◌else◌, List, [], ◌∷◌, Option, Some, None, refl, NoEntry, NotEmpty, DotName, MemInodes, Reply, Name, elements, same_name, dot, dotdot, Do, unmarked, Face, face_or, is_directory_type, is_live_face, always, clear_name, in_parent, is_missing, or_missing, unlink_child, unlink_dots, unlink_found, unlink_in, unlink_named, unlink_other, unlink_program, P, failed, full, done, give_up, tail, stopped, Store}
 use Rattle.plain_tree.specs.declared.call.Call.TheVariants as calls
 use Rattle.plain_tree.specs.declared.step.Action.TheVariants as actions
 use Rattle.run_laws.proofs.PathFits.{give_up_fits, tail_fits, refused_fits, parent_fits}
@@ -13,7 +13,7 @@ module _ (path : List ℕ) where
   both_fits n d ns r = give_up_fits n (give_up d (tail ns r)) (refused_fits d ns r)
 
   clear_fits : (d : ℕ) (e : Name) (ns : List ℕ) (f : Face) (n : ℕ) (g : Face) → AllFit (clear_name path d e ns f n g)
-  clear_fits d e ns f n g = (tt, λ _. refl, λ _. by (is_directory_sort g.sort))
+  clear_fits d e ns f n g = (tt, λ _. refl, λ _. by (is_directory_type g.inode_type))
     where
       child : P Reply
       child = Do (Store n (g.count - 1)) unmarked (λ _. give_up n (tail ns (done (calls.Unlink path))))

@@ -1,5 +1,5 @@
 -- An operation of which no change is told leaves inodes that have a name, open files and what harts have of them.
-use Rattle.run_laws.proofs.Vocabulary.{◌≡◌, ◌≢◌, ◌⊎◌, inl, inr, ℕ, ◌==◌, Bool, true, false, nat_lt, if◌then◌else◌, List, [], ◌∷◌, take, Option, Some, None, refl, sym, ◌∙◌, ap, subst, append-nil, Cause, Node, OpenFile, has_room, lowest, node_or, write_kind, Name, Tree, all_slots, first_slot, is_live, live_directory, look, put, IsWellFormed, look_live, eq_is, put_is, put_other, put_same, ran_to, Did, Waits, Ran, Stops, claim_if, claimed, close_at, close_if, double_at, double_if, down_if, entry_of, enter_if, exec, file_count, fill_if, first_from, has_place, install_if, is_empty_slot, is_full_directory, is_last, join_at, lend_if, lock_at, lock_if, locked, next_used, offset_of, place_count, read_at, read_refused, referenced, released, slot_at, slot_if, start_if, start_number, stat_at, unlocked, up_if, walk_down_if, write_at, write_if, write_refused, Sort, face_of, face_or, seen_in, sort_of, go, made_by, marked, mended, new_id, spoiled, with_left, with_made, with_mark, with_noted, with_opened, Answer, ClaimResult, Desk, Entry, LocksIt, Mark, New, NoPlace, Picks, Room, RoomFor, Inv, Fills, Frees, Makes, Mends, Orphans, Spoils, CheckFile, Claim, Clear, Double, Down, Empty, Enter, Fill, Forget, Free, Give, Install, Join, JoinFile, Leave, Lend, LendDirectory, LockFile, LockOpen, ReadFile, Release, Say, Settle, Shut, Slot, StatFile, Store, Take, Up, UpStart, WalkDown, WriteFile, OwnMove as Own, Change, ChangesAreTold, Claimed, Cleared, Entered, Filled, Freed, GaveBack, HasNoName, TookPlace, by_count, by_free, changed_by}
+use Rattle.run_laws.proofs.Vocabulary.{◌≡◌, ◌≢◌, ◌⊎◌, inl, inr, ℕ, ◌==◌, Bool, true, false, nat_lt, if◌then◌else◌, List, [], ◌∷◌, take, Option, Some, None, refl, sym, ◌∙◌, ap, subst, append-nil, Cause, Node, OpenFile, has_room, lowest, node_or, write_kind, Name, Tree, all_slots, first_slot, is_live, live_directory, look, put, IsWellFormed, look_live, eq_is, put_is, put_other, put_same, ran_to, ExecResult, Waits, Ran, Stops, claim_if, claimed, close_at, close_if, double_at, double_if, down_if, entry_of, enter_if, exec, file_count, fill_if, first_from, has_place, install_if, is_empty_slot, is_full_directory, is_last, join_at, lend_if, lock_at, lock_if, locked, next_used, offset_of, place_count, read_at, read_refused, referenced, released, slot_at, slot_if, start_if, start_number, stat_at, unlocked, up_if, walk_down_if, write_at, write_if, write_refused, InodeType, face_of, face_or, seen_in, type_of, go, made_by, marked, mended, new_id, spoiled, with_left, with_made, with_mark, with_noted, with_opened, Answer, ClaimResult, Desk, Entry, LocksIt, Mark, New, NoPlace, Picks, Room, RoomFor, Inv, Fills, Frees, Makes, Mends, Orphans, Spoils, CheckFile, Claim, Clear, Double, Down, Empty, Enter, Fill, Forget, Free, UnlockInode, Install, Join, JoinFile, Leave, Lend, LendDirectory, LockFile, LockOpen, ReadFile, Release, Say, SetDirectory, Shut, Slot, StatFile, Store, Take, Up, UpStart, WalkDown, WriteFile, OwnMove as Own, Change, ChangesAreTold, Claimed, Cleared, Entered, Filled, Freed, GaveBack, HasNoName, TookPlace, by_count, by_free, changed_by}
 use Rattle.inode_machine.specs.Exec.{with_record, write_in}
 use Rattle.inode_machine.specs.Marks.{Made}
 use Rattle.inode_machine.specs.World.{Op}
@@ -79,7 +79,7 @@ opened_same desks h fd (Some id) g = desk_put desks h (record (desks h) { openin
 noted_same : (b : Tree) (desks : ℕ → Desk) (h : ℕ) (o : Option ℕ) (g : ℕ) → tables_of (with_noted b desks h o g) ≡ tables_of (desks g)
 noted_same b desks h None g = refl
 noted_same b desks h (Some n) g =
-    desk_put desks h (record (desks h) { noted = Some (record { number = n; sort = sort_of (b.nodes n) }) }) refl g
+    desk_put desks h (record (desks h) { noted = Some (record { number = n; inode_type = type_of (b.nodes n) }) }) refl g
 
 left_same : (desks : ℕ → Desk) (h : ℕ) (o : Option ℕ) (g : ℕ) → tables_of (with_left desks h o g) ≡ tables_of (desks g)
 left_same desks h None g = refl
@@ -117,7 +117,7 @@ marked_kept h (Some (Spoils s)) w =
 -- ---- operations
 
 -- where no change is told of the answer
-abbrev Goes : {A : Type 0} → (A → List Change) → Op → World → Did A World → Type 0
+abbrev Goes : {A : Type 0} → (A → List Change) → Op → World → ExecResult A World → Type 0
 Goes told op w Waits = Unit {0}
 Goes told op w (Ran a u) = told a ≡ [] → LeavesBut w op u
 Goes told op w (Stops u) = Unit {0}
@@ -192,15 +192,15 @@ module _ (m : Option Mark) where
   abbrev told : (op : Op) → Answer op → List Change
   told op a = changed_by None op a m
 
-  claim_goes : (h : ℕ) (sort : Sort) (w : World) (x : Outside) → Goes (told (Claim sort)) (Claim sort) w (claim_if h sort w x)
-  claim_goes h sort w (Picks n) = by (nat_lt (referenced w) place_count)
+  claim_goes : (h : ℕ) (inode_type : InodeType) (w : World) (x : Outside) → Goes (told (Claim inode_type)) (Claim inode_type) w (claim_if h inode_type w x)
+  claim_goes h inode_type w (Picks n) = by (nat_lt (referenced w) place_count)
     where
       by : (b : Bool)
-          → Goes {A = ClaimResult} (told (Claim sort)) (Claim sort) w (if b then Ran (New n) (claimed h sort w n) else Ran NoPlace w)
-      by true = lies w (Claim sort) (claimed h sort w n) (Claimed n) []
-      by false = λ _. all_left w (Claim sort) w refl
-  claim_goes h sort w Room = λ _. all_left w (Claim sort) w refl
-  claim_goes h sort w (RoomFor k) = λ _. all_left w (Claim sort) w refl
+          → Goes {A = ClaimResult} (told (Claim inode_type)) (Claim inode_type) w (if b then Ran (New n) (claimed h inode_type w n) else Ran NoPlace w)
+      by true = lies w (Claim inode_type) (claimed h inode_type w n) (Claimed n) []
+      by false = λ _. all_left w (Claim inode_type) w refl
+  claim_goes h inode_type w Room = λ _. all_left w (Claim inode_type) w refl
+  claim_goes h inode_type w (RoomFor k) = λ _. all_left w (Claim inode_type) w refl
 
   fill_goes : (n d : ℕ) (w : World) (x : Outside) → Goes (told (Fill n d)) (Fill n d) w (fill_if n d w x)
   fill_goes n d w Room = lies w (Fill n d) _ (Filled n) []
@@ -218,11 +218,11 @@ module _ (m : Option Mark) where
   slot_goes h w None = λ _. all_left w Slot w refl
   slot_goes h w (Some s) = lies w Slot _ TookPlace []
 
-  install_goes : (h : ℕ) (w : World) (f : OpenFile) (sort : Sort) (o : Option ℕ) (b : Bool)
-      → Goes (told (Install f sort)) (Install f sort) w (install_if h w f sort o b)
-  install_goes h w f sort None b = λ _. all_left w (Install f sort) w refl
-  install_goes h w f sort (Some s) false = lies w (Install f sort) _ GaveBack []
-  install_goes h w f sort (Some s) true = lies w (Install f sort) _ (Moved (Install f sort)) []
+  install_goes : (h : ℕ) (w : World) (f : OpenFile) (inode_type : InodeType) (o : Option ℕ) (b : Bool)
+      → Goes (told (Install f inode_type)) (Install f inode_type) w (install_if h w f inode_type o b)
+  install_goes h w f inode_type None b = λ _. all_left w (Install f inode_type) w refl
+  install_goes h w f inode_type (Some s) false = lies w (Install f inode_type) _ GaveBack []
+  install_goes h w f inode_type (Some s) true = lies w (Install f inode_type) _ (Moved (Install f inode_type)) []
 
   stat_goes : (h fd : ℕ) (w : World) (o : Option Entry) → Goes (told (StatFile fd)) (StatFile fd) w (stat_at h w o)
   stat_goes h fd w None = λ _. all_left w (StatFile fd) w refl
@@ -288,7 +288,7 @@ module _ (m : Option Mark) where
 
   exec_goes : (h : ℕ) (x : Outside) (op : Op) (w : World) → Goes (told op) op w (exec h x op w)
   exec_goes h x (Take n looking) w = lock_goes (told (Take n looking)) (Take n looking) h n (seen_in n looking (w.disk n)) w (w.lock n)
-  exec_goes h x (Give n) w = λ _. unlocked_left (Give n) n w (w.alone n)
+  exec_goes h x (UnlockInode n) w = λ _. unlocked_left (UnlockInode n) n w (w.alone n)
   exec_goes h x (UpStart absolute) w =
       start_goes (told (UpStart absolute)) (UpStart absolute) h (start_number (w.desks h) absolute) w
       (has_place w (start_number (w.desks h) absolute))
@@ -297,14 +297,14 @@ module _ (m : Option Mark) where
   exec_goes h x (Down n) w = down_goes (told (Down n)) (Down n) h n w (is_last w n)
   exec_goes h x (Free n) w = λ _. free_left w n
   exec_goes h x (Forget n) w = λ _. all_left w (Forget n) _ refl
-  exec_goes h x (Claim sort) w = claim_goes h sort w x
+  exec_goes h x (Claim inode_type) w = claim_goes h inode_type w x
   exec_goes h x (Store n count) w = lies w (Store n count) _ (by_count None n count m) []
   exec_goes h x (Fill n d) w = fill_goes n d w x
   exec_goes h x (Enter d e n) w = enter_goes d e n w x (is_full_directory (w.disk d))
   exec_goes h x (Clear d e) w = lies w (Clear d e) _ (Cleared d e) []
   exec_goes h x (Empty n) w = lies w (Empty n) _ (Emptied n) []
   exec_goes h x Slot w = slot_goes h w (first_from file_count 0 (is_empty_slot w))
-  exec_goes h x (Install f sort) w = install_goes h w f sort (w.desks h).hand (has_room (w.desks h).fds)
+  exec_goes h x (Install f inode_type) w = install_goes h w f inode_type (w.desks h).hand (has_room (w.desks h).fds)
   exec_goes h x (StatFile fd) w = stat_goes h fd w (entry_of w h fd)
   exec_goes h x (LockFile fd) w = file_goes h fd w (entry_of w h fd) (read_refused (entry_of w h fd))
   exec_goes h x (ReadFile fd n offset count) w = read_goes w fd n offset count (slot_at w h fd) (entry_of w h fd)
@@ -314,7 +314,7 @@ module _ (m : Option Mark) where
   exec_goes h x (WriteFile fd n offset bytes) w = write_goes fd n offset bytes w (slot_at w h fd) x (entry_of w h fd)
   exec_goes h x (Double fd) w = double_goes h fd w (slot_at w h fd) (entry_of w h fd)
   exec_goes h x (Shut fd) w = close_goes h fd w (slot_at w h fd) (entry_of w h fd)
-  exec_goes h x (Settle n) w = lies w (Settle n) _ (Moved (Settle n)) []
+  exec_goes h x (SetDirectory n) w = lies w (SetDirectory n) _ (Moved (SetDirectory n)) []
   exec_goes h x (Lend child from) w = lend_goes h child from w (next_used from (w.desks h).fds)
   exec_goes h x (LendDirectory child) w = lies w (LendDirectory child) _ (Moved (LendDirectory child)) []
   exec_goes h x (Release child) w = λ _. release_left w (Release child) h child
@@ -324,7 +324,7 @@ module _ (m : Option Mark) where
 
 -- ---- steps
 
-abbrev pub answer_or : {A : Type 0} → A → Did A World → A
+abbrev pub answer_or : {A : Type 0} → A → ExecResult A World → A
 answer_or a Waits = a
 answer_or a (Ran b w) = b
 answer_or a (Stops w) = a
@@ -335,13 +335,13 @@ no_wait h m a u e = cc
 no_stop : {A : Type 0} (h : ℕ) (m : Option Mark) (a : A) (u v : World) → with_mark h (λ (z : A). m) (Stops v) ≡ Ran a u → ⊥
 no_stop h m a u v e = cc
 
-ran_left : {A : Type 0} (told : A → List Change) (op : Op) (h : ℕ) (m : Option Mark) (w u : World) (a : A) (d : Did A World)
+ran_left : {A : Type 0} (told : A → List Change) (op : Op) (h : ℕ) (m : Option Mark) (w u : World) (a : A) (d : ExecResult A World)
     → Goes told op w d → with_mark h (λ (z : A). m) d ≡ Ran a u → told a ≡ [] → LeavesBut w op u
 ran_left told op h m w u a Waits g e none = absurd (no_wait h m a u e)
 ran_left told op h m w u a (Stops v) g e none = absurd (no_stop h m a u v e)
 ran_left {A} told op h m w u a (Ran b v) g e none =
-    let there : told b ≡ [] = ap (λ (d : Did A World). told (answer_or a d)) e ∙ none in
-    left_between w w op v u refl (g there) (ap (λ (d : Did A World). kept_of (ran_to w d)) (sym e) ∙ marked_kept h m v)
+    let there : told b ≡ [] = ap (λ (d : ExecResult A World). told (answer_or a d)) e ∙ none in
+    left_between w w op v u refl (g there) (ap (λ (d : ExecResult A World). kept_of (ran_to w d)) (sym e) ∙ marked_kept h m v)
 
 -- ---- what is freed
 
@@ -372,7 +372,7 @@ free_nameless h x n (Some (Spoils s)) w u inv a ran none = absurd (some_told (Fr
 free_nameless h x n (Some (Frees k)) w u inv a ran none = by (k == n) refl none
   where
     goes : u.all.nodes ≡ put w.all.nodes k None
-    goes = ap (λ (d : Did (Unit {0}) World). (ran_to w d).all.nodes) (sym ran)
+    goes = ap (λ (d : ExecResult (Unit {0}) World). (ran_to w d).all.nodes) (sym ran)
 
     by : (b : Bool) → (k == n) ≡ b → (if b then [] else Freed n ∷ []) ≡ [] → HasNoName w n
     by true same none = nameless w u.all n inv.well (goes ∙ ap (λ (z : ℕ). put w.all.nodes z None) (eq_is k n same))

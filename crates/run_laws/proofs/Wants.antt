@@ -1,5 +1,5 @@
 -- What an operation on whole inodes wants and doesn't find, the world doesn't have in which it is made.
-use Rattle.run_laws.proofs.Vocabulary.{◌≡◌, ◌≢◌, inl, inr, ◌<◌, ◌≤◌, ◌+◌, ℕ, zero, suc, ◌==◌, Bool, true, false, ◌&&◌, ◌||◌, not, nat_lt, if◌then◌else◌, List, [], ◌∷◌, length, Option, Some, None, IsSome, refl, sym, ◌∙◌, ap, subst, arith, All, nat_tests, All-cons, All-nil, Cause, Full, DirectorySlot, OpenFile, has_room, lowest, lowest_from, node_or, write_kind, Name, all_slots, any_below, descriptor_count, hart_count, and_true, eq_is, or_none, same_or, PlacedStep, Chain, Did, Ran, Stops, Waits, Super, Blocks, Descriptors, Directory, DiskInodes, MemInodes, OpenFiles, sizes_of, WorldOf, all_used, claim_if, claimed, double_at, double_if, enter_if, entry_of, exec, file_count, fill_if, first_from, has_place, install_if, is_at, is_empty_slot, is_full_directory, is_nothing, place_count, referenced, slot_at, slot_if, slot_limit, start_if, start_number, up_if, write_at, write_if, Sort, with_mark, Honest, HonestClaim, May, Answer, Entry, Mark, New, NoPlace, Picks, Room, RoomFor, Take, Give, UpStart, Up, WalkDown, Down, Free, Forget, Claim, Store, Fill, Enter, Clear, Empty, Slot, Install, StatFile, LockFile, ReadFile, CheckFile, JoinFile, LockOpen, WriteFile, Double, Shut, Settle, Lend, LendDirectory, Release, Join, Leave, Say, first_some, AllDescriptorsAreTaken, AllOpenFilesAreTaken, AllPlacesAreTaken, HasNone, IsFullDirectory, IsTaken, LeadsThroughWants, NoRoomOnlyWhereThereIsNone, WantsWhatIsnt, wanted, IsStep, Operation, lowered_inode_calls, unreserved}
+use Rattle.run_laws.proofs.Vocabulary.{◌≡◌, ◌≢◌, inl, inr, ◌<◌, ◌≤◌, ◌+◌, ℕ, zero, suc, ◌==◌, Bool, true, false, ◌&&◌, ◌||◌, not, nat_lt, if◌then◌else◌, List, [], ◌∷◌, length, Option, Some, None, IsSome, refl, sym, ◌∙◌, ap, subst, arith, All, nat_tests, All-cons, All-nil, Cause, Full, DirectorySlot, OpenFile, has_room, lowest, lowest_from, node_or, write_kind, Name, all_slots, any_below, descriptor_count, hart_count, and_true, eq_is, or_none, same_or, PlacedStep, Chain, ExecResult, Ran, Stops, Waits, Super, Blocks, Descriptors, Directory, DiskInodes, MemInodes, OpenFiles, sizes_of, WorldOf, all_used, claim_if, claimed, double_at, double_if, enter_if, entry_of, exec, file_count, fill_if, first_from, has_place, install_if, is_at, is_empty_slot, is_full_directory, is_nothing, place_count, referenced, slot_at, slot_if, slot_limit, start_if, start_number, up_if, write_at, write_if, InodeType, with_mark, Honest, HonestClaim, May, Answer, Entry, Mark, New, NoPlace, Picks, Room, RoomFor, Take, UnlockInode, UpStart, Up, WalkDown, Down, Free, Forget, Claim, Store, Fill, Enter, Clear, Empty, Slot, Install, StatFile, LockFile, ReadFile, CheckFile, JoinFile, LockOpen, WriteFile, Double, Shut, SetDirectory, Lend, LendDirectory, Release, Join, Leave, Say, first_some, AllDescriptorsAreTaken, AllOpenFilesAreTaken, AllPlacesAreTaken, HasNone, IsFullDirectory, IsTaken, LeadsThroughWants, NoRoomOnlyWhereThereIsNone, WantsWhatIsnt, wanted, IsStep, Operation, lowered_inode_calls, unreserved}
 use Rattle.inode_machine.specs.Exec.{enter_in}
 use Rattle.inode_machine.specs.Exec.{write_in}
 use Rattle.inode_machine.specs.World.{Op, Outside, World}
@@ -82,19 +82,19 @@ directory_full w d e =
 -- ---- one operation
 
 -- so it is with the answer of an operation that ran
-abbrev pub Tells : {A : Type 0} → (A → Type 0) → Did A World → Type 0
+abbrev pub Tells : {A : Type 0} → (A → Type 0) → ExecResult A World → Type 0
 Tells P Waits = Unit {0}
 Tells P (Ran a u) = P a
 Tells P (Stops u) = Unit {0}
 
-quiet : {A : Type 0} (P : Full → Type 0) (d : Did A World)
+quiet : {A : Type 0} (P : Full → Type 0) (d : ExecResult A World)
     → Tells {A = A} (λ a. (room : Full) → ◌≡◌ {A = Option Full} None (Some room) → P room) d
 quiet P Waits = tt
 quiet P (Ran a u) = λ room e. absurd cc
 quiet P (Stops u) = tt
 
 module _ (h : ℕ) (w : World) where
-  abbrev Says : (op : Op) → Did (Answer op) World → Type 0
+  abbrev Says : (op : Op) → ExecResult (Answer op) World → Type 0
   Says op d = Tells {A = Answer op} (λ a. (room : Full) → wanted op a ≡ Some room → HasNone w h op room) d
 
   one_room : (op : Op) (room : Full) → HasNone w h op room → (other : Full) → Some room ≡ Some other → HasNone w h op other
@@ -108,15 +108,15 @@ module _ (h : ℕ) (w : World) where
   up_says n true e = λ room q. absurd cc
   up_says n false e = one_room (Up n) MemInodes (places_taken w n e)
 
-  picks_says : (sort : Sort) (n : ℕ) (b : Bool) → nat_lt (referenced w) place_count ≡ b
-      → Says (Claim sort) (if b then Ran (New n) (claimed h sort w n) else Ran NoPlace w)
-  picks_says sort n true e = λ room q. absurd cc
-  picks_says sort n false e = one_room (Claim sort) MemInodes (not_less (referenced w) place_count e)
+  picks_says : (inode_type : InodeType) (n : ℕ) (b : Bool) → nat_lt (referenced w) place_count ≡ b
+      → Says (Claim inode_type) (if b then Ran (New n) (claimed h inode_type w n) else Ran NoPlace w)
+  picks_says inode_type n true e = λ room q. absurd cc
+  picks_says inode_type n false e = one_room (Claim inode_type) MemInodes (not_less (referenced w) place_count e)
 
-  claim_says : (sort : Sort) (x : Outside) → HonestClaim w x → Says (Claim sort) (claim_if h sort w x)
-  claim_says sort (Picks n) honest = picks_says sort n (nat_lt (referenced w) place_count) refl
-  claim_says sort Room honest = one_room (Claim sort) DiskInodes tt
-  claim_says sort (RoomFor k) honest = one_room (Claim sort) MemInodes (not_less (referenced w) place_count honest)
+  claim_says : (inode_type : InodeType) (x : Outside) → HonestClaim w x → Says (Claim inode_type) (claim_if h inode_type w x)
+  claim_says inode_type (Picks n) honest = picks_says inode_type n (nat_lt (referenced w) place_count) refl
+  claim_says inode_type Room honest = one_room (Claim inode_type) DiskInodes tt
+  claim_says inode_type (RoomFor k) honest = one_room (Claim inode_type) MemInodes (not_less (referenced w) place_count honest)
 
   fill_says : (n d : ℕ) (x : Outside) → Says (Fill n d) (fill_if n d w x)
   fill_says n d Room = λ room q. absurd cc
@@ -137,11 +137,11 @@ module _ (h : ℕ) (w : World) where
   slot_says None e = one_room Slot OpenFiles (files_taken w e)
   slot_says (Some k) e = λ room q. absurd cc
 
-  install_says : (f : OpenFile) (sort : Sort) (o : Option ℕ) → o ≢ None → (b : Bool) → has_room (w.desks h).fds ≡ b
-      → Says (Install f sort) (install_if h w f sort o b)
-  install_says f sort None some b e = absurd (some refl)
-  install_says f sort (Some k) some false e = one_room (Install f sort) Descriptors (all_taken w h e)
-  install_says f sort (Some k) some true e = λ room q. absurd cc
+  install_says : (f : OpenFile) (inode_type : InodeType) (o : Option ℕ) → o ≢ None → (b : Bool) → has_room (w.desks h).fds ≡ b
+      → Says (Install f inode_type) (install_if h w f inode_type o b)
+  install_says f inode_type None some b e = absurd (some refl)
+  install_says f inode_type (Some k) some false e = one_room (Install f inode_type) Descriptors (all_taken w h e)
+  install_says f inode_type (Some k) some true e = λ room q. absurd cc
 
   double_if_says : (fd k : ℕ) (e : Entry) (b : Bool) → has_room (w.desks h).fds ≡ b → Says (Double fd) (double_if h w k e b)
   double_if_says fd k e true is = λ room q. absurd cc
@@ -167,7 +167,7 @@ module _ (h : ℕ) (w : World) where
     write_says k x None = λ room q. absurd cc
     write_says k x (Some e) = write_if_says k e x (write_kind (node_or (w.disk n)).kind e.file.offset bytes)
 
-  quiet_one : (op : Op) (d : Did (Answer op) World)
+  quiet_one : (op : Op) (d : ExecResult (Answer op) World)
       → Tells (λ a. (room : Full) → ◌≡◌ {A = Option Full} None (Some room) → HasNone w h op room) d
   quiet_one op d = quiet (HasNone w h op) d
 
@@ -175,15 +175,15 @@ module _ (h : ℕ) (w : World) where
   says x (UpStart absolute) may honest =
       start_says absolute (start_number (w.desks h) absolute) (has_place w (start_number (w.desks h) absolute)) refl
   says x (Up n) may honest = up_says n (has_place w n) refl
-  says x (Claim sort) may honest = claim_says sort x honest
+  says x (Claim inode_type) may honest = claim_says inode_type x honest
   says x (Fill n d) may honest = fill_says n d x
   says x (Enter d e n) may honest = enter_says d e n x (is_full_directory (w.disk d)) refl
   says x Slot may honest = slot_says (first_from file_count 0 (is_empty_slot w)) refl
-  says x (Install f sort) may honest = install_says f sort (w.desks h).hand may.1.0 (has_room (w.desks h).fds) refl
+  says x (Install f inode_type) may honest = install_says f inode_type (w.desks h).hand may.1.0 (has_room (w.desks h).fds) refl
   says x (WriteFile fd n offset bytes) may honest = write_says fd n offset bytes (slot_at w h fd) x (entry_of w h fd)
   says x (Double fd) may honest = double_says fd (slot_at w h fd) (entry_of w h fd)
   says x (Take n looking) may honest = quiet_one (Take n looking) (exec h x (Take n looking) w)
-  says x (Give n) may honest = quiet_one (Give n) (exec h x (Give n) w)
+  says x (UnlockInode n) may honest = quiet_one (UnlockInode n) (exec h x (UnlockInode n) w)
   says x (WalkDown n) may honest = quiet_one (WalkDown n) (exec h x (WalkDown n) w)
   says x (Down n) may honest = quiet_one (Down n) (exec h x (Down n) w)
   says x (Free n) may honest = quiet_one (Free n) (exec h x (Free n) w)
@@ -198,7 +198,7 @@ module _ (h : ℕ) (w : World) where
   says x (JoinFile fd) may honest = quiet_one (JoinFile fd) (exec h x (JoinFile fd) w)
   says x (LockOpen fd n) may honest = quiet_one (LockOpen fd n) (exec h x (LockOpen fd n) w)
   says x (Shut fd) may honest = quiet_one (Shut fd) (exec h x (Shut fd) w)
-  says x (Settle n) may honest = quiet_one (Settle n) (exec h x (Settle n) w)
+  says x (SetDirectory n) may honest = quiet_one (SetDirectory n) (exec h x (SetDirectory n) w)
   says x (Lend child from) may honest = quiet_one (Lend child from) (exec h x (Lend child from) w)
   says x (LendDirectory child) may honest = quiet_one (LendDirectory child) (exec h x (LendDirectory child) w)
   says x (Release child) may honest = quiet_one (Release child) (exec h x (Release child) w)
@@ -206,7 +206,7 @@ module _ (h : ℕ) (w : World) where
   says x Leave may honest = quiet_one Leave (exec h x Leave w)
   says x Say may honest = quiet_one Say (exec h x Say w)
 
-ran_says : (h : ℕ) (w after : World) (op : Op) (a : Answer op) (k : Option Mark) (d : Did (Answer op) World) → Says h w op d
+ran_says : (h : ℕ) (w after : World) (op : Op) (a : Answer op) (k : Option Mark) (d : ExecResult (Answer op) World) → Says h w op d
     → with_mark h (λ _. k) d ≡ Ran a after → (room : Full) → wanted op a ≡ Some room → HasNone w h op room
 ran_says h w after op a k Waits says e = absurd cc
 ran_says h w after op a k (Stops u) says e = absurd cc

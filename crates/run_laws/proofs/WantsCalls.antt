@@ -1,6 +1,6 @@
 -- A call's program ends for want of a room only where one of its operations wanted it, or where a claim gave it an inode that it had
 -- locked; and each name that it enters fits.
-use Rattle.run_laws.proofs.Vocabulary.{◌≡◌, ◌≢◌, ◌⊎◌, inl, inr, ◌≤◌, ◌+◌, ◌-◌, ◌==◌, ◌||◌, ℕ, zero, suc, Bool, true, false, not, if◌then◌else◌, List, [], ◌∷◌, Option, Some, None, take, refl, sym, ap, Cause, Exists, NoDirectory, DotName, NoEntry, NotDirectory, NotEmpty, BadDescriptor, Full, Blocks, Descriptors, Directory, DiskInodes, MemInodes, OpenFiles, Reply, Call, Action, piece, piece_count, creates, Name, dot, dotdot, elements, is_absolute, same_name, descriptor_count, eq_is, Ret, Do, unmarked, checked_reply, close_on, dup_on, joined_on, read_on, read_reply, stat_on, stat_reply, write_from, write_piece, write_program, write_reply, wrote_on, Face, OfDirectory, OfFile, Sort, face_or, is_directory_face, is_directory_sort, is_live_face, open_refusal, chdir_at, chdir_program, inherit_end, lend_from, lend_on, bump_refused, clear_name, in_parent, link_at, link_found, link_in, link_name, link_program, link_raise, lower, mkdir_in, mkdir_on, mkdir_other, mkdir_refused, mkdir_with, name_directory, named_on, or_missing, unlink_child, unlink_dots, unlink_found, unlink_in, unlink_named, unlink_other, create_found, create_in, empties, entered_file, file_for, installed_on, installs, make_on, make_other, make_with, open_at, open_end, open_face, open_made, open_new, open_old, opened_reply, take_descriptor, truncates, unmake, NoMemory, NotThere, P, Stop, done, drop, failed, free_all, full, give_up, leave_directory, own_step, say, see_parent, start, start_on, stopped, tail, walk, walk_parent, walk_step, with_last, program, Answer, JoinResult, Joined, Lent, LoanResult, LockResult, LocksIt, Moved, New, NotJoined, NotLocked, Refused, Short, Whole, Wrote, Claim, Double, Empty, Enter, Fill, Forget, Free, Give, Install, Join, Leave, Release, Settle, Store, Up, UpStart, WriteFile, Frees, NameFits, wanted}
+use Rattle.run_laws.proofs.Vocabulary.{◌≡◌, ◌≢◌, ◌⊎◌, inl, inr, ◌≤◌, ◌+◌, ◌-◌, ◌==◌, ◌||◌, ℕ, zero, suc, Bool, true, false, not, if◌then◌else◌, List, [], ◌∷◌, Option, Some, None, take, refl, sym, ap, Cause, Exists, NoDirectory, DotName, NoEntry, NotDirectory, NotEmpty, BadDescriptor, Full, Blocks, Descriptors, Directory, DiskInodes, MemInodes, OpenFiles, Reply, Call, Action, piece, piece_count, creates, Name, dot, dotdot, elements, is_absolute, same_name, descriptor_count, eq_is, Ret, Do, unmarked, checked_reply, close_on, dup_on, joined_on, read_on, read_reply, stat_on, stat_reply, write_from, write_piece, write_program, write_reply, wrote_on, Face, OfDirectory, OfFile, InodeType, face_or, is_directory_face, is_directory_type, is_live_face, open_refusal, chdir_at, chdir_program, inherit_end, lend_from, lend_on, bump_refused, clear_name, in_parent, link_at, link_found, link_in, link_name, link_program, link_raise, lower, mkdir_in, mkdir_on, mkdir_other, mkdir_refused, mkdir_with, name_directory, named_on, or_missing, unlink_child, unlink_dots, unlink_found, unlink_in, unlink_named, unlink_other, create_found, create_in, empties, entered_file, file_for, installed_on, installs, make_on, make_other, make_with, open_at, open_end, open_face, open_made, open_new, open_old, opened_reply, take_descriptor, truncates, unmake, NoMemory, NotThere, P, WalkStop, done, drop, failed, free_all, full, give_up, leave_directory, own_step, say, see_parent, start, start_on, stopped, tail, walk, walk_parent, walk_step, with_last, program, Answer, JoinResult, Joined, Lent, LoanResult, LockResult, LocksIt, Moved, New, NotJoined, NotLocked, Refused, Short, Whole, Wrote, Claim, Double, Empty, Enter, Fill, Forget, Free, UnlockInode, Install, Join, Leave, Release, SetDirectory, Store, Up, UpStart, WriteFile, Frees, NameFits, wanted}
 use Rattle.plain_tree.specs.declared.answer.Answer.TheVariants as answers
 use Rattle.plain_tree.specs.declared.call.Call.TheVariants as calls
 use Rattle.plain_tree.specs.declared.step.Action.TheVariants as actions
@@ -62,7 +62,7 @@ module _ (room : Full) where
 
   -- After this answer the program does so; or a claim gave it an inode that it had locked, and it ends for want of a place in memory.
   abbrev pub Goes : (op : Op) → Answer op → P Reply → Type 0 → Type 0
-  Goes (Claim sort) (New n) p does = ((room ≡ MemInodes) × GivesBack n p) ⊎ does
+  Goes (Claim inode_type) (New n) p does = ((room ≡ MemInodes) × GivesBack n p) ⊎ does
   Goes op a p does = does
 
   -- whatever else its operations answer, it ends for want of this room only where one of them wanted it
@@ -72,8 +72,8 @@ module _ (room : Full) where
 
   pub goes_or : (op : Op) (a : Answer op) (p : P Reply) (does : Type 0) → Goes op a p does
       → ((room ≡ MemInodes) × (n : ℕ) × GivesBack n p × (a ≢ some_answer op)) ⊎ does
-  goes_or (Claim sort) (New n) p does (inl x) = inl (x.0, n, x.1, none_claimed sort n)
-  goes_or (Claim sort) (New n) p does (inr then_) = inr then_
+  goes_or (Claim inode_type) (New n) p does (inl x) = inl (x.0, n, x.1, none_claimed inode_type n)
+  goes_or (Claim inode_type) (New n) p does (inr then_) = inr then_
   goes_or op a p does then_ = inr then_
 
   not_failed : (c : Call) (why : Cause) → Not (failed c why)
@@ -86,11 +86,11 @@ module _ (room : Full) where
   not_full c kind ne e = ne cc
 
   -- a walk isn't stopped for want of this room
-  abbrev Spares : Stop → Type 0
+  abbrev Spares : WalkStop → Type 0
   Spares NotThere = Unit {0}
   Spares NoMemory = MemInodes ≢ room
 
-  not_stopped : (c : Call) (why : Stop) → Spares why → Not (stopped c why)
+  not_stopped : (c : Call) (why : WalkStop) → Spares why → Not (stopped c why)
   not_stopped c NotThere spares = not_failed c NoEntry
   not_stopped c NoMemory spares = not_full c MemInodes spares
 
@@ -107,7 +107,7 @@ module _ (room : Full) where
   drop_b n k uses = (tt, λ last. inr (ifs last))
     where
       ifs : (last : Bool)
-          → Blames (if last then Do (Free n) (λ _. Some (Frees n)) (λ _. Do (Give n) unmarked (λ _. Do (Forget n) unmarked (λ _. k)))
+          → Blames (if last then Do (Free n) (λ _. Some (Frees n)) (λ _. Do (UnlockInode n) unmarked (λ _. Do (Forget n) unmarked (λ _. k)))
           else k)
       ifs true = (tt, λ _. inr (tt, λ _. inr (tt, λ _. inr uses)))
       ifs false = uses
@@ -138,9 +138,9 @@ module _ (room : Full) where
   abbrev claims_own : Call → ℕ → List ℕ → ℕ → P Reply
   claims_own c d ns n = Do (Forget n) unmarked (λ _. give_up d (tail ns (full c MemInodes)))
 
-  own_b : (c : Call) (sort : Sort) (d : ℕ) (ns : List ℕ) (n : ℕ) → n ≡ d
-      → Goes (Claim sort) (New n) (claims_own c d ns n) (Blames (claims_own c d ns n))
-  own_b c sort d ns n same = by (same_kind MemInodes room)
+  own_b : (c : Call) (inode_type : InodeType) (d : ℕ) (ns : List ℕ) (n : ℕ) → n ≡ d
+      → Goes (Claim inode_type) (New n) (claims_own c d ns n) (Blames (claims_own c d ns n))
+  own_b c inode_type d ns n same = by (same_kind MemInodes room)
     where
       last : P Reply
       last = tail ns (full c MemInodes)
@@ -148,7 +148,7 @@ module _ (room : Full) where
       back : GivesBack n (claims_own c d ns n)
       back = record { rest = λ _. give_up d last; forgets = refl; last = last; gives = ap (λ (z : ℕ). give_up z last) (sym same) }
 
-      by : (MemInodes ≡ room) ⊎ (MemInodes ≢ room) → Goes (Claim sort) (New n) (claims_own c d ns n) (Blames (claims_own c d ns n))
+      by : (MemInodes ≡ room) ⊎ (MemInodes ≢ room) → Goes (Claim inode_type) (New n) (claims_own c d ns n) (Blames (claims_own c d ns n))
       by (inl is) = inl (sym is, back)
       by (inr ne) = inr (tt, λ _. inr (refused_b d ns (full c MemInodes) (not_full c MemInodes ne)))
 
@@ -157,7 +157,7 @@ module _ (room : Full) where
   leave_b : (d : ℕ) (ns : List ℕ) (k : List ℕ → P Reply) → ((ms : List ℕ) → Blames (k ms)) → Blames (leave_directory d ns k)
   leave_b d ns k uses = (tt, λ _. inr (tt, λ last. inr (uses (with_last ns d last))))
 
-  module _ (lost : Stop → List ℕ → P Reply) (lost_b : (why : Stop) → Spares why → (ns : List ℕ) → Blames (lost why ns)) where
+  module _ (lost : WalkStop → List ℕ → P Reply) (lost_b : (why : WalkStop) → Spares why → (ns : List ℕ) → Blames (lost why ns)) where
     step_b : (d : ℕ) (ns : List ℕ) (go : ℕ → List ℕ → P Reply) → ((n : ℕ) (ms : List ℕ) → Blames (go n ms)) → (o : Option ℕ)
         → Blames (walk_step d ns go lost o)
     step_b d ns go uses None = leave_b d ns (lost NotThere) (lost_b NotThere tt)
@@ -188,7 +188,7 @@ module _ (room : Full) where
       see_b : (e : Name) → Short14 e → (d : ℕ) (ns : List ℕ) → Blames (see_parent s d ns (found d e) lost)
       see_b e fits d ns = (tt, λ a. inr (by (is_directory_face a.face)))
         where
-          by : (b : Bool) → Blames (if b then Do (Give d) unmarked (λ _. found d e ns) else leave_directory d ns (lost NotThere))
+          by : (b : Bool) → Blames (if b then Do (UnlockInode d) unmarked (λ _. found d e ns) else leave_directory d ns (lost NotThere))
           by true = (tt, λ _. inr (found_b d e ns fits))
           by false = leave_b d ns (lost NotThere) (lost_b NotThere tt)
 
@@ -207,7 +207,7 @@ module _ (room : Full) where
   chdir_at_b path n ns = (tt, λ a. inr (by (is_directory_face a.face)))
     where
       by : (b : Bool)
-          → Blames (if b then Do (Settle n) unmarked (λ old. drop old (tail ns (done (calls.Chdir path)))) else give_up n
+          → Blames (if b then Do (SetDirectory n) unmarked (λ old. drop old (tail ns (done (calls.Chdir path)))) else give_up n
           (tail ns (failed (calls.Chdir path) NotDirectory)))
       by true = (
         tt,
@@ -217,7 +217,7 @@ module _ (room : Full) where
       by false = refused_b n ns (failed (calls.Chdir path) NotDirectory) (not_failed (calls.Chdir path) NotDirectory)
 
   -- a walk is lost
-  lost_tail : (c : Call) (why : Stop) → Spares why → (ns : List ℕ) → Blames (tail ns (stopped c why))
+  lost_tail : (c : Call) (why : WalkStop) → Spares why → (ns : List ℕ) → Blames (tail ns (stopped c why))
   lost_tail c why spares ns = tail_b ns (stopped c why) (not_stopped c why spares)
 
   chdir_b : (path : List ℕ) → Blames (chdir_program path)
@@ -240,27 +240,27 @@ module _ (room : Full) where
         isnt : Not (opened_reply path flags fd)
         isnt e = cc
 
-    descriptor_b : (n : ℕ) (sort : Sort) (ns : List ℕ) (mark : ℕ → Option above.Mark) (k : ℕ → P Reply) → ((fd : ℕ) → Blames (k fd))
-        → Blames (take_descriptor path flags n sort ns mark k)
-    descriptor_b n sort ns mark k uses = (tt, λ there. by there)
+    descriptor_b : (n : ℕ) (inode_type : InodeType) (ns : List ℕ) (mark : ℕ → Option above.Mark) (k : ℕ → P Reply) → ((fd : ℕ) → Blames (k fd))
+        → Blames (take_descriptor path flags n inode_type ns mark k)
+    descriptor_b n inode_type ns mark k uses = (tt, λ there. by there)
       where
         installed : (fd : Option ℕ)
-            → (wanted (Install (file_for n flags) sort) fd ≡ Some room) ⊎ Blames (installed_on path flags n ns k fd)
+            → (wanted (Install (file_for n flags) inode_type) fd ≡ Some room) ⊎ Blames (installed_on path flags n ns k fd)
         installed None =
             lacks Descriptors (give_up n (tail ns (full c Descriptors)))
             (λ ne. refused_b n ns (full c Descriptors) (not_full c Descriptors ne))
         installed (Some fd) = inr (uses fd)
 
         by : (there : Bool)
-            → (wanted above.Slot there ≡ Some room) ⊎ Blames (if there then Do (Install (file_for n flags) sort) (installs mark)
+            → (wanted above.Slot there ≡ Some room) ⊎ Blames (if there then Do (Install (file_for n flags) inode_type) (installs mark)
             (installed_on path flags n ns k) else give_up n (tail ns (full c OpenFiles)))
         by true = inr (tt, λ fd. installed fd)
         by false = lacks OpenFiles (give_up n (tail ns (full c OpenFiles)))
             (λ ne. refused_b n ns (full c OpenFiles) (not_full c OpenFiles ne))
 
-    face_b : (n : ℕ) (ns : List ℕ) (sort : Sort) (o : Option Cause) → Blames (open_face path flags n ns sort o)
-    face_b n ns sort (Some why) = refused_b n ns (failed c why) (not_failed c why)
-    face_b n ns sort None = descriptor_b n sort ns (λ fd. None) _ (λ fd. opened fd (empties flags sort))
+    face_b : (n : ℕ) (ns : List ℕ) (inode_type : InodeType) (o : Option Cause) → Blames (open_face path flags n ns inode_type o)
+    face_b n ns inode_type (Some why) = refused_b n ns (failed c why) (not_failed c why)
+    face_b n ns inode_type None = descriptor_b n inode_type ns (λ fd. None) _ (λ fd. opened fd (empties flags inode_type))
       where
         opened : (fd : ℕ) (b : Bool)
             → Blames (if b then Do (Empty n) (λ _. own_step (actions.Truncate fd)) (λ _. open_end path flags n ns fd) else open_end
@@ -269,7 +269,7 @@ module _ (room : Full) where
         opened fd false = end_b n ns fd
 
     open_at_b : (n : ℕ) (ns : List ℕ) → Blames (open_at path flags n ns)
-    open_at_b n ns = (tt, λ a. inr (face_b n ns (face_or a.face).sort (open_refusal (flags == 0) (face_or a.face).sort)))
+    open_at_b n ns = (tt, λ a. inr (face_b n ns (face_or a.face).inode_type (open_refusal (flags == 0) (face_or a.face).inode_type)))
 
     open_b : Blames (open_old path flags)
     open_b = (
@@ -283,32 +283,32 @@ module _ (room : Full) where
     unmake_b : (n d : ℕ) (ns : List ℕ) (r : Reply) → Not r → Blames (unmake n d ns r)
     unmake_b n d ns r isnt = (tt, λ _. inr (give_up_b n (give_up d (tail ns r)) (refused_b d ns r isnt)))
 
-    made_b : (n : ℕ) (sort : Sort) (ns : List ℕ) → Blames (open_made path flags n sort ns)
-    made_b n sort ns = descriptor_b n sort ns (truncates flags) (open_end path flags n ns) (end_b n ns)
+    made_b : (n : ℕ) (inode_type : InodeType) (ns : List ℕ) → Blames (open_made path flags n inode_type ns)
+    made_b n inode_type ns = descriptor_b n inode_type ns (truncates flags) (open_end path flags n ns) (end_b n ns)
 
-    named_b : (n : ℕ) (sort : Sort) (d : ℕ) (ns : List ℕ) (e : Name) (a : above.EntryResult)
-        → (wanted (Enter d e n) a ≡ Some room) ⊎ Blames (make_on path flags n sort d ns a)
-    named_b n sort d ns e above.InPlace = inr (tt, λ _. inr (drop_b d (open_made path flags n sort ns) (made_b n sort ns)))
-    named_b n sort d ns e above.NoBlock =
+    named_b : (n : ℕ) (inode_type : InodeType) (d : ℕ) (ns : List ℕ) (e : Name) (a : above.EntryResult)
+        → (wanted (Enter d e n) a ≡ Some room) ⊎ Blames (make_on path flags n inode_type d ns a)
+    named_b n inode_type d ns e above.InPlace = inr (tt, λ _. inr (drop_b d (open_made path flags n inode_type ns) (made_b n inode_type ns)))
+    named_b n inode_type d ns e above.NoBlock =
         lacks Blocks (unmake n d ns (full c Blocks)) (λ ne. unmake_b n d ns (full c Blocks) (not_full c Blocks ne))
-    named_b n sort d ns e above.NoSlot =
+    named_b n inode_type d ns e above.NoSlot =
         lacks Directory (unmake n d ns (full c Directory)) (λ ne. unmake_b n d ns (full c Directory) (not_full c Directory ne))
 
     file_b : (d : ℕ) (e : Name) (ns : List ℕ) → Short14 e → (n : ℕ) → Blames (make_other path flags d e ns n)
-    file_b d e ns fits n = (tt, λ a. inr (tt, λ _. inr (fits, λ r. named_b n (face_or a.face).sort d ns e r)))
+    file_b d e ns fits n = (tt, λ a. inr (tt, λ _. inr (fits, λ r. named_b n (face_or a.face).inode_type d ns e r)))
 
-    file_with_b : (sort : Sort) (d : ℕ) (e : Name) (ns : List ℕ) → Short14 e → (a : above.ClaimResult)
-        → (wanted (Claim sort) a ≡ Some room) ⊎ Goes (Claim sort) a (make_with path flags d e ns a) (Blames (make_with path flags d e ns a))
-    file_with_b sort d e ns fits above.NoInode =
+    file_with_b : (inode_type : InodeType) (d : ℕ) (e : Name) (ns : List ℕ) → Short14 e → (a : above.ClaimResult)
+        → (wanted (Claim inode_type) a ≡ Some room) ⊎ Goes (Claim inode_type) a (make_with path flags d e ns a) (Blames (make_with path flags d e ns a))
+    file_with_b inode_type d e ns fits above.NoInode =
         lacks DiskInodes (give_up d (tail ns (full c DiskInodes))) (λ ne. refused_b d ns (full c DiskInodes) (not_full c DiskInodes ne))
-    file_with_b sort d e ns fits above.NoPlace = no_place_b c d ns
-    file_with_b sort d e ns fits (New n) = inr (by (n == d) refl)
+    file_with_b inode_type d e ns fits above.NoPlace = no_place_b c d ns
+    file_with_b inode_type d e ns fits (New n) = inr (by (n == d) refl)
       where
         next : Bool → P Reply
         next b = if b then claims_own c d ns n else make_other path flags d e ns n
 
-        by : (b : Bool) → (n == d) ≡ b → Goes (Claim sort) (New n) (next b) (Blames (next b))
-        by true same = own_b c sort d ns n (eq_is n d same)
+        by : (b : Bool) → (n == d) ≡ b → Goes (Claim inode_type) (New n) (next b) (Blames (next b))
+        by true same = own_b c inode_type d ns n (eq_is n d same)
         by false other = inr (file_b d e ns fits n)
 
     create_found_b : (d : ℕ) (e : Name) (ns : List ℕ) → Short14 e → (o : Option ℕ) → Blames (create_found path flags d e ns o)
@@ -362,19 +362,19 @@ module _ (room : Full) where
         by true = inr (fits, λ r. raised_b d e f n ns r)
         by false = lacks Blocks (unmake n d ns (full made Blocks)) (no_name_b n d ns Blocks)
 
-    directory_with_b : (sort : Sort) (d : ℕ) (e : Name) (ns : List ℕ) (f : Face) → Short14 e → (a : above.ClaimResult)
-        → (wanted (Claim sort) a ≡ Some room) ⊎ Goes (Claim sort) a (mkdir_with path d e ns f a) (Blames (mkdir_with path d e ns f a))
-    directory_with_b sort d e ns f fits above.NoInode =
+    directory_with_b : (inode_type : InodeType) (d : ℕ) (e : Name) (ns : List ℕ) (f : Face) → Short14 e → (a : above.ClaimResult)
+        → (wanted (Claim inode_type) a ≡ Some room) ⊎ Goes (Claim inode_type) a (mkdir_with path d e ns f a) (Blames (mkdir_with path d e ns f a))
+    directory_with_b inode_type d e ns f fits above.NoInode =
         lacks DiskInodes (give_up d (tail ns (full made DiskInodes)))
         (λ ne. refused_b d ns (full made DiskInodes) (not_full made DiskInodes ne))
-    directory_with_b sort d e ns f fits above.NoPlace = no_place_b made d ns
-    directory_with_b sort d e ns f fits (New n) = inr (by (n == d) refl)
+    directory_with_b inode_type d e ns f fits above.NoPlace = no_place_b made d ns
+    directory_with_b inode_type d e ns f fits (New n) = inr (by (n == d) refl)
       where
         next : Bool → P Reply
         next b = if b then claims_own made d ns n else mkdir_other path d e ns f n
 
-        by : (b : Bool) → (n == d) ≡ b → Goes (Claim sort) (New n) (next b) (Blames (next b))
-        by true same = own_b made sort d ns n (eq_is n d same)
+        by : (b : Bool) → (n == d) ≡ b → Goes (Claim inode_type) (New n) (next b) (Blames (next b))
+        by true same = own_b made inode_type d ns n (eq_is n d same)
         by false other = inr (directory_b d e ns f fits n)
 
     on_b : (d : ℕ) (e : Name) (ns : List ℕ) (f : Face) → Short14 e → (o : Option Cause) → Blames (mkdir_on path d e ns f o)
@@ -445,7 +445,7 @@ module _ (room : Full) where
     raise_b n ns f None = (tt, λ _. inr (name_b n ns (elements new) (elements_short new)))
 
     at_b : (n : ℕ) (ns : List ℕ) → Blames (link_at old new n ns)
-    at_b n ns = (tt, λ a. inr (by (face_or a.face) (is_directory_sort (face_or a.face).sort)))
+    at_b n ns = (tt, λ a. inr (by (face_or a.face) (is_directory_type (face_or a.face).inode_type)))
       where
         by : (f : Face) (b : Bool)
             → Blames (if b then give_up n (tail ns (failed link NoDirectory)) else link_raise old new n ns f (bump_refused f))
@@ -466,7 +466,7 @@ module _ (room : Full) where
     gone = calls.Unlink path
 
     clear_b : (d : ℕ) (e : Name) (ns : List ℕ) (f : Face) (n : ℕ) (g : Face) → Blames (clear_name path d e ns f n g)
-    clear_b d e ns f n g = (tt, λ _. inr (by (is_directory_sort g.sort)))
+    clear_b d e ns f n g = (tt, λ _. inr (by (is_directory_type g.inode_type)))
       where
         child : P Reply
         child = Do (Store n (g.count - 1)) unmarked (λ _. give_up n (tail ns (done gone)))

@@ -1,5 +1,5 @@
 -- The calls on whole inodes are right, with the history that is their own operations.
-use Rattle.run_laws.proofs.Vocabulary.{◌≡◌, ◌≢◌, ℕ, Option, List, [], ◌∷◌, ◌++◌, refl, sym, ◌∙◌, ap, subst, inl, inr, ne_eqb, Full, Reply, Call, Ret, Do, Did, Waits, Ran, Stops, PartOf as P, own, onto, oldest_first, placed_with, Good, Wp, Laws, Begun, Ends, Lawful, onto_rest, own_one, Wp-weaker, MoveStep, exec, go, marked, places, with_mark, limit, program, Honest, Idle, Inv, May, MayWait, Others, machine, more, Answer, Mark, laws, served_calls, served_lawful, keeps, IsRunOf, IsRunOfCall, Operation, inode_calls, operations, told_by, unreserved, whole_inodes}
+use Rattle.run_laws.proofs.Vocabulary.{◌≡◌, ◌≢◌, ℕ, Option, List, [], ◌∷◌, ◌++◌, refl, sym, ◌∙◌, ap, subst, inl, inr, ne_eqb, Full, Reply, Call, Ret, Do, ExecResult, Waits, Ran, Stops, PartOf as P, own, onto, oldest_first, placed_with, Good, Wp, Laws, Begun, Ends, Lawful, onto_rest, own_one, Wp-weaker, MoveStep, exec, go, marked, places, with_mark, limit, program, Honest, Idle, Inv, May, MayWait, Others, machine, more, Answer, Mark, laws, served_calls, served_lawful, keeps, IsRunOf, IsRunOfCall, Operation, inode_calls, operations, told_by, unreserved, whole_inodes}
 use Rattle.inode_machine.specs.World.{Op, Outside, World}
 use Rattle.inodes_on_blocks.specs.Lowering.{Keeps}
 use Rattle.run_laws.proofs.Blamed.{IsBlamed, begun_wanted, blamed_on, ends_wanted, some_run}
@@ -24,12 +24,12 @@ abbrev did : ℕ → World → (op : Op) → (Answer op → Option Mark) → Ans
 did h v op m a = record { op = op; answer = a; mark = m a; told = told_by h (m a) v }
 
 -- an operation's mark counts at its answer alone
-abbrev answer_or : {A S : Type 0} → A → Did A S → A
+abbrev answer_or : {A S : Type 0} → A → ExecResult A S → A
 answer_or a Waits = a
 answer_or a (Ran b s) = b
 answer_or a (Stops s) = a
 
-mark_there : {A : Type 0} (h : ℕ) (m : A → Option Mark) (a : A) (u : World) (d : Did A World) → with_mark h m d ≡ Ran a u → with_mark h (λ _. m a) d ≡ Ran a u
+mark_there : {A : Type 0} (h : ℕ) (m : A → Option Mark) (a : A) (u : World) (d : ExecResult A World) → with_mark h m d ≡ Ran a u → with_mark h (λ _. m a) d ≡ Ran a u
 mark_there h m a u Waits e = e
 mark_there {A} h m a u (Ran b w) e = let same : b ≡ a = ap (answer_or a) e in ap (λ (z : A). Ran b (marked h (m z) w)) (sym same) ∙ e
 mark_there h m a u (Stops w) e = e
@@ -85,7 +85,7 @@ module _ (call : Call) where
       made : (v : World) (x : Outside) → Inv v → May h op v → Honest h op v x
           → ((a : Answer op) (l : ℕ) (gs : List MoveStep) (u : World) → OnWay (k a) (did h v op m a ∷ fs) → Wp machine h B Q (k a) l gs u
           → Wp whole_inodes h RunBegun (RunEnds h) (k a) l (did h v op m a ∷ fs) u)
-          → (d : Did (Answer op) World) → go h x op m v ≡ d
+          → (d : ExecResult (Answer op) World) → go h x op m v ≡ d
           → Good machine (Answer op) h (placed_with machine h op m v) (more op) n B es v (MayWait h op v) d (λ l a u. Wp machine h B Q (k a) l (onto (own h (places h op a (m a) v)) es) u)
           → Good whole_inodes (Answer op) h (placed_with whole_inodes h op m v) (more op) n RunBegun fs v (MayWait h op v) d (λ l a u. Wp whole_inodes h RunBegun (RunEnds h) (k a) l (onto (own h ((h, did h v op m a) ∷ [])) fs) u)
       made v x holds allowed said next Waits is f = f

@@ -1,5 +1,5 @@
 -- What a write is told to have written it has written.
-use Rattle.run_laws.proofs.Vocabulary.{◌≡◌, ◌<◌, ℕ, Bool, true, false, nat_lt, if◌then◌else◌, List, [], ◌∷◌, length, take, Option, Some, None, refl, sym, ◌∙◌, ap, subst, Cause, BadDescriptor, Node, node_or, write_kind, put, descriptor_count, put_same, ran_to, Did, Ran, changed_record, entry_at, entry_moved, entry_of, slot_at, unlocked, with_bytes, with_offset, write_at, write_if, wrote_in, with_mark, HonestPiece, Writes, Entry, Mark, Picks, Refused, Room, RoomFor, Short, Whole, Wrote as WriteResult, Change, HasWritten, ShortWritesAreShort, WritesAreMade, by_write}
+use Rattle.run_laws.proofs.Vocabulary.{◌≡◌, ◌<◌, ℕ, Bool, true, false, nat_lt, if◌then◌else◌, List, [], ◌∷◌, length, take, Option, Some, None, refl, sym, ◌∙◌, ap, subst, Cause, BadDescriptor, Node, node_or, write_kind, put, descriptor_count, put_same, ran_to, ExecResult, Ran, changed_record, entry_at, entry_moved, entry_of, slot_at, unlocked, with_bytes, with_offset, write_at, write_if, wrote_in, with_mark, HonestPiece, Writes, Entry, Mark, Picks, Refused, Room, RoomFor, Short, Whole, Wrote as WriteResult, Change, HasWritten, ShortWritesAreShort, WritesAreMade, by_write}
 use Rattle.inode_machine.specs.World.{Outside, World}
 use Rattle.run_laws.specs.Changes.{Wrote}
 use Rattle.run_laws.proofs.Untold.{Kept, answer_or, kept_of, marked_kept}
@@ -59,12 +59,12 @@ module _ (h fd n : ℕ) (w : World) (e : Entry) (opened : entry_of w h fd ≡ So
   module _ (m : Option Mark) (u : World) (bytes b : List ℕ) (a : WriteResult) (is : by_write fd bytes a ≡ Wrote fd b ∷ []) where
     told_is : (c : WriteResult) (v : World) → with_mark h (λ (z : WriteResult). m) (Ran c v) ≡ Ran a u
         → by_write fd bytes c ≡ Wrote fd b ∷ []
-    told_is c v q = ap (λ (d : Did WriteResult World). by_write fd bytes (answer_or a d)) q ∙ is
+    told_is c v q = ap (λ (d : ExecResult WriteResult World). by_write fd bytes (answer_or a d)) q ∙ is
 
     has : (c : WriteResult) (v : World) → with_mark h (λ (z : WriteResult). m) (Ran c v) ≡ Ran a u → HasWritten w h fd b v
         → HasWritten w h fd b u
     has c v q h' =
-        written_between h fd b w w v u refl h' (ap (λ (d : Did WriteResult World). kept_of (ran_to w d)) (sym q) ∙ marked_kept h m v)
+        written_between h fd b w w v u refl h' (ap (λ (d : ExecResult WriteResult World). kept_of (ran_to w d)) (sym q) ∙ marked_kept h m v)
 
     -- the bytes that were written are those that are told
     written : (c : WriteResult) (some : List ℕ) → by_write fd bytes c ≡ Wrote fd some ∷ []
@@ -100,7 +100,7 @@ short_same j k q = cc
 
 module _ (h n : ℕ) (w u : World) (s : Option ℕ) (bytes : List ℕ) (k : ℕ) (m : Option Mark) where
   answered : (c : WriteResult) (v : World) → with_mark h (λ (z : WriteResult). m) (Ran c v) ≡ Ran (Short k) u → c ≡ Short k
-  answered c v q = ap (λ (d : Did WriteResult World). answer_or (Short k) d) q
+  answered c v q = ap (λ (d : ExecResult WriteResult World). answer_or (Short k) d) q
 
   short_if : (e : Entry) (x : Outside) → HonestPiece bytes x → (c : Option Cause)
       → with_mark h (λ (z : WriteResult). m) (write_if w s e n bytes x c) ≡ Ran (Short k) u → k < length bytes

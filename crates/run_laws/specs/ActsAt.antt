@@ -42,7 +42,7 @@ ActsAt (StatFile fd) p = MarksFirst p
 ActsAt (LockFile fd) p = MarksFirst p
 ActsAt (LockOpen fd n) p = MarksFirst p
 ActsAt Leave p = MarksFirst p
-ActsAt (Claim sort) p = MarksOne p
+ActsAt (Claim inode_type) p = MarksOne p
 ActsAt op p = MarksLast p
 
 -- So it is with the program of each operation, whatever its steps are answered, on a disk that has inodes.

@@ -1,7 +1,7 @@
 -- What an operation on whole inodes changes that outlasts its call: inodes on the disk, and open files.
 use Rattle.std.specs.Prelude.{◌≡◌, ◌≢◌, ◌⊎◌, ◌==◌, ◌<◌, if◌then◌else◌, ℕ, Bool, true, false, List, [], ◌∷◌, ◌++◌, take, length}
 use Rattle.std.specs.Prelude.{Option, Some, None}
-use Rattle.run_laws.specs.Vocabulary.{Bump, Unbump, node_or, Name, look, Deed, Own, entry_moved, entry_of, with_bytes, face_or, Answer, ClaimResult, Entry, EntryResult, InPlace, Mark, New, NoBlock, NoInode, NoPlace, NoSlot, Op, Refused, Short, Whole, World, Wrote as WriteResult, Frees, Makes, Claim, Clear, Double, Empty, Enter, Fill, Free, Install, Lend, LendDirectory, ReadFile, Settle, Shut, Slot, Store, Take, WriteFile}
+use Rattle.run_laws.specs.Vocabulary.{Bump, Unbump, node_or, Name, look, Deed, Own, entry_moved, entry_of, with_bytes, face_or, Answer, ClaimResult, Entry, EntryResult, InPlace, Mark, New, NoBlock, NoInode, NoPlace, NoSlot, Op, Refused, Short, Whole, World, Wrote as WriteResult, Frees, Makes, Claim, Clear, Double, Empty, Enter, Fill, Free, Install, Lend, LendDirectory, ReadFile, SetDirectory, Shut, Slot, Store, Take, WriteFile}
 use Rattle.run_laws.specs.WholeInodes.{IsStep, Operation}
 
 -- an inode that was locked, with the count that it had then
@@ -79,7 +79,7 @@ by_shut op (Some last) = Moved op ∷ []
 
 -- What an operation changes, as its answer and its mark say, with what the one just before it has seen.
 abbrev pub changed_by : Option Sighting → (op : Op) → Answer op → Option Mark → List Change
-changed_by seen (Claim sort) made mark = by_claim made
+changed_by seen (Claim inode_type) made mark = by_claim made
 changed_by seen (Store n count) stored mark = by_count seen n count mark ∷ []
 changed_by seen (Fill n d) there mark = where_there (Filled n) there
 changed_by seen (Enter d e n) made mark = by_entry d e n made
@@ -87,12 +87,12 @@ changed_by seen (Clear d e) cleared mark = Cleared d e ∷ []
 changed_by seen (Empty n) emptied mark = Emptied n ∷ []
 changed_by seen (Free n) freed mark = by_free n mark
 changed_by seen Slot there mark = where_there TookPlace there
-changed_by seen (Install f sort) fd mark = by_install (Install f sort) fd
+changed_by seen (Install f inode_type) fd mark = by_install (Install f inode_type) fd
 changed_by seen (ReadFile fd n offset count) bytes mark = Moved (ReadFile fd n offset count) ∷ []
 changed_by seen (WriteFile fd n offset bytes) wrote mark = by_write fd bytes wrote
 changed_by seen (Double fd) made mark = by_double (Double fd) made
 changed_by seen (Shut fd) last mark = by_shut (Shut fd) last
-changed_by seen (Settle n) old mark = Moved (Settle n) ∷ []
+changed_by seen (SetDirectory n) old mark = Moved (SetDirectory n) ∷ []
 changed_by seen (Lend child from) lent mark = Moved (Lend child from) ∷ []
 changed_by seen (LendDirectory child) old mark = Moved (LendDirectory child) ∷ []
 changed_by seen op answer mark = []

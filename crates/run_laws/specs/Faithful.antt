@@ -1,7 +1,7 @@
 -- Each operation on whole inodes acts once within its own program on the blocks, with the answer that this program ends with; by that
 -- answer the call goes on.
 use Rattle.std.specs.Prelude.{◌≡◌, ◌⊎◌, ℕ, true, List, [], ◌∷◌, Option, Some, None, is_some}
-use Rattle.run_laws.specs.Vocabulary.{Super, sizes_of, Reply, Call, Theory, EventOf, FinishedCall, PlacedStep, Run, State, fresh, outcomes, run, In, history, steps_of, Handlers, Handover, Lower, joined, Machine, OpWithAnswer, P, own, Ret, Do, Outside, program, Answer, Mark, Op, nothing, handlers, Deed, first, layer, Came, Event, HartsOf, IsHistory, IsMounted, WorldOf}
+use Rattle.run_laws.specs.Vocabulary.{Super, sizes_of, Reply, Call, Theory, EventOf, FinishedCall, PlacedStep, Run, State, fresh, outcomes, run, In, history, steps_of, Handlers, Handover, LowerLayer, joined, Machine, OpWithAnswer, P, own, Ret, Do, Outside, program, Answer, Mark, Op, nothing, handlers, Deed, first, layer, Came, Event, HartsOf, IsHistory, IsMounted, WorldOf}
 use Rattle.run_laws.specs.WholeInodes.{Operation, lowered_inode_calls, whole_inodes}
 
 -- ---- what is noted
@@ -90,7 +90,7 @@ abbrev pub IsReply : {A : Type 0} → A → Option A → Type 0
 IsReply a None = Unit {0}
 IsReply a (Some r) = a ≡ r
 
-module _ (U : Machine) (R : Lower U.World) (handler : Handlers U R)
+module _ (U : Machine) (R : LowerLayer U.World) (handler : Handlers U R)
     (IsOf : (op : U.Op) → (U.Answer op → Option U.Mark) → U.Answer op → U.Step → Type 0) where
   -- Notes of a program above that ends with r; where no r is given it is under way. For each of its operations, one after the other, they
   -- have the steps of the operation's own program, in which it acts once; that program ends with the answer with which it acted, and by

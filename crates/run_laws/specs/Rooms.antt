@@ -29,11 +29,11 @@ is_no_descriptor (Some (Some fd)) = false
 abbrev pub says_no_room : (op : Op) → Answer op → Bool
 says_no_room (UpStart absolute) start = is_nothing start
 says_no_room (Up n) there = not there
-says_no_room (Claim sort) made = is_no_inode made
+says_no_room (Claim inode_type) made = is_no_inode made
 says_no_room (Fill n d) there = not there
 says_no_room (Enter d e n) made = is_no_entry made
 says_no_room Slot there = not there
-says_no_room (Install f sort) fd = is_nothing fd
+says_no_room (Install f inode_type) fd = is_nothing fd
 says_no_room (WriteFile fd n offset bytes) wrote = is_short wrote
 says_no_room (Double fd) made = is_no_descriptor made
 says_no_room op answer = false

@@ -1,6 +1,6 @@
 -- A call that ends for want of a block or of an inode has looked everywhere, in each run.
 use Rattle.std.specs.Prelude.{◌≡◌, ◌⊎◌, ℕ, ◌<◌, ◌≤◌, Bool, true, false, List, [], ◌∷◌, ◌++◌, Option, Some, None, IsSome}
-use Rattle.run_laws.specs.Vocabulary.{Super, dinode_at, Blocks, DiskInodes, Call, Theory, EventOf, FinishedCall, Run, Start, State, Step, fresh, next, run, In, Both, P, Ret, Do, Did, Ran, Stops, Waits, place_in_memory, Outside, AnswerBelow as Answer, HasNoInode as NoInode, is_zero, inode_block, place_of, first, block_calls, Came, Event, HartsOf, IsHistory, IsMounted, WorldOf}
+use Rattle.run_laws.specs.Vocabulary.{Super, dinode_at, Blocks, DiskInodes, Call, Theory, EventOf, FinishedCall, Run, Start, State, Step, fresh, next, run, In, Both, P, Ret, Do, ExecResult, Ran, Stops, Waits, place_in_memory, Outside, AnswerBelow as Answer, HasNoInode as NoInode, is_zero, inode_block, place_of, first, block_calls, Came, Event, HartsOf, IsHistory, IsMounted, WorldOf}
 use Rattle.plain_tree.specs.declared.answer.Answer.TheVariants as answers
 use Rattle.fs_machine.specs.Steps as steps
 use Rattle.fs_machine.specs.Steps.{Claim, Op}
@@ -18,7 +18,7 @@ pub record MadeStep : Type 0 where
   pub before : steps.State
 
 -- one that ran
-abbrev pub if_ran : ℕ → ℕ → Both World above.World → (op : Op) → Did (Answer op) (Both World above.World) → List MadeStep
+abbrev pub if_ran : ℕ → ℕ → Both World above.World → (op : Op) → ExecResult (Answer op) (Both World above.World) → List MadeStep
 if_ran number h w op Waits = []
 if_ran number h w op (Ran a u) = record { number = number; hart = h; step = (op, a); before = w.real.blocks.state } ∷ []
 if_ran number h w op (Stops u) = []

@@ -5,7 +5,7 @@ use Rattle.run_laws.specs.Vocabulary.{EventOf as Event, Start, hart_of, Outcome,
 -- What an event of the hart adds, where so many of its steps ran later in the call: one, where a step ran; the step that gave the reply
 -- was the last. No other counts:
 -- neither one that waits nor one that is stopped.
-abbrev pub with_outcome : {Did Reply Refusal : Type 0} → Outcome Did Reply Refusal → ℕ → ℕ
+abbrev pub with_outcome : {What Reply Refusal : Type 0} → Outcome What Reply Refusal → ℕ → ℕ
 with_outcome (DidRun did) later = suc later
 with_outcome (DidEnd reply) later = 1
 with_outcome Started later = later
@@ -18,20 +18,20 @@ with_outcome WasStopped later = later
 -- How many steps of hart h's call ran, where these are the events after the call's start, the oldest first, with their outcomes: up to its
 -- reply, or all, where it
 -- has not replied.
-abbrev pub steps_ran : {Call Outside Did Reply Refusal : Type 0} → ℕ → List (Event Call Outside) → List (Outcome Did Reply Refusal) → ℕ
+abbrev pub steps_ran : {Call Outside What Reply Refusal : Type 0} → ℕ → List (Event Call Outside) → List (Outcome What Reply Refusal) → ℕ
 steps_ran h [] outcomes = 0
 steps_ran h (e ∷ es) [] = 0
 steps_ran h (e ∷ es) (o ∷ os) = if nat_eq (hart_of e) h then with_outcome o (steps_ran h es os) else steps_ran h es os
 
 -- where the event began a call, this is so of the call and of how many of its steps ran
-abbrev pub OfBegun : {Call Outside Did Reply Refusal : Type 0} → (Call → ℕ → Type 0) → Event Call Outside → Outcome Did Reply Refusal
-    → List (Event Call Outside) → List (Outcome Did Reply Refusal) → Type 0
+abbrev pub OfBegun : {Call Outside What Reply Refusal : Type 0} → (Call → ℕ → Type 0) → Event Call Outside → Outcome What Reply Refusal
+    → List (Event Call Outside) → List (Outcome What Reply Refusal) → Type 0
 OfBegun Is (Start h call) Started es os = Is call (steps_ran h es os)
 OfBegun Is e o es os = Unit {0}
 
 -- There is one outcome for each event; and of each call that they began, and of how many of its steps ran, this is so.
-abbrev pub OfEachCall : {Call Outside Did Reply Refusal : Type 0} → (Call → ℕ → Type 0) → List (Event Call Outside)
-    → List (Outcome Did Reply Refusal) → Type 0
+abbrev pub OfEachCall : {Call Outside What Reply Refusal : Type 0} → (Call → ℕ → Type 0) → List (Event Call Outside)
+    → List (Outcome What Reply Refusal) → Type 0
 OfEachCall Is [] [] = Unit {0}
 OfEachCall Is [] (o ∷ os) = ⊥
 OfEachCall Is (e ∷ es) [] = ⊥

@@ -1,5 +1,5 @@
 -- What the crates below call things: the words that this crate's definitions and contracts use.
-pub use Rattle.inodes_on_blocks.specs.Vocabulary.{Answer as AnswerBelow, Both, Claim, Clear, Desk, Did, Do, Double, Empty, Enter, Entry, Fill, Free, Handover, Install, Inv, IsMember, IsNamedPart, Lend, LendDirectory, LockFile, LockOpen, Lower, Machine, Name, Outside, Prog, Put, Ran, ReadFile, Ret, Settle, Short, Shut, Slot, StatFile, Stopped as Refused, Stops, Store, TablesState, Take, Tree, Up, UpStart, Waits, Whole, World, WriteFile, Wrote, all_slots, bit_of, descriptor_count, dinode_at, entry_of, file_count, go, hart_count, inode_block, joined, option_map, place_of as place_in_memory, tree_in, tree_of}
+pub use Rattle.inodes_on_blocks.specs.Vocabulary.{Answer as AnswerBelow, Both, Claim, Clear, Desk, ExecResult, Do, Double, Empty, Enter, Entry, Fill, Free, Handover, Install, Inv, IsMember, IsNamedPart, Lend, LendDirectory, LockFile, LockOpen, LowerLayer, Machine, Name, Outside, Prog, Put, Ran, ReadFile, Ret, SetDirectory, Short, Shut, Slot, StatFile, Stopped as Refused, Stops, Store, TablesState, Take, Tree, Up, UpStart, Waits, Whole, World, WriteFile, Wrote, all_slots, bit_of, descriptor_count, dinode_at, entry_of, file_count, go, hart_count, inode_block, joined, option_map, place_of as place_in_memory, tree_in, tree_of}
 unfoldable pub use Rattle.inodes_on_blocks.specs.Vocabulary.{one_if, sizes_of}
 pub use Rattle.inode_machine.specs.Vocabulary.{AllHonest, Deed, DidEnd, DidRun, DidStop, DidWait, Event as EventOf, Explains, FinishedCall, Outcome, Own, Refused as WasRefused, Run, Start, Started, State, Step, Theory, TreeData, WasIdle, WasStopped, creates, fresh, name_len, next, node_or, outcomes, run}
 unfoldable pub use Rattle.inode_machine.specs.Vocabulary.{look, sum_below}

@@ -34,11 +34,11 @@ wanted_to_double (Some (Some fd)) = None
 abbrev pub wanted : (op : Op) → Answer op → Option Full
 wanted (UpStart absolute) start = wanted_without MemInodes start
 wanted (Up n) there = wanted_unless MemInodes there
-wanted (Claim sort) made = wanted_to_claim made
+wanted (Claim inode_type) made = wanted_to_claim made
 wanted (Fill n d) there = wanted_unless Blocks there
 wanted (Enter d e n) made = wanted_to_enter made
 wanted Slot there = wanted_unless OpenFiles there
-wanted (Install f sort) fd = wanted_without Descriptors fd
+wanted (Install f inode_type) fd = wanted_without Descriptors fd
 wanted (WriteFile fd n offset bytes) wrote = wanted_to_write wrote
 wanted (Double fd) made = wanted_to_double made
 wanted op answer = None

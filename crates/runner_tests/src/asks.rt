@@ -1,6 +1,6 @@
 //! What harts call at work in one directory: rows with the answers that they may have.
 use crate::kernels::{bytes, copied, push};
-use crate::runs::Left;
+use crate::runs::LeftRun;
 use hart_core::{Came, Event, Outcome};
 use plain_tree::{Answer, Bytes, Call, Cause, Reply};
 use std::alloc::Global;
@@ -214,7 +214,7 @@ impl Rounds {
     }
 
     /// How many replies of a run are such as their rows may have.
-    pub fn count_good(&self, run: &Left) -> u32 {
+    pub fn count_good(&self, run: &LeftRun) -> u32 {
         let mut places = [0usize; 8];
         let mut good: u32 = 0;
         for (event, came) in run.events.iter().zip(run.outcomes.iter()) {

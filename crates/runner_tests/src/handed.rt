@@ -3,7 +3,7 @@ ghost use Rattle.std.specs.Prelude.{◌≡◌};
 
 use crate::kernels::{closed, copied, no_kernel, roomy_image};
 use crate::plan::{CALLS, draw_plan};
-use crate::runs::{Left, are_same, left_by};
+use crate::runs::{LeftRun, are_same, left_by};
 use crate::turns::{Handing, Turns};
 use crate::work::{eight_work, tasks_of};
 use block_device::MemoryDisk;
@@ -43,7 +43,7 @@ fn hand<L: Ledger + Send + Sync, R: Threads + Wait + Abort + Sync>(
     seats: [Seat<L>; 8],
     turns: &Turns,
     calls: [Vec<Call>; 8],
-) -> Left
+) -> LeftRun
     requires { L.parts ≡ 8 }
 {
     let gate = Handing { turns };
@@ -60,7 +60,7 @@ fn hand_round<'a, L: Ledger + Send + Sync, R: Threads + Wait + Abort + Sync>(
     image: Vec<u8>,
     turns: &'a Turns,
     calls: [Vec<Call>; 8],
-) -> Left
+) -> LeftRun
     requires name { blank.name ≡ L.name }
     requires parts { blank.parts ≡ L.parts }
     requires eight { blank.parts ≡ 8 }
@@ -76,7 +76,7 @@ fn hand_round<'a, L: Ledger + Send + Sync, R: Threads + Wait + Abort + Sync>(
 }
 
 // Whether the list that is handed out explains what a run on the image has shown.
-fn is_explained(rt: &impl Abort, alloc: Global, image: &[u8], run: &Left) -> bool {
+fn is_explained(rt: &impl Abort, alloc: Global, image: &[u8], run: &LeftRun) -> bool {
     let events = run.events.as_slice();
     let list = explain(alloc, image, events).expect(rt, "error");
     let mut disk = MemoryDisk::new(copied(rt, alloc, image));

@@ -12,7 +12,7 @@ use std::sync::Wait;
 use std::sync::ledger::Ledger;
 
 /// What a call came to: its reply, or why it was stopped, where it was started.
-pub type Came = Result<Reply, Option<Halt>>;
+pub type CallResult = Result<Reply, Option<Halt>>;
 
 /// One item more.
 pub fn push<T: Drop>(rt: &impl Abort, items: &mut Vec<T>, item: T) {
@@ -111,7 +111,9 @@ pub fn all_of<L: Ledger>(a: Seat<L>, b: Seat<L>, others: [Seat<L>; 6]) -> [Seat<
 }
 
 /// The seat after a call, and what the call came to. One that is stopped is given up.
-pub fn came_of<L: Ledger>(made: Result<(Seat<L>, Receipt<L>), CallFault<L>>) -> (Seat<L>, Came) {
+pub fn came_of<L: Ledger>(
+    made: Result<(Seat<L>, Receipt<L>), CallFault<L>>,
+) -> (Seat<L>, CallResult) {
     match made {
         Ok((seat, receipt)) => (seat, Ok(receipt.into_reply())),
         Err(CallFault::Start(seat, _, _)) => (seat, Err(None)),
@@ -126,7 +128,7 @@ pub fn called<L: Ledger, G: Gate + Drop, R: Wait>(
     kernel: &Kernel<L, G>,
     seat: Seat<L>,
     call: Call,
-) -> (Seat<L>, Came) {
+) -> (Seat<L>, CallResult) {
     let made = match kernel.call(rt, seat, call) {
         Err(CallFault::Memory(seat, call)) => kernel.call(rt, seat, call),
         Err(CallFault::Stopped(busy, Halt::NoMemory)) => kernel.resume(rt, busy),

@@ -1,7 +1,9 @@
 //! Two harts that meet, by a gate which holds one of them.
 ghost use Rattle.std.specs.Prelude.{◌≡◌};
 
-use crate::kernels::{Came, all_of, called, closed, first_two, image, mkdir, no_kernel, open};
+use crate::kernels::{
+    CallResult, all_of, called, closed, first_two, image, mkdir, no_kernel, open,
+};
 use hart_runner::{Gate, Kernel, Seat};
 use locked_world::{Closed, EventRef};
 use plain_tree::{Answer, Call, Cause};
@@ -94,7 +96,7 @@ fn call_held<L: Ledger, G: Gate + Drop, R: Wait>(
     flags: &Flags,
     seat: Seat<L>,
     call: Call,
-) -> (Seat<L>, Came) {
+) -> (Seat<L>, CallResult) {
     flags.armed.store(true, Ordering::SeqCst);
     called(rt, kernel, seat, call)
 }
@@ -105,7 +107,7 @@ fn call_meeting<L: Ledger, G: Gate + Drop, R: Wait + Clock>(
     flags: &Flags,
     seat: Seat<L>,
     call: Call,
-) -> (Seat<L>, Came) {
+) -> (Seat<L>, CallResult) {
     poll(rt, &flags.held);
     let made = called(rt, kernel, seat, call);
     flags.returned.store(true, Ordering::SeqCst);
@@ -115,7 +117,7 @@ fn call_meeting<L: Ledger, G: Gate + Drop, R: Wait + Clock>(
 // What two calls that met are answered, where they are, and how many of the first one's steps stand before the start of the second.
 type Met = (Option<Answer>, Option<Answer>, usize);
 
-fn answer_of(came: &Came) -> Option<Answer> {
+fn answer_of(came: &CallResult) -> Option<Answer> {
     match came {
         Ok(reply) => Some(reply.answer),
         Err(_) => None,

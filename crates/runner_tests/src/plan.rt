@@ -1,7 +1,7 @@
 //! A plan of turns: calls of eight harts, made on a world in an order that is drawn from a seed.
 use crate::asks::{DIRECTORIES, FILES, Rounds, call_of};
 use crate::kernels::{copied, no_kernel, push};
-use crate::runs::Left;
+use crate::runs::LeftRun;
 use block_device::MemoryDisk;
 use hart_core::{Came, Event, Outcome, World};
 use plain_tree::HARTS;
@@ -42,7 +42,7 @@ impl Draw {
 #[derive(Drop)]
 pub struct Plan {
     pub rounds: Rounds,
-    pub left: Left,
+    pub left: LeftRun,
 }
 
 impl Plan {
@@ -202,7 +202,7 @@ pub fn draw_plan(rt: &impl Abort, alloc: Global, image: &[u8], seed: u64) -> Pla
         outcomes,
         stands: _,
     } = play(rt, alloc, &mut world, &rounds, &mut draw);
-    let left = Left {
+    let left = LeftRun {
         events,
         outcomes,
         bytes: world.unmount().into_bytes(),

@@ -7,18 +7,18 @@ use std::sync::ledger::Ledger;
 
 /// The events of a run, what they came to, and the bytes of the disk then.
 #[derive(Drop)]
-pub struct Left {
+pub struct LeftRun {
     pub events: Vec<Event>,
     pub outcomes: Vec<Came>,
     pub bytes: Vec<u8>,
 }
 
 /// What a kernel that was closed leaves.
-pub fn left_by<L: Ledger>(rt: &impl Abort, alloc: Global, closed: Closed<L>) -> Left {
+pub fn left_by<L: Ledger>(rt: &impl Abort, alloc: Global, closed: Closed<L>) -> LeftRun {
     let events = closed.events(alloc).expect(rt, "error");
     let outcomes = closed.outcomes(alloc).expect(rt, "error");
     let bytes = closed.into_disk().into_bytes();
-    Left {
+    LeftRun {
         events,
         outcomes,
         bytes,
@@ -78,7 +78,7 @@ fn are_same_outcomes(one: &[Came], other: &[Came]) -> bool {
 }
 
 /// Whether two runs have the same events, which came to the same, and leave the same disk.
-pub fn are_same(one: &Left, other: &Left) -> bool {
+pub fn are_same(one: &LeftRun, other: &LeftRun) -> bool {
     are_same_events(one.events.as_slice(), other.events.as_slice())
         && are_same_outcomes(one.outcomes.as_slice(), other.outcomes.as_slice())
         && one.bytes.as_slice() == other.bytes.as_slice()

@@ -3,7 +3,7 @@
 ghost use Rattle.std.specs.Prelude.{◌≡◌};
 
 use crate::kernels::{all_of, called, came_of, closed, copied, first_two, image, mkdir, no_kernel};
-use crate::runs::{Left, are_same, left_by};
+use crate::runs::{LeftRun, are_same, left_by};
 use console::ConsoleFault;
 use console_threads::{ThreadsFault, run_threads, status};
 use hart_runner::{CallFault, Gate, Kernel, NoGate, Seat};
@@ -24,7 +24,7 @@ const NO_MEMORY: u8 = 33;
 const ANSWERED: u8 = 0;
 
 // What is answered, and what the run leaves.
-type Ended = (u8, Left);
+type HartEnd = (u8, LeftRun);
 
 // What a kernel leaves that is opened between the lines, and closed without a call.
 fn opened<L: Ledger, R: Print + Abort>(
@@ -32,7 +32,7 @@ fn opened<L: Ledger, R: Print + Abort>(
     alloc: Global,
     blank: Blank,
     image: Vec<u8>,
-) -> Result<Left, MountFault>
+) -> Result<LeftRun, MountFault>
     requires name { blank.name ≡ L.name }
     requires parts { blank.parts ≡ L.parts }
     requires eight { blank.parts ≡ 8 }
@@ -49,7 +49,7 @@ fn opened<L: Ledger, R: Print + Abort>(
     }
 }
 
-fn open_once<R: Print + Abort>(rt: &R, alloc: Global, image: &[u8]) -> Result<Left, MountFault> {
+fn open_once<R: Print + Abort>(rt: &R, alloc: Global, image: &[u8]) -> Result<LeftRun, MountFault> {
     opened::<Brand, R>(rt, alloc, Blank::new(8), copied(rt, alloc, image))
 }
 
@@ -97,7 +97,7 @@ fn run_call<L: Ledger, R: Wait + Print + Abort>(
     kernel: Kernel<L, NoGate>,
     seats: [Seat<L>; 8],
     calls: (Call, Call),
-) -> Ended
+) -> HartEnd
     requires { L.parts ≡ 8 }
 {
     let (seat, b, others) = first_two(seats);
@@ -113,7 +113,7 @@ fn call_on<L: Ledger, R: Wait + Print + Abort>(
     blank: Blank,
     image: Vec<u8>,
     calls: (Call, Call),
-) -> Ended
+) -> HartEnd
     requires name { blank.name ≡ L.name }
     requires parts { blank.parts ≡ L.parts }
     requires eight { blank.parts ≡ 8 }
@@ -127,7 +127,7 @@ fn call_on<L: Ledger, R: Wait + Print + Abort>(
     }
 }
 
-fn call_once<R: Wait + Print + Abort>(rt: &R, alloc: Global) -> Ended {
+fn call_once<R: Wait + Print + Abort>(rt: &R, alloc: Global) -> HartEnd {
     let calls = (mkdir(rt, alloc, b"/d"), mkdir(rt, alloc, b"/d"));
     call_on::<Brand, R>(rt, alloc, Blank::new(8), image(rt, alloc), calls)
 }
@@ -183,7 +183,7 @@ fn run_resume<L: Ledger, R: Wait + Print + Abort>(
     kernel: Kernel<L, Marks<'_, R>>,
     seats: [Seat<L>; 8],
     call: Call,
-) -> Ended
+) -> HartEnd
     requires { L.parts ≡ 8 }
 {
     let (seat, b, others) = first_two(seats);
@@ -198,7 +198,7 @@ fn resume_on<'a, L: Ledger, R: Wait + Print + Abort>(
     blank: Blank,
     image: Vec<u8>,
     call: Call,
-) -> Ended
+) -> HartEnd
     requires name { blank.name ≡ L.name }
     requires parts { blank.parts ≡ L.parts }
     requires eight { blank.parts ≡ 8 }
@@ -213,7 +213,7 @@ fn resume_on<'a, L: Ledger, R: Wait + Print + Abort>(
     }
 }
 
-fn resume_once<R: Wait + Print + Abort>(rt: &R, alloc: Global) -> Ended {
+fn resume_once<R: Wait + Print + Abort>(rt: &R, alloc: Global) -> HartEnd {
     let (image, call) = (image(rt, alloc), mkdir(rt, alloc, b"/d"));
     resume_on::<Brand, R>(rt, alloc, Blank::new(8), image, call)
 }

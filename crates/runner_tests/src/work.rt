@@ -2,8 +2,8 @@
 ghost use Rattle.std.specs.Prelude.{◌≡◌};
 
 use crate::asks::{FILES, Rounds, SWEEP, calls_of};
-use crate::kernels::{Came, all_of, came_of, closed, copied, first_two, image, no_kernel};
-use crate::runs::{Left, left_by};
+use crate::kernels::{CallResult, all_of, came_of, closed, copied, first_two, image, no_kernel};
+use crate::runs::{LeftRun, left_by};
 use block_device::MemoryDisk;
 use hart_runner::{CallFault, Gate, Kernel, NoGate, Seat};
 use image_tree::examine;
@@ -60,7 +60,7 @@ fn make<L: Ledger, G: Turning + Drop, R: Wait>(
     gate: &G,
     seat: Seat<L>,
     call: Call,
-) -> (Seat<L>, Came) {
+) -> (Seat<L>, CallResult) {
     let hart = seat.hart();
     gate.start(rt, hart);
     let made = match kernel.call(rt, seat, call) {
@@ -188,7 +188,7 @@ fn round_of<L: Ledger + Send + Sync, R: Threads + Wait + Abort + Sync>(
     kernel: Kernel<L, NoGate>,
     seats: [Seat<L>; 8],
     calls: Calls,
-) -> Left
+) -> LeftRun
     requires { L.parts ≡ 8 }
 {
     let Calls { work, sweep: last } = calls;
@@ -203,7 +203,7 @@ fn round<L: Ledger + Send + Sync, R: Threads + Wait + Abort + Sync>(
     blank: Blank,
     image: Vec<u8>,
     calls: Calls,
-) -> Left
+) -> LeftRun
     requires name { blank.name ≡ L.name }
     requires parts { blank.parts ≡ L.parts }
     requires eight { blank.parts ≡ 8 }

@@ -1,5 +1,5 @@
 -- A name looked up, and an inode claimed or changed, with what they need in hand.
-use Rattle.syscalls.proofs.Vocabulary.{◌≡◌, ◌<◌, ◌-◌, ◌^◌, ℕ, List, Bool, true, Option, Some, None, refl, sym, ap, subst, ◌⊎◌, inl, inr, arith, ◌==◌, is_some, IsSome, IfSome, Name, Reply, OpenFile, IsName, eq_is, Do, unmarked, Hand, Seat, One, Two, with_reference, AtName, Face, Sight, Sort, face_or, P, drop, give_up, tail, note_at, HasFound, Having, IsCounted, Leaves, Runs, without_numbers, HasReference, free_seat, seat_of_reference, Notes}
+use Rattle.syscalls.proofs.Vocabulary.{◌≡◌, ◌<◌, ◌-◌, ◌^◌, ℕ, List, Bool, true, Option, Some, None, refl, sym, ap, subst, ◌⊎◌, inl, inr, arith, ◌==◌, is_some, IsSome, IfSome, Name, Reply, OpenFile, IsName, eq_is, Do, unmarked, Hand, InodePlace, One, Two, with_reference, AtName, Face, Sight, InodeType, face_or, P, drop, give_up, tail, note_at, HasFound, Having, IsCounted, Leaves, Runs, without_numbers, HasReference, free_seat, seat_of_reference, Notes}
 use Rattle.inode_machine.specs.World as above
 use Rattle.syscalls.proofs.Basics.{Apart, Around, Finds, Held, HeldAt, InHand, Locks, Nothing, Opens, Refers, swapped, at_its_lock, forget_found, forgot, found, free_found, install_found, installed, locked, locked_seat, lock_found, referred, reloaded, stays, take_found, drop_runs, give_opened_runs, give_up_runs, beside_it, came, tail_runs, turned}
 use Rattle.syscalls.proofs.Running as running
@@ -16,14 +16,14 @@ pub less : (n : ℕ) → n < 2 ^ 15 → n - 1 < 2 ^ 15
 less n few = omega arith
 
 -- the same but for numbers to be claimed
-without : (t : Around) (x y : Held) (h g : Hand) (m : Notes) (k : Seat) → without_numbers h ≡ without_numbers g → HeldAt k t x y g m → HeldAt k t x y h m
+without : (t : Around) (x y : Held) (h g : Hand) (m : Notes) (k : InodePlace) → without_numbers h ≡ without_numbers g → HeldAt k t x y g m → HeldAt k t x y h m
 without t x y h g m k e held = plain k h (subst (λ (h : Hand). HeldAt k t x y h m) (sym e) (bare k held))
   where
-    bare : (k : Seat) → HeldAt k t x y g m → HeldAt k t x y (without_numbers g) m
+    bare : (k : InodePlace) → HeldAt k t x y g m → HeldAt k t x y (without_numbers g) m
     bare One held = record { here = held.here; there = held.there; txn = held.txn; listed = held.listed; buffers = held.buffers; aside = held.aside }
     bare Two held = record { here = held.here; there = held.there; txn = held.txn; listed = held.listed; buffers = held.buffers; aside = held.aside }
 
-    plain : (k : Seat) (h : Hand) → HeldAt k t x y (without_numbers h) m → HeldAt k t x y h m
+    plain : (k : InodePlace) (h : Hand) → HeldAt k t x y (without_numbers h) m → HeldAt k t x y h m
     plain One h held = record { here = held.here; there = held.there; txn = held.txn; listed = held.listed; buffers = held.buffers; aside = held.aside }
     plain Two h held = record { here = held.here; there = held.there; txn = held.txn; listed = held.listed; buffers = held.buffers; aside = held.aside }
 
@@ -49,7 +49,7 @@ module _ (path : List ℕ) where
           let is : IsSome a.found = ap (λ (o : Option ℕ). is_some o) some in
           let to = came path (true, ns, None) d Nothing tt m k (AtName e) s u a held left in
           let stand = beside_it path (true, ns, None) d Nothing tt m k (AtName e) s u a held left left.1.0 in
-          let named = subst (λ (k : Seat). HasFound path e (note_at k u.notes)) (sym (locked_seat (true, ns, None) Nothing s u d tt held to)) (left.1.1 is) in
+          let named = subst (λ (k : InodePlace). HasFound path e (note_at k u.notes)) (sym (locked_seat (true, ns, None) Nothing s u d tt held to)) (left.1.1 is) in
           on a left.0.1 is u (found (true, ns, None) Nothing s u d tt held path e to stand named)
 
       pub looks : From (true, ns, None) (Refers d) Nothing (Do (above.Take d (AtName e)) m k)
@@ -115,16 +115,16 @@ module _ (path : List ℕ) where
 
     module _ (m : above.ClaimResult → Option above.Mark) (k : above.ClaimResult → P Reply) (on : (n : ℕ) → From (true, ns, None) (Refers n) (Locks d) (k (above.New n)))
         (full : From (true, ns, None) (Locks d) Nothing (k above.NoInode)) (crowded : From (true, ns, None) (Locks d) Nothing (k above.NoPlace)) where
-      claims_on : (sort : Sort) (s u : Having) → InHand (true, ns, None) Nothing (Locks d) s → (a : above.ClaimResult) → Leaves path (above.Claim sort) a s u → R (k a) u
-      claims_on sort s u held (above.New n) e = on n u (claimed s u held n e.0 e.1)
-      claims_on sort s u held above.NoInode e = full u (unclaimed s u held e.0 e.1)
-      claims_on sort s u held above.NoPlace e = crowded u (unclaimed s u held e.0 e.1)
+      claims_on : (inode_type : InodeType) (s u : Having) → InHand (true, ns, None) Nothing (Locks d) s → (a : above.ClaimResult) → Leaves path (above.Claim inode_type) a s u → R (k a) u
+      claims_on inode_type s u held (above.New n) e = on n u (claimed s u held n e.0 e.1)
+      claims_on inode_type s u held above.NoInode e = full u (unclaimed s u held e.0 e.1)
+      claims_on inode_type s u held above.NoPlace e = crowded u (unclaimed s u held e.0 e.1)
 
-      pub claims : (sort : Sort) → From (true, ns, None) (Locks d) Nothing (Do (above.Claim sort) m k)
+      pub claims : (inode_type : InodeType) → From (true, ns, None) (Locks d) Nothing (Do (above.Claim inode_type) m k)
       unfolding Runs
-      claims sort s held =
+      claims inode_type s held =
           let turn = swapped (true, ns, None) (Locks d) Nothing s held in
-          ((free_found (true, ns, None) (Locks d) s s tt turn, held.1.buffers, held.1.txn), λ a u e. claims_on sort s u turn a e)
+          ((free_found (true, ns, None) (Locks d) s s tt turn, held.1.buffers, held.1.txn), λ a u e. claims_on inode_type s u turn a e)
 
     -- what was claimed is forgotten where it is the directory
     module _ (k : P Reply) (on : From (true, ns, None) Nothing Nothing k) where
@@ -143,13 +143,13 @@ module _ (path : List ℕ) where
   -- ---- a file opened: its reference goes to the open file
 
   module _ (ns : List ℕ) (n : ℕ) (m : Option ℕ → Option above.Mark) (k : Option ℕ → P Reply) (off : From (true, ns, None) (Locks n) Nothing (k None)) (on : (fd : ℕ) → From (true, ns, None) (Opens n) Nothing (k (Some fd))) where
-    installs_on : (f : OpenFile) (sort : Sort) → f.number ≡ n → (s u : Having) → InHand (true, ns, None) (Locks n) Nothing s → (a : Option ℕ) → Leaves path (above.Install f sort) a s u → R (k a) u
-    installs_on f sort is s u held None e = off u (stays (true, ns, None) (Locks n) Nothing s u held e.0 e.1)
-    installs_on f sort is s u held (Some fd) e = on fd u (installed (true, ns, None) n s u held (subst (λ (n : ℕ). u.hand ≡ with_reference (seat_of_reference n s.hand) None s.hand) is e.0) e.1)
+    installs_on : (f : OpenFile) (inode_type : InodeType) → f.number ≡ n → (s u : Having) → InHand (true, ns, None) (Locks n) Nothing s → (a : Option ℕ) → Leaves path (above.Install f inode_type) a s u → R (k a) u
+    installs_on f inode_type is s u held None e = off u (stays (true, ns, None) (Locks n) Nothing s u held e.0 e.1)
+    installs_on f inode_type is s u held (Some fd) e = on fd u (installed (true, ns, None) n s u held (subst (λ (n : ℕ). u.hand ≡ with_reference (seat_of_reference n s.hand) None s.hand) is e.0) e.1)
 
-    pub installs_file : (f : OpenFile) (sort : Sort) → f.number ≡ n → From (true, ns, None) (Locks n) Nothing (Do (above.Install f sort) m k)
+    pub installs_file : (f : OpenFile) (inode_type : InodeType) → f.number ≡ n → From (true, ns, None) (Locks n) Nothing (Do (above.Install f inode_type) m k)
     unfolding Runs
-    installs_file f sort is s held = (subst (λ (n : ℕ). HasReference n s.hand) (sym is) (install_found (true, ns, None) n s s held), λ a u e. installs_on f sort is s u held a e)
+    installs_file f inode_type is s held = (subst (λ (n : ℕ). HasReference n s.hand) (sym is) (install_found (true, ns, None) n s s held), λ a u e. installs_on f inode_type is s u held a e)
 
   module _ (ns : List ℕ) (n : ℕ) where
     pub empties_file : (m : Unit {0} → Option above.Mark) (k : Unit {0} → P Reply) → From (true, ns, None) (Opens n) Nothing (k tt) → From (true, ns, None) (Opens n) Nothing (Do (above.Empty n) m k)

@@ -41,7 +41,7 @@ module _ (path : List ℕ) where
       (lock_found t Nothing s s n tt (Opens n) held.0 held.1 held.1.here.1, at.here.2, at.buffers, learned, at.there.1)
 
   -- .. and is given up
-  gives : (t : Around) (n : ℕ) (s u : Having) → InHand t (Opens n) Nothing s → Leaves path (above.Give n) tt s u → InHand t Nothing Nothing u
+  gives : (t : Around) (n : ℕ) (s u : Having) → InHand t (Opens n) Nothing s → Leaves path (above.UnlockInode n) tt s u → InHand t Nothing Nothing u
   gives t n s u held e = gave t Nothing s u n tt (Opens n) held.0 held.1 held.1.here.1 Nothing e.0 e.1 (λ o. ((at_its_lock t Nothing s u n tt (Opens n) held.0 held.1 held.1.here.1).here.0, refl))
 
   -- ---- read

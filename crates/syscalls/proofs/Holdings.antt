@@ -1,8 +1,8 @@
 -- What each operation on whole inodes finds in hand, and leaves there.
-use Rattle.syscalls.proofs.Vocabulary.{◌≡◌, ℕ, List, [], ◌∷◌, ◌++◌, Bool, true, false, Option, Some, None, sym, ap, ◌∙◌, refl, subst, ◌⊎◌, inl, inr, ◌==◌, is_some, Name, eq_self, GuardState, Inode, Hand, Seat, One, Two, first_in, inode_at, reference_at, with_aside, with_first, with_inode, with_listed, with_reference, with_seated, with_txn, unloaded, with_last, note_at, HasFound, HasFreeSeat, HasLock, HasReference, IsAlone, MayRefer, free_seat, locks, other, seat_of_lock, seat_of_reference, Note, Notes, MayLock, MayRelock, CameTo, Having, Joined, Leaves, Opened, ReferredOrAside, Relocked, Stand}
+use Rattle.syscalls.proofs.Vocabulary.{◌≡◌, ℕ, List, [], ◌∷◌, ◌++◌, Bool, true, false, Option, Some, None, sym, ap, ◌∙◌, refl, subst, ◌⊎◌, inl, inr, ◌==◌, is_some, Name, eq_self, GuardState, Inode, Hand, InodePlace, One, Two, first_in, inode_at, reference_at, with_aside, with_first, with_inode, with_listed, with_reference, with_seated, with_txn, unloaded, with_last, note_at, HasFound, HasFreeSeat, HasLock, HasReference, IsAlone, MayRefer, free_seat, locks, other, seat_of_lock, seat_of_reference, Note, Notes, MayLock, MayRelock, CameTo, Having, Joined, Leaves, Opened, ReferredOrAside, Relocked, Stand}
 use Rattle.std.proofs.Common.{drop}
 use Rattle.inode_machine.specs.World as above
-use Rattle.syscalls.proofs.Seats.{Around, Apart, Finds, Held, HeldAt, InHand, IsClosed, IsHeld, IsLoaded, Locks, Nothing, Opens, Refers, seated, alone, at_free, at_lock, at_reference, beside_both, beside_lock, beside_record, beside_reference, lock_at, lock_kept, lock_seat, lock_stays, lock_there, none_is, reference_kept, reference_stays, reference_there, reference_with, is_first, none_free, only_reference, seated_held, swapped, updated, with_other_aside, with_other_list, with_other_txn}
+use Rattle.syscalls.proofs.Seats.{Around, Apart, Finds, Held, HeldAt, InHand, IsClosed, IsHeldAt, IsLoaded, Locks, Nothing, Opens, Refers, seated, alone, at_free, at_lock, at_reference, beside_both, beside_lock, beside_record, beside_reference, lock_at, lock_kept, lock_seat, lock_stays, lock_there, none_is, reference_kept, reference_stays, reference_there, reference_with, is_first, none_free, only_reference, seated_held, swapped, updated, with_other_aside, with_other_list, with_other_txn}
 
 -- the same hand
 pub stays : (t : Around) (x y : Held) (s u : Having) → InHand t x y s → u.hand ≡ s.hand → u.notes ≡ s.notes → InHand t x y u
@@ -19,10 +19,10 @@ unlearned t s u held e =
 lock_here : (n : ℕ) (g : GuardState Inode) → g.value.number ≡ n → locks n (Some g) ≡ true
 lock_here n g e = ap (λ (k : ℕ). n == k) e ∙ eq_self n
 
-locks_at : (n : ℕ) (k : Seat) (h g : Hand) → CameTo k n h g → locks n (inode_at k g) ≡ true
+locks_at : (n : ℕ) (k : InodePlace) (h g : Hand) → CameTo k n h g → locks n (inode_at k g) ≡ true
 locks_at n k h g came = ap (locks n) (lock_there k (Some came.0) h g came.1) ∙ lock_here n came.0 came.2
 
-loaded_at : (n : ℕ) (k : Seat) (h g : Hand) → CameTo k n h g → IsLoaded (inode_at k g)
+loaded_at : (n : ℕ) (k : InodePlace) (h g : Hand) → CameTo k n h g → IsLoaded (inode_at k g)
 loaded_at n k h g came = subst IsLoaded (sym (lock_there k (Some came.0) h g came.1)) came.3
 
 module _ (t : Around) (y : Held) (s u : Having) where
@@ -33,7 +33,7 @@ module _ (t : Around) (y : Held) (s u : Having) where
     free_found = (at_free t y s closed held).here.0
 
     refer : (z : Held) (r : Option ℕ) → u.hand ≡ with_reference (free_seat s.hand) r s.hand → u.notes ≡ s.notes
-        → IsHeld z (reference_at (free_seat s.hand) u.hand) (inode_at (free_seat s.hand) u.hand) (note_at (free_seat s.hand) u.notes) → InHand t z y u
+        → IsHeldAt z (reference_at (free_seat s.hand) u.hand) (inode_at (free_seat s.hand) u.hand) (note_at (free_seat s.hand) u.notes) → InHand t z y u
     refer z r e noted new =
         let k = free_seat s.hand in
         (k, updated t Nothing z y s.hand u.hand s.notes u.notes k (beside_reference k s.hand u.hand s.notes u.notes (ap (note_at (other k)) noted) r e) (at_free t y s closed held) new)
@@ -58,7 +58,7 @@ module _ (t : Around) (y : Held) (s u : Having) where
         refer (seated r) r at noted (seated_held r (reference_at k u.hand) (inode_at k u.hand) (note_at k u.notes) (reference_there k r s.hand u.hand at) (unlocked r at))
 
   module _ (n : ℕ) (apart : Apart n y) where
-    alone_at : (x : Held) (k : Seat) → HeldAt k t x y s.hand s.notes → IsAlone n k s.hand
+    alone_at : (x : Held) (k : InodePlace) → HeldAt k t x y s.hand s.notes → IsAlone n k s.hand
     alone_at x k at = alone n y (reference_at (other k) s.hand) (inode_at (other k) s.hand) (note_at (other k) s.notes) apart at.there
 
     -- ---- a reference less, or its lock
@@ -86,7 +86,7 @@ module _ (t : Around) (y : Held) (s u : Having) where
           )
 
       lock_came : (z : Held) → CameTo (seat_of_reference n s.hand) n s.hand u.hand → Stand (seat_of_reference n s.hand) s u
-          → IsHeld z (reference_at (seat_of_reference n s.hand) u.hand) (inode_at (seat_of_reference n s.hand) u.hand) (note_at (seat_of_reference n s.hand) u.notes) → InHand t z y u
+          → IsHeldAt z (reference_at (seat_of_reference n s.hand) u.hand) (inode_at (seat_of_reference n s.hand) u.hand) (note_at (seat_of_reference n s.hand) u.notes) → InHand t z y u
       lock_came z came noted new =
           let k = seat_of_reference n s.hand in
           (k, updated t (Refers n) z y s.hand u.hand s.notes u.notes k (beside_lock k s.hand u.hand s.notes u.notes noted (Some came.0) came.1) at new)
@@ -103,14 +103,14 @@ module _ (t : Around) (y : Held) (s u : Having) where
       pub locked_seat : CameTo (seat_of_reference n s.hand) n s.hand u.hand → seat_of_reference n s.hand ≡ seat_of_lock n u.hand
       locked_seat came = seat_is (seat_of_reference n s.hand) at came
         where
-          other_same : (k : Seat) (g : GuardState Inode) → u.hand ≡ with_inode k (Some g) s.hand → inode_at (other k) u.hand ≡ inode_at (other k) s.hand
+          other_same : (k : InodePlace) (g : GuardState Inode) → u.hand ≡ with_inode k (Some g) s.hand → inode_at (other k) u.hand ≡ inode_at (other k) s.hand
           other_same One g e = ap (λ (h : Hand). h.two) e
           other_same Two g e = ap (λ (h : Hand). h.one) e
 
-          here : (k : Seat) → locks n (inode_at k u.hand) ≡ true → locks n (inode_at (other k) u.hand) ≡ false → k ≡ seat_of_lock n u.hand
+          here : (k : InodePlace) → locks n (inode_at k u.hand) ≡ true → locks n (inode_at (other k) u.hand) ≡ false → k ≡ seat_of_lock n u.hand
           here k is not = lock_at t n u.hand u.notes k is not
 
-          seat_is : (k : Seat) → HeldAt k t (Refers n) y s.hand s.notes → CameTo k n s.hand u.hand → k ≡ seat_of_lock n u.hand
+          seat_is : (k : InodePlace) → HeldAt k t (Refers n) y s.hand s.notes → CameTo k n s.hand u.hand → k ≡ seat_of_lock n u.hand
           seat_is k at came = here k (locks_at n k s.hand u.hand came) (ap (locks n) (other_same k came.0 came.1) ∙ alone_at (Refers n) k at)
 
       -- a name was found
@@ -121,7 +121,7 @@ module _ (t : Around) (y : Held) (s u : Having) where
 
     -- ---- its lock given up, or kept
 
-    module _ (x : Held) (k : Seat) (held : HeldAt k t x y s.hand s.notes) (is : locks n (inode_at k s.hand) ≡ true) where
+    module _ (x : Held) (k : InodePlace) (held : HeldAt k t x y s.hand s.notes) (is : locks n (inode_at k s.hand) ≡ true) where
       abbrev AtLock : Type 0
       AtLock = HeldAt (seat_of_lock n s.hand) t x y s.hand s.notes
 
@@ -129,36 +129,36 @@ module _ (t : Around) (y : Held) (s u : Having) where
       at_its_lock = at_lock t n s.hand s.notes x y k is apart held
 
       is_there : locks n (inode_at (seat_of_lock n s.hand) s.hand) ≡ true
-      is_there = subst (λ (k : Seat). locks n (inode_at k s.hand) ≡ true) (lock_seat t n s.hand s.notes x y k is apart held) is
+      is_there = subst (λ (k : InodePlace). locks n (inode_at k s.hand) ≡ true) (lock_seat t n s.hand s.notes x y k is apart held) is
 
       pub lock_found : HasLock n s.hand
       lock_found = (is_there, alone_at x (seat_of_lock n s.hand) at_its_lock)
 
-      pub gave : (z : Held) → u.hand ≡ with_inode (seat_of_lock n s.hand) None s.hand → u.notes ≡ s.notes → ((o : Note) → IsHeld z (reference_at (seat_of_lock n s.hand) s.hand) None o) → InHand t z y u
+      pub gave : (z : Held) → u.hand ≡ with_inode (seat_of_lock n s.hand) None s.hand → u.notes ≡ s.notes → ((o : Note) → IsHeldAt z (reference_at (seat_of_lock n s.hand) s.hand) None o) → InHand t z y u
       gave z e noted new =
           let k = seat_of_lock n s.hand in (
             k,
             updated t x z y s.hand u.hand s.notes u.notes k (beside_lock k s.hand u.hand s.notes u.notes (ap (note_at (other k)) noted) None e) at_its_lock
-                (subst (λ (r : Option ℕ). IsHeld z r (inode_at k u.hand) (note_at k u.notes)) (sym (reference_kept k None s.hand u.hand e))
-                (subst (λ (o : Option (GuardState Inode)). IsHeld z (reference_at k s.hand) o (note_at k u.notes)) (sym (lock_there k None s.hand u.hand e)) (new (note_at k u.notes)))),
+                (subst (λ (r : Option ℕ). IsHeldAt z r (inode_at k u.hand) (note_at k u.notes)) (sym (reference_kept k None s.hand u.hand e))
+                (subst (λ (o : Option (GuardState Inode)). IsHeldAt z (reference_at k s.hand) o (note_at k u.notes)) (sym (lock_there k None s.hand u.hand e)) (new (note_at k u.notes)))),
           )
 
       -- where it becomes the current directory its reference is to the old one
       pub settled : (old : ℕ) → u.hand ≡ with_reference (seat_of_lock n s.hand) (Some old) (with_inode (seat_of_lock n s.hand) None s.hand) → u.notes ≡ s.notes → InHand t (Refers old) y u
       settled old e noted = (seat_of_lock n s.hand, at (seat_of_lock n s.hand) at_its_lock e)
         where
-          at : (k : Seat) → HeldAt k t x y s.hand s.notes → u.hand ≡ with_reference k (Some old) (with_inode k None s.hand) → HeldAt k t (Refers old) y u.hand u.notes
+          at : (k : InodePlace) → HeldAt k t x y s.hand s.notes → u.hand ≡ with_reference k (Some old) (with_inode k None s.hand) → HeldAt k t (Refers old) y u.hand u.notes
           at One held e = updated t x (Refers old) y s.hand u.hand s.notes u.notes One (λ i. (with_reference One None (with_inode One None (e i)), note_at Two (noted i))) held (ap (λ (h : Hand). h.to_one) e, ap (λ (h : Hand). h.one) e)
           at Two held e = updated t x (Refers old) y s.hand u.hand s.notes u.notes Two (λ i. (with_reference Two None (with_inode Two None (e i)), note_at One (noted i))) held (ap (λ (h : Hand). h.to_two) e, ap (λ (h : Hand). h.two) e)
 
       -- what is loaded changes
       pub reloaded : (z : Held) → unloaded (seat_of_lock n s.hand) u.hand ≡ unloaded (seat_of_lock n s.hand) s.hand → Stand (seat_of_lock n s.hand) s u
-          → (locks n (inode_at (seat_of_lock n s.hand) u.hand) ≡ true → IsHeld z (reference_at (seat_of_lock n s.hand) s.hand) (inode_at (seat_of_lock n s.hand) u.hand) (note_at (seat_of_lock n s.hand) u.notes)) → InHand t z y u
+          → (locks n (inode_at (seat_of_lock n s.hand) u.hand) ≡ true → IsHeldAt z (reference_at (seat_of_lock n s.hand) s.hand) (inode_at (seat_of_lock n s.hand) u.hand) (note_at (seat_of_lock n s.hand) u.notes)) → InHand t z y u
       reloaded z e noted new =
           let k = seat_of_lock n s.hand in (
             k,
             updated t x z y s.hand u.hand s.notes u.notes k (beside_record k s.hand u.hand s.notes u.notes noted e) at_its_lock
-                (subst (λ (r : Option ℕ). IsHeld z r (inode_at k u.hand) (note_at k u.notes)) (sym (reference_stays k s.hand u.hand e)) (new (lock_stays n k s.hand u.hand e is_there))),
+                (subst (λ (r : Option ℕ). IsHeldAt z r (inode_at k u.hand) (note_at k u.notes)) (sym (reference_stays k s.hand u.hand e)) (new (lock_stays n k s.hand u.hand e is_there))),
           )
 
 -- ---- a lock without a reference
@@ -179,10 +179,10 @@ module _ (t : Around) (s u : Having) (held : InHand t Nothing Nothing s) where
   )
     where
       -- of neither anything was learned
-      with_any : (k : Seat) → HeldAt k t (Opens n) Nothing u.hand s.notes → HeldAt k t (Opens n) Nothing u.hand u.notes
+      with_any : (k : InodePlace) → HeldAt k t (Opens n) Nothing u.hand s.notes → HeldAt k t (Opens n) Nothing u.hand u.notes
       with_any k held = record { here = held.here; there = held.there; txn = held.txn; listed = held.listed; buffers = held.buffers; aside = held.aside }
 
-      either : (k : Seat) → InHand t Nothing Nothing s → HeldAt k t Nothing Nothing s.hand s.notes
+      either : (k : InodePlace) → InHand t Nothing Nothing s → HeldAt k t Nothing Nothing s.hand s.notes
       either One (One, held) = held
       either One (Two, held) = record { here = held.there; there = held.here; txn = held.txn; listed = held.listed; buffers = held.buffers; aside = held.aside }
       either Two (One, held) = record { here = held.there; there = held.here; txn = held.txn; listed = held.listed; buffers = held.buffers; aside = held.aside }
@@ -192,7 +192,7 @@ module _ (t : Around) (s u : Having) (held : InHand t Nothing Nothing s) where
   no_reference : (n : ℕ) → HasReference n s.hand → ⊥
   no_reference n has = at (seat_of_reference n s.hand) held has
     where
-      at : (k : Seat) → InHand t Nothing Nothing s → reference_at k s.hand ≡ Some n → ⊥
+      at : (k : InodePlace) → InHand t Nothing Nothing s → reference_at k s.hand ≡ Some n → ⊥
       at One (One, held) has = let clash : None ≡ Some n = sym held.here.0 ∙ has in cc clash
       at One (Two, held) has = let clash : None ≡ Some n = sym held.there.0 ∙ has in cc clash
       at Two (One, held) has = let clash : None ≡ Some n = sym held.there.0 ∙ has in cc clash
@@ -219,14 +219,14 @@ module _ (t : Around) (s u : Having) (held : InHand t Nothing Nothing s) where
               (reference_with k (Some n) (Some to.0) rest u.hand to.1, locks_at n k h u.hand to, loaded_at n k h u.hand to)),
         )
       where
-        forget : (k : Seat) → HeldAt k (t.0, ns, t.2) (Locks n) Nothing u.hand s.notes → HeldAt k (t.0, ns, t.2) (Locks n) Nothing u.hand u.notes
+        forget : (k : InodePlace) → HeldAt k (t.0, ns, t.2) (Locks n) Nothing u.hand s.notes → HeldAt k (t.0, ns, t.2) (Locks n) Nothing u.hand u.notes
         forget k held = record { here = held.here; there = held.there; txn = held.txn; listed = held.listed; buffers = held.buffers; aside = held.aside }
 
 -- ---- a reference gone, where its lock stays
 
 module _ (t : Around) (n : ℕ) (s u : Having) where
   -- the lock is there as before
-  stays_locked : (k : Seat) (y : Held) → HeldAt k t (Locks n) y s.hand s.notes → u.hand ≡ with_reference k None s.hand → u.notes ≡ s.notes → HeldAt k t (Opens n) y u.hand u.notes
+  stays_locked : (k : InodePlace) (y : Held) → HeldAt k t (Locks n) y s.hand s.notes → u.hand ≡ with_reference k None s.hand → u.notes ≡ s.notes → HeldAt k t (Opens n) y u.hand u.notes
   stays_locked k y held e noted =
       let lock = sym (lock_kept k None s.hand u.hand e) in
       updated t (Locks n) (Opens n) y s.hand u.hand s.notes u.notes k (beside_reference k s.hand u.hand s.notes u.notes (ap (note_at (other k)) noted) None e) held
@@ -237,10 +237,10 @@ module _ (t : Around) (n : ℕ) (s u : Having) where
     seat_found = only_reference t n s.hand s.notes held.0 held.1.here.0 held.1.there.0
 
     pub install_found : HasReference n s.hand
-    install_found = subst (λ (k : Seat). reference_at k s.hand ≡ Some n) seat_found held.1.here.0
+    install_found = subst (λ (k : InodePlace). reference_at k s.hand ≡ Some n) seat_found held.1.here.0
 
     pub installed : u.hand ≡ with_reference (seat_of_reference n s.hand) None s.hand → u.notes ≡ s.notes → InHand t (Opens n) Nothing u
-    installed e noted = (held.0, stays_locked held.0 Nothing held.1 (subst (λ (k : Seat). u.hand ≡ with_reference k None s.hand) (sym seat_found) e) noted)
+    installed e noted = (held.0, stays_locked held.0 Nothing held.1 (subst (λ (k : InodePlace). u.hand ≡ with_reference k None s.hand) (sym seat_found) e) noted)
 
   -- where there is one at each seat, that at the first goes
   module _ (held : InHand t (Refers n) (Locks n) s) where
@@ -252,10 +252,10 @@ module _ (t : Around) (n : ℕ) (s u : Having) where
         at (Two, held) = held.there.0
 
     pub forget_found : HasReference n s.hand
-    forget_found = subst (λ (k : Seat). reference_at k s.hand ≡ Some n) (is_first t n s.hand s.notes first_there) first_there
+    forget_found = subst (λ (k : InodePlace). reference_at k s.hand ≡ Some n) (is_first t n s.hand s.notes first_there) first_there
 
     pub forgot : u.hand ≡ with_reference (seat_of_reference n s.hand) None s.hand → u.notes ≡ s.notes → InHand t (Locks n) Nothing u ⊎ InHand t (Opens n) (Refers n) u
-    forgot e noted = at held (subst (λ (k : Seat). u.hand ≡ with_reference k None s.hand) (sym (is_first t n s.hand s.notes first_there)) e)
+    forgot e noted = at held (subst (λ (k : InodePlace). u.hand ≡ with_reference k None s.hand) (sym (is_first t n s.hand s.notes first_there)) e)
       where
         at : InHand t (Refers n) (Locks n) s → u.hand ≡ with_reference One None s.hand → InHand t (Locks n) Nothing u ⊎ InHand t (Opens n) (Refers n) u
         at (One, held) e =

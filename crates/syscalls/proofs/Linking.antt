@@ -1,5 +1,5 @@
 -- link runs with nothing in hand: at most its file, the directory that it walks from and what was found there are referred to.
-use Rattle.syscalls.proofs.Vocabulary.{◌≡◌, ◌<◌, ◌≤◌, ◌+◌, ◌-◌, ◌^◌, ℕ, suc, List, [], ◌∷◌, length, Bool, true, false, Option, Some, None, refl, arith, nat_lt, if◌then◌else◌, IsName, listed_places, Name, elements, count_limit, Cause, Exists, IsDirectory, NoEntry, TooManyLinks, Blocks, Directory, Reply, Do, unmarked, IsEmpty, Begin, Face, face_or, is_directory_sort, is_live_face, bump_refused, bumps_if, link_at, link_found, link_in, link_name, link_program, link_raise, lower, named_on, P, Stop, done, drop, failed, full, give_up, is_there, looks_where, makes, own_step, start, stopped, tail, walk, walk_parent, IsCall, BeginsWith, Having, Runs}
+use Rattle.syscalls.proofs.Vocabulary.{◌≡◌, ◌<◌, ◌≤◌, ◌+◌, ◌-◌, ◌^◌, ℕ, suc, List, [], ◌∷◌, length, Bool, true, false, Option, Some, None, refl, arith, nat_lt, if◌then◌else◌, IsName, listed_places, Name, elements, count_limit, Cause, Exists, IsDirectory, NoEntry, TooManyLinks, Blocks, Directory, Reply, Do, unmarked, IsEmpty, Begin, Face, face_or, is_directory_type, is_live_face, bump_refused, bumps_if, link_at, link_found, link_in, link_name, link_program, link_raise, lower, named_on, P, WalkStop, done, drop, failed, full, give_up, is_there, looks_where, makes, own_step, start, stopped, tail, walk, walk_parent, IsCall, BeginsWith, Having, Runs}
 use Rattle.plain_tree.specs.declared.call.Call.TheVariants as calls
 use Rattle.plain_tree.specs.declared.step.Action.TheVariants as steps
 use Rattle.inode_machine.specs.Naming as naming
@@ -68,8 +68,8 @@ module _ (text old new : List ℕ) where
         let end : P Reply = lower old new n (failed (calls.Link old new) NoEntry) ns in
         give_runs text (λ _. makes (Begin (steps.Enter new) 0)) (λ _. end) (true, ns, None) n Nothing tt (lowers n (failed (calls.Link old new) NoEntry) ns)
     sought (e ∷ es) are room =
-        let lost : Stop → List ℕ → P Reply = λ why ms. lower old new n (stopped (calls.Link old new) why) ms in
-        let is_lost : (why : Stop) (ms : List ℕ) → length ms ≤ listed_places → From (true, ms, None) Nothing (Refers n) (lost why ms) = λ why ms short. lowers_kept n (stopped (calls.Link old new) why) ms in
+        let lost : WalkStop → List ℕ → P Reply = λ why ms. lower old new n (stopped (calls.Link old new) why) ms in
+        let is_lost : (why : WalkStop) (ms : List ℕ) → length ms ≤ listed_places → From (true, ms, None) Nothing (Refers n) (lost why ms) = λ why ms short. lowers_kept n (stopped (calls.Link old new) why) ms in
         let go : ℕ → P Reply = λ d. walk_parent (steps.Enter new) d e es ns (link_in old new n) lost in
         let seek : P Reply = start (steps.Enter new) new ns go lost in
         give_runs text unmarked (λ _. seek) (true, ns, None) n Nothing tt
@@ -99,8 +99,8 @@ module _ (text old new : List ℕ) where
     links_at : From (true, ns, None) (Refers n) Nothing (link_at old new n ns)
     links_at =
         take_runs text (true, ns, None) n Nothing tt (λ a. bumps_if (face_or a.face))
-        (λ a. if is_directory_sort (face_or a.face).sort then give_up n (tail ns (failed (calls.Link old new) IsDirectory)) else link_raise old new n ns (face_or a.face) (bump_refused (face_or a.face)))
-        (λ a counted. raises_if (face_or a.face) (is_directory_sort (face_or a.face).sort))
+        (λ a. if is_directory_type (face_or a.face).inode_type then give_up n (tail ns (failed (calls.Link old new) IsDirectory)) else link_raise old new n ns (face_or a.face) (bump_refused (face_or a.face)))
+        (λ a counted. raises_if (face_or a.face) (is_directory_type (face_or a.face).inode_type))
 
   -- ---- from an empty hand
 
@@ -108,8 +108,8 @@ module _ (text old new : List ℕ) where
   link_runs call s empty =
       let most : ℕ = length (elements old) in
       let few = first_fits most (length (elements new)) listed_places call.2 in
-      let lost : Stop → List ℕ → P Reply = λ why ns. tail ns (stopped (calls.Link old new) why) in
-      let is_lost : (why : Stop) (ms : List ℕ) → length ms ≤ most → From (true, ms, None) Nothing Nothing (lost why ms) = λ why ms short. tail_runs text ms (stopped (calls.Link old new) why) in
+      let lost : WalkStop → List ℕ → P Reply = λ why ns. tail ns (stopped (calls.Link old new) why) in
+      let is_lost : (why : WalkStop) (ms : List ℕ) → length ms ≤ most → From (true, ms, None) Nothing Nothing (lost why ms) = λ why ms short. tail_runs text ms (stopped (calls.Link old new) why) in
       let go : ℕ → P Reply = λ d. walk (steps.Find old) d (elements old) [] (link_at old new) lost in
       join_runs text unmarked (λ _. start (steps.Find old) old [] go lost) [] Nothing Nothing
       (start_runs text None (steps.Find old) lost most few is_lost old go [] (fresh most)

@@ -1,5 +1,5 @@
 -- open runs with nothing in hand.
-use Rattle.syscalls.proofs.Vocabulary.{◌≡◌, ◌≢◌, ◌≤◌, ℕ, List, [], ◌∷◌, length, Bool, true, false, Option, Some, None, refl, sym, ◌==◌, if◌then◌else◌, IsName, creates, Name, elements, Cause, NoEntry, Blocks, Descriptors, Directory, DiskInodes, MemInodes, OpenFiles, Reply, Do, unmarked, IsEmpty, OfFile, Sight, Sort, face_or, is_live_face, open_refusal, create_found, create_in, empties, entered_file, file_for, installed_on, installs, make_on, make_other, make_with, mends_unless_new, open_at, open_end, open_face, open_made, open_new, open_old, open_program, opened_reply, take_descriptor, truncates, unmake, P, Stop, failed, full, give_up, is_there, looks_where, own_step, start, stopped, tail, walk, IsCall, BeginsWith, Having, Leaves, Runs}
+use Rattle.syscalls.proofs.Vocabulary.{◌≡◌, ◌≢◌, ◌≤◌, ℕ, List, [], ◌∷◌, length, Bool, true, false, Option, Some, None, refl, sym, ◌==◌, if◌then◌else◌, IsName, creates, Name, elements, Cause, NoEntry, Blocks, Descriptors, Directory, DiskInodes, MemInodes, OpenFiles, Reply, Do, unmarked, IsEmpty, OfFile, Sight, InodeType, face_or, is_live_face, open_refusal, create_found, create_in, empties, entered_file, file_for, installed_on, installs, make_on, make_other, make_with, mends_unless_new, open_at, open_end, open_face, open_made, open_new, open_old, open_program, opened_reply, take_descriptor, truncates, unmake, P, WalkStop, failed, full, give_up, is_there, looks_where, own_step, start, stopped, tail, walk, IsCall, BeginsWith, Having, Leaves, Runs}
 use Rattle.plain_tree.specs.declared.call.Call.TheVariants as calls
 use Rattle.plain_tree.specs.declared.step.Action.TheVariants as steps
 use Rattle.inode_machine.specs.World as above
@@ -21,13 +21,13 @@ module _ (path : List ℕ) (flags : ℕ) where
     ends : (fd : ℕ) → From (true, ns, None) (Opens n) Nothing (open_end path flags n ns fd)
     ends fd = give_opened_runs path unmarked (λ _. tail ns (opened_reply path flags fd)) (true, ns, None) n Nothing tt (tail_runs path ns (opened_reply path flags fd))
 
-    module _ (sort : Sort) (mark : ℕ → Option above.Mark) (k : ℕ → P Reply) (k_runs : (fd : ℕ) → From (true, ns, None) (Opens n) Nothing (k fd)) where
+    module _ (inode_type : InodeType) (mark : ℕ → Option above.Mark) (k : ℕ → P Reply) (k_runs : (fd : ℕ) → From (true, ns, None) (Opens n) Nothing (k fd)) where
       with_slot : (there : Bool) → From (true, ns, None) (Locks n) Nothing
-          (if there then Do (above.Install (file_for n flags) sort) (installs mark) (installed_on path flags n ns k) else give_up n (tail ns (full (calls.Open path flags) OpenFiles)))
-      with_slot true = installs_file path ns n (installs mark) (installed_on path flags n ns k) (refuses path ns n (full (calls.Open path flags) Descriptors)) k_runs (file_for n flags) sort refl
+          (if there then Do (above.Install (file_for n flags) inode_type) (installs mark) (installed_on path flags n ns k) else give_up n (tail ns (full (calls.Open path flags) OpenFiles)))
+      with_slot true = installs_file path ns n (installs mark) (installed_on path flags n ns k) (refuses path ns n (full (calls.Open path flags) Descriptors)) k_runs (file_for n flags) inode_type refl
       with_slot false = refuses path ns n (full (calls.Open path flags) OpenFiles)
 
-      takes_descriptor : From (true, ns, None) (Locks n) Nothing (take_descriptor path flags n sort ns mark k)
+      takes_descriptor : From (true, ns, None) (Locks n) Nothing (take_descriptor path flags n inode_type ns mark k)
       unfolding Runs
       takes_descriptor s held = (tt, λ a u e. with_slot a u (stays (true, ns, None) (Locks n) Nothing s u held e.0 e.1))
 
@@ -37,40 +37,40 @@ module _ (path : List ℕ) (flags : ℕ) where
     empties_if fd true = empties_file path ns n (λ _. own_step (steps.Truncate fd)) (λ _. open_end path flags n ns fd) (ends fd)
     empties_if fd false = ends fd
 
-    opens_face : (sort : Sort) (o : Option Cause) → From (true, ns, None) (Locks n) Nothing (open_face path flags n ns sort o)
-    opens_face sort (Some c) = refuses path ns n (failed (calls.Open path flags) c)
-    opens_face sort None =
-        takes_descriptor sort (λ fd. None) (λ fd. if empties flags sort then Do (above.Empty n) (λ _. own_step (steps.Truncate fd)) (λ _. open_end path flags n ns fd) else open_end path flags n ns fd)
-        (λ fd. empties_if fd (empties flags sort))
+    opens_face : (inode_type : InodeType) (o : Option Cause) → From (true, ns, None) (Locks n) Nothing (open_face path flags n ns inode_type o)
+    opens_face inode_type (Some c) = refuses path ns n (failed (calls.Open path flags) c)
+    opens_face inode_type None =
+        takes_descriptor inode_type (λ fd. None) (λ fd. if empties flags inode_type then Do (above.Empty n) (λ _. own_step (steps.Truncate fd)) (λ _. open_end path flags n ns fd) else open_end path flags n ns fd)
+        (λ fd. empties_if fd (empties flags inode_type))
 
     opens_at : From (true, ns, None) (Refers n) Nothing (open_at path flags n ns)
     opens_at =
-        take_runs path (true, ns, None) n Nothing tt unmarked (λ a. open_face path flags n ns (face_or a.face).sort (open_refusal (flags == 0) (face_or a.face).sort))
-        (λ a counted. opens_face (face_or a.face).sort (open_refusal (flags == 0) (face_or a.face).sort))
+        take_runs path (true, ns, None) n Nothing tt unmarked (λ a. open_face path flags n ns (face_or a.face).inode_type (open_refusal (flags == 0) (face_or a.face).inode_type))
+        (λ a counted. opens_face (face_or a.face).inode_type (open_refusal (flags == 0) (face_or a.face).inode_type))
 
-    opens_made : (sort : Sort) → From (true, ns, None) (Locks n) Nothing (open_made path flags n sort ns)
-    opens_made sort = takes_descriptor sort (truncates flags) (open_end path flags n ns) ends
+    opens_made : (inode_type : InodeType) → From (true, ns, None) (Locks n) Nothing (open_made path flags n inode_type ns)
+    opens_made inode_type = takes_descriptor inode_type (truncates flags) (open_end path flags n ns) ends
 
   -- ---- a file is made
 
-  module _ (n d : ℕ) (ns : List ℕ) (ne : n ≢ d) (sort : Sort) where
+  module _ (n d : ℕ) (ns : List ℕ) (ne : n ≢ d) (inode_type : InodeType) where
     differ : d ≢ n
     differ e = ne (sym e)
 
-    makes_on : (a : above.EntryResult) → From (true, ns, None) (Locks d) (Locks n) (make_on path flags n sort d ns a)
+    makes_on : (a : above.EntryResult) → From (true, ns, None) (Locks d) (Locks n) (make_on path flags n inode_type d ns a)
     makes_on above.InPlace =
-        let rest : P Reply = open_made path flags n sort ns in
-        give_up_runs path ns d (Locks n) differ rest (turned path (true, ns, None) (Locks n) Nothing rest (opens_made n ns sort))
+        let rest : P Reply = open_made path flags n inode_type ns in
+        give_up_runs path ns d (Locks n) differ rest (turned path (true, ns, None) (Locks n) Nothing rest (opens_made n ns inode_type))
     makes_on above.NoBlock = turned path (true, ns, None) (Locks n) (Locks d) (unmake n d ns (full (calls.Open path flags) Blocks)) (unmakes path ns n d ne (full (calls.Open path flags) Blocks))
     makes_on above.NoSlot = turned path (true, ns, None) (Locks n) (Locks d) (unmake n d ns (full (calls.Open path flags) Directory)) (unmakes path ns n d ne (full (calls.Open path flags) Directory))
 
   module _ (d : ℕ) (e : Name) (is : IsName e) (ns : List ℕ) where
     makes_other : (n : ℕ) → n ≢ d → From (true, ns, None) (Refers n) (Locks d) (make_other path flags d e ns n)
     makes_other n ne =
-        let enter : Sight → P Reply = λ a. Do (above.Enter d e n) (entered_file n) (make_on path flags n (face_or a.face).sort d ns) in
+        let enter : Sight → P Reply = λ a. Do (above.Enter d e n) (entered_file n) (make_on path flags n (face_or a.face).inode_type d ns) in
         take_runs path (true, ns, None) n (Locks d) ne unmarked (λ a. Do (above.Store n 1) unmarked (λ _. enter a))
         (λ a counted. stores path ns n (Locks d) ne unmarked (λ _. enter a)
-        (turned path (true, ns, None) (Locks d) (Locks n) (enter a) (enters path ns d (Locks n) (λ same. ne (sym same)) e n is (entered_file n) (make_on path flags n (face_or a.face).sort d ns) (makes_on n d ns ne (face_or a.face).sort)))
+        (turned path (true, ns, None) (Locks d) (Locks n) (enter a) (enters path ns d (Locks n) (λ same. ne (sym same)) e n is (entered_file n) (make_on path flags n (face_or a.face).inode_type d ns) (makes_on n d ns ne (face_or a.face).inode_type)))
         1 one_is_few)
 
     makes_new : (n : ℕ) (b : Bool) → (n == d) ≡ b
@@ -111,8 +111,8 @@ module _ (path : List ℕ) (flags : ℕ) where
 
     opens_old : From (false, [], None) Nothing Nothing (open_old path flags)
     opens_old =
-        let lost : Stop → List ℕ → P Reply = λ why ns. tail ns (stopped (calls.Open path flags) why) in
-        let is_lost : (why : Stop) (ms : List ℕ) → length ms ≤ most → From (true, ms, None) Nothing Nothing (lost why ms) = λ why ms short. tail_runs path ms (stopped (calls.Open path flags) why) in
+        let lost : WalkStop → List ℕ → P Reply = λ why ns. tail ns (stopped (calls.Open path flags) why) in
+        let is_lost : (why : WalkStop) (ms : List ℕ) → length ms ≤ most → From (true, ms, None) Nothing Nothing (lost why ms) = λ why ms short. tail_runs path ms (stopped (calls.Open path flags) why) in
         let go : ℕ → P Reply = λ d. walk (steps.Open path flags) d (elements path) [] (open_at path flags) lost in
         join_runs path unmarked (λ _. start (steps.Open path flags) path [] go lost) [] Nothing Nothing
         (start_runs path None (steps.Open path flags) lost most call.1 is_lost path go [] (fresh most)

@@ -1,5 +1,5 @@
 -- What stands in a place.
-use Rattle.syscalls.proofs.Vocabulary.{◌≡◌, ℕ, Bool, true, false, Option, Some, None, refl, sym, ap, subst, IsSome, GuardState, BufferState, Inode, State, emptied, IsEmpty, Hand, Place, First, Second, Seat, One, Two, HandFits, HasNothing, buffer_at, inode_at, Running, call_at}
+use Rattle.syscalls.proofs.Vocabulary.{◌≡◌, ℕ, Bool, true, false, Option, Some, None, refl, sym, ap, subst, IsSome, GuardState, BufferState, Inode, State, emptied, IsEmpty, Hand, Place, First, Second, InodePlace, One, Two, HandFits, HasNothing, buffer_at, inode_at, Running, call_at}
 
 -- a call is under way just where the place is busy
 pub busy_on : (b : Bool) (m : Running) (o : Option Running) → call_at b m ≡ o → IsSome o → b ≡ true
@@ -19,7 +19,7 @@ no_buffer : (h : Hand) (p : Place) (g : GuardState BufferState) → buffer_at p 
 no_buffer h First g e = cc e
 no_buffer h Second g e = cc e
 
-no_inode : (h : Hand) (k : Seat) (g : GuardState Inode) → inode_at k (emptied h) ≡ Some g → ⊥
+no_inode : (h : Hand) (k : InodePlace) (g : GuardState Inode) → inode_at k (emptied h) ≡ Some g → ⊥
 no_inode h One g e = cc e
 no_inode h Two g e = cc e
 

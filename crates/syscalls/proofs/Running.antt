@@ -32,21 +32,21 @@ module _ (path : List ℕ) where
     release_runs t x y child on s held = (tt, λ a u e. on u (stays t x y s u held e.0 e.1))
 
     module _ (t : Around) (n : ℕ) (y : Held) (apart : Apart n y) where
-      pub give_runs : From t (Refers n) y (k tt) → From t (Locks n) y (Do (above.Give n) m k)
+      pub give_runs : From t (Refers n) y (k tt) → From t (Locks n) y (Do (above.UnlockInode n) m k)
       unfolding Runs
       give_runs on s held = (
         lock_found t y s s n apart (Locks n) held.0 held.1 held.1.here.1,
         λ a u e. on u (gave t y s u n apart (Locks n) held.0 held.1 held.1.here.1 (Refers n) e.0 e.1 (λ o. ((at_its_lock t y s u n apart (Locks n) held.0 held.1 held.1.here.1).here.0, refl))),
       )
 
-      pub give_freed_runs : From t (Refers n) y (k tt) → From t (Freed n) y (Do (above.Give n) m k)
+      pub give_freed_runs : From t (Refers n) y (k tt) → From t (Freed n) y (Do (above.UnlockInode n) m k)
       unfolding Runs
       give_freed_runs on s held = (
         lock_found t y s s n apart (Freed n) held.0 held.1 held.1.here.1,
         λ a u e. on u (gave t y s u n apart (Freed n) held.0 held.1 held.1.here.1 (Refers n) e.0 e.1 (λ o. ((at_its_lock t y s u n apart (Freed n) held.0 held.1 held.1.here.1).here.0, refl))),
       )
 
-      pub give_opened_runs : From t Nothing y (k tt) → From t (Opens n) y (Do (above.Give n) m k)
+      pub give_opened_runs : From t Nothing y (k tt) → From t (Opens n) y (Do (above.UnlockInode n) m k)
       unfolding Runs
       give_opened_runs on s held = (
         lock_found t y s s n apart (Opens n) held.0 held.1 held.1.here.1,
@@ -69,10 +69,10 @@ module _ (path : List ℕ) where
 
   module _ (ns : List ℕ) (n : ℕ) (y : Held) (apart : Apart n y) (k : P Reply) (on : From (true, ns, None) Nothing y k) where
     abbrev freed : P Reply
-    freed = Do (above.Free n) (λ _. Some (Frees n)) (λ _. Do (above.Give n) unmarked (λ _. Do (above.Forget n) unmarked (λ _. k)))
+    freed = Do (above.Free n) (λ _. Some (Frees n)) (λ _. Do (above.UnlockInode n) unmarked (λ _. Do (above.Forget n) unmarked (λ _. k)))
 
     pub free_all_runs : From (true, ns, None) (Locks n) y freed
-    free_all_runs = free_runs (λ _. Some (Frees n)) (λ _. Do (above.Give n) unmarked (λ _. Do (above.Forget n) unmarked (λ _. k))) ns n y apart
+    free_all_runs = free_runs (λ _. Some (Frees n)) (λ _. Do (above.UnlockInode n) unmarked (λ _. Do (above.Forget n) unmarked (λ _. k))) ns n y apart
         (give_freed_runs unmarked (λ _. Do (above.Forget n) unmarked (λ _. k)) (true, ns, None) n y apart
         (forget_runs unmarked (λ _. k) (true, ns, None) n y apart on))
 

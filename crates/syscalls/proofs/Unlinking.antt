@@ -1,5 +1,5 @@
 -- unlink runs with nothing in hand.
-use Rattle.syscalls.proofs.Vocabulary.{◌≡◌, ◌≢◌, ◌-◌, ℕ, List, length, Bool, true, false, Option, Some, None, refl, sym, ap, ◌∙◌, inl, ◌==◌, ◌||◌, not, if◌then◌else◌, IsSome, Name, dot, dotdot, elements, same_name, DotName, NoEntry, NotEmpty, MemInodes, Reply, eq_self, Do, unmarked, IsEmpty, Look, AtEntries, Face, Sight, face_or, is_directory_sort, is_live_face, always, clear_name, is_missing, lower_parent, or_missing, unlink_child, unlink_dots, unlink_found, unlink_in, unlink_named, unlink_other, unlink_program, P, done, failed, full, give_up, looks_if, looks_where, makes, tail, IsCall, BeginsWith, Having, IsCounted, Leaves, Runs}
+use Rattle.syscalls.proofs.Vocabulary.{◌≡◌, ◌≢◌, ◌-◌, ℕ, List, length, Bool, true, false, Option, Some, None, refl, sym, ap, ◌∙◌, inl, ◌==◌, ◌||◌, not, if◌then◌else◌, IsSome, Name, dot, dotdot, elements, same_name, DotName, NoEntry, NotEmpty, MemInodes, Reply, eq_self, Do, unmarked, IsEmpty, Look, AtEntries, Face, Sight, face_or, is_directory_type, is_live_face, always, clear_name, is_missing, lower_parent, or_missing, unlink_child, unlink_dots, unlink_found, unlink_in, unlink_named, unlink_other, unlink_program, P, done, failed, full, give_up, looks_if, looks_where, makes, tail, IsCall, BeginsWith, Having, IsCounted, Leaves, Runs}
 use Rattle.plain_tree.specs.declared.call.Call.TheVariants as calls
 use Rattle.plain_tree.specs.declared.step.Action.TheVariants as steps
 use Rattle.inode_machine.specs.World as above
@@ -34,7 +34,7 @@ module _ (path : List ℕ) where
     parent_on false = gives_parent
 
     clears_name : (e : Name) → From (true, ns, None) (Finds d path e) (Locks n) (clear_name path d e ns f n g)
-    clears_name e = clears path ns d (Locks n) differ (λ _. makes (Look 0)) (λ _. lower_parent d f g (give_up d lowered)) (parent_on (is_directory_sort g.sort)) e
+    clears_name e = clears path ns d (Locks n) differ (λ _. makes (Look 0)) (λ _. lower_parent d f g (give_up d lowered)) (parent_on (is_directory_type g.inode_type)) e
 
   -- ---- what is found
 

@@ -1,5 +1,5 @@
 -- A walk, and the end of a call with a list, run with what they need in hand; so does chdir.
-use Rattle.syscalls.proofs.Vocabulary.{◌≡◌, ◌<◌, ◌≤◌, ℕ, suc, ◌+◌, List, [], ◌∷◌, length, length-append, Bool, true, false, Option, Some, None, refl, sym, subst, inl, inr, arith, if◌then◌else◌, Name, elements, is_absolute, NoEntry, NotDirectory, Reply, Call, Action, Do, unmarked, Seat, IsEmpty, AtName, AtNothing, Query, Sight, is_directory_face, Begin, in_parent, chdir_at, chdir_program, NoMemory, NotThere, P, Stop, done, drop, failed, free_all, free_listed, give_up, leave_directory, looks_or_quits, makes, quits_unless, say, start, start_on, stopped, tail, walk, walk_parent, walk_step, with_last, Frees, listed_places, IsCall, MayRefer, seat_of_lock, seat_of_reference, BeginsWith, CameTo, Having, IsCounted, Leaves, ReferredOrAside, Runs, Stand, IsName}
+use Rattle.syscalls.proofs.Vocabulary.{◌≡◌, ◌<◌, ◌≤◌, ℕ, suc, ◌+◌, List, [], ◌∷◌, length, length-append, Bool, true, false, Option, Some, None, refl, sym, subst, inl, inr, arith, if◌then◌else◌, Name, elements, is_absolute, NoEntry, NotDirectory, Reply, Call, Action, Do, unmarked, InodePlace, IsEmpty, AtName, AtNothing, Query, Sight, is_directory_face, Begin, in_parent, chdir_at, chdir_program, NoMemory, NotThere, P, WalkStop, done, drop, failed, free_all, free_listed, give_up, leave_directory, looks_or_quits, makes, quits_unless, say, start, start_on, stopped, tail, walk, walk_parent, walk_step, with_last, Frees, listed_places, IsCall, MayRefer, seat_of_lock, seat_of_reference, BeginsWith, CameTo, Having, IsCounted, Leaves, ReferredOrAside, Runs, Stand, IsName}
 use Rattle.plain_tree.specs.declared.call.Call.TheVariants as calls
 use Rattle.plain_tree.specs.declared.step.Action.TheVariants as steps
 use Rattle.inode_machine.specs.World as above
@@ -56,7 +56,7 @@ module _ (path : List ℕ) where
     came looking s u a held e = e.0.0.0 (reference_found t y s s n apart held)
 
     pub beside_it : (looking : Query) (s u : Having) (a : Sight) (held : InHand t (Refers n) y s) → (e : Leaves path (above.Take n looking) a s u) → (Stand (seat_of_lock n u.hand) s u) → Stand (seat_of_reference n s.hand) s u
-    beside_it looking s u a held e stand = subst (λ (k : Seat). Stand k s u) (sym (locked_seat t y s u n apart held (came looking s u a held e))) stand
+    beside_it looking s u a held e stand = subst (λ (k : InodePlace). Stand k s u) (sym (locked_seat t y s u n apart held (came looking s u a held e))) stand
 
     pub take_runs : ((a : Sight) → IsCounted a → From t (Locks n) y (k a)) → From t (Refers n) y (Do (above.Take n AtNothing) m k)
     unfolding Runs
@@ -99,9 +99,9 @@ module _ (path : List ℕ) where
 
   -- ---- a walk
 
-  module _ (kept : Option ℕ) (s : Action) (lost : Stop → List ℕ → P Reply) (most : ℕ) (few : most ≤ listed_places) (is_lost : (why : Stop) (ms : List ℕ) → length ms ≤ most → From (true, ms, None) Nothing (seated kept) (lost why ms)) where
+  module _ (kept : Option ℕ) (s : Action) (lost : WalkStop → List ℕ → P Reply) (most : ℕ) (few : most ≤ listed_places) (is_lost : (why : WalkStop) (ms : List ℕ) → length ms ≤ most → From (true, ms, None) Nothing (seated kept) (lost why ms)) where
     module _ (d : ℕ) (ns : List ℕ) (room : length ns + 1 ≤ most) where
-      leaves_lost : (why : Stop) → From (true, ns, None) (Locks d) (seated kept) (leave_directory d ns (lost why))
+      leaves_lost : (why : WalkStop) → From (true, ns, None) (Locks d) (seated kept) (leave_directory d ns (lost why))
       leaves_lost why = leaves_directory d (seated kept) (seated_apart d kept) ns None (is_below (length ns) most room few) (lost why) (λ ms grown. is_lost why ms (at_most (length ms) (length ns) most grown room))
 
       module _ (go : ℕ → List ℕ → P Reply) (goes : (j : ℕ) (ms : List ℕ) → length ms ≤ length ns + 1 → From (true, ms, None) (Refers j) (seated kept) (go j ms)) where
@@ -123,7 +123,7 @@ module _ (path : List ℕ) where
         (λ j ms grown. walk_runs es j ms (next_room (length ns) (length ms) (length es) most room grown) found is_found) a.found)
 
     sees : (d : ℕ) (ns : List ℕ) → length ns + 1 ≤ most → (found : List ℕ → P Reply) → From (true, ns, None) (Refers d) (seated kept) (found ns) → (b : Bool)
-        → From (true, ns, None) (Locks d) (seated kept) (if b then Do (above.Give d) unmarked (λ _. found ns) else leave_directory d ns (lost NotThere))
+        → From (true, ns, None) (Locks d) (seated kept) (if b then Do (above.UnlockInode d) unmarked (λ _. found ns) else leave_directory d ns (lost NotThere))
     sees d ns room found is_found true = give_runs path unmarked (λ _. found ns) (true, ns, None) d (seated kept) (seated_apart d kept) is_found
     sees d ns room found is_found false = leaves_lost d ns room NotThere
 
@@ -131,7 +131,7 @@ module _ (path : List ℕ) where
     pub walk_parent_runs : (es : List Name) (e : Name) → AllNames (e ∷ es) → (d : ℕ) (ns : List ℕ) → length ns + suc (length es) ≤ most → (found : ℕ → Name → List ℕ → P Reply)
         → ((d : ℕ) (e : Name) (ms : List ℕ) → IsName e → length ms + 1 ≤ most → From (true, ms, None) (Refers d) (seated kept) (found d e ms)) → From (true, ns, None) (Refers d) (seated kept) (walk_parent s d e es ns found lost)
     walk_parent_runs [] e are d ns room found is_found =
-        take_runs (true, ns, None) d (seated kept) (seated_apart d kept) (λ a. quits_unless s (is_directory_face a.face)) (λ a. if is_directory_face a.face then Do (above.Give d) unmarked (λ _. found d e ns) else leave_directory d ns (lost NotThere))
+        take_runs (true, ns, None) d (seated kept) (seated_apart d kept) (λ a. quits_unless s (is_directory_face a.face)) (λ a. if is_directory_face a.face then Do (above.UnlockInode d) unmarked (λ _. found d e ns) else leave_directory d ns (lost NotThere))
         (λ a counted. sees d ns (now_room (length ns) 0 most room) (found d e) (is_found d e ns are.0 (now_room (length ns) 0 most room)) (is_directory_face a.face))
     walk_parent_runs (e' ∷ es) e are d ns room found is_found =
         look_runs (true, ns, None) d (seated kept) (seated_apart d kept) (looks_or_quits s) (λ a. walk_step d ns (λ j ms. walk_parent s j e' es ms found lost) lost a.found) e
@@ -159,7 +159,7 @@ module _ (path : List ℕ) where
   frees_listed : (n : ℕ) (ns : List ℕ) (k : P Reply) → From (false, ns, None) Nothing Nothing k → From (false, n ∷ ns, None) Nothing Nothing (free_listed n k)
   frees_listed n ns k on =
       let leave : P Reply = Do above.Leave unmarked (λ _. k) in
-      let freed : P Reply = Do (above.Free n) (λ _. Some (Frees n)) (λ _. Do (above.Give n) unmarked (λ _. Do (above.Forget n) unmarked (λ _. leave))) in
+      let freed : P Reply = Do (above.Free n) (λ _. Some (Frees n)) (λ _. Do (above.UnlockInode n) unmarked (λ _. Do (above.Forget n) unmarked (λ _. leave))) in
       join_runs path unmarked (λ _. Do (above.Take n AtNothing) unmarked (λ _. freed)) (n ∷ ns) Nothing Nothing
       (relocks n ns freed (free_all_runs path ns n Nothing tt leave (leave_runs path unmarked (λ _. k) ns Nothing Nothing on)))
 
@@ -176,8 +176,8 @@ module _ (path : List ℕ) where
     pub in_parent_runs : (es : List Name) → AllNames es → length es ≤ most → From (false, [], None) Nothing Nothing (in_parent c s path k es)
     in_parent_runs [] are short = join_runs path (λ _. makes (Begin s 0)) (λ _. tail [] (failed c NoEntry)) [] Nothing Nothing (tail_runs [] (failed c NoEntry))
     in_parent_runs (e ∷ es) are short =
-        let lost : Stop → List ℕ → P Reply = λ why ns. tail ns (stopped c why) in
-        let is_lost : (why : Stop) (ms : List ℕ) → length ms ≤ most → From (true, ms, None) Nothing Nothing (lost why ms) = λ why ms short. tail_runs ms (stopped c why) in
+        let lost : WalkStop → List ℕ → P Reply = λ why ns. tail ns (stopped c why) in
+        let is_lost : (why : WalkStop) (ms : List ℕ) → length ms ≤ most → From (true, ms, None) Nothing Nothing (lost why ms) = λ why ms short. tail_runs ms (stopped c why) in
         let go : ℕ → P Reply = λ d. walk_parent s d e es [] k lost in
         join_runs path unmarked (λ _. start s path [] go lost) [] Nothing Nothing
         (start_runs None s lost most few is_lost path go [] (fresh most)
@@ -185,7 +185,7 @@ module _ (path : List ℕ) where
 
   -- ---- chdir
 
-  settles : (n : ℕ) (ns : List ℕ) (k : P Reply) → From (true, ns, None) Nothing Nothing k → From (true, ns, None) (Locks n) Nothing (Do (above.Settle n) unmarked (λ old. drop old k))
+  settles : (n : ℕ) (ns : List ℕ) (k : P Reply) → From (true, ns, None) Nothing Nothing k → From (true, ns, None) (Locks n) Nothing (Do (above.SetDirectory n) unmarked (λ old. drop old k))
   unfolding Runs
   settles n ns k on s held =
       let at = at_its_lock (true, ns, None) Nothing s s n tt (Locks n) held.0 held.1 held.1.here.1 in (
@@ -193,20 +193,20 @@ module _ (path : List ℕ) where
         λ a u e. drop_runs path ns a Nothing tt k on u (settled (true, ns, None) Nothing s u n tt (Locks n) held.0 held.1 held.1.here.1 a e.0 e.1),
       )
 
-  chdirs_if : (n : ℕ) (ns : List ℕ) (b : Bool) → From (true, ns, None) (Locks n) Nothing (if b then Do (above.Settle n) unmarked (λ old. drop old (tail ns (done (calls.Chdir path)))) else give_up n (tail ns (failed (calls.Chdir path) NotDirectory)))
+  chdirs_if : (n : ℕ) (ns : List ℕ) (b : Bool) → From (true, ns, None) (Locks n) Nothing (if b then Do (above.SetDirectory n) unmarked (λ old. drop old (tail ns (done (calls.Chdir path)))) else give_up n (tail ns (failed (calls.Chdir path) NotDirectory)))
   chdirs_if n ns true = settles n ns (tail ns (done (calls.Chdir path))) (tail_runs ns (done (calls.Chdir path)))
   chdirs_if n ns false = give_up_runs path ns n Nothing tt (tail ns (failed (calls.Chdir path) NotDirectory)) (tail_runs ns (failed (calls.Chdir path) NotDirectory))
 
   chdirs_at : (n : ℕ) (ns : List ℕ) → From (true, ns, None) (Refers n) Nothing (chdir_at path n ns)
   chdirs_at n ns =
-      take_runs (true, ns, None) n Nothing tt unmarked (λ a. if is_directory_face a.face then Do (above.Settle n) unmarked (λ old. drop old (tail ns (done (calls.Chdir path)))) else give_up n (tail ns (failed (calls.Chdir path) NotDirectory)))
+      take_runs (true, ns, None) n Nothing tt unmarked (λ a. if is_directory_face a.face then Do (above.SetDirectory n) unmarked (λ old. drop old (tail ns (done (calls.Chdir path)))) else give_up n (tail ns (failed (calls.Chdir path) NotDirectory)))
       (λ a counted. chdirs_if n ns (is_directory_face a.face))
 
   pub chdir_runs : IsCall (calls.Chdir path) → (s : Having) → IsEmpty s.hand → Runs path (BeginsWith path) (chdir_program path) s
   chdir_runs call s empty =
       let most : ℕ = length (elements path) in
-      let lost : Stop → List ℕ → P Reply = λ why ns. tail ns (stopped (calls.Chdir path) why) in
-      let is_lost : (why : Stop) (ms : List ℕ) → length ms ≤ most → From (true, ms, None) Nothing Nothing (lost why ms) = λ why ms short. tail_runs ms (stopped (calls.Chdir path) why) in
+      let lost : WalkStop → List ℕ → P Reply = λ why ns. tail ns (stopped (calls.Chdir path) why) in
+      let is_lost : (why : WalkStop) (ms : List ℕ) → length ms ≤ most → From (true, ms, None) Nothing Nothing (lost why ms) = λ why ms short. tail_runs ms (stopped (calls.Chdir path) why) in
       let go : ℕ → P Reply = λ d. walk (steps.Chdir path) d (elements path) [] (chdir_at path) lost in
       join_runs path unmarked (λ _. start (steps.Chdir path) path [] go lost) [] Nothing Nothing
       (start_runs None (steps.Chdir path) lost most call.1 is_lost path go [] (fresh most)

@@ -1,6 +1,6 @@
 -- The place of a hart's call, and a step of what stands there.
 use Rattle.std.specs.Prelude.{◌≡◌, ℕ, List, Bool, true, false, Option, Some, None, IsSome}
-use Rattle.syscalls.specs.Vocabulary.{Super, Reply, Call, Left, Still, stepped_at, Came, Waits, Ran, Done, Stopped, State, state_of, Answers, CallsOnce, Moves, LeavesTied, Kind, Core, program, lowered, nothing}
+use Rattle.syscalls.specs.Vocabulary.{Super, Reply, Call, RestOrResult, Still, stepped_at, SteppedInPlace, Waits, Ran, Done, Stopped, State, state_of, Answers, CallsOnce, Moves, LeavesTied, Kind, Core, program, lowered, nothing}
 use Rattle.syscalls.specs.Machines.{Running, running_of, RunningFits}
 
 -- what is seen of a place, by whether a call is under way there
@@ -14,7 +14,7 @@ HasBegun sizes call None = ⊥
 HasBegun sizes call (Some m) = (running_of m ≡ lowered sizes nothing (program call)) × ((hart : ℕ) (s : State) → RunningFits hart s m)
 
 -- a step with its reply, which stands in a place of its own (one that is done has left one)
-abbrev pub with_reply : Came (Unit {0}) Kind → Option Reply → Came Reply Kind
+abbrev pub with_reply : SteppedInPlace (Unit {0}) Kind → Option Reply → SteppedInPlace Reply Kind
 with_reply Waits place = Waits
 with_reply (Ran kind) place = Ran kind
 with_reply (Done end kind) (Some reply) = Done reply kind
@@ -22,14 +22,14 @@ with_reply (Done end kind) None = Waits
 with_reply Stopped place = Stopped
 
 -- a reply stands there just where the step is done
-abbrev pub IsReplied : Came (Unit {0}) Kind → Option Reply → Type 0
+abbrev pub IsReplied : SteppedInPlace (Unit {0}) Kind → Option Reply → Type 0
 IsReplied Waits place = place ≡ None
 IsReplied (Ran kind) place = place ≡ None
 IsReplied (Done end kind) place = IsSome place
 IsReplied Stopped place = place ≡ None
 
 -- what is left in the place: the call, or nothing once it has replied
-abbrev pub left_in : Came Reply Kind → Running → Option Running
+abbrev pub left_in : SteppedInPlace Reply Kind → Running → Option Running
 left_in Waits m = Some m
 left_in (Ran kind) m = Some m
 left_in (Done reply kind) m = None
@@ -37,16 +37,16 @@ left_in Stopped m = Some m
 
 module _ {D : Type 0} (contents : D → List (List ℕ)) (failures : D → ℕ) (Called : D → D → Type 0) where
   -- the step of a call is the next operation of its program, and leaves this of it
-  pub record StepsCall (hart : ℕ) (call left : Running) (result : Came Reply Kind) (old new : Core D) : Type 0 where
+  pub record StepsCall (hart : ℕ) (call left : Running) (result : SteppedInPlace Reply Kind) (old new : Core D) : Type 0 where
     pub moves : Moves running_of (λ reply. reply) hart call (stepped_at left result) (state_of contents failures old)
         (state_of contents failures new)
     pub honest : Answers running_of hart call (stepped_at left result) (state_of contents failures old) (state_of contents failures new)
     pub still : Still running_of (stepped_at left result) call old new
-    pub fits : Left (RunningFits hart (state_of contents failures new)) (λ _. Unit {0}) (stepped_at left result)
+    pub fits : RestOrResult (RunningFits hart (state_of contents failures new)) (λ _. Unit {0}) (stepped_at left result)
     pub others : LeavesTied hart (state_of contents failures old) (state_of contents failures new)
     pub called : CallsOnce Called old.log.cache.device new.log.cache.device
 
   -- the step of a place in which a call is under way
-  abbrev pub StepsAt : (hart : ℕ) → Option Running → Option Running → Came Reply Kind → (old new : Core D) → Type 0
+  abbrev pub StepsAt : (hart : ℕ) → Option Running → Option Running → SteppedInPlace Reply Kind → (old new : Core D) → Type 0
   StepsAt hart None after result old new = ⊥
   StepsAt hart (Some call) after result old new = (left : Running) × (after ≡ left_in result left) × StepsCall hart call left result old new

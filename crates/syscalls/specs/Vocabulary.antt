@@ -2,8 +2,8 @@
 pub use Rattle.inode_parts.specs.Vocabulary.{IsCall, P, nothing, program}
 pub use Rattle.fs_machine.specs.Vocabulary.{Still, stepped_at}
 pub use Rattle.fs_machine.specs.Steps.{State, state_of}
-pub use Rattle.atomic_programs.specs.Machines.{Left}
-pub use Rattle.atomic_programs.specs.declared.machines.Came.TheVariants.{Done, Ran, Stopped, Waits}
+pub use Rattle.atomic_programs.specs.Machines.{RestOrResult}
+pub use Rattle.atomic_programs.specs.declared.machines.SteppedInPlace.TheVariants.{Done, Ran, Stopped, Waits}
 pub use Rattle.fs_machine.specs.Hands.{HandFits}
 pub use Rattle.fs_machine.specs.Machines.{Answers, CallsOnce, Moves}
 pub use Rattle.fs_machine.specs.Tied.{LeavesTied}
@@ -14,7 +14,7 @@ pub use Rattle.inode_parts.specs.Calls.{LoweredReady, RunsByParts, lowered_left,
 pub use Rattle.inode_parts.specs.Expecting.{RunsAlone}
 pub use Rattle.inode_parts.specs.Parts.{lowered}
 pub use Rattle.inode_parts.specs.declared.lowered.Lowered.{Lowered}
-pub use Rattle.atomic_programs.specs.declared.machines.Came.{Came}
+pub use Rattle.atomic_programs.specs.declared.machines.SteppedInPlace.{SteppedInPlace}
 pub use Rattle.fs_layout.specs.declared.superblock.Super.{Super}
 pub use Rattle.plain_tree.specs.declared.answer.Reply.{Reply}
 pub use Rattle.plain_tree.specs.declared.call.Call.{Call}

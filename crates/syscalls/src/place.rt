@@ -10,7 +10,7 @@ ghost use Rattle.syscalls.specs.Machines.{running_of, RunningFits};
 ghost use Rattle.syscalls.specs.Places.{with_reply, HasBegun, IsReplied, StepsAt};
 
 use crate::calls_run_by_parts;
-use atomic_programs::machines::{Came, put};
+use atomic_programs::machines::{SteppedInPlace, put};
 use block_device::Device;
 use buffer_cache::HARTS;
 use fs_layout::Super;
@@ -129,7 +129,7 @@ impl CallPlace {
         replied: &mut Option<Reply>,
         hart: u8,
         core: &mut Core<D>,
-    ) -> Came<(), Kind>
+    ) -> SteppedInPlace<(), Kind>
         requires eight { hart < HARTS }
         requires busy { IsSome self.old }
         requires may { MatchOption self.old ⊥ (λ call. MayNext hart (running_of call) (state_of D.contents D.failures core.old)) }
@@ -139,14 +139,14 @@ impl CallPlace {
         ensures replied { IsReplied result replied.new }
     {
         match self.machine.step(hart, core) {
-            Came::Waits => Came::Waits,
-            Came::Ran(kind) => Came::Ran(kind),
-            Came::Done((), kind) => {
+            SteppedInPlace::Waits => SteppedInPlace::Waits,
+            SteppedInPlace::Ran(kind) => SteppedInPlace::Ran(kind),
+            SteppedInPlace::Done((), kind) => {
                 self.is_busy = false;
                 put(replied, self.machine.control.reply());
-                Came::Done((), kind)
+                SteppedInPlace::Done((), kind)
             }
-            Came::Stopped => Came::Stopped,
+            SteppedInPlace::Stopped => SteppedInPlace::Stopped,
         }
     }
 

@@ -1,5 +1,5 @@
 -- What is told where a call's mark is met: what the move tells.
-use Rattle.tree_histories.proofs.Vocabulary.{◌≡◌, ℕ, ◌<◌, ◌^◌, List, [], ◌∷◌, Option, Some, None, Result, Ok, Err, IfOk, if◌then◌else◌, refl, sym, ◌∙◌, ap, subst, option_map, Action, path_of, refused, Name, Tree, elements, is_absolute, look, put, settle, start_of, tree_of, root, NoMemory, Move, Stage, Begin, Look, Quit, Own, Made, begun, looked, look_made, made_by, Makes, mark_in, Mark, action_in, call_in, Deed, Walk, KeptTree, Under, hart_in, stage_of, walk_under, with_walk, ActedOn, IsActed, MayBegin, MayLook, MayLookOn, MayMake, Tells, TellsOf, new_in, IsNextWalk, IsWalk, is_on_new, step_in, walk_of, walk_on}
+use Rattle.tree_histories.proofs.Vocabulary.{◌≡◌, ℕ, ◌<◌, ◌^◌, List, [], ◌∷◌, Option, Some, None, Result, Ok, Err, IfOk, if◌then◌else◌, refl, sym, ◌∙◌, ap, subst, option_map, Action, path_of, refused, Name, Tree, elements, is_absolute, look, put, settle, start_of, tree_of, root, NoMemory, Move, Stage, Begin, Look, GiveUpWalk, Own, Made, begun, looked, look_made, made_by, Makes, mark_in, Mark, action_in, call_in, Deed, Walk, KeptTree, Under, hart_in, stage_of, walk_under, with_walk, ActedOn, IsActed, MayBegin, MayLook, MayLookOn, MayMake, Tells, TellsOf, new_in, IsNextWalk, IsWalk, is_on_new, step_in, walk_of, walk_on}
 use Rattle.tree_laws.specs.Moves as moves
 use Rattle.path_walk.specs.declared.asks.Mark.TheVariants as mark
 use Rattle.tree_histories.proofs.Acting.{EndsAs, ends_own, ends_so, refused_same}
@@ -130,9 +130,9 @@ module _ (k : KeptTree) (h : ℕ) (u : Under) (is : hart_in k h ≡ Some u) wher
   -- ---- a walk is given up; a step acts
 
   pub tells_quit : (s : Action) → settle (tree_of k.tree) ≡ tree_of k.tree → (d : Option Deed) → d ≡ Some (record { new = 0 })
-      → (k' : KeptTree) → k' ≡ with_walk k h None → Tells k h (Quit s) d k'
+      → (k' : KeptTree) → k' ≡ with_walk k h None → Tells k h (GiveUpWalk s) d k'
   tells_quit s settled d told k' kept =
-      tells_walk (Quit s) None (made_by (tree_of k.tree) h 0 ((stage_of k).walk h) (Quit s)) settled refl refl refl d told k' kept
+      tells_walk (GiveUpWalk s) None (made_by (tree_of k.tree) h 0 ((stage_of k).walk h) (GiveUpWalk s)) settled refl refl refl d told k' kept
 
   pub tells_own : (s : Action) (d : Option Deed) (k' : KeptTree) → IsActed k (record { hart = h; new = 0; action = s }) d k' → MayMake (stage_of k) h (Own s 0)
       → Tells k h (Own s 0) d k'
@@ -190,9 +190,9 @@ pub told_nowhere : (k k' : KeptTree) (h : ℕ) (s : Under) (new : ℕ) → hart_
 told_nowhere k k' h s new there none kept =
     told_by k h s (mark.Look new) (Look new) None k' there refl (λ may. tells_nowhere k h s there none new may.settled k' kept)
 
-pub told_quit : (k k' : KeptTree) (h : ℕ) (d : Deed) → d ≡ record { new = 0 } → k' ≡ with_walk k h None → TellsOf k h mark.Quit (Some d) k'
+pub told_quit : (k k' : KeptTree) (h : ℕ) (d : Deed) → d ≡ record { new = 0 } → k' ≡ with_walk k h None → TellsOf k h mark.GiveUpWalk (Some d) k'
 told_quit k k' h d is kept u v there mk may =
-    told_by k h u mark.Quit (Quit (action_in u.whole)) (Some d) k' there refl
+    told_by k h u mark.GiveUpWalk (GiveUpWalk (action_in u.whole)) (Some d) k' there refl
     (λ may'. tells_quit k h u there (action_in u.whole) may'.settled (Some d) (ap (λ (x : Deed). Some x) is) k' kept) u v there mk may
 
 pub told_alone : (k k' : KeptTree) (h : ℕ) (m : Mark) (r : Result (Option Deed) NoMemory) → ((s : Action) → mark_in s m ≡ Makes (Own (step_in s m) 0))

@@ -1,5 +1,5 @@
 -- What this crate's proofs speak of: its own definitions, and what the crates below and the library call things.
-pub use Rattle.tree_histories.specs.Vocabulary.{Act, Action, Begin, BumpStep as Bump, Busy, Call, Cause, Chdir, ChdirStep, Close, CloseStep, Done, Dup, DupStep, EnterStep as Enter, Explains, Failed, FindStep as Find, Free, Fstat, FstatStep, HartStanding, Heard, History, Inherit, InheritStep, IsApplied, IsBadChoice, IsElement, IsInOne, IsInPlace, IsNewNode, IsNonDecreasingBy, IsSought, IsSoughtInOne, IsWritten, Leads, Link, Look, Makes, Mark, Mkdir, MkdirStep, Move, Name, Node, Op, Open, OpenStep, Opened, Own, Placed, Query, Quit, Read, ReadStep, Reply, Sight as Seen, Stage, StepAnswer, Trace, TracedCall, Tree, TreeData, TreeStep, TruncateStep as Truncate, UnbumpStep as Unbump, Unlink, UnlinkStep, Whole, Write, WritePartStep as WritePart, action_in, call_in, cause_of, climbs, dotdot, elements, empty_it, found_in, hart_count, has, is_full, is_nothing, linked, live_directory, lost_of, makes_node, mark_in, name_in, next_where, option_map, parent, path_of, piece, piece_count, query_in, refusal, resolve, seen_in, stage_by, start_of, text_in, told_by_move, tree_of}
+pub use Rattle.tree_histories.specs.Vocabulary.{Act, Action, Begin, BumpStep as Bump, Busy, Call, Cause, Chdir, ChdirStep, Close, CloseStep, Done, Dup, DupStep, EnterStep as Enter, Explains, Failed, FindStep as Find, Free, Fstat, FstatStep, HartStanding, Heard, History, Inherit, InheritStep, IsApplied, IsBadChoice, IsElement, IsInOne, IsInPlace, IsNewNode, IsNonDecreasingBy, IsSought, IsSoughtInOne, IsWritten, Leads, Link, Look, Makes, Mark, Mkdir, MkdirStep, Move, Name, Node, Op, Open, OpenStep, Opened, Own, Placed, Query, GiveUpWalk, Read, ReadStep, Reply, Sight as Seen, Stage, StepAnswer, Trace, TracedCall, Tree, TreeData, TreeStep, TruncateStep as Truncate, UnbumpStep as Unbump, Unlink, UnlinkStep, Whole, Write, WritePartStep as WritePart, action_in, call_in, cause_of, climbs, dotdot, elements, empty_it, found_in, hart_count, has, is_full, is_nothing, linked, live_directory, lost_of, makes_node, mark_in, name_in, next_where, option_map, parent, path_of, piece, piece_count, query_in, refusal, resolve, seen_in, stage_by, start_of, text_in, told_by_move, tree_of}
 unfoldable pub use Rattle.tree_histories.specs.Vocabulary.{AllBelong, Chain, Follows, Rises, acts_of, all_fall, had_room, look, next_of, place_of, reply_of, same_name, settle}
 pub use Rattle.plain_tree.proofs.Vocabulary.{Belongs, Bool, Err, IsAppliedAt, List, MayChoose, None, Ok, Option, Outcome, Result, Some, Step, [], act_of, add-one, ap, append_assoc, applied, arith, cases_Bool, cases_eq, creates, drop, false, get_or, get_or-eq_default, if_done, if_failed, if◌then◌else◌, in_place, inl, inr, is_absent, length, length-set, length_push, nat_lt, nat_tests, next_link, next_open, next_piece, not, once, opened_at, opened_in, opened_new, refl, refused, replicate, root, subst, suc, sym, take, take-append-drop, take_all, take_more, to_truncate, true, zero, ℕ, ◌&&◌, ◌++◌, ◌+◌, ◌-◌, ◌<◌, ◌==◌, ◌^◌, ◌||◌, ◌∙◌, ◌∷◌, ◌≡◌, ◌≢◌, ◌≤◌, ◌⊎◌}
 unfoldable pub use Rattle.plain_tree.proofs.Vocabulary.{answer_with, effect_with, first_cause, last_cause, put}

@@ -1,6 +1,6 @@
 -- What is kept where a call makes a move.
 use Rattle.std.specs.Prelude.{◌≡◌, ℕ, ◌<◌, ◌^◌, Bool, true, false, List, [], ◌∷◌, length, Option, Some, None, slice_index_or}
-use Rattle.tree_histories.specs.Vocabulary.{option_map, Action, TreeStep, StepAnswer, IsApplied, IsBadChoice, path_of, refusal, makes_node, IsInPlace, IsNewNode, Name, Tree, elements, look, parent, resolve, settle, start_of, tree_of, hart_count, History, Move, Stage, Begin, Look, Quit, Own, all_fall, moves_on, Makes, stage_by, told_by_move, mark_in, Heard, Mark, action_in}
+use Rattle.tree_histories.specs.Vocabulary.{option_map, Action, TreeStep, StepAnswer, IsApplied, IsBadChoice, path_of, refusal, makes_node, IsInPlace, IsNewNode, Name, Tree, elements, look, parent, resolve, settle, start_of, tree_of, hart_count, History, Move, Stage, Begin, Look, GiveUpWalk, Own, all_fall, moves_on, Makes, stage_by, told_by_move, mark_in, Heard, Mark, action_in}
 use Rattle.tree_laws.specs.Moves as moves
 use Rattle.path_walk.specs.declared.asks.Mark.TheVariants as mark
 use Rattle.tree_histories.specs.declared.kept.Deed.{Deed}
@@ -32,7 +32,7 @@ MayLookOn t h (Some w) new = MayLook t h w w.rest (look t.nodes w.at w.next) new
 abbrev pub MayMove : Stage → ℕ → Move → Type 0
 MayMove m h (Begin s new) = MayBegin m.tree h s (elements (path_of s)) new
 MayMove m h (Look new) = MayLookOn m.tree h (m.walk h) new × (new < 2 ^ 16)
-MayMove m h (Quit s) = Unit {0}
+MayMove m h (GiveUpWalk s) = Unit {0}
 MayMove m h (Own s new) = ActsSo m.tree h s (resolve m.tree h (path_of s)) (parent m.tree h (path_of s)) new
 
 -- The hart makes this move in a settled tree, and where its step acts the tree makes that as well.

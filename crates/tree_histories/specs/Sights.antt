@@ -1,10 +1,10 @@
 -- What the kept tree shows of an inode whose lock is taken, and the mark of an operation where it acts.
 use Rattle.std.specs.Prelude.{◌≡◌, ℕ, ◌*◌, ◌<◌, ◌^◌, Bool, true, false, List, ◌++◌, length, Option, Some, None}
-use Rattle.tree_histories.specs.Vocabulary.{Kind, Directory, File, Device, Node, Tree, seen_in, Op, Take, StatFile, LockFile, LockOpen, asks, mark_at, marked_as, query_in, sight_in, sight_of, IsSought, IsSoughtInOne, Heard, Mark, Query, Sight, WholeFits, action_in, whole_of}
+use Rattle.tree_histories.specs.Vocabulary.{NodeKind, Directory, File, Device, Node, Tree, seen_in, Op, Take, StatFile, LockFile, LockOpen, asks, mark_at, marked_as, query_in, sight_in, sight_of, IsSought, IsSoughtInOne, Heard, Mark, Query, Sight, WholeFits, action_in, whole_of}
 use Rattle.tree_histories.specs.Keeping.{Under}
 
 -- the bytes of a directory's slots are counted by a u64
-abbrev pub FewSlots : Kind → Type 0
+abbrev pub FewSlots : NodeKind → Type 0
 FewSlots (Directory slots) = 16 * length slots < 2 ^ 64
 FewSlots (File bytes) = Unit {0}
 FewSlots (Device major minor size) = Unit {0}

@@ -17,7 +17,7 @@ pub use Rattle.plain_tree.specs.declared.step.Action.{Action}
 pub use Rattle.plain_tree.specs.declared.step.StepAnswer.{StepAnswer}
 pub use Rattle.plain_tree.specs.declared.trace.Placed.{Placed}
 pub use Rattle.std.specs.Option.{option_map}
-pub use Rattle.path_walk.specs.Asks.{IsSought, IsSoughtInOne, asks, count_in, face_of, hears, mark_at, mark_in, marked_as, piece_of, query_in, reply_to, sight_in, sight_of, sort_of}
+pub use Rattle.path_walk.specs.Asks.{IsSought, IsSoughtInOne, asks, count_in, face_of, hears, mark_at, mark_in, marked_as, piece_of, query_in, reply_to, sight_in, sight_of, type_of}
 pub use Rattle.plain_tree.specs.Checked.{Leads, is_full}
 pub use Rattle.plain_tree.specs.TreeData.{TreeData}
 pub use Rattle.plain_tree.specs.declared.call.Call.TheVariants.{Chdir, Close, Dup, Fstat, Inherit, Link, Mkdir, Open, Read, Unlink, Write}
@@ -26,7 +26,7 @@ pub use Rattle.tree_laws.specs.History.{HartStanding, History}
 pub use Rattle.whole_calls.specs.Wholes.{WholeFits, action_in, call_in, text_in, whole_of}
 pub use Rattle.whole_calls.specs.declared.whole.Whole.{Whole}
 pub use Rattle.atomic_programs.specs.Prog.{Ret}
-pub use Rattle.inode_machine.specs.Inodes.{empty_in, face_of as face_seen, found_in, is_empty_kind, seen_in, sort_of_kind}
+pub use Rattle.inode_machine.specs.Inodes.{empty_in, face_of as face_seen, found_in, is_empty_kind, seen_in, type_of_kind}
 pub use Rattle.inode_machine.specs.Kept.{stage_by, told_by_move}
 pub use Rattle.inode_machine.specs.Programs.{program}
 pub use Rattle.inode_machine.specs.World.{Op}
@@ -40,8 +40,8 @@ pub use Rattle.plain_tree.specs.Code.{with_element}
 pub use Rattle.plain_tree.specs.Progress.{next_where}
 pub use Rattle.plain_tree.specs.declared.answer.Answer.TheVariants.{Full as WasFull}
 pub use Rattle.plain_tree.specs.declared.answer.Cause.{Cause}
-pub use Rattle.plain_tree.specs.declared.node.Kind.{Kind}
-pub use Rattle.plain_tree.specs.declared.node.Kind.TheVariants.{Device, Directory, File}
+pub use Rattle.plain_tree.specs.declared.node.NodeKind.{NodeKind}
+pub use Rattle.plain_tree.specs.declared.node.NodeKind.TheVariants.{Device, Directory, File}
 pub use Rattle.plain_tree.specs.declared.node.Node.{Node}
 pub use Rattle.plain_tree.specs.declared.step.Action.TheVariants.{Bump as BumpStep, Chdir as ChdirStep, Close as CloseStep, Dup as DupStep, Enter as EnterStep, Find as FindStep, Fstat as FstatStep, Inherit as InheritStep, Mkdir as MkdirStep, Open as OpenStep, Read as ReadStep, Truncate as TruncateStep, Unbump as UnbumpStep, Unlink as UnlinkStep, WritePart as WritePartStep}
 pub use Rattle.plain_tree.specs.declared.step.StepAnswer.TheVariants.{Done, Failed, Opened}
@@ -51,6 +51,6 @@ pub use Rattle.std.specs.List.{list_any}
 pub use Rattle.std.specs.List.Sorted.{IsNonDecreasingBy}
 pub use Rattle.tree_laws.specs.History.HartStanding.{Busy, Free}
 pub use Rattle.tree_laws.specs.Moves.{Move, Stage}
-pub use Rattle.tree_laws.specs.Moves.Move.{Begin, Look, Own, Quit}
+pub use Rattle.tree_laws.specs.Moves.Move.{Begin, Look, Own, GiveUpWalk}
 pub use Rattle.tree_laws.specs.Runs.{lost_of, moves_on}
 unfoldable pub use Rattle.tree_laws.specs.Runs.{all_fall}

@@ -334,7 +334,7 @@ impl Kept {
         match mark {
             Mark::Begin => self.begins(alloc, hart),
             Mark::Look(new) => self.looks(alloc, hart, new),
-            Mark::Quit => Ok(Some(self.quits(hart))),
+            Mark::GiveUpWalk => Ok(Some(self.quits(hart))),
             Mark::Own => self.acts_alone(alloc, hart, Mark::Own),
             Mark::Truncate(fd) => self.acts_alone(alloc, hart, Mark::Truncate(fd)),
             Mark::Bump => self.acts_alone(alloc, hart, Mark::Bump),

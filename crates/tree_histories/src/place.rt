@@ -2,7 +2,7 @@
 ghost use Rattle.std.specs.Prelude.{◌≡◌, ◌≤◌, IsTrue, ◌↔◌};
 ghost use Rattle.tree_histories.specs.Vocabulary.{IsInPlace, file_at, has_descriptors, has_room, holds_raised, is_open_file, lowest, place_of, tree_of};
 
-use plain_tree::{Action, HARTS, Hold, Kind, OpenFile, Tree, TreeStep};
+use plain_tree::{Action, HARTS, Hold, NodeKind, OpenFile, Tree, TreeStep};
 
 const DESCRIPTOR_COUNT: usize = 16;
 
@@ -66,7 +66,7 @@ fn is_open_file(tree: &Tree, file: Option<OpenFile>) -> bool
 {
     match file {
         Some(file) => match tree.node(usize::from(file.number)) {
-            Some(node) => matches!(&node.kind, Kind::File { .. }),
+            Some(node) => matches!(&node.kind, NodeKind::File { .. }),
             None => true,
         },
         None => false,

@@ -1,11 +1,11 @@
 //! What the kept tree shows of a node to who takes its lock.
 ghost use Rattle.std.specs.Prelude.{◌≡◌, ◌<◌, ◌^◌, ◌++◌, ℕ, drop, List, Some};
-ghost use Rattle.tree_histories.specs.Vocabulary.{any_used, size_of, first_slot, live_directory, look, tree_of, empty_in, face_seen, found_in, is_empty_kind, sort_of_kind, face_of, query_in, sort_of, IsSought, IsSoughtInOne};
+ghost use Rattle.tree_histories.specs.Vocabulary.{any_used, size_of, first_slot, live_directory, look, tree_of, empty_in, face_seen, found_in, is_empty_kind, type_of_kind, face_of, query_in, type_of, IsSought, IsSoughtInOne};
 ghost use Rattle.tree_histories.specs.Sights.{FewSlots, ShowsSo};
 
 use crate::paths::{name_in, same};
-use path_walk::{Face, Query, Sight, Sort};
-use plain_tree::{Kind, Node, Slot, Tree};
+use path_walk::{Face, InodeType, Query, Sight};
+use plain_tree::{Node, NodeKind, Slot, Tree};
 
 const ENTRY_LEN: u64 = 16;
 
@@ -16,7 +16,7 @@ pub(crate) fn is_live_directory(tree: &Tree, number: u16) -> bool
     ensures { result ≡ live_directory ((tree_of tree.now).nodes number) }
 {
     match tree.node(usize::from(number)) {
-        Some(node) => node.count > 0 && matches!(&node.kind, Kind::Directory { .. }),
+        Some(node) => node.count > 0 && matches!(&node.kind, NodeKind::Directory { .. }),
         None => false,
     }
 }
@@ -43,29 +43,29 @@ pub(crate) fn look(tree: &Tree, directory: u16, name: &[u8]) -> Option<u16>
 {
     let node = tree.node(usize::from(directory))?;
     match &node.kind {
-        Kind::Directory { slots } if node.count > 0 => number_of(slots.as_slice(), name),
+        NodeKind::Directory { slots } if node.count > 0 => number_of(slots.as_slice(), name),
         _ => None,
     }
 }
 
-fn sort_of(kind: &Kind) -> Sort
-    ensures { sort_of result ≡ sort_of_kind kind.now }
+fn type_of(kind: &NodeKind) -> InodeType
+    ensures { type_of result ≡ type_of_kind kind.now }
 {
     match kind {
-        Kind::Directory { .. } => Sort::Directory,
-        Kind::File { .. } => Sort::File,
-        Kind::Device { major, .. } => Sort::Device(*major),
+        NodeKind::Directory { .. } => InodeType::Directory,
+        NodeKind::File { .. } => InodeType::File,
+        NodeKind::Device { major, .. } => InodeType::Device(*major),
     }
 }
 
 // How many bytes it has.
-fn size_of(kind: &Kind) -> u64
+fn size_of(kind: &NodeKind) -> u64
     ensures { FewSlots kind.now → result ≡ size_of kind.now }
 {
     match kind {
-        Kind::Directory { slots } => ENTRY_LEN.saturating_mul(slots.as_slice().len() as u64),
-        Kind::File { bytes } => bytes.as_slice().len() as u64,
-        Kind::Device { size, .. } => u64::from(*size),
+        NodeKind::Directory { slots } => ENTRY_LEN.saturating_mul(slots.as_slice().len() as u64),
+        NodeKind::File { bytes } => bytes.as_slice().len() as u64,
+        NodeKind::Device { size, .. } => u64::from(*size),
     }
 }
 
@@ -73,7 +73,7 @@ fn face_of(node: &Node) -> Face
     ensures { FewSlots node.now.kind → Some (face_of result) ≡ face_seen (Some node.now) }
 {
     Face {
-        sort: sort_of(&node.kind),
+        inode_type: type_of(&node.kind),
         count: node.count,
         size: size_of(&node.kind),
     }
@@ -99,11 +99,11 @@ fn has_entries(slots: &[Option<Slot>]) -> bool
 }
 
 // No slot past the first two is used.
-fn is_empty(kind: &Kind) -> bool
+fn is_empty(kind: &NodeKind) -> bool
     ensures { result ≡ is_empty_kind kind.now }
 {
     match kind {
-        Kind::Directory { slots } => !has_entries(slots.as_slice()),
+        NodeKind::Directory { slots } => !has_entries(slots.as_slice()),
         _ => true,
     }
 }

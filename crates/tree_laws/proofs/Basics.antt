@@ -8,5 +8,5 @@ pub use Rattle.tree_laws.proofs.Maps.{and_true, any_at, any_none, either, eq_is,
 pub use Rattle.tree_laws.proofs.Nodes.{everywhere, folder_dead, folder_links, folder_live, folder_none, folder_some, folders_put, linked_live, live_some, put_self, settle_folders, settled_well, some_node}
 pub use Rattle.tree_laws.proofs.Slots.{Dots, cleared_gone, cleared_other, dots_differ, entered_other, first_counts, first_dot, first_dotdot, first_dots, first_unused, flip_name, same_is, same_self, slot_here, slot_none, slot_past}
 pub use Rattle.tree_laws.proofs.Sums.{count_entered, count_nil, count_unused, one_no, one_yes, sum_none}
-pub use Rattle.tree_laws.proofs.Walked.{Left, StepBy, WalkOk, left_same, lost_fails, walk_falls, walk_kept}
+pub use Rattle.tree_laws.proofs.Walked.{LeavesWalk, StepBy, WalkOk, left_same, lost_fails, walk_falls, walk_kept}
 pub use Rattle.tree_laws.proofs.Walks.{Removes, after_removal, first_found, follow_end, follow_on, follow_one, follow_step, follow_stop, look_bad, look_good, look_in, parent_bad, parent_here, parent_nil, parent_on, parent_step, parent_stop}

@@ -4,9 +4,9 @@ use Rattle.tree_laws.proofs.Maps.{either, eq_self, eq_not, eq_is, same_or, put_s
 use Rattle.tree_laws.proofs.Lists.{get_left, get_last, get_more, get_past, get_map, map_get}
 
 -- late: by hart, what the list has of its call and the call wasn't told yet
-abbrev pub Told : (ℕ → List Act) → History → ℕ → TracedCall → Option (ℕ × Reply) → Type 0
-Told late b id s None = (x : List Act) × (b.calls s.hart ≡ Busy id s.call x) × (acts_of id b.list ≡ x ++ late s.hart) × Follows s.call [] (x ++ late s.hart)
-Told late b id s (Some r) = IsWhole s.call (acts_of id b.list) r.1
+abbrev pub IsAccountedFor : (ℕ → List Act) → History → ℕ → TracedCall → Option (ℕ × Reply) → Type 0
+IsAccountedFor late b id s None = (x : List Act) × (b.calls s.hart ≡ Busy id s.call x) × (acts_of id b.list ≡ x ++ late s.hart) × Follows s.call [] (x ++ late s.hart)
+IsAccountedFor late b id s (Some r) = IsWhole s.call (acts_of id b.list) r.1
 
 unfoldable pub AllBelow : ℕ → List Placed → Type 0
 AllBelow now [] = Unit {0}
@@ -18,7 +18,7 @@ pub record BookOk (base t : Tree) (late : ℕ → List Act) (now : ℕ) (b : His
   pub below : AllBelow now b.list
   pub chain : Chain base b.list t
   pub busy : (h id : ℕ) (c : Call) (x : List Act) → b.calls h ≡ Busy id c x → (start : ℕ) × (slice_get b.trace.calls id ≡ Some (record { hart = h; start = start; call = c; finished = None }))
-  pub told : (id : ℕ) (s : TracedCall) → slice_get b.trace.calls id ≡ Some s → Told late b id s s.finished
+  pub told : (id : ℕ) (s : TracedCall) → slice_get b.trace.calls id ≡ Some s → IsAccountedFor late b id s s.finished
   pub early : (id : ℕ) (s : TracedCall) → slice_get b.trace.calls id ≡ Some s → s.start < now
   pub belongs : AllBelong (record b.trace { events = now }) b.list
 
@@ -137,8 +137,8 @@ write_ok base t t' late b h id c x d k is none next step =
       told = λ id' s q. elim (same_or id' id) [
         | inl w ↦
             let this : going h said.0 c ≡ s = same_some (going h said.0 c) s (slice_get b.trace.calls id) said.1 (subst (λ (z : ℕ). slice_get b.trace.calls z ≡ Some s) w q) in
-            subst (λ (z : TracedCall). Told late' written id' z z.finished) this
-            (subst (λ (z : ℕ). Told late' written z (going h said.0 c) None) (sym w)
+            subst (λ (z : TracedCall). IsAccountedFor late' written id' z z.finished) this
+            (subst (λ (z : ℕ). IsAccountedFor late' written z (going h said.0 c) None) (sym w)
             (one_more said.0 (k.told id (going h said.0 c) said.1)))
         | inr w ↦ others id' s (λ p. w (sym p)) s.finished (k.told id' s q)
       ];
@@ -152,7 +152,7 @@ write_ok base t t' late b h id c x d k is none next step =
     written : History
     written = writes (Busy id c x) b h d
 
-    one_more : (start : ℕ) → Told late b id (going h start c) None → Told late' written id (going h start c) None
+    one_more : (start : ℕ) → IsAccountedFor late b id (going h start c) None → IsAccountedFor late' written id (going h start c) None
     one_more start w =
         let same : w.0 ≡ x = same_acts id id c c w.0 x (b.calls h) w.1 is in
         let all : w.0 ++ late h ≡ w.0 = ap (λ (z : List Act). w.0 ++ z) none ∙ append-nil w.0 in
@@ -163,7 +163,7 @@ write_ok base t t' late b h id c x d k is none next step =
           subst (λ (z : List Act). Follows c [] (w.0 ++ z)) (sym here) (follows_more c [] w.0 d.act (subst (λ (z : List Act). Follows c [] z) all w.3) (ap (λ (z : List Act). next_of c z) same ∙ next)),
         )
 
-    others : (id' : ℕ) (s : TracedCall) → id ≢ id' → (r : Option (ℕ × Reply)) → Told late b id' s r → Told late' written id' s r
+    others : (id' : ℕ) (s : TracedCall) → id ≢ id' → (r : Option (ℕ × Reply)) → IsAccountedFor late b id' s r → IsAccountedFor late' written id' s r
     others id' s ne None w =
         let other : s.hart ≢ h = (λ q. let p : b.calls h ≡ Busy id' s.call w.0 = subst (λ (z : ℕ). b.calls z ≡ Busy id' s.call w.0) q w.1 in ne (same_id id id' c s.call x w.0 (b.calls h) is p)) in
         let there : late' s.hart ≡ late s.hart = put_other late h (d.act ∷ []) s.hart other in
@@ -204,7 +204,7 @@ tell_ok base t late now b h id c x d k is one =
     same_all y e = ap (λ (z : List Act). z ++ late h) e ∙ (ap (λ (z : List Act). x ++ z) one ∙ (sym (append-nil all) ∙ ap (λ (z : List Act). all ++ z) (sym (put_same late h []))))
 
     -- this call
-    here : (id' : ℕ) (s : TracedCall) → s.hart ≡ h → Told late b id' s None → Told late' (tells (Busy id c x) b h d) id' s None
+    here : (id' : ℕ) (s : TracedCall) → s.hart ≡ h → IsAccountedFor late b id' s None → IsAccountedFor late' (tells (Busy id c x) b h d) id' s None
     here id' s p w =
         let st : b.calls h ≡ Busy id' s.call w.0 = subst (λ (z : ℕ). b.calls z ≡ Busy id' s.call w.0) p w.1 in
         let xs : w.0 ≡ x = same_acts id' id s.call c w.0 x (b.calls h) st is in
@@ -217,7 +217,7 @@ tell_ok base t late now b h id c x d k is one =
           subst (λ (z : List Act). Follows s.call [] z) ends w.3,
         )
 
-    told_at : (id' : ℕ) (s : TracedCall) (r : Option (ℕ × Reply)) → Told late b id' s r → Told late' (tells (Busy id c x) b h d) id' s r
+    told_at : (id' : ℕ) (s : TracedCall) (r : Option (ℕ × Reply)) → IsAccountedFor late b id' s r → IsAccountedFor late' (tells (Busy id c x) b h d) id' s r
     told_at id' s (Some r) w = w
     told_at id' s None w = elim (same_or s.hart h) [
       | inl p ↦ here id' s p w
@@ -257,8 +257,8 @@ start_ok base t late b h c k free none =
       ];
       told = λ id s q. elim (get_more b.trace.calls said id s q) [
         | inr w ↦
-            subst (λ (z : TracedCall). Told late (starts b h c) id z z.finished) w.1
-            (subst (λ (z : ℕ). Told late (starts b h c) z said None) (sym w.0)
+            subst (λ (z : TracedCall). IsAccountedFor late (starts b h c) id z z.finished) w.1
+            (subst (λ (z : ℕ). IsAccountedFor late (starts b h c) z said None) (sym w.0)
             ([], put_same b.calls h (Busy i c []), no_acts (record b.trace { events = n }) i b.list (get_past b.trace.calls) k.belongs ∙ sym none, nothing_follows))
         | inl w ↦ others id s s.finished (k.told id s w)
       ];
@@ -278,7 +278,7 @@ start_ok base t late b h c k free none =
     nothing_follows : Follows c [] (late h)
     nothing_follows = subst (λ (z : List Act). Follows c [] z) (sym none) (follows_none c [])
 
-    others : (id : ℕ) (s : TracedCall) (r : Option (ℕ × Reply)) → Told late b id s r → Told late (starts b h c) id s r
+    others : (id : ℕ) (s : TracedCall) (r : Option (ℕ × Reply)) → IsAccountedFor late b id s r → IsAccountedFor late (starts b h c) id s r
     others id s None w =
         let other : s.hart ≢ h = (λ q. let p : b.calls h ≡ Busy id s.call w.0 = subst (λ (z : ℕ). b.calls z ≡ Busy id s.call w.0) q w.1 in absurd (cc (p, free))) in
         (w.0, put_other b.calls h (Busy (length b.trace.calls) c []) s.hart other ∙ w.1, w.2, w.3)
@@ -318,7 +318,7 @@ reply_ok base t late b h id c x r k is none may =
       ];
       told = λ id' s q.
           let v = get_map (ends_at h r n) b.trace.calls id' s q in
-          subst (λ (z : TracedCall). Told late (replies b h r) id' z z.finished) (sym v.2) (told_at id' v.0 (ends_is h r n v.0) (k.told id' v.0 v.1));
+          subst (λ (z : TracedCall). IsAccountedFor late (replies b h r) id' z z.finished) (sym v.2) (told_at id' v.0 (ends_is h r n v.0) (k.told id' v.0 v.1));
       early = λ id' s q.
           let v = get_map (ends_at h r n) b.trace.calls id' s q in
           subst (λ (z : TracedCall). z.start < n + 1) (sym v.2) (early_at v.0 (ends_is h r n v.0) (k.early id' v.0 v.1));
@@ -333,7 +333,7 @@ reply_ok base t late b h id c x r k is none may =
     early_at v (Now p f e) lt = subst (λ (z : TracedCall). z.start < b.trace.events + 1) (sym e) lt
     early_at v (Not p e) lt = subst (λ (z : TracedCall). z.start < b.trace.events + 1) (sym e) lt
 
-    whole : (id' : ℕ) (v : TracedCall) → v.hart ≡ h → Told late b id' v None → IsWhole v.call (acts_of id' b.list) r
+    whole : (id' : ℕ) (v : TracedCall) → v.hart ≡ h → IsAccountedFor late b id' v None → IsWhole v.call (acts_of id' b.list) r
     whole id' v p w =
         let st : b.calls h ≡ Busy id' v.call w.0 = subst (λ (z : ℕ). b.calls z ≡ Busy id' v.call w.0) p w.1 in
         let cs : c ≡ v.call = same_call id id' c v.call x w.0 (b.calls h) is st in
@@ -343,11 +343,11 @@ reply_ok base t late b h id c x r k is none may =
         subst (λ (z : List Act). IsWhole v.call z r) (sym (w.2 ∙ all))
         (subst (λ (z : List Act). Follows v.call [] z) all w.3, ends.through, ends.reply, ends.room)
 
-    told_at : (id' : ℕ) (v : TracedCall) → Ends h r b.trace.events v → Told late b id' v v.finished → Told late (replies b h r) id' (ends_at h r b.trace.events v) (ends_at h r b.trace.events v).finished
-    told_at id' v (Now p f e) w = subst (λ (z : TracedCall). Told late (replies b h r) id' z z.finished) (sym e) (whole id' v p (subst (λ (o : Option (ℕ × Reply)). Told late b id' v o) f w))
-    told_at id' v (Not p e) w = subst (λ (z : TracedCall). Told late (replies b h r) id' z z.finished) (sym e) (go v.finished refl w)
+    told_at : (id' : ℕ) (v : TracedCall) → Ends h r b.trace.events v → IsAccountedFor late b id' v v.finished → IsAccountedFor late (replies b h r) id' (ends_at h r b.trace.events v) (ends_at h r b.trace.events v).finished
+    told_at id' v (Now p f e) w = subst (λ (z : TracedCall). IsAccountedFor late (replies b h r) id' z z.finished) (sym e) (whole id' v p (subst (λ (o : Option (ℕ × Reply)). IsAccountedFor late b id' v o) f w))
+    told_at id' v (Not p e) w = subst (λ (z : TracedCall). IsAccountedFor late (replies b h r) id' z z.finished) (sym e) (go v.finished refl w)
       where
-        go : (o : Option (ℕ × Reply)) → v.finished ≡ o → Told late b id' v o → Told late (replies b h r) id' v o
+        go : (o : Option (ℕ × Reply)) → v.finished ≡ o → IsAccountedFor late b id' v o → IsAccountedFor late (replies b h r) id' v o
         go None f q = (q.0, put_other b.calls h Free v.hart (p f) ∙ q.1, q.2, q.3)
         go (Some s) f q = q
 
@@ -381,6 +381,6 @@ explained base t late b k = record {
   belongs = k.belongs;
 }
   where
-    written_at : (id : ℕ) (s : TracedCall) (r : Option (ℕ × Reply)) → Told late b id s r → IsWritten s.call (acts_of id b.list) r
+    written_at : (id : ℕ) (s : TracedCall) (r : Option (ℕ × Reply)) → IsAccountedFor late b id s r → IsWritten s.call (acts_of id b.list) r
     written_at id s None w = subst (λ (z : List Act). Follows s.call [] z) (sym w.2) w.3
     written_at id s (Some r) w = w

@@ -1,9 +1,9 @@
 -- What a tree step does to the live directories: nothing, or one of four changes.
-use Rattle.tree_laws.proofs.Vocabulary.{◌≡◌, ◌≢◌, ℕ, ◌-◌, ◌<◌, ◌≤◌, Bool, true, false, ◌&&◌, ◌||◌, inl, inr, refl, sym, ◌∙◌, ap, subst, arith, List, [], ◌∷◌, drop, length, Option, Some, None, nat_lt, if◌then◌else◌, DotName, Node, Kind, OpenFile, Hold, Action, Open, Truncate, Read, WritePart, Find, Bump, Enter, Unbump, Unlink, Mkdir, Chdir, Dup, Close, Fstat, Inherit, StepAnswer, Opened, Bytes, Status, NewFd, Done, Failed, NoRoom, hart_count, Name, Tree, put, same_name, dot, dotdot, is_directory, live_directory, all_slots, first_slot, look, settle, node_or, node_at, file_at, is_open_file, has_room, creates, enter_refusal, child_refusal, unlink_refusal, mkdir_refusal, not_empty, any_used, first_free, cleared, refusal_with, place_of, IsInPlace, effect_with, refused, new_file, new_directory, raised, lowered, emptied, truncated, written_kind, written, moved, wrote, held, at_hold, enter_hold, drop_hold, removed, removed_child, made, opened_at, opened_in, opened_new, at_dir, with_file, is_absent, is_nothing, makes_node, IsNewNode, MayChoose, StepWith, Slots, Folders, folder, folders_of, links_in, raises, up_in, NamesOnce, IsWellFormed, names_change, IsFound}
+use Rattle.tree_laws.proofs.Vocabulary.{◌≡◌, ◌≢◌, ℕ, ◌-◌, ◌<◌, ◌≤◌, Bool, true, false, ◌&&◌, ◌||◌, inl, inr, refl, sym, ◌∙◌, ap, subst, arith, List, [], ◌∷◌, drop, length, Option, Some, None, nat_lt, if◌then◌else◌, DotName, Node, NodeKind, OpenFile, Hold, Action, Open, Truncate, Read, WritePart, Find, Bump, Enter, Unbump, Unlink, Mkdir, Chdir, Dup, Close, Fstat, Inherit, StepAnswer, Opened, Bytes, Status, NewFd, Done, Failed, NoRoom, hart_count, Name, Tree, put, same_name, dot, dotdot, is_directory, live_directory, all_slots, first_slot, look, settle, node_or, node_at, file_at, is_open_file, has_room, creates, enter_refusal, child_refusal, unlink_refusal, mkdir_refusal, not_empty, any_used, first_free, cleared, refusal_with, place_of, IsInPlace, effect_with, refused, new_file, new_directory, raised, lowered, emptied, truncated, written_kind, written, moved, wrote, held, at_hold, enter_hold, drop_hold, removed, removed_child, made, opened_at, opened_in, opened_new, at_dir, with_file, is_absent, is_nothing, makes_node, IsNewNode, MayChoose, StepWith, Slots, Folders, folder, folders_of, links_in, raises, up_in, NamesOnce, IsWellFormed, names_change, IsFound}
 use Rattle.tree_laws.proofs.Basics.{either, put_same, put_other, or_none, Dots, plain_or, folder_live, folder_dead, folder_some, folder_links, linked_live, folders_put, put_self, settle_folders, look_in, counted_folders, entered_folders, new_folders, new_apart, not_folder, with_new}
 use Rattle.tree_laws.proofs.Facts.{entry_found, entry_linked}
-use Rattle.tree_laws.proofs.Placed.{with_directory, without, less, without_folders, less_folder, put_turn, can_go, sort_file, sort_folder, raised_folder, positive, gone, links_node}
-use Rattle.tree_laws.proofs.Kept.{LiveParent, in_place, absent_slot, none_taken, or_first, dotted, plain, there_map, open_node, file_sort, emptied_sort, written_sort, written_dir}
+use Rattle.tree_laws.proofs.Placed.{with_directory, without, less, without_folders, less_folder, put_turn, can_go, type_file, type_folder, raised_folder, positive, gone, links_node}
+use Rattle.tree_laws.proofs.Kept.{LiveParent, in_place, absent_slot, none_taken, or_first, dotted, plain, there_map, open_node, file_type, emptied_type, type_written, written_dir}
 
 -- par: the path's parent and last element; b: whether the step enters or clears names; m: whether it makes a node; new: the number it may choose
 pub data Change (F F' : Folders) (b m : Bool) (par : Option (ℕ × Name)) (new : ℕ) : Type 0 where
@@ -23,8 +23,8 @@ truncated_folders : (t : Tree) (h fd : ℕ) (o : Option OpenFile) → IsWellForm
 truncated_folders t h fd None k lt is place = refl
 truncated_folders t h fd (Some f) k lt is place =
     let v : Node = node_at t f.number in
-    let sort = file_sort v.kind place in
-    content_folders t.nodes f.number v (record v { kind = emptied v.kind }) (open_node t h fd f k lt is) sort (emptied_sort v.kind sort)
+    let inode_type = file_type v.kind place in
+    content_folders t.nodes f.number v (record v { kind = emptied v.kind }) (open_node t h fd f k lt is) inode_type (emptied_type v.kind inode_type)
 
 written_folders : (t : Tree) (h fd : ℕ) (b : List ℕ) (o : Option OpenFile) → IsWellFormed t → h < hart_count → file_at t h fd ≡ o → folders_of (written t o b).nodes ≡ folders_of t.nodes
 written_folders t h fd b None k lt is = refl
@@ -33,9 +33,9 @@ written_folders t h fd b (Some f) k lt is =
     let there = open_node t h fd f k lt is in
     elim (either (is_directory v.kind)) [
       | inl y ↦
-          let same : record v { kind = written_kind v.kind f.offset b } ≡ v = ap (λ (x : Kind). record { count = v.count; kind = x }) (written_dir v.kind f.offset b y) in
+          let same : record v { kind = written_kind v.kind f.offset b } ≡ v = ap (λ (x : NodeKind). record { count = v.count; kind = x }) (written_dir v.kind f.offset b y) in
           ap (λ (g : ℕ → Option Node). folders_of g) (put_self t.nodes f.number (Some (record v { kind = written_kind v.kind f.offset b })) (there ∙ ap (λ (z : Node). Some z) (sym same)))
-      | inr y ↦ content_folders t.nodes f.number v (record v { kind = written_kind v.kind f.offset b }) there y (written_sort v.kind f.offset b y)
+      | inr y ↦ content_folders t.nodes f.number v (record v { kind = written_kind v.kind f.offset b }) there y (type_written v.kind f.offset b y)
     ]
 
 pub moved_nodes : (t : Tree) (o : Option ℕ) (by : ℕ) → (moved t o by).nodes ≡ t.nodes
@@ -132,7 +132,7 @@ gone_change m t d n new e k good a b found bare =
     let kept : (count : ℕ) → count ≡ (less dir e (node_or (ns d))).count → 1 ≤ count → folder (Some (less dir e (node_or (ns d)))) ≡ Some (cleared ss e) = (λ count same pos. less_folder (ns d) dir e good (subst (λ (z : ℕ). nat_lt 0 z ≡ true) same (positive count pos))) in
     elim (plain_or (F n)) [
       | inl plain ↦
-          let file : dir ≡ false = sort_file (ns n) (linked_live (ns n) (entry_linked F C R t.ninodes k.depth d n ss k.forest is some)) plain in
+          let file : dir ≡ false = type_file (ns n) (linked_live (ns n) (entry_linked F C R t.ninodes k.depth d n ss k.forest is some)) plain in
           let same : (less dir e (node_or (ns d))).count ≡ (node_or (ns d)).count = ap (λ (z : Bool). if z then (node_or (ns d)).count - 1 else (node_or (ns d)).count) file in
           let f1 : folder (Some (less dir e (node_or (ns d)))) ≡ Some (cleared ss e) = kept (node_or (ns d)).count (sym same) (omega (arith, ld, cd)) in
           let none : folder (Some (lowered (node_at t n))) ≡ None = not_folder (lowered (node_at t n)) file in
@@ -140,7 +140,7 @@ gone_change m t d n new e k good a b found bare =
           let out : G n ≡ None = put_other F d (Some (cleared ss e)) n (λ q. g.apart (sym q)) ∙ plain in
           Cleared d n e ss refl refl is once first plain (without_folders ns d n dir e ∙ (ap (λ (o : Option Slots). put (put F d o) n (folder (Some (lowered (node_or (put ns d (Some (less dir e (node_or (ns d)))) n)))))) f1 ∙ (ap (λ (o : Option Slots). put G n o) (low ∙ none) ∙ put_self G n None out)))
       | inr q ↦
-          let isdir : dir ≡ true = sort_folder (ns n) q.0 q.1 in
+          let isdir : dir ≡ true = type_folder (ns n) q.0 q.1 in
           let more = g.spare isdir in
           let same : (less dir e (node_or (ns d))).count ≡ (node_or (ns d)).count - 1 = ap (λ (z : Bool). if z then (node_or (ns d)).count - 1 else (node_or (ns d)).count) isdir in
           let f1 : folder (Some (less dir e (node_or (ns d)))) ≡ Some (cleared ss e) = kept ((node_or (ns d)).count - 1) (sym same) (omega (arith, more)) in

@@ -1,5 +1,5 @@
 -- What each part of a tree may become.
-use Rattle.tree_laws.proofs.Vocabulary.{◌≡◌, ◌≢◌, ℕ, ◌+◌, ◌<◌, ◌≤◌, Bool, true, false, ◌&&◌, ◌==◌, ◌⊎◌, inl, inr, refl, sym, ◌∙◌, ap, subst, arith, Option, Some, None, nat_lt, Node, Kind, Directory, OpenFile, Hold, hart_count, descriptor_count, Name, Tree, put, is_directory, slots_of, live_directory, all_slots, first_slot, look, node_or, with_nodes, first_free, entered, new_file, Slots, Folders, folder, links_of, folders_of, links_in, one_if, raised_at, raises, IsForest, IsThere, IsWellFormed}
+use Rattle.tree_laws.proofs.Vocabulary.{◌≡◌, ◌≢◌, ℕ, ◌+◌, ◌<◌, ◌≤◌, Bool, true, false, ◌&&◌, ◌==◌, ◌⊎◌, inl, inr, refl, sym, ◌∙◌, ap, subst, arith, Option, Some, None, nat_lt, Node, NodeKind, Directory, OpenFile, Hold, hart_count, descriptor_count, Name, Tree, put, is_directory, slots_of, live_directory, all_slots, first_slot, look, node_or, with_nodes, first_free, entered, new_file, Slots, Folders, folder, links_of, folders_of, links_in, one_if, raised_at, raises, IsForest, IsThere, IsWellFormed}
 use Rattle.tree_laws.proofs.Maps.{eq_self, eq_not, put_is, put_same, put_other, and_true}
 use Rattle.tree_laws.proofs.Sums.{sum_changed, sum_part, one_yes, one_no}
 use Rattle.tree_laws.proofs.Forest.{entered_forest, recounted_forest, apart}
@@ -20,8 +20,8 @@ range_put ns n w N r low high = λ k v is. elim (put_is ns n (Some w) k) [
 
 pub keeps_put : (ns : ℕ → Option Node) (n : ℕ) (w : Node) → ((v : Node) → ns n ≡ Some v → is_directory w.kind ≡ is_directory v.kind) → Keeps ns (put ns n (Some w))
 keeps_put ns n w same = λ k b th. elim (put_is ns n (Some w) k) [
-  | inl p ↦ record { node = w; is = p.1; sort = same th.node (subst (λ (z : ℕ). ns z ≡ Some th.node) p.0 th.is) ∙ th.sort }
-  | inr p ↦ record { node = th.node; is = p.1 ∙ th.is; sort = th.sort }
+  | inl p ↦ record { node = w; is = p.1; inode_type = same th.node (subst (λ (z : ℕ). ns z ≡ Some th.node) p.0 th.is) ∙ th.inode_type }
+  | inr p ↦ record { node = th.node; is = p.1 ∙ th.is; inode_type = th.inode_type }
 ]
 
 pub keeps_new : (ns : ℕ → Option Node) (n : ℕ) (w : Node) → ns n ≡ None → Keeps ns (put ns n (Some w))
@@ -40,7 +40,7 @@ well_held t ns hs D k keeps range forest holds = record {
   holds = λ h o lt is. keeps o.number false (holds h o lt is);
   descriptors = λ h i id lh li is.
       let th = k.descriptors h i id lh li is in
-      let there = keeps th.file.number (is_directory th.node.kind) (record { node = th.node; is = th.there; sort = refl }) in
+      let there = keeps th.file.number (is_directory th.node.kind) (record { node = th.node; is = th.there; inode_type = refl }) in
       record { file = th.file; is = th.is; node = there.node; there = there.is };
   directories = λ h lt. keeps (t.cwd h) true (k.directories h lt);
 }
@@ -122,7 +122,7 @@ is_raised o n h = ap (λ (b : Bool). one_if b) (left o.raised (o.number == n) h)
 -- the count of a node that is no directory changes
 pub counted_folders : (ns : ℕ → Option Node) (n : ℕ) (v w : Node) → ns n ≡ Some v → w.kind ≡ v.kind → is_directory v.kind ≡ false → folders_of (put ns n (Some w)) ≡ folders_of ns
 counted_folders ns n v w is kind dv =
-    let none : folder (ns n) ≡ folder (Some w) = ap (λ (o : Option Node). folder o) is ∙ (not_folder v dv ∙ sym (not_folder w (ap (λ (z : Kind). is_directory z) kind ∙ dv))) in
+    let none : folder (ns n) ≡ folder (Some w) = ap (λ (o : Option Node). folder o) is ∙ (not_folder v dv ∙ sym (not_folder w (ap (λ (z : NodeKind). is_directory z) kind ∙ dv))) in
     folders_put ns n (Some w) ∙ put_self (folders_of ns) n (folder (Some w)) none
 
 pub well_counted : (t : Tree) (h n : ℕ) (v w : Node) (o : Option Hold) → IsWellFormed t → h < hart_count → t.nodes n ≡ Some v → w.kind ≡ v.kind → is_directory v.kind ≡ false
@@ -142,7 +142,7 @@ well_counted t h n v w o k lt is kind dv others count there =
       | inr p ↦ inr (p.0, ap (λ (z : Option Node). links_of z) p.1)
     ]) in
     well_held t ns hs k.depth k
-    (keeps_put t.nodes n w (λ u uis. ap (λ (z : Kind). is_directory z) kind ∙ (let e : Some v ≡ Some u = sym is ∙ uis in let same : v ≡ u = cc in ap (λ (z : Node). is_directory z.kind) same)))
+    (keeps_put t.nodes n w (λ u uis. ap (λ (z : NodeKind). is_directory z) kind ∙ (let e : Some v ≡ Some u = sym is ∙ uis in let same : v ≡ u = cc in ap (λ (z : Node). is_directory z.kind) same)))
     (range_put t.nodes n w t.ninodes k.range r.0 r.1)
     (subst (λ (G : Folders). IsForest G (links_in ns) (raises hs) t.ninodes k.depth) (sym F)
     (recounted_forest (folders_of t.nodes) (links_in t.nodes) (links_in ns) (raises t.holds) (raises hs) t.ninodes k.depth k.forest
@@ -182,11 +182,11 @@ entered_links ns d n e good = everywhere (links_in (put ns d (Some (with_name (n
   | inr p ↦ ap (λ (z : Option Node). links_of z) p.1
 ])
 
-sort_of : (ns : ℕ → Option Node) (d : ℕ) (v : Node) → live_directory (ns d) ≡ true → ns d ≡ Some v → is_directory v.kind ≡ true
-sort_of ns d v good is = (and_true _ _ (subst (λ (o : Option Node). live_directory o ≡ true) is good)).1
+type_of : (ns : ℕ → Option Node) (d : ℕ) (v : Node) → live_directory (ns d) ≡ true → ns d ≡ Some v → is_directory v.kind ≡ true
+type_of ns d v good is = (and_true _ _ (subst (λ (o : Option Node). live_directory o ≡ true) is good)).1
 
 pub entered_keeps : (ns : ℕ → Option Node) (d n : ℕ) (e : Name) → live_directory (ns d) ≡ true → Keeps ns (put ns d (Some (with_name (node_or (ns d)) e n)))
-entered_keeps ns d n e good = keeps_put ns d (with_name (node_or (ns d)) e n) (λ v is. sym (sort_of ns d v good is))
+entered_keeps ns d n e good = keeps_put ns d (with_name (node_or (ns d)) e n) (λ v is. sym (type_of ns d v good is))
 
 pub entered_range : (ns : ℕ → Option Node) (d n N : ℕ) (e : Name) → live_directory (ns d) ≡ true → InRange ns N → InRange (put ns d (Some (with_name (node_or (ns d)) e n))) N
 entered_range ns d n N e good r = let two = r d (node_or (ns d)) (some_node (ns d) good) in range_put ns d (with_name (node_or (ns d)) e n) N r two.0 two.1
@@ -198,7 +198,7 @@ well_entered t h d e o k lt good absent none held up =
     let ns = put t.nodes d (Some (with_name (node_or (t.nodes d)) e o.number)) in
     let hs = put t.holds h None in
     let th = k.holds h o lt held in
-    let plain : folder (t.nodes o.number) ≡ None = ap (λ (z : Option Node). folder z) th.is ∙ not_folder th.node th.sort in
+    let plain : folder (t.nodes o.number) ≡ None = ap (λ (z : Option Node). folder z) th.is ∙ not_folder th.node th.inode_type in
     let R : (j : ℕ) → raises hs j + one_if (o.number == j) ≡ raises t.holds j = (λ j. let a = raises_put t.holds h j None lt in let b : raised_at (t.holds h) j ≡ one_if (o.number == j) = ap (λ (z : Option Hold). raised_at z j) held ∙ is_raised o j up in omega (arith, a, b)) in
     well_held t ns hs k.depth k (entered_keeps t.nodes d o.number e good) (entered_range t.nodes d o.number t.ninodes e good k.range)
     (subst (λ (G : Folders). IsForest G (links_in ns) (raises hs) t.ninodes k.depth) (sym (entered_folders t.nodes d o.number e good))

@@ -117,5 +117,5 @@ fresh_well ninodes low =
       });
       holds = λ h o lt is. absurd (let none = no_holds ninodes h lt in cc (none, is));
       descriptors = λ h i id lh li is. absurd (let none : t.fds h i ≡ None = ap (λ (x : Hart). slice_index_or x.descriptors i None) (fresh_harts h resting lh) ∙ at_replicate descriptor_count i None in cc (none, is));
-      directories = λ h lt. subst (λ (z : ℕ). IsThere t.nodes z true) (sym (ap (λ (x : Hart). x.directory) (fresh_harts h resting lt))) (record { node = fresh_root; is = refl; sort = refl });
+      directories = λ h lt. subst (λ (z : ℕ). IsThere t.nodes z true) (sym (ap (λ (x : Hart). x.directory) (fresh_harts h resting lt))) (record { node = fresh_root; is = refl; inode_type = refl });
     }

@@ -1,8 +1,8 @@
 -- The whole event: the history, the other harts, and the walks that are lost. Every run is explained by the list that is kept.
 use Rattle.tree_laws.proofs.Vocabulary.{◌≡◌, ◌≢◌, ℕ, zero, suc, ◌+◌, ◌<◌, ◌≤◌, true, false, inl, inr, refl, sym, ◌∙◌, ap, subst, arith, List, [], ◌∷◌, ◌++◌, map, length, Option, Some, None, Reply, Call, Trace, TreeData, hart_count, Tree, tree_of, put, live_directory, Act, next_of, call_climbs, Chain, Rises, AllBelong, noted, trace_from, trace_of, Explains, IsWellFormed, Deed, Walk, Stage, Move, fail, after, HartStanding, History, writes, writes_any, tells, tells_any, passes, Free, Busy, World, Event, lost, lost_of, unless, falls, all_fall, moves_on, MayReply, finishes, stepped, Happens, Runs, opened, shown_of, climbing, NoneClimbs, IsStartBy, Alone, Starts, Steps, Nothing}
-use Rattle.tree_laws.proofs.Basics.{same_or, put_same, put_other, BookOk, AllBelow, write_ok, tell_ok, start_ok, reply_ok, passes_ok, later_ok, explained, Left, StepBy, walk_falls, walk_kept}
-use Rattle.tree_laws.proofs.Moved.{WalkAt, Way, HasMoved, no_walk, lost_dead, lost_live, any_moved}
-use Rattle.tree_laws.proofs.Moved.Way.{Stays, Did, Went, Ended}
+use Rattle.tree_laws.proofs.Basics.{same_or, put_same, put_other, BookOk, AllBelow, write_ok, tell_ok, start_ok, reply_ok, passes_ok, later_ok, explained, LeavesWalk, StepBy, walk_falls, walk_kept}
+use Rattle.tree_laws.proofs.Moved.{WalkAt, MoveResult, HasMoved, no_walk, lost_dead, lost_live, any_moved}
+use Rattle.tree_laws.proofs.Moved.MoveResult.{Stays, ActsThere, Went, GivesWalkUp}
 
 -- Which calls a hart may make, so that another hart's call climbs nowhere where it makes one.
 abbrev pub Apart : (ℕ → Call → Type 0) → Type 0
@@ -158,7 +158,7 @@ pub record OwnPart (base : Tree) (m m' : Stage) (late : ℕ → List Act) (k : �
   pub mid : Mid base m'.tree left k (tells_any a h (writes_any (unless (lost_of m h) a) h b))
   pub may : MayFall m m' left (tells_any a h (writes_any (unless (lost_of m h) a) h b)) h
 
-own_part : (base : Tree) (m m' : Stage) (late : ℕ → List Act) (k : ℕ) (b : History) (h id : ℕ) (c : Call) (x : List Act) (a : Option Deed) → Mid base m.tree late k b → b.calls h ≡ Busy id c x → late h ≡ lately (lost_of m h) → Way m h c x a m' → OwnPart base m m' late k b h a
+own_part : (base : Tree) (m m' : Stage) (late : ℕ → List Act) (k : ℕ) (b : History) (h id : ℕ) (c : Call) (x : List Act) (a : Option Deed) → Mid base m.tree late k b → b.calls h ≡ Busy id c x → late h ≡ lately (lost_of m h) → MoveResult m h c x a m' → OwnPart base m m' late k b h a
 own_part base m m' late k b h id c x a mid is mine (Stays none same) =
     subst (λ (o : Option Deed). OwnPart base m m' late k b h o) (sym none) (subst (λ (z : Stage). OwnPart base m z late k b h None) (sym same) (record {
       left = late;
@@ -166,7 +166,7 @@ own_part base m m' late k b h id c x a mid is mine (Stays none same) =
       mid = subst (λ (o : Option Deed). Mid base m.tree late k (writes_any o h b)) (sym (unless_none (lost_of m h))) mid;
       may = record { none = λ e. mine; some = λ d e. absurd (let z = unless_same (lost_of m h) in cc (z, e)) };
     }))
-own_part base m m' late k b h id c x a mid is mine (Did d told stood ended next step) =
+own_part base m m' late k b h id c x a mid is mine (ActsThere d told stood ended next step) =
     subst (λ (o : Option Deed). OwnPart base m m' late k b h o) (sym told) (record {
       left = put left h [];
       there = λ g ne. put_other left h [] g ne ∙ put_other late h (d.act ∷ []) g ne;
@@ -219,7 +219,7 @@ own_part base m m' late k b h id c x a mid is mine (Went w none stood at same ne
           subst (λ (z : Deed). next_of c x ≡ Some z.act.step) same next,
           subst (λ (z : Deed). StepBy m'.tree h z m'.tree) same (fails l),
         )
-own_part base m m' late k b h id c x a mid is mine (Ended d told stood ended same) =
+own_part base m m' late k b h id c x a mid is mine (GivesWalkUp d told stood ended same) =
     subst (λ (o : Option Deed). OwnPart base m m' late k b h o) (sym told) (record {
       left = put late h [];
       there = λ g ne. put_other late h [] g ne;
@@ -238,7 +238,7 @@ Calm Ok g = (c : Call) → Ok g c → call_climbs c ≡ false
 
 -- what was lost stays so, and what is lost now fails now
 may_fall : (Ok : ℕ → Call → Type 0) (m m' : Stage) (late : ℕ → List Act) (b : History) (g : ℕ) (s : HartStanding) (v : Option Walk) → Calm Ok g → b.calls g ≡ s → m.walk g ≡ v → m'.walk g ≡ v → late g ≡ lately (lost_of m g) → OwnOk Ok m.tree g s v
-    → ((w : Walk) → m.walk g ≡ Some w → Left m.tree m'.tree g w.at) → MayFall m m' late b g
+    → ((w : Walk) → m.walk g ≡ Some w → LeavesWalk m.tree m'.tree g w.at) → MayFall m m' late b g
 may_fall Ok m m' late b g s None calm st old new mine own left = record {
   none = λ e. mine ∙ ap (λ (o : Option Deed). lately o) (no_walk m g old ∙ sym (no_walk m' g new));
   some = λ d e. absurd (let z : falls m m' g ≡ None = ap (λ (o : Option Deed). unless o (lost_of m' g)) (no_walk m g old) ∙ no_walk m' g new in cc (z, e));
@@ -277,7 +277,7 @@ may_fall Ok m m' late b g (Busy id c x) (Some w) calm st old new mine own left =
         }
 
 -- another hart's place after the event
-own_after : (Ok : ℕ → Call → Type 0) (m m' : Stage) (g : ℕ) (s : HartStanding) (v : Option Walk) → Calm Ok g → m.walk g ≡ v → OwnOk Ok m.tree g s v → ((w : Walk) → m.walk g ≡ Some w → Left m.tree m'.tree g w.at) → OwnOk Ok m'.tree g s v
+own_after : (Ok : ℕ → Call → Type 0) (m m' : Stage) (g : ℕ) (s : HartStanding) (v : Option Walk) → Calm Ok g → m.walk g ≡ v → OwnOk Ok m.tree g s v → ((w : Walk) → m.walk g ≡ Some w → LeavesWalk m.tree m'.tree g w.at) → OwnOk Ok m'.tree g s v
 own_after Ok m m' g Free v calm vw own left = own
 own_after Ok m m' g (Busy id c x) None calm vw own left = own
 own_after Ok m m' g (Busy id c x) (Some w) calm vw own left = (own.0, walk_kept m.tree m'.tree g c x w (calm c own.0) own.1 (left w vw))

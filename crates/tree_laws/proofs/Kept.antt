@@ -1,5 +1,5 @@
 -- Every tree step keeps a tree well formed.
-use Rattle.tree_laws.proofs.Vocabulary.{◌≡◌, ◌≢◌, ℕ, ◌<◌, Bool, true, false, ◌&&◌, ◌||◌, not, ◌==◌, inl, inr, refl, sym, ◌∙◌, ap, subst, arith, List, [], ◌∷◌, length, Option, Some, None, nat_lt, if◌then◌else◌, nat_tests, Cause, DotName, Node, Kind, Directory, File, Device, OpenFile, Hold, Action, Open, Truncate, Read, WritePart, Find, Bump, Enter, Unbump, Unlink, Mkdir, Chdir, Dup, Close, Fstat, Inherit, StepAnswer, Opened, Bytes, Status, NewFd, Done, Failed, NoRoom, hart_count, Name, Tree, put, same_name, dot, dotdot, is_directory, live_directory, all_slots, first_slot, look, resolve, parent, settle, node_or, node_at, file_at, is_file, is_open_file, holds_raised, has_room, creates, find_refusal, enter_refusal, name_taken, or_else, child_refusal, unlink_refusal, mkdir_refusal, chdir_refusal, fd_refusal, refusal_with, place_of, IsInPlace, effect_with, refused, new_file, raised, lowered, emptied, truncated, written_kind, written, wrote, held, at_hold, raise_hold, enter_hold, drop_hold, removed, removed_child, made, opened_at, opened_in, opened_new, at_dir, is_absent, is_nothing, IsNewNode, MayChoose, StepWith, folder, links_of, links_in, raised_at, one_if, IsThere, IsWellFormed, IsFound}
+use Rattle.tree_laws.proofs.Vocabulary.{◌≡◌, ◌≢◌, ℕ, ◌<◌, Bool, true, false, ◌&&◌, ◌||◌, not, ◌==◌, inl, inr, refl, sym, ◌∙◌, ap, subst, arith, List, [], ◌∷◌, length, Option, Some, None, nat_lt, if◌then◌else◌, nat_tests, Cause, DotName, Node, NodeKind, Directory, File, Device, OpenFile, Hold, Action, Open, Truncate, Read, WritePart, Find, Bump, Enter, Unbump, Unlink, Mkdir, Chdir, Dup, Close, Fstat, Inherit, StepAnswer, Opened, Bytes, Status, NewFd, Done, Failed, NoRoom, hart_count, Name, Tree, put, same_name, dot, dotdot, is_directory, live_directory, all_slots, first_slot, look, resolve, parent, settle, node_or, node_at, file_at, is_file, is_open_file, holds_raised, has_room, creates, find_refusal, enter_refusal, name_taken, or_else, child_refusal, unlink_refusal, mkdir_refusal, chdir_refusal, fd_refusal, refusal_with, place_of, IsInPlace, effect_with, refused, new_file, raised, lowered, emptied, truncated, written_kind, written, wrote, held, at_hold, raise_hold, enter_hold, drop_hold, removed, removed_child, made, opened_at, opened_in, opened_new, at_dir, is_absent, is_nothing, IsNewNode, MayChoose, StepWith, folder, links_of, links_in, raised_at, one_if, IsThere, IsWellFormed, IsFound}
 use Rattle.tree_laws.proofs.Basics.{either, eq_self, eq_not, put_same, and_true, or_none, one_yes, one_no, live_some, settled_well, look_in, well_content, well_same, well_counted, well_entered, well_file, not_folder, not_raised, is_raised, raises_part, with_new}
 use Rattle.tree_laws.proofs.Facts.{InMap, in_map, look_live, resolve_map, parent_live}
 use Rattle.tree_laws.proofs.Placed.{well_directory, well_removed}
@@ -27,10 +27,10 @@ not_false true h = absurd cc
 not_false false h = refl
 
 pub there_map : (ns : ℕ → Option Node) (n : ℕ) (b : Bool) → IsThere ns n b → InMap ns n × (is_directory (node_or (ns n)).kind ≡ b)
-there_map ns n b th = (in_map ns n th.node th.is, ap (λ (o : Option Node). is_directory (node_or o).kind) th.is ∙ th.sort)
+there_map ns n b th = (in_map ns n th.node th.is, ap (λ (o : Option Node). is_directory (node_or o).kind) th.is ∙ th.inode_type)
 
 map_there : (ns : ℕ → Option Node) (n : ℕ) (b : Bool) → InMap ns n → is_directory (node_or (ns n)).kind ≡ b → IsThere ns n b
-map_there ns n b is sort = record { node = node_or (ns n); is = is; sort = sort }
+map_there ns n b is inode_type = record { node = node_or (ns n); is = is; inode_type = inode_type }
 
 -- the node of a descriptor's open file is in the map
 pub open_node : (t : Tree) (h fd : ℕ) (f : OpenFile) → IsWellFormed t → h < hart_count → file_at t h fd ≡ Some f → InMap t.nodes f.number
@@ -41,22 +41,22 @@ open_node t h fd f k lt is =
     let same : o.file ≡ f = cc in
     subst (λ (z : OpenFile). InMap t.nodes z.number) same (in_map t.nodes o.file.number o.node o.there)
 
-pub file_sort : (x : Kind) → is_file x ≡ true → is_directory x ≡ false
-file_sort (Directory slots) h = absurd cc
-file_sort (File bytes) h = refl
-file_sort (Device a b c) h = absurd cc
+pub file_type : (x : NodeKind) → is_file x ≡ true → is_directory x ≡ false
+file_type (Directory slots) h = absurd cc
+file_type (File bytes) h = refl
+file_type (Device a b c) h = absurd cc
 
-pub emptied_sort : (x : Kind) → is_directory x ≡ false → is_directory (emptied x) ≡ false
-emptied_sort (Directory slots) h = h
-emptied_sort (File bytes) h = refl
-emptied_sort (Device a b c) h = refl
+pub emptied_type : (x : NodeKind) → is_directory x ≡ false → is_directory (emptied x) ≡ false
+emptied_type (Directory slots) h = h
+emptied_type (File bytes) h = refl
+emptied_type (Device a b c) h = refl
 
-pub written_sort : (x : Kind) (o : ℕ) (b : List ℕ) → is_directory x ≡ false → is_directory (written_kind x o b) ≡ false
-written_sort (Directory slots) o b h = h
-written_sort (File bytes) o b h = refl
-written_sort (Device x y z) o b h = refl
+pub type_written : (x : NodeKind) (o : ℕ) (b : List ℕ) → is_directory x ≡ false → is_directory (written_kind x o b) ≡ false
+type_written (Directory slots) o b h = h
+type_written (File bytes) o b h = refl
+type_written (Device x y z) o b h = refl
 
-pub written_dir : (x : Kind) (o : ℕ) (b : List ℕ) → is_directory x ≡ true → written_kind x o b ≡ x
+pub written_dir : (x : NodeKind) (o : ℕ) (b : List ℕ) → is_directory x ≡ true → written_kind x o b ≡ x
 written_dir (Directory slots) o b h = refl
 written_dir (File bytes) o b h = absurd cc
 written_dir (Device x y z) o b h = refl
@@ -65,8 +65,8 @@ truncated_well : (t : Tree) (h fd : ℕ) (o : Option OpenFile) → IsWellFormed 
 truncated_well t h fd None k lt is place = absurd cc
 truncated_well t h fd (Some f) k lt is place =
     let v : Node = node_at t f.number in
-    let sort = file_sort v.kind place in
-    well_content t f.number v (record v { kind = emptied v.kind }) k (open_node t h fd f k lt is) refl sort (emptied_sort v.kind sort)
+    let inode_type = file_type v.kind place in
+    well_content t f.number v (record v { kind = emptied v.kind }) k (open_node t h fd f k lt is) refl inode_type (emptied_type v.kind inode_type)
 
 written_well : (t : Tree) (h fd : ℕ) (b : List ℕ) (o : Option OpenFile) → IsWellFormed t → h < hart_count → file_at t h fd ≡ o → IsWellFormed (written t o b)
 written_well t h fd b None k lt is = k
@@ -75,9 +75,9 @@ written_well t h fd b (Some f) k lt is =
     let there = open_node t h fd f k lt is in
     elim (either (is_directory v.kind)) [
       | inl y ↦
-          let same : record v { kind = written_kind v.kind f.offset b } ≡ v = ap (λ (x : Kind). record { count = v.count; kind = x }) (written_dir v.kind f.offset b y) in
+          let same : record v { kind = written_kind v.kind f.offset b } ≡ v = ap (λ (x : NodeKind). record { count = v.count; kind = x }) (written_dir v.kind f.offset b y) in
           subst (λ (w : Node). IsWellFormed (record t { nodes = put t.nodes f.number (Some w) })) (sym same) (well_same t f.number v k there)
-      | inr y ↦ well_content t f.number v (record v { kind = written_kind v.kind f.offset b }) k there refl y (written_sort v.kind f.offset b y)
+      | inr y ↦ well_content t f.number v (record v { kind = written_kind v.kind f.offset b }) k there refl y (type_written v.kind f.offset b y)
     ]
 
 wrote_well : (t : Tree) (h fd : ℕ) (b : List ℕ) → IsWellFormed t → h < hart_count → IsWellFormed (wrote t h fd b)
@@ -91,8 +91,8 @@ no_hold t h (Some o) is free n = ap (λ (z : Option Hold). raised_at z n) is ∙
 held_well : (t : Tree) (h : ℕ) (res : Option ℕ) → IsWellFormed t → h < hart_count → ((n : ℕ) → res ≡ Some n → InMap t.nodes n) → find_refusal t res ≡ None → not (holds_raised true (t.holds h)) ≡ true → IsWellFormed (held t h res)
 held_well t h None k lt map ref free = k
 held_well t h (Some n) k lt map ref free =
-    let sort : is_directory (node_at t n).kind ≡ false = if_none _ _ ref in
-    let th : IsThere t.nodes n false = map_there t.nodes n false (map n refl) sort in
+    let inode_type : is_directory (node_at t n).kind ≡ false = if_none _ _ ref in
+    let th : IsThere t.nodes n false = map_there t.nodes n false (map n refl) inode_type in
     well_hold t h (Some (record { number = n; raised = false })) k lt (λ j. not_raised (record { number = n; raised = false }) j refl) (no_hold t h (t.holds h) refl free)
     (λ q e. let same : record { number = n; raised = false } ≡ q = cc in subst (λ (z : Hold). IsThere t.nodes z.number false) same th)
 

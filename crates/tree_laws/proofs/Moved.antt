@@ -1,6 +1,6 @@
 -- What a hart's own move does.
-use Rattle.tree_laws.proofs.Vocabulary.{◌≡◌, ◌≢◌, ℕ, ◌<◌, true, false, inl, refl, sym, ◌∙◌, ap, subst, List, [], ◌∷◌, ◌++◌, append_assoc, Option, Some, None, Call, Action, hart_count, Name, Tree, put, elements, live_directory, look, follow, start_of, resolve, parent, parent_of, path_of, follows_path, IsInPlace, Act, next_of, IsWellFormed, Deed, Walk, Stage, Move, Acts, GoesTo, Begins, Looks, Plays, fail, walks_at, after, Begin, Look, Quit, Own, lost, lost_of, PlaysAny, BeginsNext}
-use Rattle.tree_laws.proofs.Basics.{put_same, put_other, follow_on, follow_stop, follow_end, follow_one, parent_nil, parent_on, parent_stop, parent_here, WalkOk, Left, left_same, StepBy, lost_fails}
+use Rattle.tree_laws.proofs.Vocabulary.{◌≡◌, ◌≢◌, ℕ, ◌<◌, true, false, inl, refl, sym, ◌∙◌, ap, subst, List, [], ◌∷◌, ◌++◌, append_assoc, Option, Some, None, Call, Action, hart_count, Name, Tree, put, elements, live_directory, look, follow, start_of, resolve, parent, parent_of, path_of, follows_path, IsInPlace, Act, next_of, IsWellFormed, Deed, Walk, Stage, Move, Acts, GoesTo, StartLeadsTo, LookupLeadsTo, Plays, fail, walks_at, after, Begin, Look, GiveUpWalk, Own, lost, lost_of, PlaysAny, BeginsNext}
+use Rattle.tree_laws.proofs.Basics.{put_same, put_other, follow_on, follow_stop, follow_end, follow_one, parent_nil, parent_on, parent_stop, parent_here, WalkOk, LeavesWalk, left_same, StepBy, lost_fails}
 use Rattle.tree_laws.proofs.Kept.{step_well, step_hart, path_found}
 use Rattle.tree_laws.proofs.Frames.{step_frame}
 
@@ -9,18 +9,18 @@ WalkAt t h c x None = Unit {0}
 WalkAt t h c x (Some w) = WalkOk t h c x w
 
 -- a: what the call is told; it was told x before
-pub data Way (m : Stage) (h : ℕ) (c : Call) (x : List Act) (a : Option Deed) (m' : Stage) : Type 0 where
-  Stays : a ≡ None → m' ≡ m → Way m h c x a m'
-  Did : (d : Deed) → a ≡ Some d → lost_of m h ≡ None → m'.walk h ≡ None → next_of c x ≡ Some d.act.step → StepBy m.tree h d m'.tree → Way m h c x a m'
-  Went : (w : Walk) → a ≡ None → lost_of m h ≡ None → m'.walk h ≡ Some w → m'.tree ≡ m.tree → next_of c x ≡ Some w.step → (live_directory (m'.tree.nodes w.at) ≡ false → StepBy m'.tree h (fail w.step) m'.tree) → Way m h c x a m'
-  Ended : (d : Deed) → a ≡ Some d → lost_of m h ≡ Some d → m'.walk h ≡ None → m'.tree ≡ m.tree → Way m h c x a m'
+pub data MoveResult (m : Stage) (h : ℕ) (c : Call) (x : List Act) (a : Option Deed) (m' : Stage) : Type 0 where
+  Stays : a ≡ None → m' ≡ m → MoveResult m h c x a m'
+  ActsThere : (d : Deed) → a ≡ Some d → lost_of m h ≡ None → m'.walk h ≡ None → next_of c x ≡ Some d.act.step → StepBy m.tree h d m'.tree → MoveResult m h c x a m'
+  Went : (w : Walk) → a ≡ None → lost_of m h ≡ None → m'.walk h ≡ Some w → m'.tree ≡ m.tree → next_of c x ≡ Some w.step → (live_directory (m'.tree.nodes w.at) ≡ false → StepBy m'.tree h (fail w.step) m'.tree) → MoveResult m h c x a m'
+  GivesWalkUp : (d : Deed) → a ≡ Some d → lost_of m h ≡ Some d → m'.walk h ≡ None → m'.tree ≡ m.tree → MoveResult m h c x a m'
 
 pub record HasMoved (m : Stage) (h : ℕ) (c : Call) (x : List Act) (a : Option Deed) (m' : Stage) : Type 0 where
   pub good : IsWellFormed m'.tree
-  pub way : Way m h c x a m'
+  pub way : MoveResult m h c x a m'
   pub own : WalkAt m'.tree h c (after a x) (m'.walk h)
   pub walks : (g : ℕ) → g ≢ h → m'.walk g ≡ m.walk g
-  pub others : (g : ℕ) (w : Walk) → g < hart_count → g ≢ h → m.walk g ≡ Some w → Left m.tree m'.tree g w.at
+  pub others : (g : ℕ) (w : Walk) → g < hart_count → g ≢ h → m.walk g ≡ Some w → LeavesWalk m.tree m'.tree g w.at
 
 pub no_walk : (m : Stage) (h : ℕ) → m.walk h ≡ None → lost_of m h ≡ None
 no_walk m h e = ap (λ (o : Option Walk). lost m.tree o) e
@@ -44,7 +44,7 @@ quit_moved : (m m' : Stage) (h : ℕ) (c : Call) (x : List Act) (a : Option Deed
     → m' ≡ record { tree = m.tree; walk = put m.walk h None } → HasMoved m h c x a m'
 quit_moved m m' h c x a w s good is step dead deed stage = subst (λ (z : Stage). HasMoved m h c x a z) (sym stage) (record {
   good = good;
-  way = Ended (fail s) deed (ap (λ (o : Option Walk). lost m.tree o) is ∙ (lost_dead m.tree w dead ∙ ap (λ (z : Action). Some (fail z)) step)) (put_same m.walk h None) refl;
+  way = GivesWalkUp (fail s) deed (ap (λ (o : Option Walk). lost m.tree o) is ∙ (lost_dead m.tree w dead ∙ ap (λ (z : Action). Some (fail z)) step)) (put_same m.walk h None) refl;
   own = subst (λ (z : Option Walk). WalkAt m.tree h c (after a x) z) (sym (put_same m.walk h None)) tt;
   walks = λ g ne. put_other m.walk h None g ne;
   others = λ g v lg ne i. left_same m.tree m.tree g v.at refl;
@@ -59,7 +59,7 @@ acts_moved m m' h c x s new a good next none k =
     let ended : m'.walk h ≡ None = ap (λ (f : ℕ → Option Walk). f h) k.walk ∙ put_same m.walk h None in
     record {
       good = step_well m.tree m'.tree h s _ _ k.answer new k.id good found k.step;
-      way = Did (record { act = record { step = s; answer = k.answer }; new = new }) k.deed none ended next (k.id, k.step);
+      way = ActsThere (record { act = record { step = s; answer = k.answer }; new = new }) k.deed none ended next (k.id, k.step);
       own = subst (λ (z : Option Walk). WalkAt m'.tree h c (after a x) z) (sym ended) tt;
       walks = λ g ne. ap (λ (f : ℕ → Option Walk). f g) k.walk ∙ put_other m.walk h None g ne;
       others = λ g w lg ne is. record {
@@ -89,7 +89,7 @@ goes_moved m m' h c x w done a good none next f place path at k =
 -- The results of a lookup are those of the whole path.
 
 begins_moved : (m m' : Stage) (h : ℕ) (c : Call) (x : List Act) (s : Action) (es : List Name) (new : ℕ) (a : Option Deed) → IsWellFormed m.tree → m.walk h ≡ None → next_of c x ≡ Some s → follows_path s ≡ true → IsInPlace m.tree h s
-    → elements (path_of s) ≡ es → Begins m h s es new a m' → HasMoved m h c x a m'
+    → elements (path_of s) ≡ es → StartLeadsTo m h s es new a m' → HasMoved m h c x a m'
 begins_moved m m' h c x s [] new a good rests next f place path k =
     let start : ℕ = start_of m.tree h (path_of s) in
     let res : resolve m.tree h (path_of s) ≡ Some start = subst (λ (z : List Name). follow m.tree.nodes start z ≡ Some start) (sym path) (follow_end m.tree.nodes start) in
@@ -99,7 +99,7 @@ begins_moved m m' h c x s (e ∷ es) new a good rests next f place path k =
     goes_moved m m' h c x (record { step = s; at = start_of m.tree h (path_of s); next = e; rest = es }) [] a good (no_walk m h rests) next f place path (follow_end m.tree.nodes (start_of m.tree h (path_of s))) k
 
 looks_moved : (m m' : Stage) (h : ℕ) (c : Call) (x : List Act) (w : Walk) (rest : List Name) (r : Option ℕ) (new : ℕ) (a : Option Deed) → IsWellFormed m.tree → lost_of m h ≡ None → WalkOk m.tree h c x w → live_directory (m.tree.nodes w.at) ≡ true
-    → w.rest ≡ rest → look m.tree.nodes w.at w.next ≡ r → Looks m h w rest r new a m' → HasMoved m h c x a m'
+    → w.rest ≡ rest → look m.tree.nodes w.at w.next ≡ r → LookupLeadsTo m h w rest r new a m' → HasMoved m h c x a m'
 looks_moved m m' h c x w [] r new a good none k live rest found l =
     let here = k.here live in
     let start : ℕ = start_of m.tree h (path_of w.step) in
@@ -123,7 +123,7 @@ plays_moved : (m m' : Stage) (h : ℕ) (c : Call) (x : List Act) (v : Move) (a :
 plays_moved m m' h c x (Begin s new) a good own next k = begins_moved m m' h c x s (elements (path_of s)) new a good k.rests next k.follows k.place refl k.begins
 plays_moved m m' h c x (Look new) a good own next k =
     looks_moved m m' h c x k.walk k.walk.rest (look m.tree.nodes k.walk.at k.walk.next) new a good (ap (λ (o : Option Walk). lost m.tree o) k.is ∙ lost_live m.tree k.walk k.live) (subst (λ (z : Option Walk). WalkAt m.tree h c x z) k.is own) k.live refl refl k.looks
-plays_moved m m' h c x (Quit s) a good own next k = quit_moved m m' h c x a k.walk s good k.is k.step k.lost k.deed k.stage
+plays_moved m m' h c x (GiveUpWalk s) a good own next k = quit_moved m m' h c x a k.walk s good k.is k.step k.lost k.deed k.stage
 plays_moved m m' h c x (Own s new) a good own next k = acts_moved m m' h c x s new a good next (no_walk m h k.rests) k.acts
 
 pub any_moved : (m m' : Stage) (h : ℕ) (c : Call) (x : List Act) (v : Option Move) (a : Option Deed) → IsWellFormed m.tree → WalkAt m.tree h c x (m.walk h) → BeginsNext c x v → PlaysAny m h v a m' → HasMoved m h c x a m'

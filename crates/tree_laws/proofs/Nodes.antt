@@ -127,9 +127,9 @@ settled_well t k = record {
   depth = k.depth;
   forest = subst (λ (F : Folders). IsForest F (links_in (settle t).nodes) (raises t.holds) t.ninodes k.depth) (sym (settle_folders t))
       (subst (λ (C : ℕ → ℕ). IsForest (folders_of t.nodes) C (raises t.holds) t.ninodes k.depth) (sym (settle_links t)) k.forest);
-  holds = λ h o lt is. let th = k.holds h o lt is in record { node = th.node; is = settle_named t o.number (hold_named t h o lt is) ∙ th.is; sort = th.sort };
+  holds = λ h o lt is. let th = k.holds h o lt is in record { node = th.node; is = settle_named t o.number (hold_named t h o lt is) ∙ th.is; inode_type = th.inode_type };
   descriptors = λ h i id lh li is. let th = k.descriptors h i id lh li is in record { file = th.file; is = th.is; node = th.node; there = settle_named t th.file.number (file_named t h i id th.file lh li is th.is) ∙ th.there };
-  directories = λ h lt. let th = k.directories h lt in record { node = th.node; is = settle_named t (t.cwd h) (cwd_named t h lt) ∙ th.is; sort = th.sort };
+  directories = λ h lt. let th = k.directories h lt in record { node = th.node; is = settle_named t (t.cwd h) (cwd_named t h lt) ∙ th.is; inode_type = th.inode_type };
 }
 
 -- A dead node that nothing names leaves.
@@ -139,9 +139,9 @@ well_gone t i k dead unnamed = record {
   depth = k.depth;
   forest = subst (λ (F : Folders). IsForest F (links_in (put t.nodes i None)) (raises t.holds) t.ninodes k.depth) (sym folders)
       (subst (λ (C : ℕ → ℕ). IsForest (folders_of t.nodes) C (raises t.holds) t.ninodes k.depth) (sym links) k.forest);
-  holds = λ h o lt is. let th = k.holds h o lt is in record { node = th.node; is = other o.number (λ q. named o.number q (hold_named t h o lt is)) ∙ th.is; sort = th.sort };
+  holds = λ h o lt is. let th = k.holds h o lt is in record { node = th.node; is = other o.number (λ q. named o.number q (hold_named t h o lt is)) ∙ th.is; inode_type = th.inode_type };
   descriptors = λ h j id lh lj is. let th = k.descriptors h j id lh lj is in record { file = th.file; is = th.is; node = th.node; there = other th.file.number (λ q. named th.file.number q (file_named t h j id th.file lh lj is th.is)) ∙ th.there };
-  directories = λ h lt. let th = k.directories h lt in record { node = th.node; is = other (t.cwd h) (λ q. named (t.cwd h) q (cwd_named t h lt)) ∙ th.is; sort = th.sort };
+  directories = λ h lt. let th = k.directories h lt in record { node = th.node; is = other (t.cwd h) (λ q. named (t.cwd h) q (cwd_named t h lt)) ∙ th.is; inode_type = th.inode_type };
 }
   where
     folders : folders_of (put t.nodes i None) ≡ folders_of t.nodes

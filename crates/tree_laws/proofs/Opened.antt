@@ -117,7 +117,7 @@ well_chdir t h n k dir = well_cwd t (put t.cwd h n) k (λ g lg. elim (put_is t.c
   where
     go : (o : Option Node) → t.nodes n ≡ o → is_directory (node_or o).kind ≡ true → IsThere t.nodes n true
     go None e q = absurd cc
-    go (Some v) e q = record { node = v; is = e; sort = q }
+    go (Some v) e q = record { node = v; is = e; inode_type = q }
 
 -- a hold changes that isn't raised, before and after
 pub well_hold : (t : Tree) (h : ℕ) (o : Option Hold) → IsWellFormed t → h < hart_count → ((n : ℕ) → raised_at o n ≡ 0) → ((n : ℕ) → raised_at (t.holds h) n ≡ 0) → ((q : Hold) → o ≡ Some q → IsThere t.nodes q.number false) → IsWellFormed (record t { holds = put t.holds h o })

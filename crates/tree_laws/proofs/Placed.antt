@@ -1,5 +1,5 @@
 -- A directory is made, and a name is removed.
-use Rattle.tree_laws.proofs.Vocabulary.{◌≡◌, ◌≢◌, ℕ, suc, ◌+◌, ◌-◌, ◌<◌, ◌≤◌, Bool, true, false, ◌&&◌, ◌==◌, inl, inr, refl, sym, ◌∙◌, ap, subst, arith, [], drop, Option, Some, None, nat_lt, if◌then◌else◌, nat_tests, Cause, Slot, Node, Kind, Directory, File, Device, root, Name, Tree, put, same_name, dot, dotdot, is_directory, slots_of, live_directory, is_live, all_slots, first_slot, look, node_or, node_at, with_nodes, first_free, cleared, any_used, not_empty, raised, lowered, new_directory, Slots, Folders, folder, links_of, folders_of, links_in, up_in, past, count_in, one_if, mentions, children, raises, IsForest, IsWellFormed}
+use Rattle.tree_laws.proofs.Vocabulary.{◌≡◌, ◌≢◌, ℕ, suc, ◌+◌, ◌-◌, ◌<◌, ◌≤◌, Bool, true, false, ◌&&◌, ◌==◌, inl, inr, refl, sym, ◌∙◌, ap, subst, arith, [], drop, Option, Some, None, nat_lt, if◌then◌else◌, nat_tests, Cause, Slot, Node, NodeKind, Directory, File, Device, root, Name, Tree, put, same_name, dot, dotdot, is_directory, slots_of, live_directory, is_live, all_slots, first_slot, look, node_or, node_at, with_nodes, first_free, cleared, any_used, not_empty, raised, lowered, new_directory, Slots, Folders, folder, links_of, folders_of, links_in, up_in, past, count_in, one_if, mentions, children, raises, IsForest, IsWellFormed}
 use Rattle.tree_laws.proofs.Basics.{either, same_or, eq_self, eq_not, put_is, put_same, put_other, and_true, one_yes, one_no, count_entered, count_unused, Dots, cleared_forest, grown_forest, shrunk_forest, apart, plain_or, mentions_part, childless, entered_shape, shape_rest, folder_live, folder_dead, folder_some, folder_none, folder_links, linked_live, live_some, some_node, everywhere, folders_put, put_self, InRange, Keeps, range_put, keeps_put, keeps_on, well_nodes, not_folder, with_new, new_apart, new_keeps, new_range, new_links, new_folders, file_forest}
 use Rattle.tree_laws.proofs.Facts.{entry_found, entry_up, entry_apart, entry_linked}
 
@@ -164,21 +164,21 @@ empty_slots (Some v) ss h e = let two = folder_some (Some v) ss h in subst (λ (
     test true c h = absurd cc
     test false c h = refl
 
-    go : (x : Kind) → is_directory x ≡ true → not_empty x ≡ None → any_used (drop 2 (slots_of x)) ≡ false
+    go : (x : NodeKind) → is_directory x ≡ true → not_empty x ≡ None → any_used (drop 2 (slots_of x)) ≡ false
     go (Directory slots) d h = test (any_used (drop 2 slots)) _ h
     go (File bytes) d h = absurd cc
     go (Device a b c) d h = absurd cc
 
-pub sort_file : (o : Option Node) → is_live o ≡ true → folder o ≡ None → is_directory (node_or o).kind ≡ false
-sort_file None l h = absurd cc
-sort_file (Some v) l h = elim (either (is_directory v.kind)) [
+pub type_file : (o : Option Node) → is_live o ≡ true → folder o ≡ None → is_directory (node_or o).kind ≡ false
+type_file None l h = absurd cc
+type_file (Some v) l h = elim (either (is_directory v.kind)) [
   | inr y ↦ y
   | inl y ↦ absurd (let a : live_directory (Some v) ≡ true = both_true (nat_lt 0 v.count) (is_directory v.kind) l y in let b : live_directory (Some v) ≡ false = folder_none (Some v) h in cc (a, b))
 ]
 
-pub sort_folder : (o : Option Node) (ss : Slots) → folder o ≡ Some ss → is_directory (node_or o).kind ≡ true
-sort_folder None ss h = absurd cc
-sort_folder (Some v) ss h = (and_true _ _ (folder_some (Some v) ss h).0).1
+pub type_folder : (o : Option Node) (ss : Slots) → folder o ≡ Some ss → is_directory (node_or o).kind ≡ true
+type_folder None ss h = absurd cc
+type_folder (Some v) ss h = (and_true _ _ (folder_some (Some v) ss h).0).1
 
 pub positive : (c : ℕ) → 1 ≤ c → nat_lt 0 c ≡ true
 positive c h = grind (arith, nat_tests)
@@ -292,7 +292,7 @@ well_removed t d n e k good a b found first bare =
     (without_range ns d n N dir e (k.range d (node_or (ns d)) at_d) (k.range n (node_at t n) g.there) k.range)
     (elim (plain_or (F n)) [
       | inl plain ↦
-          let file : dir ≡ false = sort_file (ns n) (linked_live (ns n) (entry_linked F C R N D d n ss k.forest is some)) plain in
+          let file : dir ≡ false = type_file (ns n) (linked_live (ns n) (entry_linked F C R N D d n ss k.forest is some)) plain in
           let same : (less dir e (node_or (ns d))).count ≡ (node_or (ns d)).count = ap (λ (z : Bool). if z then (node_or (ns d)).count - 1 else (node_or (ns d)).count) file in
           let f1 : folder (Some (less dir e (node_or (ns d)))) ≡ Some (cleared ss e) = kept (node_or (ns d)).count (sym same) (omega (arith, ld, cd)) in
           let none : folder (Some (lowered (node_at t n))) ≡ None = not_folder (lowered (node_at t n)) file in
@@ -305,7 +305,7 @@ well_removed t d n e k good a b found first bare =
           (λ j js jis. ((let c = C2 j in let z = no_dir j in let ne : one_if (n == j) ≡ 0 = one_no (n == j) (eq_not n j (apart F n j js plain jis)) in omega (arith, c, z, ne)), refl))
           (λ j jis. let c = C2 j in let z = no_dir j in omega (arith, c, z)))
       | inr q ↦
-          let isdir : dir ≡ true = sort_folder (ns n) q.0 q.1 in
+          let isdir : dir ≡ true = type_folder (ns n) q.0 q.1 in
           let child = empty_child F C R N D d n ss q.0 k.forest is q.1 some (g.empty q.0 q.1) in
           let more = child.4 in
           let one = child.2 in

@@ -1,5 +1,5 @@
 -- Runs that are computed: what a script of moves does, and that it is a run where each move is allowed.
-use Rattle.tree_laws.proofs.Vocabulary.{◌≡◌, ◌≢◌, ℕ, zero, suc, ◌+◌, ◌*◌, ◌<◌, Bool, true, false, ◌&&◌, ◌||◌, not, ◌==◌, refl, ap, subst, arith, List, [], ◌∷◌, Option, Some, None, nat_lt, if◌then◌else◌, nat_tests, Cause, Reply, Call, Action, Open, Truncate, Read, WritePart, Find, Bump, Enter, Unbump, Unlink, Mkdir, Chdir, Dup, Close, Fstat, Inherit, StepAnswer, Opened, Bytes, Status, NewFd, Done, Failed, NoRoom, OpenFile, hart_count, descriptor_count, Name, Tree, put, any_below, elements, live_directory, look, start_of, resolve, parent, settle, path_of, follows_path, makes_node, opens_one, is_nothing, place_of, IsInPlace, IsLeastUnused, MayChoose, StepWith, refusal_with, refused, effect_with, answer_with, Act, next_of, reply_of, had_room, Deed, Walk, Stage, Move, Acts, Begins, Looks, walks_at, fail, after, Begin, Look, Quit, Own, HartStanding, starts, Free, Busy, World, Event, PlaysAny, BeginsNext, stepped, Happens, Runs, Starts, Steps, Nothing}
+use Rattle.tree_laws.proofs.Vocabulary.{◌≡◌, ◌≢◌, ℕ, zero, suc, ◌+◌, ◌*◌, ◌<◌, Bool, true, false, ◌&&◌, ◌||◌, not, ◌==◌, refl, ap, subst, arith, List, [], ◌∷◌, Option, Some, None, nat_lt, if◌then◌else◌, nat_tests, Cause, Reply, Call, Action, Open, Truncate, Read, WritePart, Find, Bump, Enter, Unbump, Unlink, Mkdir, Chdir, Dup, Close, Fstat, Inherit, StepAnswer, Opened, Bytes, Status, NewFd, Done, Failed, NoRoom, OpenFile, hart_count, descriptor_count, Name, Tree, put, any_below, elements, live_directory, look, start_of, resolve, parent, settle, path_of, follows_path, makes_node, opens_one, is_nothing, place_of, IsInPlace, IsLeastUnused, MayChoose, StepWith, refusal_with, refused, effect_with, answer_with, Act, next_of, reply_of, had_room, Deed, Walk, Stage, Move, Acts, StartLeadsTo, LookupLeadsTo, walks_at, fail, after, Begin, Look, GiveUpWalk, Own, HartStanding, starts, Free, Busy, World, Event, PlaysAny, BeginsNext, stepped, Happens, Runs, Starts, Steps, Nothing}
 use Rattle.tree_laws.proofs.Basics.{eq_self, eq_not, and_true, any_none}
 
 -- a move without the step that it is for
@@ -122,7 +122,7 @@ look_with m h (Some w) new = moves (Look new) (live_directory (m.tree.nodes w.at
 
 abbrev pub quit_with : Stage → ℕ → Option Walk → Played
 quit_with m h None = never m
-quit_with m h (Some w) = record { move = Some (Quit w.step); told = Some (fail w.step); stage = record { tree = m.tree; walk = put m.walk h None }; may = not (live_directory (m.tree.nodes w.at)) }
+quit_with m h (Some w) = record { move = Some (GiveUpWalk w.step); told = Some (fail w.step); stage = record { tree = m.tree; walk = put m.walk h None }; may = not (live_directory (m.tree.nodes w.at)) }
 
 unfoldable pub moved : Stage → ℕ → Call → List Act → Option Plan → Played
 moved m h c acts None = record { move = None; told = None; stage = m; may = true }
@@ -217,11 +217,11 @@ acted_ok m h s res par new may =
     both : (a b : Bool) → a ≡ true → b ≡ true → (a && b) ≡ true
     both a b p q = grind arith
 
-begun_ok : (m : Stage) (h : ℕ) (s : Action) (es : List Name) (new : ℕ) → (begun m h s es new).may ≡ true → Begins m h s es new (begun m h s es new).told (begun m h s es new).stage
+begun_ok : (m : Stage) (h : ℕ) (s : Action) (es : List Name) (new : ℕ) → (begun m h s es new).may ≡ true → StartLeadsTo m h s es new (begun m h s es new).told (begun m h s es new).stage
 begun_ok m h s [] new may = acted_ok m h s (Some (start_of m.tree h (path_of s))) None new may
 begun_ok m h s (e ∷ es) new may = (refl, refl)
 
-looked_ok : (m : Stage) (h : ℕ) (w : Walk) (es : List Name) (r : Option ℕ) (new : ℕ) → (looked m h w es r new).may ≡ true → Looks m h w es r new (looked m h w es r new).told (looked m h w es r new).stage
+looked_ok : (m : Stage) (h : ℕ) (w : Walk) (es : List Name) (r : Option ℕ) (new : ℕ) → (looked m h w es r new).may ≡ true → LookupLeadsTo m h w es r new (looked m h w es r new).told (looked m h w es r new).stage
 looked_ok m h w [] r new may = acted_ok m h w.step r (Some (w.at, w.next)) new may
 looked_ok m h w (e ∷ es) None new may = acted_ok m h w.step None None new may
 looked_ok m h w (e ∷ es) (Some n) new may = (refl, refl)
@@ -359,7 +359,7 @@ script_runs w (d ∷ ds) may =
 abbrev pub plan_of : Move → Plan
 plan_of (Begin s new) = StartWalk new
 plan_of (Look new) = LookUp new
-plan_of (Quit s) = GiveUp
+plan_of (GiveUpWalk s) = GiveUp
 plan_of (Own s new) = AtOnce new
 
 abbrev pub any_plan : Option Move → Option Plan

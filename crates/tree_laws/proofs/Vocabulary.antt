@@ -5,7 +5,7 @@ pub use Rattle.tree_laws.specs.Vocabulary.{Explains, NoEntry, Other, Replied, Re
 unfoldable pub use Rattle.tree_laws.specs.Vocabulary.{climbs_in, reply_of}
 pub use Rattle.tree_laws.specs.WellFormed.{Folders, IsForest, IsInOrder, IsThere, IsWellFormed, Slots, folder, folders_of, has_up, links_in, links_of, past, raised_at, up_in}
 unfoldable pub use Rattle.tree_laws.specs.WellFormed.{NamesOnce, children, count_in, mentions, one_if, raises, sum_below}
-pub use Rattle.tree_laws.specs.Moves.{Acts, Begins, Deed, GoesTo, IsNext, IsPlayed, Looks, MayEnd, Move, Plays, Stage, Step as MoveStep, Walk, after, begins, fail, told_by, walks_at}
+pub use Rattle.tree_laws.specs.Moves.{Acts, StartLeadsTo, Deed, GoesTo, IsNext, IsPlayed, LookupLeadsTo, MayEnd, Move, Plays, Stage, Step as MoveStep, Walk, after, begins, fail, told_by, walks_at}
 pub use Rattle.tree_laws.specs.Runs.{BeginsNext, Event, Happens, IsStartBy, MayReply, PlaysAny, World, climbing, falls, finishes, lost, lost_of, moves_on, opened, shown_of, stepped, unless}
 unfoldable pub use Rattle.tree_laws.specs.Runs.{Alone, NoneClimbs, Runs, all_fall}
 pub use Rattle.plain_tree.specs.Tree.{climbs, is_absolute}
@@ -19,7 +19,7 @@ unfoldable pub use Rattle.plain_tree.specs.Explains.{trace_from}
 pub use Rattle.plain_tree.specs.Steps.{holds_raised, is_used}
 pub use Rattle.plain_tree.specs.declared.trace.TracedCall.{TracedCall}
 pub use Rattle.std.proofs.Common.{slice_get, slice_index_or, ◌*◌}
-pub use Rattle.tree_laws.specs.Moves.Move.{Begin, Look, Own, Quit}
+pub use Rattle.tree_laws.specs.Moves.Move.{Begin, Look, Own, GiveUpWalk}
 pub use Rattle.plain_tree.specs.Calls.{IsWhole}
 pub use Rattle.plain_tree.specs.Fresh.{fresh_root, fresh_slots}
 pub use Rattle.tree_laws.specs.Actions.{ActionsAreTold}
@@ -30,8 +30,8 @@ pub use Rattle.plain_tree.specs.declared.answer.Cause.{Cause}
 pub use Rattle.plain_tree.specs.declared.answer.Cause.TheVariants.{DotName}
 pub use Rattle.plain_tree.specs.declared.call.Call.{Call}
 pub use Rattle.plain_tree.specs.declared.call.Call.TheVariants.{Chdir as ChdirCall, Close as CloseCall, Dup as DupCall, Fstat as FstatCall, Inherit as InheritCall, Link as LinkCall, Mkdir as MkdirCall, Open as OpenCall, Read as ReadCall, Unlink as UnlinkCall, Write as WriteCall}
-pub use Rattle.plain_tree.specs.declared.node.Kind.{Kind}
-pub use Rattle.plain_tree.specs.declared.node.Kind.TheVariants.{Device, Directory, File}
+pub use Rattle.plain_tree.specs.declared.node.NodeKind.{NodeKind}
+pub use Rattle.plain_tree.specs.declared.node.NodeKind.TheVariants.{Device, Directory, File}
 pub use Rattle.plain_tree.specs.declared.node.Node.{Node}
 pub use Rattle.plain_tree.specs.declared.node.Slot.{Slot}
 pub use Rattle.plain_tree.specs.declared.step.Action.{Action}

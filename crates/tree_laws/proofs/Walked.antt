@@ -13,14 +13,14 @@ pub record WalkOk (t : Tree) (h : ℕ) (c : Call) (x : List Act) (w : Walk) : Ty
   pub here : live_directory (t.nodes w.at) ≡ true → follow t.nodes (start_of t h (path_of w.step)) done ≡ Some w.at
 
 -- what another hart's event leaves to a walk at a node
-pub record Left (t t' : Tree) (g at : ℕ) : Type 0 where
+pub record LeavesWalk (t t' : Tree) (g at : ℕ) : Type 0 where
   pub paths : (a x : ℕ) (w : List Name) → climbs_in w ≡ false → follow t.nodes a w ≡ Some x → (follow t'.nodes a w ≡ Some x) ⊎ ((live_directory (t'.nodes x) ≡ false) × (follow t'.nodes a w ≡ None))
   pub dead : live_directory (t.nodes at) ≡ false → live_directory (t'.nodes at) ≡ false
   pub cwd : t'.cwd g ≡ t.cwd g
   pub hold : t'.holds g ≡ t.holds g
 
-pub left_same : (t t' : Tree) (g at : ℕ) → t' ≡ t → Left t t' g at
-left_same t t' g at e = subst (λ (z : Tree). Left t z g at) (sym e) (record { paths = λ a x w c is. inl is; dead = λ b. b; cwd = refl; hold = refl })
+pub left_same : (t t' : Tree) (g at : ℕ) → t' ≡ t → LeavesWalk t t' g at
+left_same t t' g at e = subst (λ (z : Tree). LeavesWalk t z g at) (sym e) (record { paths = λ a x w c is. inl is; dead = λ b. b; cwd = refl; hold = refl })
 
 start_same : (t t' : Tree) (h : ℕ) (p : List ℕ) → t'.cwd h ≡ t.cwd h → start_of t' h p ≡ start_of t h p
 start_same t t' h p e = rw e refl
@@ -179,19 +179,19 @@ calm_done : (t : Tree) (h : ℕ) (c : Call) (x : List Act) (w : Walk) → (k : W
 calm_done t h c x w k calm = climbs_front k.done (w.next ∷ w.rest) (subst (λ (z : List Name). climbs_in z ≡ false) k.path calm)
 
 -- where the path so far leads in the tree that the event leaves
-still_at : (t t' : Tree) (g : ℕ) (c : Call) (x : List Act) (w : Walk) → call_climbs c ≡ false → (k : WalkOk t g c x w) → Left t t' g w.at → live_directory (t.nodes w.at) ≡ true
+still_at : (t t' : Tree) (g : ℕ) (c : Call) (x : List Act) (w : Walk) → call_climbs c ≡ false → (k : WalkOk t g c x w) → LeavesWalk t t' g w.at → live_directory (t.nodes w.at) ≡ true
     → (follow t'.nodes (start_of t' g (path_of w.step)) k.done ≡ Some w.at) ⊎ ((live_directory (t'.nodes w.at) ≡ false) × (follow t'.nodes (start_of t' g (path_of w.step)) k.done ≡ None))
 still_at t t' g c x w calm k f good =
     let at : follow t.nodes (start_of t' g (path_of w.step)) k.done ≡ Some w.at = subst (λ (z : ℕ). follow t.nodes z k.done ≡ Some w.at) (sym (start_same t t' g (path_of w.step) f.cwd)) (k.here good) in
     f.paths (start_of t' g (path_of w.step)) w.at k.done (calm_done t g c x w k (calm_step c x w.step calm k.next)) at
 
 -- a walk whose directory died fails just now
-pub walk_falls : (t t' : Tree) (g : ℕ) (c : Call) (x : List Act) (w : Walk) → call_climbs c ≡ false → WalkOk t g c x w → Left t t' g w.at → live_directory (t.nodes w.at) ≡ true → live_directory (t'.nodes w.at) ≡ false → StepBy t' g (fail w.step) t'
+pub walk_falls : (t t' : Tree) (g : ℕ) (c : Call) (x : List Act) (w : Walk) → call_climbs c ≡ false → WalkOk t g c x w → LeavesWalk t t' g w.at → live_directory (t.nodes w.at) ≡ true → live_directory (t'.nodes w.at) ≡ false → StepBy t' g (fail w.step) t'
 walk_falls t t' g c x w calm k f good bad =
     lost_fails t' g w.at w.next k.done w.rest w.step k.follows (place_kept t t' g w.step k.follows f.hold k.place) k.path (elim (still_at t t' g c x w calm k f good) [ inl p ↦ inl (p, bad) | inr p ↦ inr p.1 ])
 
 -- the walk stays right
-pub walk_kept : (t t' : Tree) (g : ℕ) (c : Call) (x : List Act) (w : Walk) → call_climbs c ≡ false → WalkOk t g c x w → Left t t' g w.at → WalkOk t' g c x w
+pub walk_kept : (t t' : Tree) (g : ℕ) (c : Call) (x : List Act) (w : Walk) → call_climbs c ≡ false → WalkOk t g c x w → LeavesWalk t t' g w.at → WalkOk t' g c x w
 walk_kept t t' g c x w calm k f = record {
   done = k.done;
   path = k.path;

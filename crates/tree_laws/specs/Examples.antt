@@ -2,7 +2,7 @@
 use Rattle.std.specs.Prelude.{◌≡◌, ℕ, true, List, [], ◌∷◌, ◌++◌, Some, None, codes}
 use Rattle.tree_laws.specs.Vocabulary.{Answer, Fd, Count, Stated, Finished, Refused, NoEntry, AFile, Call, OpenCall as Open, ReadCall as Read, Write, Link, UnlinkCall as Unlink, MkdirCall as Mkdir, ChdirCall as Chdir, DupCall as Dup, FstatCall as Fstat, CloseCall as Close, InheritCall as Inherit, Action, Open as OpenStep, Read as ReadStep, WritePart, Find, Bump, Enter, Unlink as UnlinkStep, Mkdir as MkdirStep, Chdir as ChdirStep, Dup as DupStep, Close as CloseStep, Fstat as FstatStep, Inherit as InheritStep, StepAnswer, Opened, Bytes, Status, NewFd, Done, Failed, Placed, tree_of, fresh}
 use Rattle.tree_laws.specs.Moves.{Move}
-use Rattle.tree_laws.specs.Moves.Move.{Begin, Look, Quit, Own}
+use Rattle.tree_laws.specs.Moves.Move.{Begin, Look, GiveUpWalk, Own}
 use Rattle.tree_laws.specs.Runs.{World, Event, Runs, opened}
 use Rattle.tree_laws.specs.Runs.Event.{Starts, Steps}
 
@@ -147,7 +147,7 @@ removes_both = Starts 1 (Close 0) ∷ ends 1 (Own (CloseStep 0) 0) (Close 0) Fin
     ∷ Starts 1 unlink_d ∷ walks 1 (UnlinkStep (codes "/d")) 0 ++ returns 1 unlink_d Finished ∷ []
 
 abbrev pub gives_up : Event
-gives_up = ends 0 (Quit (OpenStep (codes "/d/f") 0)) open_f (Refused NoEntry)
+gives_up = ends 0 (GiveUpWalk (OpenStep (codes "/d/f") 0)) open_f (Refused NoEntry)
 
 -- hart 0's open fails at the unlink that kills its directory, just after it
 abbrev pub until_removed : List Placed
@@ -180,7 +180,7 @@ open_below_a = Open (codes "/a/b") 0
 
 abbrev pub opens_below_a : List Event
 opens_below_a = opens_a ++ Starts 0 open_below_a ∷ walks 0 (OpenStep (codes "/a/b") 0) 0
-    ++ ends 0 (Quit (OpenStep (codes "/a/b") 0)) open_below_a (Refused NoEntry) ∷ []
+    ++ ends 0 (GiveUpWalk (OpenStep (codes "/a/b") 0)) open_below_a (Refused NoEntry) ∷ []
 
 abbrev pub WalkerFailsAtAFile : Type 0
 WalkerFailsAtAFile = IsRun opens_below_a (opened_a ∷ placed 6 1 0 0 (OpenStep (codes "/a/b") 0) (Failed NoEntry) ∷ [])

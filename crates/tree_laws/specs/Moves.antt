@@ -23,7 +23,7 @@ pub record Stage : Type 0 where
 pub data Move : Type 0 where
   Begin : Action → (new : ℕ) → Move  -- a path's walk stands at its start
   Look : (new : ℕ) → Move  -- the next element is looked up
-  Quit : Action → Move  -- the walk for this step, which is lost, is given up
+  GiveUpWalk : Action → Move  -- the walk for this step, which is lost, is given up
   Own : Action → (new : ℕ) → Move  -- a step without a path
 
 -- a walk that finds no live directory to look in fails
@@ -53,27 +53,27 @@ abbrev pub GoesTo : Stage → ℕ → Walk → Option Deed → Stage → Type 0
 GoesTo m h w told m' = (told ≡ None) × (m' ≡ record { tree = m.tree; walk = put m.walk h (Some w) })
 
 -- a path without elements is found at its start
-abbrev pub Begins : Stage → ℕ → Action → List Name → ℕ → Option Deed → Stage → Type 0
-Begins m h s [] new told m' = Acts m h s (Some (start_of m.tree h (path_of s))) None new told m'
-Begins m h s (e ∷ es) new told m' = GoesTo m h (record { step = s; at = start_of m.tree h (path_of s); next = e; rest = es }) told m'
+abbrev pub StartLeadsTo : Stage → ℕ → Action → List Name → ℕ → Option Deed → Stage → Type 0
+StartLeadsTo m h s [] new told m' = Acts m h s (Some (start_of m.tree h (path_of s))) None new told m'
+StartLeadsTo m h s (e ∷ es) new told m' = GoesTo m h (record { step = s; at = start_of m.tree h (path_of s); next = e; rest = es }) told m'
 
 -- the step acts at the last lookup, or where nothing was found
-abbrev pub Looks : Stage → ℕ → Walk → List Name → Option ℕ → ℕ → Option Deed → Stage → Type 0
-Looks m h w [] found new told m' = Acts m h w.step found (Some (w.at, w.next)) new told m'
-Looks m h w (e ∷ es) None new told m' = Acts m h w.step None None new told m'
-Looks m h w (e ∷ es) (Some n) new told m' = GoesTo m h (record { step = w.step; at = n; next = e; rest = es }) told m'
+abbrev pub LookupLeadsTo : Stage → ℕ → Walk → List Name → Option ℕ → ℕ → Option Deed → Stage → Type 0
+LookupLeadsTo m h w [] found new told m' = Acts m h w.step found (Some (w.at, w.next)) new told m'
+LookupLeadsTo m h w (e ∷ es) None new told m' = Acts m h w.step None None new told m'
+LookupLeadsTo m h w (e ∷ es) (Some n) new told m' = GoesTo m h (record { step = w.step; at = n; next = e; rest = es }) told m'
 
 pub record BeginsWalk (m : Stage) (h : ℕ) (s : Action) (new : ℕ) (told : Option Deed) (m' : Stage) : Type 0 where
   pub follows : follows_path s ≡ true
   pub rests : m.walk h ≡ None
   pub place : IsInPlace m.tree h s
-  pub begins : Begins m h s (elements (path_of s)) new told m'
+  pub begins : StartLeadsTo m h s (elements (path_of s)) new told m'
 
 pub record LooksUp (m : Stage) (h : ℕ) (new : ℕ) (told : Option Deed) (m' : Stage) : Type 0 where
   pub walk : Walk
   pub is : m.walk h ≡ Some walk
   pub live : live_directory (m.tree.nodes walk.at) ≡ true
-  pub looks : Looks m h walk walk.rest (look m.tree.nodes walk.at walk.next) new told m'
+  pub looks : LookupLeadsTo m h walk walk.rest (look m.tree.nodes walk.at walk.next) new told m'
 
 pub record GivesUp (m : Stage) (h : ℕ) (s : Action) (told : Option Deed) (m' : Stage) : Type 0 where
   pub walk : Walk
@@ -92,7 +92,7 @@ pub record ActsAtOnce (m : Stage) (h : ℕ) (s : Action) (new : ℕ) (told : Opt
 abbrev pub Plays : Stage → ℕ → Move → Option Deed → Stage → Type 0
 Plays m h (Begin s new) told m' = BeginsWalk m h s new told m'
 Plays m h (Look new) told m' = LooksUp m h new told m'
-Plays m h (Quit s) told m' = GivesUp m h s told m'
+Plays m h (GiveUpWalk s) told m' = GivesUp m h s told m'
 Plays m h (Own s new) told m' = ActsAtOnce m h s new told m'
 
 -- a move with what it tells the call
@@ -100,8 +100,8 @@ pub record Step : Type 0 where
   pub move : Move
   pub told : Option Deed
 
-abbrev pub Takes : Stage → ℕ → Step → Stage → Type 0
-Takes m h e m' = Plays m h e.move e.told m'
+abbrev pub PlaysStep : Stage → ℕ → Step → Stage → Type 0
+PlaysStep m h e m' = Plays m h e.move e.told m'
 
 -- The calls whose moves these are.
 
@@ -109,7 +109,7 @@ Takes m h e m' = Plays m h e.move e.told m'
 abbrev pub begins : Move → Option Action
 begins (Begin s new) = Some s
 begins (Look new) = None
-begins (Quit s) = None
+begins (GiveUpWalk s) = None
 begins (Own s new) = Some s
 
 -- where a step is begun, it is the next one of the call's written sequence

@@ -105,7 +105,7 @@ links_in nodes = λ n. links_of (nodes n)
 pub record IsThere (nodes : ℕ → Option Node) (n : ℕ) (directory : Bool) : Type 0 where
   pub node : Node
   pub is : nodes n ≡ Some node
-  pub sort : is_directory node.kind ≡ directory
+  pub inode_type : is_directory node.kind ≡ directory
 
 -- a descriptor's open file is there, and so is its node
 pub record IsOpen (t : Tree) (id : ℕ) : Type 0 where

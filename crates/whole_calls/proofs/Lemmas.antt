@@ -1,5 +1,5 @@
 -- What the proofs of this crate's functions use: its lemmas, and what they speak of.
-pub use Rattle.whole_calls.specs.Vocabulary.{Do, Element, Enter, IsElement, IsNamed, IsNamedInTwo, Leave, Name, Take, done, drop, face_of, free_all, give_up, lower, name_in, open_at, open_made, reply_to, say, sort_of, tail, unmarked}
+pub use Rattle.whole_calls.specs.Vocabulary.{Do, Element, Enter, IsElement, IsNamed, IsNamedInTwo, Leave, Name, Take, done, drop, face_of, free_all, give_up, lower, name_in, open_at, open_made, reply_to, say, type_of, tail, unmarked}
 pub use Rattle.path_walk.proofs.Vocabulary.{AtName, Bool, List, ap, arith, get_or, length, ne_eqb, refl, sym, true, ℕ, ◌&&◌, ◌+◌, ◌<◌, ◌∙◌, ◌≡◌}
 pub use Rattle.whole_calls.proofs.Vocabulary.{IsInOne, false, nat_eq, shifted, subst, ◌++◌}
 pub use Rattle.std.proofs.Common.{Some, eq-eqb, ◌^◌}

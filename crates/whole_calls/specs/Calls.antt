@@ -1,6 +1,6 @@
 -- What is left of each call.
 use Rattle.std.specs.Prelude.{◌≡◌, ◌≤◌, ℕ, ◌+◌, ◌-◌, ◌||◌, Bool, List, [], length, Option, Some, None}
-use Rattle.whole_calls.specs.Vocabulary.{Name, elements, same_name, dot, dotdot, CallAnswer, NoEntry, Reply, Do, unmarked, name_in, IsElement, Face, Give, Store, Settle, Join, P, failed, done, drop, give_up, tail, say, stopped, dup_program, stat_program, chdir_at, face_of, reply_to, After, Stands, most_left, walk_of, Turn, Element, Walk}
+use Rattle.whole_calls.specs.Vocabulary.{Name, elements, same_name, dot, dotdot, CallAnswer, NoEntry, Reply, Do, unmarked, name_in, IsElement, Face, UnlockInode, Store, SetDirectory, Join, P, failed, done, drop, give_up, tail, say, stopped, dup_program, stat_program, chdir_at, face_of, reply_to, After, Stands, most_left, walk_of, Turn, Element, Walk}
 use Rattle.plain_tree.specs.declared.call.Call.TheVariants as calls
 use Rattle.plain_tree.specs.declared.step.Action.TheVariants as steps
 use Rattle.inode_machine.specs.Naming as naming
@@ -47,7 +47,7 @@ dup_of fd (dup.Says a) = say (reply_to (calls.Dup fd) a)
 
 abbrev pub stat_of : ℕ → Fstat → P Reply
 stat_of fd fstat.Look = stat_program fd
-stat_of fd (fstat.Give n a) = Do (Give n) unmarked (λ _. say (reply_to (calls.Fstat fd) a))
+stat_of fd (fstat.UnlockInode n a) = Do (UnlockInode n) unmarked (λ _. say (reply_to (calls.Fstat fd) a))
 stat_of fd (fstat.Says a) = say (reply_to (calls.Fstat fd) a)
 
 -- ---- chdir
@@ -59,7 +59,7 @@ abbrev pub chdir_of : List ℕ → List ℕ → Chdir → P Reply
 chdir_of path ns chdir.Join = Do Join unmarked (λ _. walk_of (steps.Chdir path) path (chdir_after path) goal.Inside ns walking.Start)
 chdir_of path ns (chdir.Walks w) = walk_of (steps.Chdir path) path (chdir_after path) goal.Inside ns w
 chdir_of path ns (chdir.Look n) = chdir_at path n ns
-chdir_of path ns (chdir.Settle n) = Do (Settle n) unmarked (λ old. drop old (tail ns (done (calls.Chdir path))))
+chdir_of path ns (chdir.SetDirectory n) = Do (SetDirectory n) unmarked (λ old. drop old (tail ns (done (calls.Chdir path))))
 chdir_of path ns (chdir.Ends e) = ending_of (calls.Chdir path) ns e
 
 abbrev pub chdir_stage : Chdir → Stage

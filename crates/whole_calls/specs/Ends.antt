@@ -1,6 +1,6 @@
 -- What is left of a call that ends.
 use Rattle.std.specs.Prelude.{ℕ, List, Option, Some, None}
-use Rattle.whole_calls.specs.Vocabulary.{Reply, Call, Do, unmarked, AtNothing, Take, Give, Free, Forget, Leave, Frees, P, drop, give_up, free_listed, free_all, tail, say, reply_to}
+use Rattle.whole_calls.specs.Vocabulary.{Reply, Call, Do, unmarked, AtNothing, Take, UnlockInode, Free, Forget, Leave, Frees, P, drop, give_up, free_listed, free_all, tail, say, reply_to}
 use Rattle.whole_calls.specs.declared.dropping.Dropping.{Dropping}
 use Rattle.whole_calls.specs.declared.dropping.Dropping.TheVariants as dropping
 use Rattle.whole_calls.specs.declared.ending.Freeing.{Freeing}
@@ -14,10 +14,10 @@ abbrev pub freed : ℕ → P Reply → P Reply
 freed n k = Do (Forget n) unmarked (λ _. k)
 
 abbrev pub freed_locked : ℕ → P Reply → P Reply
-freed_locked n k = Do (Give n) unmarked (λ _. freed n k)
+freed_locked n k = Do (UnlockInode n) unmarked (λ _. freed n k)
 
 abbrev pub dropping_of : P Reply → Dropping → P Reply
-dropping_of k (dropping.Give n) = give_up n k
+dropping_of k (dropping.UnlockInode n) = give_up n k
 dropping_of k (dropping.Down n) = drop n k
 dropping_of k (dropping.Free n) = Do (Free n) (λ _. Some (Frees n)) (λ _. freed_locked n k)
 dropping_of k (dropping.GiveFreed n) = freed_locked n k

@@ -1,6 +1,6 @@
 -- What is left of a link.
 use Rattle.std.specs.Prelude.{◌≡◌, ◌≤◌, ℕ, ◌+◌, ◌-◌, List, [], length, Option, Some, None, if◌then◌else◌}
-use Rattle.whole_calls.specs.Vocabulary.{Name, elements, CallAnswer, NoEntry, IsDirectory, Reply, Action, Do, name_in, IsElement, Face, is_directory_sort, Store, Enter, P, own_step, failed, done, drop, give_up, tail, stopped, bump_refused, enters, link_at, link_in, link_name, link_program, link_raise, lower, named_on, face_of, reply_to, After, Stands, most_left, walk_of, Turn, Element, Walk}
+use Rattle.whole_calls.specs.Vocabulary.{Name, elements, CallAnswer, NoEntry, IsDirectory, Reply, Action, Do, name_in, IsElement, Face, is_directory_type, Store, Enter, P, own_step, failed, done, drop, give_up, tail, stopped, bump_refused, enters, link_at, link_in, link_name, link_program, link_raise, lower, named_on, face_of, reply_to, After, Stands, most_left, walk_of, Turn, Element, Walk}
 use Rattle.plain_tree.specs.declared.call.Call.TheVariants as calls
 use Rattle.plain_tree.specs.declared.step.Action.TheVariants as steps
 use Rattle.whole_calls.specs.Calls.{most_listed}
@@ -23,7 +23,7 @@ link_stage linking.Join = Fresh
 link_stage (linking.WalksOld w) = WalksOld w
 link_stage (linking.Take n) = Between
 link_stage (linking.Raise n f) = Between
-link_stage (linking.Give n) = Between
+link_stage (linking.UnlockInode n) = Between
 link_stage (linking.WalksNew w n) = WalksNew w
 link_stage (linking.Look d e n) = Names e
 link_stage (linking.Enter d e n) = Names e
@@ -42,7 +42,7 @@ module _ (old new : List ℕ) where
 
   -- what is to get the name was seen
   abbrev pub took : ℕ → List ℕ → Face → P Reply
-  took n ns f = if is_directory_sort f.sort then give_up n (tail ns (failed (calls.Link old new) IsDirectory))
+  took n ns f = if is_directory_type f.inode_type then give_up n (tail ns (failed (calls.Link old new) IsDirectory))
       else link_raise old new n ns f (bump_refused f)
 
   abbrev pub lowers : ℕ → Face → Reply → List ℕ → P Reply
@@ -53,7 +53,7 @@ module _ (old new : List ℕ) where
   link_of ns (linking.WalksOld w) = walk_of (steps.Find old) old old_after goal.Inside ns w
   link_of ns (linking.Take n) = link_at old new n ns
   link_of ns (linking.Raise n f) = Do (Store n (f.count + 1)) (λ _. own_step steps.Bump) (λ _. link_name old new n ns (elements new))
-  link_of ns (linking.Give n) = link_name old new n ns (elements new)
+  link_of ns (linking.UnlockInode n) = link_name old new n ns (elements new)
   link_of ns (linking.WalksNew w n) = walk_of (steps.Enter new) new (new_after n) goal.Parent ns w
   link_of ns (linking.Look d e n) = link_in old new n d (name_in new e) ns
   link_of ns (linking.Enter d e n) = Do (Enter d (name_in new e) n) enters (named_on old new n d ns)

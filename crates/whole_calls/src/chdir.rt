@@ -19,7 +19,7 @@ pub enum Chdir {
     Join,
     Walks(Walk),
     Look(u32),
-    Settle(u32),
+    SetDirectory(u32),
     Ends(Ending),
 }
 
@@ -53,7 +53,7 @@ impl Chdir {
             Chdir::Join => Ask::Join,
             Chdir::Walks(walk) => walk.ask(path),
             Chdir::Look(number) => Ask::Take(*number, Query::Nothing),
-            Chdir::Settle(number) => Ask::Settle(*number),
+            Chdir::SetDirectory(number) => Ask::SetDirectory(*number),
             Chdir::Ends(ending) => ending.ask(),
         }
     }
@@ -70,13 +70,13 @@ impl Chdir {
             Chdir::Walks(walk) => Turn::Asks(walked(walk.next(Goal::Inside, heard, path, list))),
             Chdir::Look(number) => {
                 if is_directory(&heard.sight()) {
-                    Turn::Asks(Chdir::Settle(number))
+                    Turn::Asks(Chdir::SetDirectory(number))
                 } else {
                     let answer = Answer::Failed(Cause::NotDirectory);
-                    Turn::Asks(Chdir::Ends(Ending::Gives(Dropping::Give(number), answer)))
+                    Turn::Asks(Chdir::Ends(Ending::Gives(Dropping::UnlockInode(number), answer)))
                 }
             }
-            Chdir::Settle(_) => {
+            Chdir::SetDirectory(_) => {
                 let dropping = Dropping::Down(heard.old());
                 Turn::Asks(Chdir::Ends(Ending::Gives(dropping, Answer::Done)))
             }

@@ -6,7 +6,7 @@ ghost use Rattle.whole_calls.specs.Vocabulary.{asks, hears, mark_at, marked_as, 
 ghost use Rattle.whole_calls.specs.Calls.{dup_of, stat_of};
 ghost use Rattle.plain_tree.specs.declared.answer.Answer.TheVariants as answers;
 
-use path_walk::{Ask, Face, Heard, Mark, Sort, Turn};
+use path_walk::{Ask, Face, Heard, InodeType, Mark, Turn};
 use plain_tree::{Answer, Cause, Full, NodeType, Stat};
 
 /// dup: one step for descriptor and count; without an open file the reply alone.
@@ -72,7 +72,7 @@ impl Dup {
 #[derive(Clone, Copy)]
 pub enum Fstat {
     Look,
-    Give(u32, Answer),
+    UnlockInode(u32, Answer),
     Says(Answer),
 }
 
@@ -82,10 +82,10 @@ fn stat_answer(number: u16, face: &Face) -> Answer
     Answer::Stat(Stat {
         device: 1,
         inode: number,
-        kind: match face.sort {
-            Sort::Directory => NodeType::Directory,
-            Sort::File => NodeType::File,
-            Sort::Device(_) => NodeType::Device,
+        kind: match face.inode_type {
+            InodeType::Directory => NodeType::Directory,
+            InodeType::File => NodeType::File,
+            InodeType::Device(_) => NodeType::Device,
         },
         nlink: face.count,
         size: face.size,
@@ -105,7 +105,7 @@ impl Fstat {
     {
         match self {
             Fstat::Look => Ask::StatFile(fd),
-            Fstat::Give(number, _) => Ask::Give(*number),
+            Fstat::UnlockInode(number, _) => Ask::UnlockInode(*number),
             Fstat::Says(_) => Ask::Say,
         }
     }
@@ -117,10 +117,10 @@ impl Fstat {
             Fstat::Look => match heard.stat() {
                 None => Turn::Ends(Answer::Failed(Cause::BadDescriptor)),
                 Some((number, face)) => {
-                    Turn::Asks(Fstat::Give(u32::from(number), stat_answer(number, &face)))
+                    Turn::Asks(Fstat::UnlockInode(u32::from(number), stat_answer(number, &face)))
                 }
             },
-            Fstat::Give(_, answer) => Turn::Asks(Fstat::Says(answer)),
+            Fstat::UnlockInode(_, answer) => Turn::Asks(Fstat::Says(answer)),
             Fstat::Says(answer) => Turn::Ends(answer),
         }
     }

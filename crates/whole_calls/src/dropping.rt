@@ -8,7 +8,7 @@ use path_walk::{Ask, Heard, Mark};
 /// An inode is given up, and the reference to it dropped. The last one to an inode without links frees it.
 #[derive(Clone, Copy)]
 pub enum Dropping {
-    Give(u32),
+    UnlockInode(u32),
     Down(u32),
     Free(u32),
     GiveFreed(u32),
@@ -21,7 +21,7 @@ impl Dropping {
         ensures named { (path : List ℕ) → IsNamed path result }
     {
         match self {
-            Dropping::Give(n) | Dropping::GiveFreed(n) => Ask::Give(*n),
+            Dropping::UnlockInode(n) | Dropping::GiveFreed(n) => Ask::UnlockInode(*n),
             Dropping::Down(n) => Ask::Down(*n),
             Dropping::Free(n) => Ask::Free(*n),
             Dropping::Forget(n) => Ask::Forget(*n),
@@ -33,7 +33,7 @@ impl Dropping {
         ensures { (text : List ℕ) (k : P Reply) → hears text (dropping_of k self) heard.now ≡ after_drop k result }
     {
         match self {
-            Dropping::Give(n) => Some(Dropping::Down(n)),
+            Dropping::UnlockInode(n) => Some(Dropping::Down(n)),
             Dropping::Down(n) => {
                 if heard.is() {
                     Some(Dropping::Free(n))

@@ -93,7 +93,7 @@ impl Ending {
         match self {
             Ending::GivesTwo(dropping, n, answer) => match dropping.next(heard) {
                 Some(dropping) => Turn::Asks(Ending::GivesTwo(dropping, n, answer)),
-                None => Turn::Asks(Ending::Gives(Dropping::Give(n), answer)),
+                None => Turn::Asks(Ending::Gives(Dropping::UnlockInode(n), answer)),
             },
             Ending::Gives(dropping, answer) => match dropping.next(heard) {
                 Some(dropping) => Turn::Asks(Ending::Gives(dropping, answer)),

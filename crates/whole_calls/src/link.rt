@@ -24,7 +24,7 @@ pub enum Link {
     WalksOld(Walk),
     Take(u32),
     Raise(u32, Face),
-    Give(u32),
+    UnlockInode(u32),
     WalksNew(Walk, u32),
     Look(u32, Element, u32),
     Enter(u32, Element, u32),
@@ -41,7 +41,7 @@ fn refuse(number: u32, answer: Answer) -> Link
         → link_of old new list result ≡ give_up number (tail list (reply_to (calls.Link old new) answer)) }
     ensures past { link_stage result ≡ Past }
 {
-    Link::Ends(Ending::Gives(Dropping::Give(number), answer))
+    Link::Ends(Ending::Gives(Dropping::UnlockInode(number), answer))
 }
 
 fn walked_old(walked: Walked) -> Link
@@ -101,7 +101,7 @@ fn took(number: u32, sight: &Sight) -> Link
 fn gave(number: u32, new: &[u8]) -> Link
     requires { All (λ b. b ≢ 0) new.now }
     ensures program { (text : List ℕ) (old list : List ℕ) (heard : Heard)
-        → hears text (link_of old new.now list (linking.Give number)) heard ≡ link_of old new.now list result }
+        → hears text (link_of old new.now list (linking.UnlockInode number)) heard ≡ link_of old new.now list result }
     ensures fits { (old list : List ℕ) → length list + length (elements new.now) ≤ MOST_LISTED
         → LinkFits old new.now list (link_stage result) }
 {
@@ -117,7 +117,7 @@ fn fail(directory: u32, number: u32, answer: Answer) -> Link
         → link_of old new list result ≡ give_up directory (lower old new number (reply_to (calls.Link old new) answer) list) }
     ensures past { link_stage result ≡ Past }
 {
-    Link::GiveFailed(Dropping::Give(directory), number, answer)
+    Link::GiveFailed(Dropping::UnlockInode(directory), number, answer)
 }
 
 /// What the directory has under the name.
@@ -137,7 +137,7 @@ fn entered(directory: u32, number: u32, entered: Entered) -> Link
     ensures past { link_stage result ≡ Past }
 {
     match entered {
-        Entered::InPlace => Link::GiveNamed(Dropping::Give(directory), number),
+        Entered::InPlace => Link::GiveNamed(Dropping::UnlockInode(directory), number),
         Entered::NoBlock => fail(directory, number, Answer::Full(Full::Blocks)),
         Entered::NoSlot => fail(directory, number, Answer::Full(Full::Directory)),
     }
@@ -162,7 +162,7 @@ impl Link {
             Link::WalksOld(walk) => walk.ask(old),
             Link::Take(number) => Ask::Take(*number, Query::Nothing),
             Link::Raise(number, face) => Ask::Store(*number, u32::from(face.count) + 1),
-            Link::Give(number) => Ask::Give(*number),
+            Link::UnlockInode(number) => Ask::UnlockInode(*number),
             Link::WalksNew(walk, _) => walk.ask(new).shifted(old.len()),
             Link::Look(directory, element, _) => {
                 Ask::Take(*directory, Query::Name(element.shifted(old.len())))
@@ -199,8 +199,8 @@ impl Link {
             Link::Join => Link::WalksOld(Walk::Start),
             Link::WalksOld(walk) => walked_old(walk.next(Goal::Inside, heard, old, list)),
             Link::Take(number) => took(number, &heard.sight()),
-            Link::Raise(number, _) => Link::Give(number),
-            Link::Give(number) => gave(number, new),
+            Link::Raise(number, _) => Link::UnlockInode(number),
+            Link::UnlockInode(number) => gave(number, new),
             Link::WalksNew(walk, number) => {
                 walked_new(walk.next(Goal::Parent, heard, new, list), number)
             }
@@ -225,7 +225,7 @@ impl Link {
                 Link::Lower(number, face_or(&heard.sight()), answer)
             }
             Link::Lower(number, _, answer) => {
-                Link::Ends(Ending::Gives(Dropping::Give(number), answer))
+                Link::Ends(Ending::Gives(Dropping::UnlockInode(number), answer))
             }
             Link::Ends(ending) => match ending.next(heard, list) {
                 Turn::Asks(ending) => Link::Ends(ending),
@@ -272,7 +272,7 @@ impl Link {
                 }
             }
             Link::Raise(_, _) => Some(Mark::Bump),
-            Link::Give(_) => {
+            Link::UnlockInode(_) => {
                 if next_element(new, 0).is_none() {
                     Some(Mark::Begin)
                 } else {
@@ -283,7 +283,7 @@ impl Link {
             Link::Look(_, _, _) => {
                 let sight = heard.sight();
                 if !is_live(&sight) {
-                    Some(Mark::Quit)
+                    Some(Mark::GiveUpWalk)
                 } else if sight.found.is_some() {
                     Some(Mark::Look(0))
                 } else {

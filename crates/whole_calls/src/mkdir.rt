@@ -12,8 +12,8 @@ use crate::dropping::Dropping;
 use crate::ending::Ending;
 use crate::opens::NewName;
 use path_walk::{
-    Ask, Claimed, Element, Entered, Face, Goal, Heard, MOST_LISTED, Mark, Numbers, Query, Sight,
-    Sort, Turn, Walk, Walked, face_or, is_live, next_element, stopped,
+    Ask, Claimed, Element, Entered, Face, Goal, Heard, InodeType, MOST_LISTED, Mark, Numbers,
+    Query, Sight, Turn, Walk, Walked, face_or, is_live, next_element, stopped,
 };
 use plain_tree::{Answer, Cause, Full};
 
@@ -40,7 +40,7 @@ fn refuse(number: u32, answer: Answer) -> Mkdir
     ensures program { (path list : List ℕ) → mkdir_of path list result ≡ give_up number (tail list (reply_to (calls.Mkdir path) answer)) }
     ensures past { mkdir_stage result ≡ Past }
 {
-    Mkdir::Ends(Ending::Gives(Dropping::Give(number), answer))
+    Mkdir::Ends(Ending::Gives(Dropping::UnlockInode(number), answer))
 }
 
 fn walked(walked: Walked) -> Mkdir
@@ -145,7 +145,7 @@ impl Mkdir {
             Mkdir::Join => Ask::Join,
             Mkdir::Walks(walk) => walk.ask(path),
             Mkdir::Look(directory, element) => Ask::Take(*directory, Query::Name(*element)),
-            Mkdir::Claim(_, _, _) => Ask::Claim(Sort::Directory),
+            Mkdir::Claim(_, _, _) => Ask::Claim(InodeType::Directory),
             Mkdir::ForgetSame(number) => Ask::Forget(*number),
             Mkdir::TakeNew(name, _) => Ask::Take(name.number, Query::Nothing),
             Mkdir::StoreNew(name, _) => Ask::Store(name.number, 1),
@@ -190,11 +190,11 @@ impl Mkdir {
             }
             Mkdir::Enter(name, face) => entered(name, face, heard.entered()),
             Mkdir::Raise(name, _) => {
-                let dropping = Dropping::Give(name.directory);
+                let dropping = Dropping::UnlockInode(name.directory);
                 Mkdir::Ends(Ending::GivesTwo(dropping, name.number, Answer::Done))
             }
             Mkdir::Unmake(name, answer) => {
-                let dropping = Dropping::Give(name.number);
+                let dropping = Dropping::UnlockInode(name.number);
                 Mkdir::Ends(Ending::GivesTwo(dropping, name.directory, answer))
             }
             Mkdir::Ends(ending) => match ending.next(heard, list) {
@@ -240,7 +240,7 @@ impl Mkdir {
             Mkdir::Look(_, _) => {
                 let sight = heard.sight();
                 if !is_live(&sight) {
-                    Some(Mark::Quit)
+                    Some(Mark::GiveUpWalk)
                 } else if refusal(&sight).is_some() {
                     Some(Mark::Look(0))
                 } else {

@@ -1,6 +1,6 @@
 //! open: what is there is opened, or a new file made.
 ghost use Rattle.std.specs.Prelude.{◌≡◌, ◌≢◌, ◌≤◌, ◌+◌, ℕ, All, [], List, Option, Some, length, ◌==◌, false};
-ghost use Rattle.whole_calls.specs.Vocabulary.{creates, has, elements, asks, claimed_of, entered_of, face_of, hears, mark_at, marked_as, op_in, reply_to, sight_of, sort_of, stepped, turned, IsNamed, name_in, IsElement, face_or, open_refusal, create_found, empties, make_on, make_with, open_face, open_program, give_up, tail, StandsAt, most_walked, walked_to, Heard};
+ghost use Rattle.whole_calls.specs.Vocabulary.{creates, has, elements, asks, claimed_of, entered_of, face_of, hears, mark_at, marked_as, op_in, reply_to, sight_of, type_of, stepped, turned, IsNamed, name_in, IsElement, face_or, open_refusal, create_found, empties, make_on, make_with, open_face, open_program, give_up, tail, StandsAt, most_walked, walked_to, Heard};
 ghost use Rattle.plain_tree.specs.declared.call.Call.TheVariants as calls;
 ghost use Rattle.plain_tree.specs.declared.step.Action.TheVariants as steps;
 ghost use Rattle.whole_calls.specs.Calls.{Fits, FitsOn, Fresh, Past};
@@ -10,8 +10,8 @@ ghost use Rattle.whole_calls.specs.declared.opens.Open.TheVariants as opening;
 use crate::dropping::Dropping;
 use crate::ending::Ending;
 use path_walk::{
-    Ask, Claimed, Element, Entered, Goal, Heard, MOST_LISTED, Mark, Numbers, Query, Sight, Sort,
-    Turn, Walk, Walked, face_or, is_live, next_element, stopped,
+    Ask, Claimed, Element, Entered, Goal, Heard, InodeType, MOST_LISTED, Mark, Numbers, Query,
+    Sight, Turn, Walk, Walked, face_or, is_live, next_element, stopped,
 };
 use plain_tree::{Answer, Cause, Full};
 
@@ -25,7 +25,7 @@ const DRIVERS: i16 = 10;
 #[derive(Clone, Copy)]
 pub struct Found {
     pub number: u32,
-    pub sort: Sort,
+    pub inode_type: InodeType,
     /// It is new.
     pub made: bool,
 }
@@ -48,7 +48,7 @@ pub enum Open {
     Slot(Found),
     Install(Found),
     Empty(u32, u32),
-    Give(u32, u32),
+    UnlockInode(u32, u32),
     /// The name is looked up, to be made where it isn't there.
     Look(u32, Element),
     Up(u32, u32),
@@ -57,9 +57,9 @@ pub enum Open {
     /// What was claimed is the directory itself, which was no directory then.
     ForgetSame(u32),
     TakeNew(NewName),
-    StoreNew(NewName, Sort),
-    Enter(NewName, Sort),
-    GiveEntered(Dropping, u32, Sort),
+    StoreNew(NewName, InodeType),
+    Enter(NewName, InodeType),
+    GiveEntered(Dropping, u32, InodeType),
     Unmake(u32, u32, Answer),
     Ends(Ending),
 }
@@ -82,29 +82,29 @@ fn goal(flags: u32) -> Goal
 }
 
 /// A file is emptied.
-fn is_emptied(flags: u32, sort: Sort) -> bool
-    ensures { result ≡ empties flags (sort_of sort) }
+fn is_emptied(flags: u32, inode_type: InodeType) -> bool
+    ensures { result ≡ empties flags (type_of inode_type) }
 {
-    match sort {
-        Sort::File => has_flag(flags, EMPTY),
+    match inode_type {
+        InodeType::File => has_flag(flags, EMPTY),
         _ => false,
     }
 }
 
 /// Why what is of this type isn't opened.
-fn refusal(flags: u32, sort: Sort) -> Option<Cause>
-    ensures { result ≡ open_refusal (flags == 0) (sort_of sort) }
+fn refusal(flags: u32, inode_type: InodeType) -> Option<Cause>
+    ensures { result ≡ open_refusal (flags == 0) (type_of inode_type) }
 {
-    match sort {
-        Sort::Directory => {
+    match inode_type {
+        InodeType::Directory => {
             if flags == 0 {
                 None
             } else {
                 Some(Cause::IsDirectory)
             }
         }
-        Sort::File => None,
-        Sort::Device(major) => {
+        InodeType::File => None,
+        InodeType::Device(major) => {
             if 0 <= major && major < DRIVERS {
                 None
             } else {
@@ -120,7 +120,7 @@ fn refuse(number: u32, answer: Answer) -> Open
         → open_of path flags list result ≡ give_up number (tail list (reply_to (calls.Open path flags) answer)) }
     ensures past { open_stage result ≡ Past }
 {
-    Open::Ends(Ending::Gives(Dropping::Give(number), answer))
+    Open::Ends(Ending::Gives(Dropping::UnlockInode(number), answer))
 }
 
 /// After a step of the walk.
@@ -157,16 +157,16 @@ fn begin(path: &[u8], flags: u32) -> Open
 /// What is there was taken.
 fn took(number: u32, flags: u32, sight: &Sight) -> Open
     ensures program { (path list : List ℕ) → open_of path flags list result ≡
-        open_face path flags number list (face_or (sight_of sight.now).face).sort
-        (open_refusal (flags == 0) (face_or (sight_of sight.now).face).sort) }
+        open_face path flags number list (face_or (sight_of sight.now).face).inode_type
+        (open_refusal (flags == 0) (face_or (sight_of sight.now).face).inode_type) }
     ensures past { open_stage result ≡ Past }
 {
-    let sort = face_or(sight).sort;
-    match refusal(flags, sort) {
+    let inode_type = face_or(sight).inode_type;
+    match refusal(flags, inode_type) {
         Some(cause) => refuse(number, Answer::Failed(cause)),
         None => Open::Slot(Found {
             number,
-            sort,
+            inode_type,
             made: false,
         }),
     }
@@ -180,10 +180,10 @@ fn installed(found: Found, flags: u32, fd: Option<u32>) -> Open
     match fd {
         None => refuse(found.number, Answer::Full(Full::Descriptors)),
         Some(fd) => {
-            if !found.made && is_emptied(flags, found.sort) {
+            if !found.made && is_emptied(flags, found.inode_type) {
                 Open::Empty(found.number, fd)
             } else {
-                Open::Give(found.number, fd)
+                Open::UnlockInode(found.number, fd)
             }
         }
     }
@@ -220,13 +220,19 @@ fn claimed(directory: u32, element: Element, claimed: Claimed) -> Open
 }
 
 /// The name was to be entered.
-fn entered(name: NewName, sort: Sort, entered: Entered) -> Open
+fn entered(name: NewName, inode_type: InodeType, entered: Entered) -> Open
     ensures program { (path : List ℕ) (flags : ℕ) (list : List ℕ)
-        → open_of path flags list result ≡ make_on path flags name.number (sort_of sort) name.directory list (entered_of entered) }
+        → open_of path flags list result ≡ make_on path flags name.number (type_of inode_type) name.directory list (entered_of entered) }
     ensures past { open_stage result ≡ Past }
 {
     match entered {
-        Entered::InPlace => { Open::GiveEntered(Dropping::Give(name.directory), name.number, sort) }
+        Entered::InPlace => {
+            Open::GiveEntered(
+                Dropping::UnlockInode(name.directory),
+                name.number,
+                inode_type,
+            )
+        }
         Entered::NoBlock => {
             Open::Unmake(name.number, name.directory, Answer::Full(Full::Blocks))
         }
@@ -253,13 +259,13 @@ impl Open {
             Open::Walks(walk) => walk.ask(path),
             Open::Take(number) => Ask::Take(*number, Query::Nothing),
             Open::Slot(_) => Ask::Slot,
-            Open::Install(found) => Ask::Install(found.number, flags, found.sort),
+            Open::Install(found) => Ask::Install(found.number, flags, found.inode_type),
             Open::Empty(number, _) => Ask::Empty(*number),
-            Open::Give(number, _) => Ask::Give(*number),
+            Open::UnlockInode(number, _) => Ask::UnlockInode(*number),
             Open::Look(directory, element) => Ask::Take(*directory, Query::Name(*element)),
             Open::Up(_, number) => Ask::Up(*number),
             Open::GiveParent(dropping, _) => dropping.ask(),
-            Open::Claim(_, _) => Ask::Claim(Sort::File),
+            Open::Claim(_, _) => Ask::Claim(InodeType::File),
             Open::ForgetSame(number) => Ask::Forget(*number),
             Open::TakeNew(name) => Ask::Take(name.number, Query::Nothing),
             Open::StoreNew(name, _) => Ask::Store(name.number, 1),
@@ -296,8 +302,8 @@ impl Open {
                 }
             }
             Open::Install(found) => installed(found, flags, heard.start()),
-            Open::Empty(number, fd) => Open::Give(number, fd),
-            Open::Give(_, fd) => Open::Ends(Ending::Leaves(Answer::Fd(fd))),
+            Open::Empty(number, fd) => Open::UnlockInode(number, fd),
+            Open::UnlockInode(_, fd) => Open::Ends(Ending::Leaves(Answer::Fd(fd))),
             Open::Look(directory, element) => {
                 let sight = heard.sight();
                 if is_live(&sight) {
@@ -308,7 +314,7 @@ impl Open {
             }
             Open::Up(directory, number) => {
                 if heard.is() {
-                    Open::GiveParent(Dropping::Give(directory), number)
+                    Open::GiveParent(Dropping::UnlockInode(directory), number)
                 } else {
                     refuse(directory, Answer::Full(Full::MemInodes))
                 }
@@ -319,19 +325,19 @@ impl Open {
             },
             Open::Claim(directory, element) => claimed(directory, element, heard.claimed()),
             Open::ForgetSame(directory) => refuse(directory, Answer::Full(Full::MemInodes)),
-            Open::TakeNew(name) => Open::StoreNew(name, face_or(&heard.sight()).sort),
-            Open::StoreNew(name, sort) => Open::Enter(name, sort),
-            Open::Enter(name, sort) => entered(name, sort, heard.entered()),
-            Open::GiveEntered(dropping, number, sort) => match dropping.next(heard) {
-                Some(dropping) => Open::GiveEntered(dropping, number, sort),
+            Open::TakeNew(name) => Open::StoreNew(name, face_or(&heard.sight()).inode_type),
+            Open::StoreNew(name, inode_type) => Open::Enter(name, inode_type),
+            Open::Enter(name, inode_type) => entered(name, inode_type, heard.entered()),
+            Open::GiveEntered(dropping, number, inode_type) => match dropping.next(heard) {
+                Some(dropping) => Open::GiveEntered(dropping, number, inode_type),
                 None => Open::Slot(Found {
                     number,
-                    sort,
+                    inode_type,
                     made: true,
                 }),
             },
             Open::Unmake(number, directory, answer) => {
-                Open::Ends(Ending::GivesTwo(Dropping::Give(number), directory, answer))
+                Open::Ends(Ending::GivesTwo(Dropping::UnlockInode(number), directory, answer))
             }
             Open::Ends(ending) => match ending.next(heard, list) {
                 Turn::Asks(ending) => Open::Ends(ending),
@@ -399,7 +405,7 @@ impl Open {
             Open::Look(_, _) => {
                 let sight = heard.sight();
                 if !is_live(&sight) {
-                    Some(Mark::Quit)
+                    Some(Mark::GiveUpWalk)
                 } else if sight.found.is_some() {
                     Some(Mark::Look(0))
                 } else {

@@ -2,7 +2,7 @@
 ghost use Rattle.std.specs.Prelude.{◌≡◌, ◌≢◌, ◌≤◌, ◌+◌, ℕ, All, [], List, Option, Some, length, false};
 ghost use Rattle.plain_tree.specs.declared.call.Call.TheVariants as calls;
 ghost use Rattle.plain_tree.specs.declared.step.Action.TheVariants as steps;
-ghost use Rattle.whole_calls.specs.Vocabulary.{asks, face_of, hears, mark_at, marked_as, op_in, stepped, turned, reply_to, sight_of, IsNamed, is_directory_sort, face_or, unlink_program, unlink_found, StandsAt, most_walked, walked_to, give_up, tail, name_in, elements};
+ghost use Rattle.whole_calls.specs.Vocabulary.{asks, face_of, hears, mark_at, marked_as, op_in, stepped, turned, reply_to, sight_of, IsNamed, is_directory_type, face_or, unlink_program, unlink_found, StandsAt, most_walked, walked_to, give_up, tail, name_in, elements};
 ghost use Rattle.whole_calls.specs.Calls.{Fits, FitsOn, Fresh, Past, unlink_stage, cleared, gave_parent, is_dots, unlink_after, unlink_of};
 ghost use Rattle.path_walk.specs.declared.walk.Goal.TheVariants as goals;
 ghost use Rattle.whole_calls.specs.declared.unlink.Unlink.TheVariants as unlinking;
@@ -10,8 +10,8 @@ ghost use Rattle.whole_calls.specs.declared.unlink.Unlink.TheVariants as unlinki
 use crate::dropping::Dropping;
 use crate::ending::Ending;
 use path_walk::{
-    Ask, Element, Face, Goal, Heard, MOST_LISTED, Mark, Numbers, Query, Sight, Sort, Turn, Walk,
-    Walked, face_or, is_live, next_element, stopped,
+    Ask, Element, Face, Goal, Heard, InodeType, MOST_LISTED, Mark, Numbers, Query, Sight, Turn,
+    Walk, Walked, face_or, is_live, next_element, stopped,
 };
 use plain_tree::{Answer, Cause, Full};
 
@@ -49,14 +49,14 @@ fn refuse(directory: u32, answer: Answer) -> Unlink
         → unlink_of path list result ≡ give_up directory (tail list (reply_to (calls.Unlink path) answer)) }
     ensures past { unlink_stage result ≡ Past }
 {
-    Unlink::Ends(Ending::Gives(Dropping::Give(directory), answer))
+    Unlink::Ends(Ending::Gives(Dropping::UnlockInode(directory), answer))
 }
 
 fn is_directory(face: &Face) -> bool
-    ensures { result ≡ is_directory_sort (face_of face.now).sort }
+    ensures { result ≡ is_directory_type (face_of face.now).inode_type }
 {
-    match face.sort {
-        Sort::Directory => true,
+    match face.inode_type {
+        InodeType::Directory => true,
         _ => false,
     }
 }
@@ -105,7 +105,7 @@ fn cleared(name: Name, number: u32, face: Face) -> Unlink
     if is_directory(&face) {
         Unlink::LowerParent(name, number, face)
     } else {
-        Unlink::GiveParent(Dropping::Give(name.directory), number, face)
+        Unlink::GiveParent(Dropping::UnlockInode(name.directory), number, face)
     }
 }
 
@@ -172,19 +172,23 @@ impl Unlink {
                     Unlink::Clear(name, number, face_or(&heard.sight()))
                 } else {
                     let answer = Answer::Failed(Cause::NotEmpty);
-                    Unlink::Ends(Ending::GivesTwo(Dropping::Give(number), name.directory, answer))
+                    Unlink::Ends(Ending::GivesTwo(
+                        Dropping::UnlockInode(number),
+                        name.directory,
+                        answer,
+                    ))
                 }
             }
             Unlink::Clear(name, number, face) => cleared(name, number, face),
             Unlink::LowerParent(name, number, face) => {
-                Unlink::GiveParent(Dropping::Give(name.directory), number, face)
+                Unlink::GiveParent(Dropping::UnlockInode(name.directory), number, face)
             }
             Unlink::GiveParent(dropping, number, face) => match dropping.next(heard) {
                 Some(dropping) => Unlink::GiveParent(dropping, number, face),
                 None => Unlink::Lower(number, face),
             },
             Unlink::Lower(number, _) => {
-                Unlink::Ends(Ending::Gives(Dropping::Give(number), Answer::Done))
+                Unlink::Ends(Ending::Gives(Dropping::UnlockInode(number), Answer::Done))
             }
             Unlink::Ends(ending) => match ending.next(heard, list) {
                 Turn::Asks(ending) => Unlink::Ends(ending),
@@ -239,13 +243,13 @@ impl Unlink {
                 if is_live(&heard.sight()) {
                     Some(Mark::Look(0))
                 } else {
-                    Some(Mark::Quit)
+                    Some(Mark::GiveUpWalk)
                 }
             }
             Unlink::Look(_, _) => {
                 let sight = heard.sight();
                 if !is_live(&sight) {
-                    Some(Mark::Quit)
+                    Some(Mark::GiveUpWalk)
                 } else if sight.found.is_none() {
                     Some(Mark::Look(0))
                 } else {

@@ -18,13 +18,13 @@ const MOST_CALLS: usize = 4096;
 
 // A disk that tells its calls, in their order: the number of the block that was read, or the negative one of the block that was written.
 #[derive(Drop)]
-struct Told {
+struct RecordingDisk {
     disk: MemoryDisk,
     calls: [i16; MOST_CALLS],
     count: usize,
 }
 
-impl Told {
+impl RecordingDisk {
     // The disks here have fewer than ten thousand blocks.
     fn tell(&mut self, b: u32, is_written: bool)
         ensures { self.new.disk ≡ self.old.disk }
@@ -37,7 +37,7 @@ impl Told {
     }
 }
 
-impl Device for Told {
+impl Device for RecordingDisk {
     ghost contents = { λ d. blocks_of d.disk };
 
     ghost failures = { λ _. 0 };
@@ -96,7 +96,7 @@ fn the_calls_of_the_device_are_these(rt: HostRuntime) {
     for (row, calls) in TOLD {
         let disk = disk_of(&rt, rt.alloc(), image);
         let (made, _disk) = play(&rt, rt.alloc(), disk, *row);
-        let told = Told {
+        let told = RecordingDisk {
             disk: disk_of(&rt, rt.alloc(), image),
             calls: [0; MOST_CALLS],
             count: 0,

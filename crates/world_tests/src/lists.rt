@@ -310,7 +310,7 @@ pub fn ran<D: Device + Drop>(
 
 /// What a list of events came to, the device then, and the run's cut and doubt.
 #[derive(Drop)]
-pub struct Ended<D: Device + Drop> {
+pub struct RunEnd<D: Device + Drop> {
     pub device: D,
     pub outcomes: Vec<Came>,
     pub cut: Option<u64>,
@@ -323,14 +323,14 @@ pub fn run_over<D: Device + Drop>(
     alloc: Global,
     device: D,
     events: &[Event],
-) -> Ended<D> {
+) -> RunEnd<D> {
     let Run {
         world,
         outcomes,
         cut,
         doubt,
     } = ran(rt, alloc, mounted(rt, alloc, device), events);
-    Ended {
+    RunEnd {
         device: world.unmount(),
         outcomes,
         cut,

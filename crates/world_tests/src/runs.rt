@@ -1,7 +1,7 @@
 //! Lists of events: what they show of calls, and a list of tree steps that explains it.
 use crate::histories::explains;
 use crate::images::{Image, SMALL, counts, disk_of, tree_in};
-use crate::lists::{Ended, Made, mounted, play, ran, run_over, traced};
+use crate::lists::{Made, RunEnd, mounted, play, ran, run_over, traced};
 use crate::memory::push;
 use crate::rows::Ask::{Chdir, Close, Dup, Fill, Fstat, Inherit, Link, Open, Read, Unlink, Write};
 use crate::rows::Line::{Do, End, Start, Upto};
@@ -245,7 +245,7 @@ fn eight_harts_at_random(rt: HostRuntime) {
         push(&rt, &mut events, Event::Step { hart });
     }
     let disk = disk_of(&rt, alloc, Image::Tree);
-    let Ended {
+    let RunEnd {
         device,
         outcomes,
         cut: _,

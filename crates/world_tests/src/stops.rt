@@ -1,6 +1,6 @@
 //! Where the device fails, and what a mount refuses.
 use crate::images::{Image, disk_of, tree_in};
-use crate::lists::{Ended, Group, Made, groups_in, holds, play, run_over, stopped_at};
+use crate::lists::{Group, Made, RunEnd, groups_in, holds, play, run_over, stopped_at};
 use crate::memory::copied;
 use crate::rows::Ask::{Fstat, Open, Read, Write};
 use crate::rows::Line::{Do, Start, Upto};
@@ -56,7 +56,7 @@ pub fn stop<D: Device + Drop>(
     device: D,
     made: &Made,
 ) -> (D, Stopped) {
-    let Ended {
+    let RunEnd {
         device,
         outcomes,
         cut,

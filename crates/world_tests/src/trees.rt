@@ -1,5 +1,5 @@
 //! Whether two trees are the same.
-use plain_tree::{Kind, Node, Slot, Tree};
+use plain_tree::{Node, NodeKind, Slot, Tree};
 
 fn is_same_slot(slot: &Option<Slot>, wanted: &Option<Slot>) -> bool {
     match (slot, wanted) {
@@ -19,8 +19,8 @@ fn is_same_node(node: &Node, wanted: &Node) -> bool {
         return false;
     }
     match (&node.kind, &wanted.kind) {
-        (Kind::File { bytes: a }, Kind::File { bytes: b }) => a == b,
-        (Kind::Directory { slots: a }, Kind::Directory { slots: b }) => {
+        (NodeKind::File { bytes: a }, NodeKind::File { bytes: b }) => a == b,
+        (NodeKind::Directory { slots: a }, NodeKind::Directory { slots: b }) => {
             are_same_slots(a.as_slice(), b.as_slice())
         }
         _ => false,

@@ -1,5 +1,5 @@
-use Rattle.inodes_on_blocks.proofs.Lemmas.{Give, give, alone, give_acts, alone_laws, alone_keeps, does_it}
+use Rattle.inodes_on_blocks.proofs.Lemmas.{UnlockInode, give, alone, give_acts, alone_laws, alone_keeps, does_it}
 use Rattle.inodes_on_blocks.proofs.acting.gives_act_once.Goals as goal
 
 pub returns : goal.returns
-returns c = λ n. does_it (Give n) (give n) (λ h lt m. give_acts alone alone_laws alone_keeps h lt n m)
+returns c = λ n. does_it (UnlockInode n) (give n) (λ h lt m. give_acts alone alone_laws alone_keeps h lt n m)

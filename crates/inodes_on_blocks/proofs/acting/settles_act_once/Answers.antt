@@ -1,5 +1,5 @@
-use Rattle.inodes_on_blocks.proofs.Lemmas.{Settle, settle, alone, settle_acts, alone_laws, alone_keeps, does_it}
+use Rattle.inodes_on_blocks.proofs.Lemmas.{SetDirectory, settle, alone, settle_acts, alone_laws, alone_keeps, does_it}
 use Rattle.inodes_on_blocks.proofs.acting.settles_act_once.Goals as goal
 
 pub returns : goal.returns
-returns c = λ n. does_it (Settle n) (settle n) (λ h lt m. settle_acts alone alone_laws alone_keeps h lt n m)
+returns c = λ n. does_it (SetDirectory n) (settle n) (λ h lt m. settle_acts alone alone_laws alone_keeps h lt n m)

@@ -30,8 +30,8 @@ returns-in-UpAside g c = rw c.in-UpAside.is (c.up_aside.ensures c.args.told.now)
 pub returns-in-UnlockMoving : goal.returns-in-UnlockMoving
 returns-in-UnlockMoving g c = rw c.in-UnlockMoving.is (c.unlock_moving.ensures c.args.told.now)
 
-pub returns-in-Settle : goal.returns-in-Settle
-returns-in-Settle g c = rw c.in-Settle.is (c.settle.ensures c.args.told.now)
+pub returns-in-SetDirectory : goal.returns-in-SetDirectory
+returns-in-SetDirectory g c = rw c.in-SetDirectory.is (c.settle.ensures c.args.told.now)
 
 pub returns-in-UpDirectory : goal.returns-in-UpDirectory
 returns-in-UpDirectory g c = rw c.in-UpDirectory.is (c.up_directory.ensures c.args.told.now)

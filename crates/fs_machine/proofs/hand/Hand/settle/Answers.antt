@@ -20,7 +20,7 @@ returns g c told =
     ∙ reference-again k (Some n) None c.take_inode.new.self ∙ ap (with_reference k (Some n)) c.take_inode.ensures.left in
     let number = number-there k n c.hold_reference.new.self (ap (reference_at k) there ∙ reference-there k (Some n) (with_inode k None hand)) in
     record {
-      ran = subst (λ v. exec hart Passes (steps.Settle v) old ≡ Ran (number_at k c.hold_reference.new.self) new) (sym (inode-in k c.in-Some.guard hand was))
+      ran = subst (λ v. exec hart Passes (steps.SetDirectory v) old ≡ Ran (number_at k c.hold_reference.new.self) new) (sym (inode-in k c.in-Some.guard hand was))
           (did.ran Passes ∙ ap (λ (m : ℕ). Ran m new) (sym number));
       kind = refl;
       honest = tt;

@@ -1,4 +1,4 @@
-use Rattle.fs_machine.proofs.Lemmas.{ap, ◌∙◌, arith, did_in, LogPart, part_of, State, exec, May, Honest, commit_ran, commit_honest, committed-in}
+use Rattle.fs_machine.proofs.Lemmas.{ap, ◌∙◌, arith, exec_result_in, LogPart, part_of, State, exec, May, Honest, commit_ran, commit_honest, committed-in}
 use Rattle.fs_machine.proofs.shared.Core.commit.Goals as goal
 
 pub commit_step-requires-clause-hart : goal.commit_step-requires-clause-hart
@@ -21,7 +21,7 @@ returns-clause-ran g c =
     let old = c.args.self.now in
     let e = c.commit_step.ensures in
     let into : LogPart → State = λ l. record { log = l; tables = old.tables } in
-    ap (did_in into)
+    ap (exec_result_in into)
     (commit_ran d f c.args.hart old.log c.commit_step.new.self c.commit_step.result
     e.waits e.write e.phase e.group e.progress e.seats e.halted e.stays e.left e.faults e.members e.sizes)
     ∙ committed-in into (part_of d f c.commit_step.new.self) c.commit_step.result

@@ -1,4 +1,4 @@
-use Rattle.fs_machine.proofs.Lemmas.{ap, did_in, TablesState, part_of, State, exec, May}
+use Rattle.fs_machine.proofs.Lemmas.{ap, exec_result_in, TablesState, part_of, State, exec, May}
 use Rattle.fs_machine.proofs.shared.Core.double.Goals as goal
 
 pub double-requires : goal.double-requires
@@ -10,7 +10,7 @@ unfolding exec
 returns-clause-ran g c x =
     let old = c.args.self.now in
     let into : TablesState → State = λ t. record { log = part_of g.D.Device.contents g.D.Device.failures old.log; tables = t } in
-    ap (did_in into) c.double.ensures.ran
+    ap (exec_result_in into) c.double.ensures.ran
 
 pub returns-clause-others : goal.returns-clause-others
 returns-clause-others g c = record { buffers = λ guard ne tied. tied; inodes = λ guard ne locked. c.double.ensures.others guard locked }

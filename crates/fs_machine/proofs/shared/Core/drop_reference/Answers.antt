@@ -1,4 +1,4 @@
-use Rattle.fs_machine.proofs.Lemmas.{ap, ◌∙◌, arith, did_in, TablesState, part_of, State, exec, May, dropped-in, dying-in, dying-apart}
+use Rattle.fs_machine.proofs.Lemmas.{ap, ◌∙◌, arith, exec_result_in, TablesState, part_of, State, exec, May, dropped-in, dying-in, dying-apart}
 use Rattle.fs_machine.proofs.shared.Core.drop_reference.Goals as goal
 
 pub drop_reference-requires-clause-some : goal.drop_reference-requires-clause-some
@@ -14,7 +14,7 @@ unfolding exec
 returns-clause-ran g c x =
     let old = c.args.self.now in
     let into : TablesState → State = λ t. record { log = part_of g.D.Device.contents g.D.Device.failures old.log; tables = t } in
-    ap (did_in into) c.drop_reference.ensures.ran ∙ dropped-in into c.drop_reference.new.self c.drop_reference.result
+    ap (exec_result_in into) c.drop_reference.ensures.ran ∙ dropped-in into c.drop_reference.new.self c.drop_reference.result
 
 pub returns-clause-own : goal.returns-clause-own
 returns-clause-own g c =

@@ -1,4 +1,4 @@
-use Rattle.fs_machine.proofs.Lemmas.{ap, did_in, TablesState, part_of, State, exec}
+use Rattle.fs_machine.proofs.Lemmas.{ap, exec_result_in, TablesState, part_of, State, exec}
 use Rattle.fs_machine.proofs.shared.Core.drop_walked.Goals as goal
 
 pub returns-clause-ran : goal.returns-clause-ran
@@ -6,7 +6,7 @@ unfolding exec
 returns-clause-ran g c x =
     let old = c.args.self.now in
     let into : TablesState → State = λ t. record { log = part_of g.D.Device.contents g.D.Device.failures old.log; tables = t } in
-    ap (did_in into) c.drop_walked.ensures.ran
+    ap (exec_result_in into) c.drop_walked.ensures.ran
 
 pub returns-clause-others : goal.returns-clause-others
 returns-clause-others g c = record { buffers = λ guard ne tied. tied; inodes = λ guard ne locked. c.drop_walked.ensures.others guard locked }

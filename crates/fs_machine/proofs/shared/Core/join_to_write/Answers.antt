@@ -1,4 +1,4 @@
-use Rattle.fs_machine.proofs.Lemmas.{ap, sym, ◌∙◌, Some, None, Did, file_named, LogPart, State, exec, in_log, joins, state_of, join_tried, join_refused, join_ran}
+use Rattle.fs_machine.proofs.Lemmas.{ap, sym, ◌∙◌, Some, None, ExecResult, file_named, LogPart, State, exec, in_log, joins, state_of, join_tried, join_refused, join_ran}
 use Rattle.fs_machine.proofs.shared.Core.join_to_write.Goals as goal
 
 pub returns-in-Some-clause-ran : goal.returns-in-Some-clause-ran
@@ -14,7 +14,7 @@ returns-in-None-join-clause-ran g c x =
     let old = c.args.self.now in
     let s : State = state_of d f old in
     join_tried c.args.hart s (file_named c.args.hart c.args.fd old.tables) c.in-Some-file.file (sym c.check.ensures ∙ c.in-None.is) (sym c.file.ensures ∙ c.in-Some-file.is)
-    ∙ ap (λ (r : Did (Unit {0}) LogPart). joins c.in-Some-file.file (in_log s r)) (join_ran d f c.args.hart old.log c.join.new.self None c.in-None-join.ensures.waits c.in-None-join.ensures.joins)
+    ∙ ap (λ (r : ExecResult (Unit {0}) LogPart). joins c.in-Some-file.file (in_log s r)) (join_ran d f c.args.hart old.log c.join.new.self None c.in-None-join.ensures.waits c.in-None-join.ensures.joins)
 
 pub returns-in-Some-join-clause-ran : goal.returns-in-Some-join-clause-ran
 unfolding exec
@@ -24,4 +24,4 @@ returns-in-Some-join-clause-ran g c x =
     let old = c.args.self.now in
     let s : State = state_of d f old in
     join_tried c.args.hart s (file_named c.args.hart c.args.fd old.tables) c.in-Some-file.file (sym c.check.ensures ∙ c.in-None.is) (sym c.file.ensures ∙ c.in-Some-file.is)
-    ∙ ap (λ (r : Did (Unit {0}) LogPart). joins c.in-Some-file.file (in_log s r)) (join_ran d f c.args.hart old.log c.join.new.self (Some c.in-Some-join.txn) c.in-Some-join.ensures.waits c.in-Some-join.ensures.joins)
+    ∙ ap (λ (r : ExecResult (Unit {0}) LogPart). joins c.in-Some-file.file (in_log s r)) (join_ran d f c.args.hart old.log c.join.new.self (Some c.in-Some-join.txn) c.in-Some-join.ensures.waits c.in-Some-join.ensures.joins)

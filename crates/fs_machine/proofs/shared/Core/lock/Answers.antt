@@ -1,4 +1,4 @@
-use Rattle.fs_machine.proofs.Lemmas.{◌≡◌, ap, ◌∙◌, subst, IfSome, did_in, TablesState, lock_inode, locked_as, IsOwnInode, part_of, State, exec, locked-in, HasNone, still-in, own-in, lock-apart}
+use Rattle.fs_machine.proofs.Lemmas.{◌≡◌, ap, ◌∙◌, subst, IfSome, exec_result_in, TablesState, lock_inode, locked_as, IsOwnInode, part_of, State, exec, locked-in, HasNone, still-in, own-in, lock-apart}
 use Rattle.fs_machine.proofs.shared.Core.lock.Goals as goal
 
 pub returns-clause-ran : goal.returns-clause-ran
@@ -6,7 +6,7 @@ unfolding exec
 returns-clause-ran g c x =
     let old = c.args.self.now in
     let into : TablesState → State = λ t. record { log = part_of g.D.Device.contents g.D.Device.failures old.log; tables = t } in
-    subst (λ n. did_in into (lock_inode c.args.hart n old.tables) ≡ did_in into (locked_as c.lock.result c.lock.new.self)) c.number.ensures (ap (did_in into) c.lock.ensures.ran) ∙ locked-in into c.lock.new.self c.lock.result
+    subst (λ n. exec_result_in into (lock_inode c.args.hart n old.tables) ≡ exec_result_in into (locked_as c.lock.result c.lock.new.self)) c.number.ensures (ap (exec_result_in into) c.lock.ensures.ran) ∙ locked-in into c.lock.new.self c.lock.result
 
 pub returns-clause-still : goal.returns-clause-still
 returns-clause-still g c = still-in c.args.self.now.log c.args.self.now.tables c.lock.new.self c.lock.result c.lock.ensures.still

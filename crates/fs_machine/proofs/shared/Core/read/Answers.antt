@@ -1,4 +1,4 @@
-use Rattle.fs_machine.proofs.Lemmas.{ap, ◌∙◌, did_in, LogPart, part_of, State, exec, May, Honest, read_ran, read_honest, read-in}
+use Rattle.fs_machine.proofs.Lemmas.{ap, ◌∙◌, exec_result_in, LogPart, part_of, State, exec, May, Honest, read_ran, read_honest, read-in}
 use Rattle.fs_machine.proofs.shared.Core.read.Goals as goal
 
 pub fill-requires-clause-within : goal.fill-requires-clause-within
@@ -13,7 +13,7 @@ returns-clause-ran g c =
     let old = c.args.self.now in
     let e = c.fill.ensures in
     let into : LogPart → State = λ l. record { log = l; tables = old.tables } in
-    ap (did_in into)
+    ap (exec_result_in into)
     (read_ran d f c.args.hart old.log c.fill.new.self c.args.guard.now.value.block c.args.guard.now c.fill.new.guard c.fill.result
     e.filled e.seats e.err e.contents e.faults e.rest)
     ∙ read-in into (part_of d f c.fill.new.self) c.fill.result c.fill.new.guard

@@ -1,4 +1,4 @@
-use Rattle.fs_machine.proofs.Lemmas.{◌≡◌, ap, subst, did_in, TablesState, part_of, State, exec, Ran, settle_inode, settled}
+use Rattle.fs_machine.proofs.Lemmas.{◌≡◌, ap, subst, exec_result_in, TablesState, part_of, State, exec, Ran, settle_inode, settled}
 use Rattle.fs_machine.proofs.shared.Core.settle.Goals as goal
 
 pub unlock-requires-clause-own : goal.unlock-requires-clause-own
@@ -13,7 +13,7 @@ returns-clause-ran g c x =
     let old = c.args.self.now in
     let v = c.args.guard.value in
     let into : TablesState → State = λ t. record { log = part_of g.D.Device.contents g.D.Device.failures old.log; tables = t } in
-    ap (did_in into)
+    ap (exec_result_in into)
     (subst (λ (t : TablesState). settled c.args.hart v.number t ≡ Ran c.set_directory.result c.set_directory.new.self) c.unlock.ensures.ran
     (subst (λ n. settled c.args.hart n c.unlock.new.self ≡ Ran c.set_directory.result c.set_directory.new.self) c.requires.reference c.set_directory.ensures.ran))
 

@@ -1,4 +1,4 @@
-use Rattle.fs_machine.proofs.Lemmas.{◌≡◌, ◌+◌, ◌<◌, ◌^◌, ap, sym, subst, did_in, TablesState, part_of, State, exec, May, Ran, references_of, up_directory, up_inode}
+use Rattle.fs_machine.proofs.Lemmas.{◌≡◌, ◌+◌, ◌<◌, ◌^◌, ap, sym, subst, exec_result_in, TablesState, part_of, State, exec, May, Ran, references_of, up_directory, up_inode}
 use Rattle.fs_machine.proofs.shared.Core.up_directory.Goals as goal
 
 pub up-requires : goal.up-requires
@@ -10,7 +10,7 @@ unfolding exec up_directory
 returns-clause-ran g c x =
     let old = c.args.self.now in
     let into : TablesState → State = λ t. record { log = part_of g.D.Device.contents g.D.Device.failures old.log; tables = t } in
-    ap (did_in into) (subst (λ n. up_inode n old.tables ≡ Ran c.up.result c.up.new.self) c.directory-number.ensures c.up.ensures.ran)
+    ap (exec_result_in into) (subst (λ n. up_inode n old.tables ≡ Ran c.up.result c.up.new.self) c.directory-number.ensures c.up.ensures.ran)
 
 pub returns-clause-others : goal.returns-clause-others
 returns-clause-others g c = record { buffers = λ guard ne tied. tied; inodes = λ guard ne locked. c.up.ensures.others guard locked }

@@ -1,4 +1,4 @@
-use Rattle.inode_parts.proofs.Lemmas.{ℕ, ap, ◌∙◌, Free, Dinode, P, put_entry, Seat, record_in, note_at, slot_in, seat_of_lock, clear_is_part}
+use Rattle.inode_parts.proofs.Lemmas.{ℕ, ap, ◌∙◌, Free, Dinode, P, put_entry, InodePlace, record_in, note_at, slot_in, seat_of_lock, clear_is_part}
 use Rattle.inode_parts.proofs.clear_part.ClearPart.begin.Goals as goal
 
 pub returns-clause-part : goal.returns-clause-part
@@ -8,8 +8,8 @@ returns-clause-part c path name begins =
     let m = c.args.notes.now in
     let before = c.args.hand.now in
     let is = c.lock_seat-seat.ensures in
-    let there = c.record_at.ensures ∙ ap (λ (k : Seat). record_in k before) is in
-    let slot = c.found_slot.ensures ∙ ap (λ (k : Seat). slot_in (note_at k m)) is in
+    let there = c.record_at.ensures ∙ ap (λ (k : InodePlace). record_in k before) is in
+    let slot = c.found_slot.ensures ∙ ap (λ (k : InodePlace). slot_in (note_at k m)) is in
     let program =
     c.new-clear.ensures.program before
     ∙ ap (λ (d : Dinode). let p : P Dinode = put_entry sizes.inodestart n d c.found_slot.result Free in p) there

@@ -1,4 +1,4 @@
-use Rattle.inode_parts.proofs.Lemmas.{◌≡◌, [], refl, subst, answer_in, freeing_asked, free_on, free_over, free_stays, Seat, beside_inode, reloads, stands, still_amid}
+use Rattle.inode_parts.proofs.Lemmas.{◌≡◌, [], refl, subst, answer_in, freeing_asked, free_on, free_over, free_stays, InodePlace, beside_inode, reloads, stands, still_amid}
 use Rattle.inode_parts.specs.declared.note.Note.TheVariants as note
 use Rattle.inode_parts.proofs.free_part.FreePart.next.Goals as goal
 
@@ -26,7 +26,7 @@ pub returns-in-None-clause-leaves : goal.returns-in-None-clause-leaves
 returns-in-None-clause-leaves c path n start before amid ready after =
     let p = c.args.self.now in
     let h = c.next.new.hand in
-    let same = subst (λ (k : Seat). beside_inode k h ≡ beside_inode k before) ready.1 (c.in-None.ensures.beside before ready.0 after) in
+    let same = subst (λ (k : InodePlace). beside_inode k h ≡ beside_inode k before) ready.1 (c.in-None.ensures.beside before ready.0 after) in
     (still_amid n start p.seat before h same amid, refl)
 
 pub returns-in-Some-clause-leaves : goal.returns-in-Some-clause-leaves
@@ -34,6 +34,6 @@ returns-in-Some-clause-leaves c path n start before amid ready after =
     let p = c.args.self.now in
     let h = c.next.new.hand in
     let did = c.in-Some.ensures in
-    let same = subst (λ (k : Seat). beside_inode k h ≡ beside_inode k before) ready.1 (did.beside before ready.0 after) in
+    let same = subst (λ (k : InodePlace). beside_inode k h ≡ beside_inode k before) ready.1 (did.beside before ready.0 after) in
     let still = still_amid n start p.seat before h same amid in
     (reloads n start h p.seat still did.ends.1, stands n start h p.seat still did.ends.1 c.args.notes.now c.set.new.self note.Freed c.set.ensures)

@@ -1,11 +1,11 @@
 use Rattle.inode_parts.proofs.Lemmas.{ℕ, Option, ap, ◌∙◌, is_some, give_goes, settle_goes, root_goes, directory_goes, up_goes, aside_goes, walked_goes, down_goes, slot_goes, installed_goes, checked_goes, joined_goes, doubled_goes, shut_goes, lent_goes, moved_goes}
 use Rattle.inode_parts.proofs.one_step.OneStep.next.Goals as goal
 
-pub returns-in-Give-clause-goes : goal.returns-in-Give-clause-goes
-returns-in-Give-clause-goes c = λ path before. rw c.in-Give.is (λ ready after. give_goes path c.args.notes.now before c.args.hand.now c.in-Give.field-0 c.args.answer.now ready after)
+pub returns-in-UnlockInode-clause-goes : goal.returns-in-UnlockInode-clause-goes
+returns-in-UnlockInode-clause-goes c = λ path before. rw c.in-UnlockInode.is (λ ready after. give_goes path c.args.notes.now before c.args.hand.now c.in-UnlockInode.field-0 c.args.answer.now ready after)
 
-pub returns-in-Settle-clause-goes : goal.returns-in-Settle-clause-goes
-returns-in-Settle-clause-goes c = λ path before. rw c.in-Settle.is (λ ready after. settle_goes path c.args.notes.now before c.args.hand.now c.in-Settle.seat c.args.answer.now c.known_number.result c.known_number.ensures ready after)
+pub returns-in-SetDirectory-clause-goes : goal.returns-in-SetDirectory-clause-goes
+returns-in-SetDirectory-clause-goes c = λ path before. rw c.in-SetDirectory.is (λ ready after. settle_goes path c.args.notes.now before c.args.hand.now c.in-SetDirectory.seat c.args.answer.now c.known_number.result c.known_number.ensures ready after)
 
 pub returns-in-UpRoot-clause-goes : goal.returns-in-UpRoot-clause-goes
 returns-in-UpRoot-clause-goes c = λ path before. rw c.in-UpRoot.is (λ ready after. root_goes path c.args.notes.now before c.args.hand.now c.in-UpRoot.seat c.args.answer.now c.number_to.result c.number_to.ensures after)

@@ -64,7 +64,7 @@ returns-in-Claim-clause-under c op start before =
     let path = text_in c.args.call.now in
     let did = c.next-in-Claim in
     rw c.in-Claim.is (λ under ready after.
-    claims path start before did.new.hand c.args.notes.now c.args.notes.now (heard_if did.result did.new.heard) c.in-Claim.part did.new.self (λ sort amid. did.ensures.leaves path sort start.hand before amid ready after) op under)
+    claims path start before did.new.hand c.args.notes.now c.args.notes.now (heard_if did.result did.new.heard) c.in-Claim.part did.new.self (λ inode_type amid. did.ensures.leaves path inode_type start.hand before amid ready after) op under)
 
 pub returns-in-LockOpen-clause-under : goal.returns-in-LockOpen-clause-under
 returns-in-LockOpen-clause-under c op start before =

@@ -1,4 +1,4 @@
-use Rattle.inode_parts.proofs.Lemmas.{◌≡◌, ℕ, sym, subst, arith, rules, ◌<◌, ◌^◌, None, replicate, length-replicate, Ret, Dinode, inode_at, Seat, IsLoadedAt, filled_to, read_left, other, begun_fills, begun_is_part, may_move}
+use Rattle.inode_parts.proofs.Lemmas.{◌≡◌, ℕ, sym, subst, arith, rules, ◌<◌, ◌^◌, None, replicate, length-replicate, Ret, Dinode, inode_at, InodePlace, IsLoadedAt, filled_to, read_left, other, begun_fills, begun_is_part, may_move}
 use Rattle.inode_parts.proofs.read_file_part.ReadFilePart.begin.Goals as goal
 
 pub returns-in-Runs-clause-part : goal.returns-in-Runs-clause-part
@@ -20,8 +20,8 @@ returns-in-Runs-clause-ready c =
     let begins = c.requires.begins.1 in
     let few : f.result.offset < 2 ^ 32 = search rules in
     let count = c.args.count in (
-      subst (λ (k : Seat). IsLoadedAt k h) (sym f.ensures.seat) begins.1,
-      subst (λ (k : Seat). inode_at (other k) h ≡ None) (sym f.ensures.seat) begins.4,
+      subst (λ (k : InodePlace). IsLoadedAt k h) (sym f.ensures.seat) begins.1,
+      subst (λ (k : InodePlace). inode_at (other k) h ≡ None) (sym f.ensures.seat) begins.4,
       may_move f.result c.record_at-inode.result count _ few c.in-Runs.ensures.count,
       (replicate count 0, c.in-Runs.ensures.ready (replicate count 0) h begins.2 (omega (arith, length-replicate {A = ℕ} count 0))),
     )

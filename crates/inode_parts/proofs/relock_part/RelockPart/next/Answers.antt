@@ -1,4 +1,4 @@
-use Rattle.inode_parts.proofs.Lemmas.{refl, sym, subst, ◌∙◌, Ret, bind, number_at, with_first, IsAfter, answer_in, Seat, record_in, lock_left, lock_asked, lock_seat, Comes, IsAlone, free_seat, relock_asked, RelockReady, beside_in, looked, RelockPart, comes_on, came_alone, came_block, came_buffers, came_goes, came_number, came_some, relock_comes, relock_leaves, is_taken, take_on, take_over}
+use Rattle.inode_parts.proofs.Lemmas.{refl, sym, subst, ◌∙◌, Ret, bind, number_at, with_first, IsAfter, answer_in, InodePlace, record_in, lock_left, lock_asked, lock_seat, Comes, IsAlone, free_seat, relock_asked, RelockReady, beside_in, looked, RelockPart, comes_on, came_alone, came_block, came_buffers, came_goes, came_number, came_some, relock_comes, relock_leaves, is_taken, take_on, take_over}
 use Rattle.path_walk.specs.declared.asks.Query.TheVariants as query
 use Rattle.inode_parts.proofs.relock_part.RelockPart.next.Goals as goal
 
@@ -53,7 +53,7 @@ returns-in-Some-clause-ready c =
     let ready = subst (λ (p : RelockPart). RelockReady p before) c.in-Locking.is c.requires.came.1 in
     let after = subst (λ (p : RelockPart). IsAfter (relock_asked p) before c.args.answer.now h) c.in-Locking.is c.requires.came.2 in
     let is = c.in-Some.ensures.ready in
-    (is.0, subst (λ (k : Seat). IsAlone (number_at k h) k h) (sym is.1) (came_alone k before h after.0 after.1 after.2 ready.3))
+    (is.0, subst (λ (k : InodePlace). IsAlone (number_at k h) k h) (sym is.1) (came_alone k before h after.0 after.1 after.2 ready.3))
 
 pub returns-in-None-next-clause-goes : goal.returns-in-None-next-clause-goes
 returns-in-None-next-clause-goes c path before =
@@ -88,7 +88,7 @@ returns-in-Some-clause-leaves c path n start before =
     let at = c.in-Some.ensures.ready.1 in
     rw c.in-Locking.is (λ amid ready after.
     let comes = relock_comes n start amid.0 k amid.1 before h after.0 amid.2 after.1 in
-    ((amid.0, at ∙ amid.1, subst (λ (k : Seat). Comes k (with_first (free_seat start) start) h) (sym at) comes), refl))
+    ((amid.0, at ∙ amid.1, subst (λ (k : InodePlace). Comes k (with_first (free_seat start) start) h) (sym at) comes), refl))
 
 pub returns-in-None-next-clause-leaves : goal.returns-in-None-next-clause-leaves
 returns-in-None-next-clause-leaves c path n start before =

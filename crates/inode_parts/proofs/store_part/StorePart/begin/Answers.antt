@@ -1,4 +1,4 @@
-use Rattle.inode_parts.proofs.Lemmas.{◌≡◌, ap, subst, ◌∙◌, store, Seat, with_record, counted, number_in, record_in, record_left, store_is_part, record_beside, beside_inode}
+use Rattle.inode_parts.proofs.Lemmas.{◌≡◌, ap, subst, ◌∙◌, store, InodePlace, with_record, counted, number_in, record_in, record_left, store_is_part, record_beside, beside_inode}
 use Rattle.inode_parts.proofs.store_part.StorePart.begin.Goals as goal
 
 pub returns-clause-part : goal.returns-clause-part
@@ -7,8 +7,8 @@ returns-clause-part c path notes =
     let before = c.args.hand.now in
     let h = c.with_count-store.new.hand in
     let is = c.lock_seat-seat.ensures in
-    let hand = subst (λ (k : Seat). h ≡ with_record k (counted c.args.count (record_in k before)) before) is c.with_count-store.ensures.hand in
-    let program = subst (λ (k : Seat). record_left c.with_count-store.result h ≡ store sizes.inodestart (number_in k before) (counted c.args.count (record_in k before))) is c.with_count-store.ensures.program in
+    let hand = subst (λ (k : InodePlace). h ≡ with_record k (counted c.args.count (record_in k before)) before) is c.with_count-store.ensures.hand in
+    let program = subst (λ (k : InodePlace). record_left c.with_count-store.result h ≡ store sizes.inodestart (number_in k before) (counted c.args.count (record_in k before))) is c.with_count-store.ensures.program in
     store_is_part sizes path notes c.args.number c.args.count before (record { seat = c.lock_seat-seat.result; store = c.with_count-store.result }) h c.requires.begins.0.0 is hand program
 
 pub returns-clause-amid : goal.returns-clause-amid

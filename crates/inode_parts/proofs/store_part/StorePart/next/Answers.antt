@@ -1,4 +1,4 @@
-use Rattle.inode_parts.proofs.Lemmas.{◌≡◌, None, refl, subst, ◌∙◌, buffer_at, Place, Seat, IsLoadedAt, record_place, second-kept, buffer_beside, leaves_changed, still_amid}
+use Rattle.inode_parts.proofs.Lemmas.{◌≡◌, None, refl, subst, ◌∙◌, buffer_at, Place, InodePlace, IsLoadedAt, record_place, second-kept, buffer_beside, leaves_changed, still_amid}
 use Rattle.inode_parts.specs.declared.note.Note.TheVariants as note
 use Rattle.inode_parts.proofs.store_part.StorePart.next.Goals as goal
 
@@ -26,5 +26,5 @@ returns-in-Some-clause-leaves c path n count start before amid ready after =
     let still = still_amid n start p.seat before h (buffer_beside (record_place p.store) p.seat before h same) amid in
     let first = subst (λ (q : Place). buffer_at q h ≡ None) ready.2 did.ends.0 in
     let second = second-kept (record_place p.store) h before ready.2 same ∙ ready.3 in
-    let there = subst (λ (k : Seat). IsLoadedAt k h) ready.1 did.ends.1 in
+    let there = subst (λ (k : InodePlace). IsLoadedAt k h) ready.1 did.ends.1 in
     leaves_changed n start h p.seat still (first, second) c.args.notes.now c.set.new.self note.Nothing c.set.ensures there

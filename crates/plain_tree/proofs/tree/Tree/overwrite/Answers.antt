@@ -1,4 +1,4 @@
-use Rattle.plain_tree.proofs.Lemmas.{ap, sym, ◌∙◌, ◌≡◌, List, ℕ, Node, Kind, File, Tree, tree_of, at_node, node_at, written_kind, changed, stays}
+use Rattle.plain_tree.proofs.Lemmas.{ap, sym, ◌∙◌, ◌≡◌, List, ℕ, Node, NodeKind, File, Tree, tree_of, at_node, node_at, written_kind, changed, stays}
 use Rattle.plain_tree.proofs.tree.Tree.overwrite.Goals as goal
 
 pub returns-in_default : goal.returns-in_default
@@ -13,6 +13,6 @@ returns c =
     let node : x ≡ node_at (tree_of c.args.self.now) c.args.number = c.take_node-count.ensures.node ∙ ap (λ (t : Tree). node_at t c.args.number) same in
     changed (tree_of c.reach.new.self) (tree_of c.take_node-count.new.self) (tree_of c.set_node.new.self) c.args.number f x (record { count = x.count; kind = File c.new.result })
     c.take_node-count.ensures.rest c.set_node.ensures.tree c.take_node-count.ensures.node
-    (ap (λ (kd : Kind). record { count = x.count; kind = kd })
+    (ap (λ (kd : NodeKind). record { count = x.count; kind = kd })
     (ap (λ (bs : List ℕ). File bs) c.new.ensures ∙ (sym new ∙ ap (λ (v : Node). written_kind v.kind c.args.offset c.args.bytes.now) (sym node))))
     ∙ ap (λ (t : Tree). at_node t c.args.number f) same

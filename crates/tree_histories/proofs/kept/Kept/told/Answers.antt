@@ -5,9 +5,9 @@ use Rattle.tree_histories.proofs.kept.Kept.told.Goals as goal
 pub returns-in-Look-clause-tells : goal.returns-in-Look-clause-tells
 returns-in-Look-clause-tells c = subst (λ (m : Mark). IfOk c.looks.result (λ d. TellsOf c.args.self.now c.args.hart m d c.looks.new.self)) (sym c.in-Look.is) c.looks.ensures.tells
 
-pub returns-in-Quit-clause-tells : goal.returns-in-Quit-clause-tells
-returns-in-Quit-clause-tells c =
-    subst (λ (m : Mark). TellsOf c.args.self.now c.args.hart m (Some c.quits.result) c.quits.new.self) (sym c.in-Quit.is)
+pub returns-in-GiveUpWalk-clause-tells : goal.returns-in-GiveUpWalk-clause-tells
+returns-in-GiveUpWalk-clause-tells c =
+    subst (λ (m : Mark). TellsOf c.args.self.now c.args.hart m (Some c.quits.result) c.quits.new.self) (sym c.in-GiveUpWalk.is)
     (told_quit c.args.self.now c.quits.new.self c.args.hart c.quits.result c.quits.ensures.deed c.quits.ensures.kept)
 
 pub returns-in-Own-clause-tells : goal.returns-in-Own-clause-tells

@@ -1,15 +1,15 @@
 -- Steps on the open-file table: what they leave, and the steps of the tree that they make.
-use Rattle.inode_machine.proofs.Vocabulary.{◌≡◌, ◌≢◌, inl, inr, ℕ, ◌+◌, ◌<◌, ◌≤◌, true, false, ◌==◌, ◌||◌, [], Option, Some, None, refl, sym, ◌∙◌, ap, subst, arith, Node, Action, Inherit, StepAnswer, hart_count, Name, Tree, put, hold_names, is_live, settle, resolve, parent, path_of, follows_path, makes_node, StepWith, holds_raised, row_of, Row, key_names, Hold, sum_below, IsWellFormed, Takes, OwnMove, Mine, Entry, Desk, World, stage_of, Note, shop_of, Opens, own_names, IsReferredTo, IsAlone, reference_limit, HasType, Inv, key_in, Stands, new_id, sort_of, is_at}
-use Rattle.inode_machine.proofs.Frame.{Kin, Did, Ours, stands_in, type_on}
+use Rattle.inode_machine.proofs.Vocabulary.{◌≡◌, ◌≢◌, inl, inr, ℕ, ◌+◌, ◌<◌, ◌≤◌, true, false, ◌==◌, ◌||◌, [], Option, Some, None, refl, sym, ◌∙◌, ap, subst, arith, Node, Action, Inherit, StepAnswer, hart_count, Name, Tree, put, hold_names, is_live, settle, resolve, parent, path_of, follows_path, makes_node, StepWith, holds_raised, row_of, Row, key_names, Hold, sum_below, IsWellFormed, PlaysStep, OwnMove, Mine, Entry, Desk, World, stage_of, Note, file_tables_of, Opens, own_names, IsReferredTo, IsAlone, reference_limit, HasType, Inv, key_in, Stands, new_id, type_of, is_at}
+use Rattle.inode_machine.proofs.Frame.{FilesStep, HartStep, Ours, stands_in, type_on}
 
 -- What a step on the table needs of its change.
 pub record Sells (h : ℕ) (v : World) (F : ℕ → Option Entry) (D : ℕ → Desk) (S : ℕ → ℕ) (T : Tree) (H : ℕ → Mine) : Type 0 where
-  pub kin : Kin h (λ n. Ours h (v.keeper n)) (shop_of v) (record { files = F; desks = D; ids = v.ids; slots = S; clean = v.clean; tree_fds = T.fds; tree_files = T.files })
+  pub kin : FilesStep h (λ n. Ours h (v.keeper n)) (file_tables_of v) (record { files = F; desks = D; ids = v.ids; slots = S; clean = v.clean; tree_fds = T.fds; tree_files = T.files })
   pub free : (D h).lender ≡ None
   pub unlent : (v.desks h).lender ≡ None
   pub joined : (D h).joined ≡ (v.desks h).joined
   pub holds : T.holds ≡ v.all.holds
-  pub sorts : (k : ℕ) (e : Entry) → F k ≡ Some e → HasType v.all.nodes e
+  pub inode_types : (k : ℕ) (e : Entry) → F k ≡ Some e → HasType v.all.nodes e
   pub noted : (m : Note) → (D h).noted ≡ Some m → ((v.desks h).noted ≡ Some m) × (0 < (H h).refs m.number → 0 < (v.harts h).refs m.number)
   pub directory : Stands (D h) (T.cwd h) v.all.nodes
   pub home : (D h).directory ≡ (v.desks h).directory
@@ -29,7 +29,7 @@ pub record Sells (h : ℕ) (v : World) (F : ℕ → Option Entry) (D : ℕ → D
   pub walk : (H h).walk ≡ None
   pub lone : (i : ℕ) (a : IsAlone v.keeper v.all.nodes v.refs v.harts i) → v.refs i ≡ (H a.hart).refs i
 
-pub sells_did : (h : ℕ) (v : World) (F : ℕ → Option Entry) (D : ℕ → Desk) (S : ℕ → ℕ) (T : Tree) (H : ℕ → Mine) → h < hart_count → Inv v → Sells h v F D S T H → Did h v (record v { files = F; desks = D; slots = S; all = T; harts = H })
+pub sells_did : (h : ℕ) (v : World) (F : ℕ → Option Entry) (D : ℕ → Desk) (S : ℕ → ℕ) (T : Tree) (H : ℕ → Mine) → h < hart_count → Inv v → Sells h v F D S T H → HartStep h v (record v { files = F; desks = D; slots = S; all = T; harts = H })
 sells_did h v F D S T H lt inv s =
     record {
       hart = lt;
@@ -38,14 +38,14 @@ sells_did h v F D S T H lt inv s =
       rows = s.rows;
       size = s.size;
       ids = s.ids;
-      shop = s.kin;
+      file_tables = s.kin;
       free = s.free;
       raised = λ q. s.joined ∙ inv.raised h lt (ap (λ (f : ℕ → Option Hold). holds_raised true (f h)) (sym s.holds) ∙ q);
       quiet = λ j is f. inv.quiet j h is (sym s.joined ∙ f) ∙ sym (ap (λ (f : ℕ → Option Node). f j) s.nodes);
-      sort = λ j. inl (ap (λ (f : ℕ → Option Node). sort_of (f j)) s.nodes);
-      sorts = λ k e is. type_on v.all.nodes T.nodes e (ap (λ (f : ℕ → Option Node). sort_of (f e.file.number)) s.nodes) (s.sorts k e is);
-      noted = λ m is r t. let a = s.noted m is in ap (λ (f : ℕ → Option Node). sort_of (f m.number)) s.nodes ∙ inv.noted h m lt a.0 (elim r [ inl p ↦ inl (a.1 p) | inr p ↦ absurd (let e = s.found in cc (e, p)) ]) t;
-      directory = stands_in (D h) (T.cwd h) v.all.nodes T.nodes (ap (λ (f : ℕ → Option Node). sort_of (f (D h).directory)) s.nodes) s.directory;
+      inode_type = λ j. inl (ap (λ (f : ℕ → Option Node). type_of (f j)) s.nodes);
+      inode_types = λ k e is. type_on v.all.nodes T.nodes e (ap (λ (f : ℕ → Option Node). type_of (f e.file.number)) s.nodes) (s.inode_types k e is);
+      noted = λ m is r t. let a = s.noted m is in ap (λ (f : ℕ → Option Node). type_of (f m.number)) s.nodes ∙ inv.noted h m lt a.0 (elim r [ inl p ↦ inl (a.1 p) | inr p ↦ absurd (let e = s.found in cc (e, p)) ]) t;
+      directory = stands_in (D h) (T.cwd h) v.all.nodes T.nodes (ap (λ (f : ℕ → Option Node). type_of (f (D h).directory)) s.nodes) s.directory;
       refers = record { few = s.few; home = subst (λ (z : ℕ). 0 < (H h).refs z) (sym s.home) (let a = (inv.refers h lt).home in let r = s.refs (v.desks h).directory in omega (arith, a, r)) };
       well = s.well;
       counts = s.counts;
@@ -60,7 +60,7 @@ sells_did h v F D S T H lt inv s =
 -- A step of the call's own, made at once.
 pub own_takes : (h : ℕ) (v u : World) (s : Action) (a : StepAnswer) → follows_path s ≡ false → path_of s ≡ [] → (v.harts h).walk ≡ None → ((q : Option (ℕ × Name)) → makes_node (settle v.all) s q ≡ false) → ((g : ℕ) → s ≡ Inherit g → ⊥)
     → StepWith (settle v.all) h s (resolve (settle v.all) h (path_of s)) (parent (settle v.all) h (path_of s)) a 0 (new_id v) (stage_of u).tree → (stage_of u).walk ≡ put (λ g. (v.harts g).walk) h None
-    → Takes (stage_of v) h (record { move = OwnMove s 0; told = Some (record { act = record { step = s; answer = a }; new = 0 }) }) (stage_of u)
+    → PlaysStep (stage_of v) h (record { move = OwnMove s 0; told = Some (record { act = record { step = s; answer = a }; new = 0 }) }) (stage_of u)
 own_takes h v u s a follows path walk makes inherits step walks = record {
   follows = follows;
   rests = walk;
