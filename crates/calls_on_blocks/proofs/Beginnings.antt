@@ -8,6 +8,7 @@ use Rattle.calls_on_blocks.proofs.Events.{next_now}
 use Rattle.calls_on_blocks.proofs.Following.{Followed, followed_on, event_of}
 use Rattle.calls_on_blocks.proofs.Histories.{Book, book_more, explains, first_book, leads, rises}
 use Rattle.calls_on_blocks.proofs.Stops.{T, sizes, stored_respects, itself_stored, quiet_stored, first_state, first_followed, first_image, next_same}
+use Rattle.inode_machine.specs.Kept as kept
 
 rises_so : (lo : ℕ) (list : List Placed) → Rises lo list → RisesBy event_of lo list
 unfolding Rises RisesBy
@@ -49,7 +50,7 @@ module _ (disk : List (List ℕ)) (failures : ℕ) (mountable : IsMountable disk
     pub book : BookOf (run L events s) (shown ++ shows N events s) list
     pub followed : Followed (sizes disk failures mountable) (length disk) Image (run L events s) list (marks_after (sizes disk failures mountable) events s m)
 
-  module _ (starts : (e : Event Call Outside) (s t : State L) (told : Told) (x : Turns N is_moving e (makes L e s).came t told) → OkAt e → MayStart Ok x.event) where
+  module _ (starts : (e : Event Call Outside) (s t : State L) (told : Told) (x : Turns N is_moving e (makes L e s).came t told (kept.told_of N (kept.placed N e s))) → OkAt e → MayStart Ok x.event) where
     follow : (events : List (Event Call Outside)) (s : State L) (shown : List Shown) (list : List Placed) (m : Marks) → BookOf s shown list → Followed (sizes disk failures mountable) (length disk) Image s list m → AllHonest L events s
         → N.Clean (run L events s).world → AllObey OkAt events → After events s shown m
     follow [] s shown list m b f honest clean ok = record {

@@ -21,7 +21,7 @@ pub use Rattle.atomic_programs.proofs.Lowered.{begun_both, is_code_part, lifted_
 pub use Rattle.atomic_programs.proofs.Explains.{Some-inj, changed_same, may_make}
 pub use Rattle.group_log.proofs.Moving.{commit_move, leave_facts, leave_move, never, open_move}
 pub use Rattle.inode_machine.proofs.Calls.{IsRight, descriptors_right, lawful_that, laws, right}
-pub use Rattle.inode_machine.proofs.MoveCalls.{Beside, Turns, clean_before, event_turns, moves_alone, moves_history}
+pub use Rattle.inode_machine.proofs.Kept.{Beside, Turns, clean_before, event_turns, moves_alone, moves_history}
 pub use Rattle.inode_machine.proofs.Starts.{begun_same, inherit_begins, start_is}
 pub use Rattle.inodes_on_blocks.proofs.Desks.{part_same}
 pub use Rattle.inodes_on_blocks.specs.Mounted.{ShowsItsTree}

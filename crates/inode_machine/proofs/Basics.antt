@@ -15,7 +15,7 @@ pub use Rattle.inode_machine.proofs.Holds.{Moves, Rehold, Turned, bump_stops, bu
 pub use Rattle.inode_machine.proofs.Listing.{IsListed, Listed, listed_among, listed_beside, listed_free, listed_held, listed_on, one_at, one_else}
 unfoldable pub use Rattle.inode_machine.proofs.Listing.{times}
 pub use Rattle.inode_machine.proofs.Looks.{Agrees, KeepsHold, MendingOf, MoveFine, live_face, look_refused_good, mends, note_of, noting, quit_good, s-take-then, spoilt, unheld_is}
-pub use Rattle.inode_machine.proofs.MoveCalls.{moves_alone, moves_history}
+pub use Rattle.inode_machine.proofs.Kept.{moves_alone, moves_history}
 pub use Rattle.inode_machine.proofs.Names.{AllNames, both_paths, path_names}
 pub use Rattle.inode_machine.proofs.Openings.{FirstOf, Fresh, Opening, first_is, fresh_id, opened_row, opened_tree, opened_world, opening, row_back, unopened_row}
 pub use Rattle.inode_machine.proofs.Paths.{Follows, agrees_look, begun_by, begun_refused, begun_walking, quit_step, s-see, walking_begun, walking_on, walking_quit, walking_told, written_by}

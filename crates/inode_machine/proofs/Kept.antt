@@ -1,5 +1,5 @@
 -- The list that is kept beside a run is the one that explains it.
-use Rattle.inode_machine.proofs.Vocabulary.{◌≡◌, ◌≢◌, ◌⊎◌, inl, inr, ℕ, suc, ◌<◌, ◌≤◌, Bool, true, false, List, [], ◌∷◌, ◌++◌, map, length, Option, Some, None, refl, sym, ◌∙◌, ap, subst, arith, append_assoc, Reply, Call, Act, Shown, Chain, Explains, trace_of, TreeData, Placed, Tree, put, tree_of, hart_count, eq_self, eq_not, put_same, put_other, Deed, Move, Stage, Step as MoveStep, IsNext, MayEnd, PlaysStep, IsWholeCall, after, begins, told_by, History, starts, passes, Busy, Told, Turn, Happens, BeginsNext, PlaysAny, Goings, Calm, Lone, IsStartBy, climbing, finishes, moves_on, opened, shown_of, stepped, Starts, Steps, Nothing, Tells, runs_more, runs_none, grows, before, NeverClimbs, IsHart, apart_alone, apart_calm, opened_ok, run_explained, run_ok, starts_alone, starts_calm, AllMayStart, Apart, event_tells, played_end, played_next, told_more, Prog, Ret, Do, ExecResult, Waits, Ran, Stops, asks, OfNext, OpWithAnswer, Goes, Good, Grown, PlacesOne, Wp, onto, oldest_first, own, Theory, Began, Begins, Begun, EventOutcome, Refuses, busy_in, Ends, Event, Start, StepOf as Step, HonestStep, IsHonest, Run, Sound, State, AllHonest, all_told, fresh, moved, next, run, start_run, step_prog, step_run, step_unless, told, tried, unchanged, append_nil, oldest_first_more, Keeps, changed_tells, inv_of, sound_keeps, leads, sound_fresh, sound_run, MoveMachine, IsMoving, RunsFrom, Alone, NoneClimbs, StartsBy, climbs_at, machine_of, shown_by, shows, theory_of, IsTheHistory, history_of, kept, kept_by, kept_on, nothing_yet, placed, placed_prog, placed_run, placed_tried, placed_unless, told_of}
+use Rattle.inode_machine.proofs.Vocabulary.{◌≡◌, ◌≢◌, ◌⊎◌, inl, inr, ℕ, suc, ◌<◌, ◌≤◌, Bool, true, false, List, [], ◌∷◌, ◌++◌, map, length, Option, Some, None, refl, sym, ◌∙◌, ap, subst, arith, append_assoc, Reply, Call, Act, Shown, Chain, Explains, trace_of, TreeData, Placed, Tree, put, tree_of, hart_count, eq_self, eq_not, put_same, put_other, Deed, Move, Stage, Step as MoveStep, IsNext, MayEnd, PlaysStep, IsWholeCall, after, begins, told_by, History, starts, passes, Busy, Told, Turn, Happens, BeginsNext, PlaysAny, Goings, Calm, Lone, IsStartBy, climbing, finishes, moves_on, opened, shown_of, stepped, Starts, Steps, Nothing, Tells, runs_more, runs_none, grows, before, NeverClimbs, IsHart, apart_alone, apart_calm, opened_ok, run_explained, run_ok, starts_alone, starts_calm, AllMayStart, Apart, event_tells, played_end, played_next, told_more, Prog, Ret, Do, ExecResult, Waits, Ran, Stops, asks, OfNext, OpWithAnswer, Goes, Good, Grown, PlacesOne, Wp, onto, oldest_first, own, Theory, Began, Begins, Begun, EventOutcome, Refuses, busy_in, Ends, Event, Start, StepOf as Step, HonestStep, IsHonest, Run, Sound, State, AllHonest, all_told, fresh, moved, next, run, start_run, step_prog, step_run, step_unless, told, tried, unchanged, append_nil, oldest_first_more, Keeps, changed_tells, inv_of, sound_keeps, leads, sound_fresh, sound_run, MoveMachine, IsMoving, HasOneHistory, RunsFrom, Alone, NoneClimbs, StartsBy, climbs_at, machine_of, shown_by, shows, theory_of, IsTheHistory, history_of, kept, kept_by, kept_on, nothing_yet, placed, placed_prog, placed_run, placed_tried, placed_unless, told_of}
 use Rattle.tree_laws.specs.History.HartStanding.{Free}
 use Rattle.atomic_programs.specs.Calls.{begun, makes}
 
@@ -325,12 +325,18 @@ module _ (N : MoveMachine) (moving : IsMoving N) where
       same = ap (λ (z : History). z.list) x.written
 
   -- Where no path climbs, one list of tree steps explains the run.
-  pub moves_history : (base : TreeData) (w : N.World) (events : List (Event Call N.Outside)) → RunsFrom N base w events → NoneClimbs events → IsTheHistory N base w events
-  moves_history base w events r calm = let x = turned base w events r in history NeverClimbs base w events r apart_calm x (starts_calm x.more (x.calm calm))
+  pub the_history : (base : TreeData) (w : N.World) (events : List (Event Call N.Outside)) → RunsFrom N base w events → NoneClimbs events → IsTheHistory N base w events
+  the_history base w events r calm = let x = turned base w events r in history NeverClimbs base w events r apart_calm x (starts_calm x.more (x.calm calm))
 
   -- And where one hart alone makes calls.
-  pub moves_alone : (base : TreeData) (w : N.World) (h : ℕ) (events : List (Event Call N.Outside)) → RunsFrom N base w events → Alone h events → IsTheHistory N base w events
-  moves_alone base w h events r alone = let x = turned base w events r in history (IsHart h) base w events r (apart_alone h) x (starts_alone h x.more (x.alone h alone))
+  pub the_history_alone : (base : TreeData) (w : N.World) (h : ℕ) (events : List (Event Call N.Outside)) → RunsFrom N base w events → Alone h events → IsTheHistory N base w events
+  the_history_alone base w h events r alone = let x = turned base w events r in history (IsHart h) base w events r (apart_alone h) x (starts_alone h x.more (x.alone h alone))
+
+  pub moves_history : (base : TreeData) (w : N.World) (events : List (Event Call N.Outside)) → RunsFrom N base w events → NoneClimbs events → HasOneHistory N base w events
+  moves_history base w events r calm = let x = the_history base w events r calm in record { list = history_of N w events; explains = x.explains; leads = x.leads }
+
+  pub moves_alone : (base : TreeData) (w : N.World) (h : ℕ) (events : List (Event Call N.Outside)) → RunsFrom N base w events → Alone h events → HasOneHistory N base w events
+  moves_alone base w h events r alone = let x = the_history_alone base w h events r alone in record { list = history_of N w events; explains = x.explains; leads = x.leads }
 
   -- ---- the list only grows
 

@@ -57,7 +57,6 @@ pub mod Opens
 pub mod OpenEnds
 pub mod OpenCalls
 pub mod Empties
-pub mod MoveCalls
 pub mod Histories
 pub mod Resting
 pub mod Addings
