@@ -18,11 +18,11 @@ bytes_are [] e i = omega arith
 bytes_are (b ∷ bs) e zero = byte_is b (and_true (nat_lt b 256) (are_bytes bs) e).0
 bytes_are (b ∷ bs) e (suc i) = bytes_are bs (and_true (nat_lt b 256) (are_bytes bs) e).1 i
 
-piece_bytes : (bytes : List ℕ) (i : ℕ) → IsBytes bytes → IsBytes (piece bytes i)
+pub piece_bytes : (bytes : List ℕ) (i : ℕ) → IsBytes bytes → IsBytes (piece bytes i)
 piece_bytes bytes i are = take_bytes piece_len (drop (piece_len * i) bytes) (drop_bytes (piece_len * i) bytes are)
 
 -- there is one
-some_pieces : (n : ℕ) (none : Bool) → 0 < n → (n == 0) ≡ none → 0 < (if none then 1 else (n + (3072 - 1)) / 3072)
+pub some_pieces : (n : ℕ) (none : Bool) → 0 < n → (n == 0) ≡ none → 0 < (if none then 1 else (n + (3072 - 1)) / 3072)
 some_pieces n true some e = omega arith
 some_pieces n false some e = let a : 1 ≤ (n + (3072 - 1)) / 3072 = (le-div_iff_mul-le {k = 3072} {x = 1} {y = n + (3072 - 1)} (omega arith)).1 (omega (arith, some)) in omega (arith, a)
 
@@ -35,7 +35,7 @@ begins_within n i some false e lt =
     omega (arith, a)
 
 -- so that it has some
-piece_some : (bytes : List ℕ) (i : ℕ) → 0 < length bytes → i < piece_count bytes → 0 < length (piece bytes i)
+pub piece_some : (bytes : List ℕ) (i : ℕ) → 0 < length bytes → i < piece_count bytes → 0 < length (piece bytes i)
 piece_some bytes i some lt =
     let a = begins_within (length bytes) i some (length bytes == 0) refl lt in
     let t = length-take piece_len (drop (piece_len * i) bytes) in

@@ -1,16 +1,8 @@
 -- What the calls of the cache do to its buffers, as the log needs it.
 use Rattle.group_log.proofs.Vocabulary.{◌≡◌, ◌≢◌, ℕ, ◌+◌, ◌≤◌, List, [], ◌∷◌, ◌++◌, Bool, true, false, cond, refl, sym, ◌∙◌, ap, arith, Option, Some, None, if◌then◌else◌, eqb-true, ne_eqb, option_map, find, change_first, change_to_end, count_of, SeatState, has_block, is_number, seat_of, with_seat, without_holder, given_back}
-pub use Rattle.buffer_cache.proofs.Firsts.{pick, count_to_end}
+pub use Rattle.buffer_cache.proofs.Firsts.{pick, count_more, count_same, count_to_end, first_passes}
 
 -- ---- the first that passes, after a change
-
-pub first_passes : {X : Type 0} (p : X → Bool) (xs : List X) (x : X) → find p xs ≡ Some x → p x ≡ true
-first_passes p [] x e = absurd (cc e)
-first_passes {X} p (y ∷ xs) x e =
-    pick (p y) (λ t. p y ≡ t → (if t then Some y else find p xs) ≡ Some x → p x ≡ true)
-    (λ _ is here. let same : y ≡ x = cc here in ap p (sym same) ∙ is)
-    (λ _ isnt here. first_passes p xs x here)
-    refl e
 
 pub first_changed : {X : Type 0} (p : X → Bool) (f : X → X) (xs : List X) → ((x : X) → p x ≡ true → p (f x) ≡ true) → find p (change_first p f xs) ≡ option_map f (find p xs)
 first_changed p f [] keeps = refl
@@ -79,31 +71,6 @@ changed_and_ended {X} p f g (x ∷ xs) same =
     refl
 
 -- ---- counts
-
-less : (a b : Bool) → (a ≡ true → b ≡ true) → cond a 1 0 ≤ cond b 1 0
-less true true k = omega arith
-less true false k = absurd (cc (k refl))
-less false true k = omega arith
-less false false k = omega arith
-
-one_at_most : (t : Bool) → cond t 1 0 ≤ 1
-one_at_most true = omega arith
-one_at_most false = omega arith
-
-pub count_more : {X : Type 0} (q p : X → Bool) (f : X → X) (xs : List X) → count_of q (change_first p f xs) ≤ count_of q xs + 1
-count_more q p f [] = omega arith
-count_more q p f (x ∷ xs) =
-    let a = one_at_most (q (f x)) in
-    let b = count_more q p f xs in
-    pick (p x) (λ t. count_of q (if t then f x ∷ xs else x ∷ change_first p f xs) ≤ cond (q x) 1 0 + count_of q xs + 1) (λ _. omega (arith, a)) (λ _. omega (arith, b))
-
-pub count_same : {X : Type 0} (q p : X → Bool) (f : X → X) (xs : List X) → ((x : X) → find p xs ≡ Some x → q (f x) ≡ true → q x ≡ true) → count_of q (change_first p f xs) ≤ count_of q xs
-count_same q p f [] keeps = omega arith
-count_same {X} q p f (x ∷ xs) keeps =
-    pick (p x) (λ t. ((y : X) → (if t then Some x else find p xs) ≡ Some y → q (f y) ≡ true → q y ≡ true) → count_of q (if t then f x ∷ xs else x ∷ change_first p f xs) ≤ cond (q x) 1 0 + count_of q xs)
-    (λ _ k. let a = less (q (f x)) (q x) (k x refl) in omega (arith, a))
-    (λ _ k. let b = count_same q p f xs k in omega (arith, b))
-    keeps
 
 pub count_less : {X : Type 0} (q p : X → Bool) (f : X → X) (xs : List X) (x : X) → find p xs ≡ Some x → q x ≡ true → q (f x) ≡ false → count_of q (change_first p f xs) + 1 ≡ count_of q xs
 count_less q p f [] x e was isnt = absurd (cc e)

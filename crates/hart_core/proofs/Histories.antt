@@ -143,7 +143,7 @@ module _ (sizes : Super) where
   kind_step h x DidStop = refl
   kind_step h x WasStopped = refl
 
-  kind_same : (e : EventOf Call Outside) (o : EventOutcome (block_calls sizes)) → shown_by e o ≡ shown_by (asked e) (by_kind (block_calls sizes) (block_code sizes) o)
+  pub kind_same : (e : EventOf Call Outside) (o : EventOutcome (block_calls sizes)) → shown_by e o ≡ shown_by (asked e) (by_kind (block_calls sizes) (block_code sizes) o)
   kind_same (Start h call) o = kind_start h call o
   kind_same (Step h x) o = kind_step h x o
 

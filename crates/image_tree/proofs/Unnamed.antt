@@ -45,7 +45,7 @@ no_hit : (x i : ℕ) → x ≢ i → hits i x ≡ 0
 no_hit x i ne = rw (ne_eqb x i ne) refl
 
 -- a number other than the first two is named by the rest of the slots as often as by all
-further_same : (slots : List (Option Dirent)) (d i : ℕ) → get_or slots 0 None ≡ Some (Used d dot) → IsDotDot (get_or slots 1 None) → d ≢ i → number_in (get_or slots 1 None) ≢ i
+pub further_same : (slots : List (Option Dirent)) (d i : ℕ) → get_or slots 0 None ≡ Some (Used d dot) → IsDotDot (get_or slots 1 None) → d ≢ i → number_in (get_or slots 1 None) ≢ i
     → times i (slot_numbers slots) ≡ times i (slot_numbers (drop 2 slots))
 further_same [] d i first second self up = absurd second
 further_same (a ∷ []) d i first second self up = absurd second

@@ -1,7 +1,7 @@
 -- The slots of a directory, as the image has them and as the tree has them.
 use Rattle.inodes_on_blocks.proofs.Vocabulary.{◌≡◌, ◌≢◌, ℕ, suc, ◌≤◌, inl, inr, refl, sym, ◌∙◌, ap, arith, List, [], ◌∷◌, drop, map, get_or, Option, Some, None, All, Dirent, Free, Used, Name, same_name, dot, dotdot, first_slot, IsOnce, times, slot_numbers, slot_names, number_in, IsDotDot, slot_of, Slots, up_in, count_in, either, same_is, slot_past, slot_none, slot_nil}
 use Rattle.tree_laws.specs.WellFormed.{NamesOnce}
-use Rattle.inodes_on_blocks.proofs.Lists.{times_nil, times_cons, no_hit}
+use Rattle.inodes_on_blocks.proofs.Lists.{times_nil, times_cons}
 
 -- the slots of the image
 abbrev pub Entries : Type 0
@@ -53,17 +53,6 @@ dots_stand (a ∷ Some Free ∷ slots) d first second = absurd second
 dots_stand (a ∷ Some (Used number name) ∷ slots) d first second =
     ap (λ (s : Option Dirent). slot_of s ∷ Some (record { name = name; number = number }) ∷ in_tree slots) first
     ∙ ap (λ (e : Name). Some (record { name = dot; number = d }) ∷ Some (record { name = e; number = number }) ∷ in_tree slots) second
-
--- what a number other than the first two names has of all names, it has of those past them
-pub further_same : (slots : Entries) (d i : ℕ) → get_or slots 0 None ≡ Some (Used d dot) → IsDotDot (get_or slots 1 None) → d ≢ i → number_in (get_or slots 1 None) ≢ i
-    → times i (slot_numbers slots) ≡ times i (slot_numbers (drop 2 slots))
-further_same [] d i first second self up = absurd second
-further_same (a ∷ []) d i first second self up = absurd second
-further_same (a ∷ None ∷ slots) d i first second self up = absurd second
-further_same (a ∷ Some Free ∷ slots) d i first second self up = absurd second
-further_same (a ∷ Some (Used number name) ∷ slots) d i first second self up =
-    ap (λ (s : Option Dirent). times i (slot_numbers (s ∷ Some (Used number name) ∷ slots))) first
-    ∙ omega (arith, times_cons i d (number ∷ slot_numbers slots), times_cons i number (slot_numbers slots), no_hit d i self, no_hit number i up)
 
 -- ---- names
 

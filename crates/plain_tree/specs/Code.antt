@@ -1,5 +1,5 @@
 -- Words in which the code's parts are promised.
-use Rattle.std.specs.Prelude.{ℕ, ◌≡◌, ◌+◌, ◌^◌, ◌==◌, ◌&&◌, not, true, false, ◌<◌, ◌++◌, length, slice_index_or, slice_set, Bool, List, [], ◌∷◌, take, nat_lt, if◌then◌else◌, Option, Some, None}
+use Rattle.std.specs.Prelude.{ℕ, ◌≡◌, ◌+◌, ◌^◌, ◌==◌, ◌&&◌, not, true, false, ◌<◌, ◌++◌, length, slice_index_or, slice_set, Bool, List, [], ◌∷◌, take, nat_lt, if◌then◌else◌, Option, Some, None, ◌-◌, drop}
 use Rattle.plain_tree.specs.declared.node.Node.{Node}
 use Rattle.plain_tree.specs.declared.node.Slot.{Slot}
 use Rattle.plain_tree.specs.declared.step.Action.{Action}
@@ -13,6 +13,10 @@ use Rattle.plain_tree.specs.Basics.{Name, Tree, tree_of, file_in, is_empty, and_
 -- the element that these bytes are, if there are any, before the others
 abbrev pub with_element : List ℕ → List Name → List Name
 with_element bytes es = if is_empty bytes then es else take name_len bytes ∷ es
+
+-- these bytes are the end of the path
+abbrev pub IsEnd : List ℕ → List ℕ → Type 0
+IsEnd path rest = rest ≡ drop (length path - length rest) path
 
 -- the parent, with the last element
 abbrev pub with_name : Option ℕ → Name → Option (ℕ × Name)

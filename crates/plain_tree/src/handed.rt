@@ -5,7 +5,7 @@ ghost use Rattle.plain_tree.specs.Calls.{in_buffer};
 use crate::step::StepAnswer;
 
 /// The same bytes.
-pub(crate) fn same_bytes(a: &[u8], b: &[u8]) -> bool
+pub fn same_bytes(a: &[u8], b: &[u8]) -> bool
     ensures { IsTrue result ↔ (a.now ≡ b.now) }
 {
     a == b
@@ -33,7 +33,7 @@ fn is_filled(buffer: &[u8], bytes: &[u8], handed: &[u8]) -> bool
 }
 
 /// What was handed back is the buffer after a read with this answer.
-pub(crate) fn is_buffer(buffer: &[u8], given: &StepAnswer, handed: &[u8]) -> bool
+pub fn is_buffer(buffer: &[u8], given: &StepAnswer, handed: &[u8]) -> bool
     ensures { IsTrue result ↔ (handed.now ≡ in_buffer buffer.now given.now) }
 {
     match given {

@@ -32,7 +32,8 @@ pub(crate) fn number_of(slots: &[Option<Slot>], name: &[u8]) -> Option<u16>
 }
 
 impl Tree {
-    pub(crate) fn is_live_directory(&self, number: u16) -> bool
+    /// Whether it is a directory that has a link.
+    pub fn is_live_directory(&self, number: u16) -> bool
         ensures { result ≡ live_directory ((tree_of self.now).nodes number) }
     {
         match self.node(usize::from(number)) {
@@ -43,7 +44,7 @@ impl Tree {
 
     /// What the directory has under the name.
     #[tactic(auto, unfolding(crate::specs::Tree::look))]
-    pub(crate) fn look(&self, directory: u16, name: &[u8]) -> Option<u16>
+    pub fn look(&self, directory: u16, name: &[u8]) -> Option<u16>
         ensures { result ≡ look (tree_of self.now).nodes directory name.now }
     {
         let node = self.node(usize::from(directory))?;

@@ -1,13 +1,13 @@
 //! The elements of a path.
 ghost use Rattle.std.specs.Prelude.{◌≡◌, ◌+◌, ◌<◌, ◌≤◌, [], ◌∷◌, length, take, drop, MatchOption};
-ghost use Rattle.plain_tree.specs.Code.{with_element};
+ghost use Rattle.plain_tree.specs.Code.{IsEnd, with_element};
 ghost use Rattle.plain_tree.specs.Tree.{elements, is_absolute, same_name};
 ghost use Rattle.plain_tree.specs.Widths.{name_len};
 
 use crate::widths::{NAME_LEN, SLASH};
 
 /// The same bytes.
-pub(crate) fn same(a: &[u8], b: &[u8]) -> bool
+pub fn same(a: &[u8], b: &[u8]) -> bool
     ensures { result ≡ same_name a.now b.now }
 {
     a == b
@@ -36,7 +36,7 @@ fn name_end(path: &[u8]) -> usize
 }
 
 /// At most the first `count` bytes.
-pub(crate) fn first(bytes: &[u8], count: usize) -> &[u8]
+pub fn first(bytes: &[u8], count: usize) -> &[u8]
     ensures { result.now ≡ take count bytes.now }
 {
     if bytes.len() > count {
@@ -46,10 +46,10 @@ pub(crate) fn first(bytes: &[u8], count: usize) -> &[u8]
     }
 }
 
-/// The first element of a path, and the path after it.
-pub(crate) fn next_element(path: &[u8]) -> Option<(&[u8], &[u8])>
+/// The first element of a path, and the path after it, which is its end.
+pub fn next_element(path: &[u8]) -> Option<(&[u8], &[u8])>
     ensures { MatchOption result (elements path.now ≡ [])
-        (λ r. (elements path.now ≡ r.0.now ∷ elements r.1.now) × (length r.1.now < length path.now)) }
+        (λ r. (elements path.now ≡ r.0.now ∷ elements r.1.now) × (length r.1.now < length path.now) × IsEnd path.now r.1.now) }
 {
     let mut rest = path;
     while !rest.is_empty() {

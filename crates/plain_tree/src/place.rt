@@ -64,7 +64,7 @@ impl Tree {
 
     /// The action has its place here.
     #[tactic(auto, unfolding(crate::specs::Steps::place_of))]
-    pub(crate) fn has_place(&self, hart: u8, action: &Action) -> bool
+    pub fn has_place(&self, hart: u8, action: &Action) -> bool
         ensures { result ≡ place_of (tree_of self.now) hart action.now }
     {
         match action {

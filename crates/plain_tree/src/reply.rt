@@ -12,7 +12,7 @@ use crate::step::StepAnswer;
 use crate::trace::Placed;
 
 /// The answer is that there is no room.
-fn is_full(answer: &StepAnswer) -> bool
+pub fn is_full(answer: &StepAnswer) -> bool
     ensures { result ≡ is_full answer.now }
 {
     matches!(answer, StepAnswer::Full { .. })
@@ -68,7 +68,7 @@ fn first_answer(id: usize, list: &[Placed]) -> Option<&StepAnswer>
 }
 
 /// The call's answer is the step's.
-fn is_plain(given: &StepAnswer, answer: &Answer) -> bool
+pub fn is_plain(given: &StepAnswer, answer: &Answer) -> bool
     ensures { IsTrue result ↔ (answer.now ≡ plain_answer given.now) }
 {
     match (given, answer) {
@@ -86,7 +86,7 @@ fn is_plain(given: &StepAnswer, answer: &Answer) -> bool
 }
 
 /// The answer is the cause; where there is none, the count.
-fn is_counted(cause: Option<Cause>, count: usize, answer: &Answer) -> bool
+pub fn is_counted(cause: Option<Cause>, count: usize, answer: &Answer) -> bool
     ensures { IsTrue result ↔ (answer.now ≡ counted cause count) }
 {
     match (cause, answer) {
@@ -97,7 +97,7 @@ fn is_counted(cause: Option<Cause>, count: usize, answer: &Answer) -> bool
 }
 
 /// The answer is the cause; where there is none, that it is done.
-fn is_linked(cause: Option<Cause>, answer: &Answer) -> bool
+pub fn is_linked(cause: Option<Cause>, answer: &Answer) -> bool
     ensures { IsTrue result ↔ (answer.now ≡ linked cause) }
 {
     match (cause, answer) {

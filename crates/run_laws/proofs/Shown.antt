@@ -6,38 +6,13 @@ use Rattle.hart_core.specs.declared.events.Event.TheVariants as event
 use Rattle.hart_core.specs.declared.outcome.Outcome.TheVariants as outcome
 use Rattle.hart_core.specs.declared.outcome.Stop.TheVariants as stop
 use Rattle.run_laws.proofs.Traced.{all_shown_by}
-use Rattle.hart_core.proofs.Histories.{zipped, all_same}
+use Rattle.hart_core.proofs.Histories.{zipped, all_same, kind_same}
 
 module _ (sizes : Super) where
-  -- of which kind an operation was isn't shown
-  kind_start : (h : ℕ) (call : Call) (o : EventOutcome (block_calls sizes)) → shown_by {Outside = Outside} (Start h call) o ≡ shown_by {Outside = Unit {0}} (Start h call) (by_kind (block_calls sizes) (block_code sizes) o)
-  kind_start h call Started = refl
-  kind_start h call (Refused why) = refl
-  kind_start h call WasIdle = refl
-  kind_start h call DidWait = refl
-  kind_start h call (DidRun did) = refl
-  kind_start h call (DidEnd reply) = refl
-  kind_start h call DidStop = refl
-  kind_start h call WasStopped = refl
-
-  kind_step : (h : ℕ) (x : Outside) (o : EventOutcome (block_calls sizes)) → shown_by (Step h x) o ≡ shown_by {Outside = Unit {0}} (Step h tt) (by_kind (block_calls sizes) (block_code sizes) o)
-  kind_step h x Started = refl
-  kind_step h x (Refused why) = refl
-  kind_step h x WasIdle = refl
-  kind_step h x DidWait = refl
-  kind_step h x (DidRun did) = refl
-  kind_step h x (DidEnd reply) = refl
-  kind_step h x DidStop = refl
-  kind_step h x WasStopped = refl
-
-  kind_same : (e : EventOf Call Outside) (o : EventOutcome (block_calls sizes)) → shown_by e o ≡ shown_by (asked e) (by_kind (block_calls sizes) (block_code sizes) o)
-  kind_same (Start h call) o = kind_start h call o
-  kind_same (Step h x) o = kind_step h x o
-
   kinds_same : (es : List (EventOf Call Outside)) (os : List (EventOutcome (block_calls sizes))) → all_shown_by sizes es os ≡ zipped (all_asked es) (all_by_kind (block_calls sizes) (block_code sizes) os)
   kinds_same [] os = refl
   kinds_same (e ∷ es) [] = refl
-  kinds_same (e ∷ es) (o ∷ os) = λ i. kind_same e o i ∷ kinds_same es os i
+  kinds_same (e ∷ es) (o ∷ os) = λ i. kind_same sizes e o i ∷ kinds_same es os i
 
   pub shown_same : (es : List (EventOf Call Outside)) (os : List (EventOutcome (block_calls sizes))) (events : List Event) (cs : List Came) → all_asked es ≡ events_of events → all_by_kind (block_calls sizes) (block_code sizes) os ≡ outcomes_of cs
       → all_shown_by sizes es os ≡ all_shown events cs

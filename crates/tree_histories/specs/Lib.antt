@@ -3,7 +3,6 @@ pub mod Stands
 pub mod Searching
 pub mod Ordered
 pub mod Books
-pub mod Ends
 pub mod Keeping
 pub mod Moving
 pub mod Sights

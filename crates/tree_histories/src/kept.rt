@@ -15,7 +15,7 @@ ghost use Rattle.tree_histories.specs.Sights.{MarksBy, SeenFor, acts_first};
 ghost use Rattle.tree_histories.specs.Walks.{IsNextWalk, step_in, walk_of};
 
 use crate::Hint;
-use crate::sees::{is_live_directory, look, sight};
+use crate::sees::sight;
 use crate::standing::{Standing, Walk};
 use path_walk::{Ask, Heard, Locked, Mark};
 use plain_tree::{Action, ApplyRefused, Call, HARTS, NoMemory, Tree, TreeStep};
@@ -261,7 +261,7 @@ impl Kept {
             return false;
         };
         match standing.walk() {
-            Some(walk) => !is_live_directory(&self.tree, walk.directory),
+            Some(walk) => !self.tree.is_live_directory(walk.directory),
             None => false,
         }
     }
@@ -405,7 +405,7 @@ impl Kept {
         ensures { let before = walk_of (call_in standing.now.whole) walk in
             IsNextWalk (call_in standing.now.whole) result before (look (tree_of self.now.tree).nodes before.at before.next) }
     {
-        let number = look(&self.tree, walk.directory, standing.name(walk))?;
+        let number = self.tree.look(walk.directory, standing.name(walk))?;
         standing.after(walk, number)
     }
 

@@ -1,73 +1,17 @@
 //! Paths with the element "..", and replies that there is no room.
-ghost use Rattle.std.specs.Prelude.{◌≡◌, ◌+◌, ◌-◌, ◌<◌, ◌≤◌, ◌++◌, [], ◌∷◌, drop, length, slice_range, take, MatchOption};
-ghost use Rattle.tree_histories.specs.Vocabulary.{call_climbs, with_element, climbs, dotdot, elements, same_name, name_in, IsElement, IsInOne};
+ghost use Rattle.std.specs.Prelude.{◌≡◌, ◌+◌, ◌-◌, ◌<◌, ◌++◌, drop, slice_range};
+ghost use Rattle.tree_histories.specs.Vocabulary.{call_climbs, climbs, dotdot, same_name, name_in, IsElement, IsInOne};
 ghost use Rattle.tree_histories.specs.Told.{any_climbs, any_full, is_full_reply};
-ghost use Rattle.tree_histories.specs.Ends.{IsEnd};
 
 use path_walk::Element;
+use plain_tree::paths::{first, next_element};
 use plain_tree::{Answer, Call, TracedCall};
-
-const SLASH: u8 = b'/';
-
-const NAME_LEN: usize = 14;
-
-// The same bytes.
-pub(crate) fn same(a: &[u8], b: &[u8]) -> bool
-    ensures { result ≡ same_name a.now b.now }
-{
-    a == b
-}
-
-// Where the path's first '/' is, or its end.
-fn name_end(path: &[u8]) -> usize
-    ensures bound { result ≤ length path.now }
-    ensures cut { elements path.now ≡ with_element (take result path.now) (elements (drop (result + 1) path.now)) }
-{
-    for (i, byte) in path.iter().enumerate() {
-        if *byte == SLASH {
-            return i;
-        }
-    }
-    path.len()
-}
-
-// At most the first `count` bytes.
-pub(crate) fn first(bytes: &[u8], count: usize) -> &[u8]
-    ensures { result.now ≡ take count bytes.now }
-{
-    if bytes.len() > count {
-        &bytes[..count]
-    } else {
-        bytes
-    }
-}
 
 // The path from this place on; nothing past its end.
 pub(crate) fn rest_of(path: &[u8], from: usize) -> &[u8]
     ensures { result.now ≡ drop from path.now }
 {
     &path[from.min(path.len())..]
-}
-
-/// The first element of a path, and the path after it, which is its end.
-pub(crate) fn next_element(path: &[u8]) -> Option<(&[u8], &[u8])>
-    ensures { MatchOption result (elements path.now ≡ [])
-        (λ r. (elements path.now ≡ r.0.now ∷ elements r.1.now) × (length r.1.now < length path.now) × IsEnd path.now r.1.now) }
-{
-    let mut rest = path;
-    while !rest.is_empty() {
-        let end = name_end(rest);
-        let after = if end < rest.len() {
-            &rest[end + 1..]
-        } else {
-            &rest[end..]
-        };
-        if end > 0 {
-            return Some((first(&rest[..end], NAME_LEN), after));
-        }
-        rest = after;
-    }
-    None
 }
 
 // The bytes from one place to another, as far as they are there.

@@ -8,8 +8,9 @@ ghost use Rattle.tree_histories.specs.Stands.{next_from, stand_of};
 use crate::ends::{Due, Ends};
 use crate::next::{Attempt, is_through, next_action};
 use crate::place::is_in_place;
-use crate::reply::{is_full, is_reply, is_told};
+use crate::reply::{is_reply, is_told};
 use crate::stand::{START, Stand, after};
+use plain_tree::reply::is_full;
 use plain_tree::{ApplyRefused, NoMemory, Placed, StepAnswer, Trace, TracedCall, Tree, TreeStep};
 use std::alloc::Global;
 

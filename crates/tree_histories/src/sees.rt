@@ -1,9 +1,9 @@
 //! What the kept tree shows of a node to who takes its lock.
 ghost use Rattle.std.specs.Prelude.{◌≡◌, ◌<◌, ◌^◌, ◌++◌, ℕ, drop, List, Some};
-ghost use Rattle.tree_histories.specs.Vocabulary.{any_used, size_of, first_slot, live_directory, look, tree_of, empty_in, face_seen, found_in, is_empty_kind, type_of_kind, face_of, query_in, type_of, IsSought, IsSoughtInOne};
+ghost use Rattle.tree_histories.specs.Vocabulary.{any_used, size_of, look, tree_of, empty_in, face_seen, found_in, is_empty_kind, type_of_kind, face_of, query_in, type_of, IsSought, IsSoughtInOne};
 ghost use Rattle.tree_histories.specs.Sights.{FewSlots, ShowsSo};
 
-use crate::paths::{name_in, same};
+use crate::paths::name_in;
 use path_walk::{Face, InodeType, Query, Sight};
 use plain_tree::{Node, NodeKind, Slot, Tree};
 
@@ -11,42 +11,6 @@ const ENTRY_LEN: u64 = 16;
 
 /// The slots of a new directory, for itself and its parent.
 const FIRST_SLOTS: usize = 2;
-
-pub(crate) fn is_live_directory(tree: &Tree, number: u16) -> bool
-    ensures { result ≡ live_directory ((tree_of tree.now).nodes number) }
-{
-    match tree.node(usize::from(number)) {
-        Some(node) => node.count > 0 && matches!(&node.kind, NodeKind::Directory { .. }),
-        None => false,
-    }
-}
-
-// The number in the first slot of that name.
-#[tactic(auto, unfolding(plain_tree::specs::Tree::first_slot))]
-fn number_of(slots: &[Option<Slot>], name: &[u8]) -> Option<u16>
-    ensures { result ≡ first_slot slots.now name.now }
-{
-    for slot in slots {
-        if let Some(slot) = slot {
-            if same(slot.name.as_slice(), name) {
-                return Some(slot.number);
-            }
-        }
-    }
-    None
-}
-
-/// What a live directory has under the name.
-#[tactic(auto, unfolding(plain_tree::specs::Tree::look))]
-pub(crate) fn look(tree: &Tree, directory: u16, name: &[u8]) -> Option<u16>
-    ensures { result ≡ look (tree_of tree.now).nodes directory name.now }
-{
-    let node = tree.node(usize::from(directory))?;
-    match &node.kind {
-        NodeKind::Directory { slots } if node.count > 0 => number_of(slots.as_slice(), name),
-        _ => None,
-    }
-}
 
 fn type_of(kind: &NodeKind) -> InodeType
     ensures { type_of result ≡ type_of_kind kind.now }
@@ -115,7 +79,7 @@ fn found(tree: &Tree, number: u32, name: &[u8]) -> Option<u32>
     let Ok(number) = u16::try_from(number) else {
         return None;
     };
-    match look(tree, number, name) {
+    match tree.look(number, name) {
         Some(found) => Some(u32::from(found)),
         None => None,
     }

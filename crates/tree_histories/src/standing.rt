@@ -10,8 +10,9 @@ ghost use Rattle.whole_calls.specs.Wholes.{HasRoomFor, IsCall, WholeAsks, WholeF
 ghost use Rattle.tree_histories.specs.Keeping.{HearsSo, IsNewCall, ReadsTooMuch, more_made, walking};
 ghost use Rattle.tree_histories.specs.Walks.{IsWalk, is_on_new, is_past_old, left_to, step_for, step_in, walk_of};
 
-use crate::paths::{first, next_element, rest_of};
+use crate::paths::rest_of;
 use path_walk::{Ask, Heard, Mark, Numbers, is_absolute};
+use plain_tree::paths::{first, next_element};
 use plain_tree::{Action, Answer, Bytes, Call, NoMemory};
 use std::alloc::Global;
 use std::marker::Model;

@@ -1,5 +1,0 @@
-use Rattle.tree_histories.proofs.Lemmas.{◌∙◌, sym, no_elements}
-use Rattle.tree_histories.proofs.paths.next_element.Goals as goal
-
-pub returns : goal.returns
-returns c = sym c.loop-rest.invariant.0 ∙ no_elements c.loop-rest.rest.now (sym c.is_empty.ensures ∙ c.loop-rest-test.false)

@@ -1,5 +1,0 @@
-use Rattle.tree_histories.proofs.Lemmas.{◌∙◌, lowest_next}
-use Rattle.tree_histories.proofs.place.lowest.Goals as goal
-
-pub loop-fd-preserved : goal.loop-fd-preserved
-loop-fd-preserved c = lowest_next 16 c.loop-fd.fd _ _ c.loop-fd-test.true c.in-Some.ensures ∙ c.loop-fd.invariant
