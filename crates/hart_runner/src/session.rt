@@ -1,5 +1,6 @@
 //! Two calls in two threads, and the end of the kernel.
 ghost use Rattle.std.specs.Prelude.{◌≡◌, IfSome, slice_index_or};
+ghost use Rattle.hart_runner.specs.Vocabulary.{HandsBack};
 ghost use Rattle.hart_runner.specs.Session.{Has, StandsIn};
 
 use crate::gate::Gate;
@@ -19,7 +20,7 @@ fn with_receipt<L: Ledger, G: Gate + Drop, R: Wait>(
     seat: Seat<L>,
     call: Call,
 ) -> (Seat<L>, Option<Receipt<L>>)
-    ensures { IfSome result.1 (λ r. Has result.0 r) }
+    ensures { IfSome result.1 (λ r. Has result.0 r × HandsBack call r.reply.call) }
 {
     match kernel.call(rt, seat, call) {
         Ok((seat, receipt)) => (seat, Some(receipt)),
@@ -43,7 +44,7 @@ fn all_of<L: Ledger>(a: Seat<L>, b: Seat<L>, others: [Seat<L>; 6]) -> [Seat<L>; 
     [a, b, c, d, e, f, g, h]
 }
 
-/// Two calls in two threads. Both replies stand in the one list, each at its place among its hart's.
+/// Two calls in two threads. Both replies stand in the one list, each at its place among its hart's, and each hands its call back.
 #[tactic(auto, using(crate::proofs::Stands::stands))]
 pub fn two_calls<L: Ledger + Send + Sync, G: Gate + Drop + Sync, R: Threads + Wait + Sync>(
     rt: &R,
@@ -55,16 +56,17 @@ pub fn two_calls<L: Ledger + Send + Sync, G: Gate + Drop + Sync, R: Threads + Wa
     requires { L.parts ≡ 8 }
     ensures first { IfSome result (λ r. StandsIn r.0.stored r.1) }
     ensures second { IfSome result (λ r. StandsIn r.0.stored r.2) }
+    ensures hands { IfSome result (λ r. HandsBack x r.1.reply.call × HandsBack y r.2.reply.call) }
 {
     let (a, b, others) = two_of(seats);
     let shared = &kernel;
     let (one, two) = thread::join(
         rt,
         move || -> (Seat<L>, Option<Receipt<L>>)
-            ensures { IfSome result.1 (λ r. Has result.0 r) }
+            ensures { IfSome result.1 (λ r. Has result.0 r × HandsBack x r.reply.call) }
         { with_receipt(rt, shared, a, x) },
         move || -> (Seat<L>, Option<Receipt<L>>)
-            ensures { IfSome result.1 (λ r. Has result.0 r) }
+            ensures { IfSome result.1 (λ r. Has result.0 r × HandsBack y r.reply.call) }
         { with_receipt(rt, shared, b, y) },
     );
     let (a, first) = one;
