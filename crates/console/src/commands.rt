@@ -51,64 +51,71 @@ fn hear<D: Device>(
 // Makes an event, tells and notes it. The copy is the event again, where events are kept.
 fn happen<D: Device, W: Write>(
     session: &mut Session<D>,
-    desk: &mut ScriptState,
+    running: &mut ScriptState,
     out: &mut W,
     verb: Verb,
     event: Event,
     copy: Option<Event>,
 ) -> Result<Flow, ConsoleFault>
-    requires { copy ≡ copy_for desk.old.notes.kept event }
-    ensures { Runs (happens D.contents D.failures event verb) (state session.old desk.old.queues) (W.contents out.old) desk.old.notes result
-        (state session.new desk.new.queues) (W.contents out.new) desk.new.notes }
+    requires { copy ≡ copy_for running.old.notes.kept event }
+    ensures { Runs (happens D.contents D.failures event verb) (state session.old running.old.queues)
+        (W.contents out.old) running.old.notes result (state session.new running.new.queues) (W.contents out.new) running.new.notes }
 {
     let hart = hart_in(&event);
     let came = session.event(verb, event);
-    hear(session, &mut desk.keeper, verb, &copy, &came);
-    tell(hart, verb, came, copy, &mut desk.notes, out)
+    hear(session, &mut running.keeper, verb, &copy, &came);
+    tell(hart, verb, came, copy, &mut running.notes, out)
 }
 
 // Starts the call that a line says.
 fn start<D: Device, W: Write>(
     alloc: Global,
     session: &mut Session<D>,
-    desk: &mut ScriptState,
+    running: &mut ScriptState,
     out: &mut W,
     hart: u8,
     call: CallLine,
 ) -> Result<Flow, ConsoleFault>
-    ensures { Runs (starts D.contents D.failures hart (call_said call)) (state session.old desk.old.queues)
-        (W.contents out.old) desk.old.notes result (state session.new desk.new.queues) (W.contents out.new) desk.new.notes }
+    ensures { Runs (starts D.contents D.failures hart (call_said call)) (state session.old running.old.queues)
+        (W.contents out.old) running.old.notes result (state session.new running.new.queues) (W.contents out.new) running.new.notes }
 {
     let call = call_of(alloc, call)?;
     let verb = Verb::of(&call);
     let event = Event::Start { hart, call };
-    let copy = desk.notes.copy_of(&event)?;
-    happen(session, desk, out, verb, event, copy)
+    let copy = running.notes.copy_of(&event)?;
+    happen(session, running, out, verb, event, copy)
 }
 
 // A step of a hart that has a call, unless enough have run; of one that has none the start of its next call.
 fn act<D: Device, W: Write>(
     alloc: Global,
     session: &mut Session<D>,
-    desk: &mut ScriptState,
+    running: &mut ScriptState,
     out: &mut W,
     until: Option<Until>,
     hart: u8,
 ) -> Result<Flow, ConsoleFault>
-    ensures { Runs (acts D.contents D.failures until hart) (state session.old desk.old.queues) (W.contents out.old) desk.old.notes result
-        (state session.new desk.new.queues) (W.contents out.new) desk.new.notes }
+    ensures { Runs (acts D.contents D.failures until hart) (state session.old running.old.queues)
+        (W.contents out.old) running.old.notes result (state session.new running.new.queues) (W.contents out.new) running.new.notes }
 {
     match session.doing(hart) {
         Some(doing) => {
             if Until::is_enough(until, &doing) {
                 Ok(Flow::Rests)
             } else {
-                let copy = desk.notes.step_of(hart);
-                happen(session, desk, out, doing.verb, Event::Step { hart }, copy)
+                let copy = running.notes.step_of(hart);
+                happen(
+                    session,
+                    running,
+                    out,
+                    doing.verb,
+                    Event::Step { hart },
+                    copy,
+                )
             }
         }
-        None => match desk.queues.take_next(hart) {
-            Some(call) => start(alloc, session, desk, out, hart, call),
+        None => match running.queues.take_next(hart) {
+            Some(call) => start(alloc, session, running, out, hart, call),
             None => Ok(Flow::Rests),
         },
     }
@@ -118,17 +125,17 @@ fn act<D: Device, W: Write>(
 fn turn<D: Device, W: Write>(
     alloc: Global,
     session: &mut Session<D>,
-    desk: &mut ScriptState,
+    running: &mut ScriptState,
     out: &mut W,
     until: Option<Until>,
     harts: &[u8],
 ) -> Result<Flow, ConsoleFault>
-    ensures { Runs (turn D.contents D.failures until harts.now Flow.Rests) (state session.old desk.old.queues)
-        (W.contents out.old) desk.old.notes result (state session.new desk.new.queues) (W.contents out.new) desk.new.notes }
+    ensures { Runs (turn D.contents D.failures until harts.now Flow.Rests) (state session.old running.old.queues)
+        (W.contents out.old) running.old.notes result (state session.new running.new.queues) (W.contents out.new) running.new.notes }
 {
     let mut flow = Flow::Rests;
     for hart in harts {
-        flow = flow.joined(act(alloc, session, desk, out, until, *hart)?);
+        flow = flow.joined(act(alloc, session, running, out, until, *hart)?);
     }
     Ok(flow)
 }
@@ -137,20 +144,20 @@ fn turn<D: Device, W: Write>(
 fn turns<D: Device, W: Write>(
     alloc: Global,
     session: &mut Session<D>,
-    desk: &mut ScriptState,
+    running: &mut ScriptState,
     out: &mut W,
     plan: &Plan,
     harts: &[u8],
 ) -> Result<Flow, ConsoleFault>
-    ensures { Runs (turns D.contents D.failures plan.now harts.now plan.now.most Flow.Moves) (state session.old desk.old.queues)
-        (W.contents out.old) desk.old.notes result (state session.new desk.new.queues) (W.contents out.new) desk.new.notes }
+    ensures { Runs (turns D.contents D.failures plan.now harts.now plan.now.most Flow.Moves) (state session.old running.old.queues)
+        (W.contents out.old) running.old.notes result (state session.new running.new.queues) (W.contents out.new) running.new.notes }
 {
     let mut last = Flow::Moves;
     for _turn in 0..plan.most {
         if !last.goes_on() {
             return Ok(last);
         }
-        last = turn(alloc, session, desk, out, plan.until, harts)?;
+        last = turn(alloc, session, running, out, plan.until, harts)?;
     }
     Ok(last)
 }
@@ -190,15 +197,15 @@ fn tell_wait<D: Device, W: Write>(
 fn settle<D: Device, W: Write>(
     alloc: Global,
     session: &mut Session<D>,
-    desk: &mut ScriptState,
+    running: &mut ScriptState,
     out: &mut W,
     plan: &Plan,
     harts: &[u8],
 ) -> Result<(), ConsoleFault>
-    ensures { Runs (settles D.contents D.failures plan.now harts.now) (state session.old desk.old.queues)
-        (W.contents out.old) desk.old.notes result (state session.new desk.new.queues) (W.contents out.new) desk.new.notes }
+    ensures { Runs (settles D.contents D.failures plan.now harts.now) (state session.old running.old.queues)
+        (W.contents out.old) running.old.notes result (state session.new running.new.queues) (W.contents out.new) running.new.notes }
 {
-    let last = turns(alloc, session, desk, out, plan, harts)?;
+    let last = turns(alloc, session, running, out, plan, harts)?;
     match last {
         Flow::Waits => tell_waits(session, out, harts),
         Flow::Moves => Ok(()),
@@ -210,38 +217,45 @@ fn settle<D: Device, W: Write>(
 pub fn run_line<D: Device, W: Write>(
     alloc: Global,
     session: &mut Session<D>,
-    desk: &mut ScriptState,
+    running: &mut ScriptState,
     out: &mut W,
     command: Command,
 ) -> Result<(), ConsoleFault>
-    ensures { Runs (line D.contents D.failures (line_said command)) (state session.old desk.old.queues)
-        (W.contents out.old) desk.old.notes result (state session.new desk.new.queues) (W.contents out.new) desk.new.notes }
+    ensures { Runs (line D.contents D.failures (line_said command)) (state session.old running.old.queues)
+        (W.contents out.old) running.old.notes result (state session.new running.new.queues) (W.contents out.new) running.new.notes }
 {
     match command {
         Command::Start { hart, call } => {
-            let _flow = start(alloc, session, desk, out, hart, call)?;
+            let _flow = start(alloc, session, running, out, hart, call)?;
             Ok(())
         }
         Command::Do { hart, call } => {
-            let _flow = start(alloc, session, desk, out, hart, call)?;
-            settle(alloc, session, desk, out, &Plan::to_end(), &[hart])
+            let _flow = start(alloc, session, running, out, hart, call)?;
+            settle(alloc, session, running, out, &Plan::to_end(), &[hart])
         }
         Command::Step { hart, steps } => {
-            let _last = turns(alloc, session, desk, out, &Plan::in_steps(steps), &[hart])?;
+            let _last = turns(
+                alloc,
+                session,
+                running,
+                out,
+                &Plan::in_steps(steps),
+                &[hart],
+            )?;
             Ok(())
         }
         Command::Upto { hart, kind, steps } => {
             settle(
                 alloc,
                 session,
-                desk,
+                running,
                 out,
                 &Plan::up_to(kind, steps),
                 &[hart],
             )
         }
-        Command::End { hart } => settle(alloc, session, desk, out, &Plan::to_end(), &[hart]),
-        Command::All => settle(alloc, session, desk, out, &Plan::to_end(), &ALL_HARTS),
+        Command::End { hart } => settle(alloc, session, running, out, &Plan::to_end(), &[hart]),
+        Command::All => settle(alloc, session, running, out, &Plan::to_end(), &ALL_HARTS),
     }
 }
 
@@ -249,15 +263,15 @@ pub fn run_line<D: Device, W: Write>(
 pub fn run_lines<D: Device, W: Write>(
     alloc: Global,
     session: &mut Session<D>,
-    desk: &mut ScriptState,
+    running: &mut ScriptState,
     out: &mut W,
     commands: Vec<ScriptLine>,
 ) -> Result<(), ConsoleFault>
-    ensures { Runs (lines D.contents D.failures (map (λ l. line_said l.command) commands.items)) (state session.old desk.old.queues)
-        (W.contents out.old) desk.old.notes result (state session.new desk.new.queues) (W.contents out.new) desk.new.notes }
+    ensures { Runs (lines D.contents D.failures (map (λ l. line_said l.command) commands.items)) (state session.old running.old.queues)
+        (W.contents out.old) running.old.notes result (state session.new running.new.queues) (W.contents out.new) running.new.notes }
 {
     for line in commands {
-        run_line(alloc, session, desk, out, line.command)?;
+        run_line(alloc, session, running, out, line.command)?;
     }
     Ok(())
 }

@@ -12,7 +12,7 @@ use crate::commands::{ALL_HARTS, ScriptState, run_line};
 use crate::fault::ConsoleFault;
 use crate::mount::{Mounted, mount_disk};
 use crate::queues::Queues;
-use crate::run::{desk_of, finish, image_disk, read_fault};
+use crate::run::{finish, image_disk, read_fault, script_state};
 use crate::session::Session;
 use crate::state::write_state;
 use block_device::{Device, MemoryDisk};
@@ -115,13 +115,13 @@ fn write_bad<W: Write>(out: &mut W, number: u64, why: &str) -> Result<(), Consol
 fn do_asked<D: Device, W: Write>(
     alloc: Global,
     session: &mut Session<D>,
-    desk: &mut ScriptState,
+    running: &mut ScriptState,
     out: &mut W,
     help: &str,
     asked: Asked,
 ) -> Result<bool, ConsoleFault>
-    ensures { Runs (does D.contents D.failures help.now (asked_by asked)) (state session.old desk.old.queues)
-        (W.contents out.old) desk.old.notes result (state session.new desk.new.queues) (W.contents out.new) desk.new.notes }
+    ensures { Runs (does D.contents D.failures help.now (asked_by asked)) (state session.old running.old.queues)
+        (W.contents out.old) running.old.notes result (state session.new running.new.queues) (W.contents out.new) running.new.notes }
 {
     match asked {
         Asked::Nothing => Ok(true),
@@ -135,7 +135,7 @@ fn do_asked<D: Device, W: Write>(
         }
         Asked::Quit => Ok(false),
         Asked::Run(command) => {
-            run_line(alloc, session, desk, out, command)?;
+            run_line(alloc, session, running, out, command)?;
             Ok(true)
         }
     }
@@ -145,17 +145,17 @@ fn do_asked<D: Device, W: Write>(
 fn answer<D: Device, W: Write>(
     alloc: Global,
     session: &mut Session<D>,
-    desk: &mut ScriptState,
+    running: &mut ScriptState,
     out: &mut W,
     help: &str,
     number: u64,
     line: &[u8],
 ) -> Result<bool, ConsoleFault>
-    ensures { Runs (answers D.contents D.failures help.now number line.now) (state session.old desk.old.queues)
-        (W.contents out.old) desk.old.notes result (state session.new desk.new.queues) (W.contents out.new) desk.new.notes }
+    ensures { Runs (answers D.contents D.failures help.now number line.now) (state session.old running.old.queues)
+        (W.contents out.old) running.old.notes result (state session.new running.new.queues) (W.contents out.new) running.new.notes }
 {
     match asked_in(alloc, number, line) {
-        Ok(asked) => do_asked(alloc, session, desk, out, help, asked),
+        Ok(asked) => do_asked(alloc, session, running, out, help, asked),
         Err(ScriptFault::Line(number, why)) => {
             tell_bad(alloc, out, number, &why)?;
             Ok(true)
@@ -168,7 +168,7 @@ fn answer<D: Device, W: Write>(
 fn prompt_line<D: Device, R: BufRead, W: Write>(
     alloc: Global,
     session: &mut Session<D>,
-    desk: &mut ScriptState,
+    running: &mut ScriptState,
     typed: &mut R,
     line: &mut Vec<u8>,
     out: &mut W,
@@ -176,12 +176,12 @@ fn prompt_line<D: Device, R: BufRead, W: Write>(
     number: u64,
 ) -> Result<bool, ConsoleFault>
     ensures { PromptsLine D.contents D.failures help.now number (R.remaining typed.old) (R.remaining typed.new)
-        (state session.old desk.old.queues) (W.contents out.old) desk.old.notes result (state session.new desk.new.queues)
-        (W.contents out.new) desk.new.notes }
+        (state session.old running.old.queues) (W.contents out.old) running.old.notes result (state session.new running.new.queues)
+        (W.contents out.new) running.new.notes }
 {
     ask(out)?;
     if read_line(typed, line)? {
-        return answer(alloc, session, desk, out, help, number, line.as_slice());
+        return answer(alloc, session, running, out, help, number, line.as_slice());
     }
     tell(out, "\n")?;
     Ok(false)
@@ -191,17 +191,17 @@ fn prompt_line<D: Device, R: BufRead, W: Write>(
 fn prompt_all<D: Device, R: BufRead, W: Write>(
     alloc: Global,
     session: &mut Session<D>,
-    desk: &mut ScriptState,
+    running: &mut ScriptState,
     typed: &mut R,
     out: &mut W,
     help: &str,
 ) -> Result<(), ConsoleFault>
-    ensures { PromptsAll D.contents D.failures help.now 1 (R.remaining typed.old) (state session.old desk.old.queues)
-        (W.contents out.old) desk.old.notes result (state session.new desk.new.queues) (W.contents out.new) desk.new.notes }
+    ensures { PromptsAll D.contents D.failures help.now 1 (R.remaining typed.old) (state session.old running.old.queues)
+        (W.contents out.old) running.old.notes result (state session.new running.new.queues) (W.contents out.new) running.new.notes }
 {
     let mut line = Vec::new(alloc);
     for number in 1..u64::MAX {
-        if !prompt_line(alloc, session, desk, typed, &mut line, out, help, number)? {
+        if !prompt_line(alloc, session, running, typed, &mut line, out, help, number)? {
             return Ok(());
         }
     }
@@ -222,9 +222,9 @@ pub fn prompt_on<D: Device, R: BufRead, W: Write>(
     ensures { PromptsReader D.contents D.failures HELP.now mode (history_from base.now) session.old (R.remaining typed.old) result
         session.new (W.contents out.old) (W.contents out.new) }
 {
-    let mut desk = desk_of(alloc, mode, base, Queues::new(alloc))?;
-    let ended = prompt_all(alloc, session, &mut desk, typed, out, HELP);
-    finish(alloc, out, mode, base, desk, ended)
+    let mut running = script_state(alloc, mode, base, Queues::new(alloc))?;
+    let ended = prompt_all(alloc, session, &mut running, typed, out, HELP);
+    finish(alloc, out, mode, base, running, ended)
 }
 
 /// Mounts the image, or a fresh one, answers the lines that are typed, and hands out the disk. The lines are never queued, and the

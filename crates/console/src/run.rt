@@ -177,19 +177,19 @@ fn run_course<D: Device, W: Write>(
         (W.contents out.old) (W.contents out.new) }
 {
     let Course { queues, lines } = run;
-    let mut desk = desk_of(alloc, mode, base, queues)?;
-    let ended = run_lines(alloc, session, &mut desk, out, lines);
-    finish(alloc, out, mode, base, desk, ended)
+    let mut running = script_state(alloc, mode, base, queues)?;
+    let ended = run_lines(alloc, session, &mut running, out, lines);
+    finish(alloc, out, mode, base, running, ended)
 }
 
-/// A desk with these calls to be started, on which nothing is noted. The keeper begins with this tree.
-pub fn desk_of(
+/// The state of a script with these calls to be started, where nothing is noted. The keeper begins with this tree.
+pub fn script_state(
     alloc: Global,
     mode: Mode,
     base: &Tree,
     queues: Queues,
 ) -> Result<ScriptState, ConsoleFault>
-    ensures desk { IfOk result (λ desk. (desk.queues ≡ queues) × (desk.notes ≡ no_notes mode)) }
+    ensures state { IfOk result (λ running. (running.queues ≡ queues) × (running.notes ≡ no_notes mode)) }
     ensures memory { IfErr result (λ fault. fault ≡ Memory) }
 {
     let notes = Notes::new(alloc, mode)?;
@@ -209,15 +209,15 @@ pub fn finish<W: Write>(
     out: &mut W,
     mode: Mode,
     base: &Tree,
-    desk: ScriptState,
+    running: ScriptState,
     ended: Result<(), ConsoleFault>,
 ) -> Result<(), ConsoleFault>
-    ensures { EndsSo mode (history_from base.now) desk.notes ended (W.contents out.old) result (W.contents out.new) }
+    ensures { EndsSo mode (history_from base.now) running.notes ended (W.contents out.old) result (W.contents out.new) }
 {
     match ended {
-        Ok(()) => write_rest(alloc, out, mode, base, desk),
+        Ok(()) => write_rest(alloc, out, mode, base, running),
         Err(ConsoleFault::Stopped(stop)) => {
-            write_rest(alloc, out, mode, base, desk)?;
+            write_rest(alloc, out, mode, base, running)?;
             Err(ConsoleFault::Stopped(stop))
         }
         Err(fault) => Err(fault),
@@ -229,15 +229,15 @@ fn write_rest<W: Write>(
     out: &mut W,
     mode: Mode,
     base: &Tree,
-    desk: ScriptState,
+    running: ScriptState,
 ) -> Result<(), ConsoleFault>
-    ensures { PrintsAll mode (history_from base.now) desk.notes (W.contents out.old) result (W.contents out.new) }
+    ensures { PrintsAll mode (history_from base.now) running.notes (W.contents out.old) result (W.contents out.new) }
 {
     let ScriptState {
         queues: _queues,
         notes,
         keeper,
-    } = desk;
+    } = running;
     write_end(out, mode, &notes).map_err(ConsoleFault::Write)?;
     write_wanted(alloc, out, mode, base, &notes, keeper)
 }

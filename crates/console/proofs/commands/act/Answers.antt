@@ -9,7 +9,7 @@ returns-else-is_enough g c = made_step g.D.Device.contents g.D.Device.failures c
 
 pub returns-in-Some-take_next : goal.returns-in-Some-take_next
 returns-in-Some-take_next g c =
-    began_next g.D.Device.contents g.D.Device.failures c.args.until c.args.hart (call_said c.in-Some-take_next.call) c.args.session.now c.args.desk.now.queues _ _ _ _ _ _ c.start.result c.in-None.ensures c.in-Some-take_next.ensures c.start.ensures
+    began_next g.D.Device.contents g.D.Device.failures c.args.until c.args.hart (call_said c.in-Some-take_next.call) c.args.session.now c.args.running.now.queues _ _ _ _ _ _ c.start.result c.in-None.ensures c.in-Some-take_next.ensures c.start.ensures
 
 pub returns-in-None-take_next : goal.returns-in-None-take_next
-returns-in-None-take_next g c = had_none g.D.Device.contents g.D.Device.failures c.args.until c.args.hart c.args.session.now c.args.desk.now.queues _ _ _ c.in-None.ensures c.in-None-take_next.ensures
+returns-in-None-take_next g c = had_none g.D.Device.contents g.D.Device.failures c.args.until c.args.hart c.args.session.now c.args.running.now.queues _ _ _ c.in-None.ensures c.in-None-take_next.ensures

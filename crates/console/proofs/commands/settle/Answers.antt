@@ -8,7 +8,7 @@ returns-in_err-last g c =
 
 pub returns-in-Waits : goal.returns-in-Waits
 returns-in-Waits g c =
-    settled_so g.D.Device.contents g.D.Device.failures c.args.plan.now c.args.harts.now c.in_ok-last.last Waits _ _ _ _ _ _ _ _ _ c.tell_waits.result c.in-Waits.is c.in_ok-last.ensures (c.tell_waits.ensures c.turns.new.desk.queues c.turns.new.desk.notes)
+    settled_so g.D.Device.contents g.D.Device.failures c.args.plan.now c.args.harts.now c.in_ok-last.last Waits _ _ _ _ _ _ _ _ _ c.tell_waits.result c.in-Waits.is c.in_ok-last.ensures (c.tell_waits.ensures c.turns.new.running.queues c.turns.new.running.notes)
 
 pub returns-in-Moves : goal.returns-in-Moves
 returns-in-Moves g c = settled_so g.D.Device.contents g.D.Device.failures c.args.plan.now c.args.harts.now c.in_ok-last.last Moves _ _ _ _ _ _ _ _ _ _ c.in-Moves.is c.in_ok-last.ensures (quiet g.D.Device.contents g.D.Device.failures _ _ _)

@@ -1,13 +1,13 @@
 use Rattle.console.proofs.Lemmas.{rules, refl, ◌≡◌, ◌∙◌, Err, inr, Memory, history_from, lines_answered}
 use Rattle.console.proofs.prompt.prompt_on.Goals as goal
 
-pub returns-in_err-desk : goal.returns-in_err-desk
-returns-in_err-desk g c =
-    let memory = c.in_err-desk.ensures.memory in
+pub returns-in_err-running : goal.returns-in_err-running
+returns-in_err-running g c =
+    let memory = c.in_err-running.ensures.memory in
     let is : c.from_residual.result ≡ Err Memory = search (rules, memory) in
     inr (record { memory = is; same = refl; silent = refl })
 
 pub returns : goal.returns
 returns g c =
-    lines_answered g.D.Device.contents g.D.Device.failures _ c.args.mode (history_from c.args.base.now) c.args.session.now c.prompt_all-ended.new.session _ c.in_ok-desk.desk.queues c.prompt_all-ended.new.desk.queues c.prompt_all-ended.result c.finish.result _ _ _ _ _
-    (c.in_ok-desk.ensures.desk.0 ∙ c.new.ensures) c.in_ok-desk.ensures.desk.1 c.prompt_all-ended.ensures c.finish.ensures
+    lines_answered g.D.Device.contents g.D.Device.failures _ c.args.mode (history_from c.args.base.now) c.args.session.now c.prompt_all-ended.new.session _ c.in_ok-running.running.queues c.prompt_all-ended.new.running.queues c.prompt_all-ended.result c.finish.result _ _ _ _ _
+    (c.in_ok-running.ensures.state.0 ∙ c.new.ensures) c.in_ok-running.ensures.state.1 c.prompt_all-ended.ensures c.finish.ensures
