@@ -16,7 +16,7 @@ pub use Rattle.console.proofs.Behaving.{gives_at_once}
 pub use Rattle.console.proofs.Calm.{run_judged}
 pub use Rattle.console.proofs.Commanding.{all_is, began_next, end_is, had_enough, had_none, happened, line_fault, line_more, lines_end, made_step, not_started, of_line, quiet, run_line, run_line_fault, settle_fault, settle_line, settled_so, start_line, start_line_fault, started, step_line, step_line_fault, turn_end, turn_fault, turn_more, turns_end, turns_fault, turns_more, turns_rest, upto_is, wait_end, wait_fault, wait_more, with_plan, with_turns}
 pub use Rattle.console.proofs.Doings.{doing_set}
-pub use Rattle.console.proofs.Printing.{entries_end, entries_more, last_end, last_more, row_at, rows_over, spaces_are, tells_four}
+pub use Rattle.console.proofs.Printing.{entries_end, entries_more, last_end, last_more, row_at, rows_over, spaces_are, tells_five}
 pub use Rattle.console.proofs.Prompting.{calls_end, calls_more, lines_answered}
 pub use Rattle.console.proofs.Queueing.{all_queued, none_past, not_queued, one_queued, put_last, split_at, taken}
 pub use Rattle.console.proofs.Running.{course_run, failed_course, stopped_so, was_read, whole_text, with_course}

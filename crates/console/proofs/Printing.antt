@@ -2,10 +2,10 @@
 use Rattle.console.proofs.Vocabulary.{◌≡◌, ◌<◌, ◌≤◌, ◌+◌, ℕ, List, [], ◌∷◌, ◌++◌, take, drop, get_or, length, ◌*◌, min, arith, replicate, Option, Result, Ok, Err, ap, sym, ◌∙◌, subst, at_drop_all, at_drop_more, take-replicate, OnOk, Appends, Note, Open, Placed, entries_text, last_line, last_text, timeline_line, timeline_rows, entry_line, appends_nothing, appends_both}
 use Rattle.console.specs.declared.notes.What.TheVariants.{Start}
 
-pub tells_four : {E : Type 0} (known a b c end : Option (List ℕ)) (result : Result (Unit {0}) E) (ws xs ys zs : List ℕ) → Appends known a ws → Appends a b xs → Appends b c ys → OnOk result (Appends c end zs) → OnOk result (Appends known end (ws ++ xs ++ ys ++ zs))
-tells_four known a b c end (Ok u) ws xs ys zs one two three four =
-    appends_both known c end (ws ++ xs ++ ys) zs (appends_both known b c (ws ++ xs) ys (appends_both known a b ws xs one two) three) four
-tells_four known a b c end (Err e) ws xs ys zs one two three four = tt
+pub tells_five : {E : Type 0} (known a b c d end : Option (List ℕ)) (result : Result (Unit {0}) E) (vs ws xs ys zs : List ℕ) → Appends known a vs → Appends a b ws → Appends b c xs → Appends c d ys → OnOk result (Appends d end zs) → OnOk result (Appends known end (vs ++ ws ++ xs ++ ys ++ zs))
+tells_five known a b c d end (Ok u) vs ws xs ys zs one two three four five =
+    appends_both known d end (vs ++ ws ++ xs ++ ys) zs (appends_both known c d (vs ++ ws ++ xs) ys (appends_both known b c (vs ++ ws) xs (appends_both known a b vs ws one two) three) four) five
+tells_five known a b c d end (Err e) vs ws xs ys zs one two three four five = tt
 
 -- ---- the lines after a script
 

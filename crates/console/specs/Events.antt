@@ -1,5 +1,5 @@
 -- The lines that are printed after a script: the last events, and the columns of the timeline.
-use Rattle.std.specs.Prelude.{ℕ, ◌-◌, ◌*◌, ◌^◌, min, Bool, true, false, List, [], ◌∷◌, ◌++◌, replicate, codes, decimal}
+use Rattle.std.specs.Prelude.{ℕ, ◌-◌, ◌*◌, ◌^◌, nat_lt, min, Bool, true, false, if◌then◌else◌, List, [], ◌∷◌, ◌++◌, replicate, codes, decimal}
 use Rattle.console.specs.Vocabulary.{styled_decimal, format_spec, Answer, Fd, Count, Stat, IsDone, Failed, Full, cause_number, cause_name, full_number, full_name, kind_word, numbered_text, stat_text}
 use Rattle.console.specs.declared.notes.Note.{Note}
 use Rattle.console.specs.declared.notes.What.{What}
@@ -39,14 +39,18 @@ cell Waits = codes "(waits)"
 cell (Done answer) = codes "reply " ++ answer_cell answer
 cell (Stopped stop) = stopped_text stop
 
+-- a hart that there isn't has no column, and is named
+abbrev pub hart_mark : ℕ → List ℕ
+hart_mark hart = if nat_lt hart 8 then [] else codes "hart " ++ decimal hart ++ codes ": "
+
 unfoldable pub last_text : List Note → List ℕ
 last_text [] = []
 last_text (note ∷ notes) = last_line note ++ last_text notes
 
--- the event's number, and what it is in its hart's column, eight wide; in the last one for a hart that there isn't
+-- the event's number, and what it is in its hart's column, eight wide; of a hart that there isn't in the last one
 abbrev pub timeline_line : Note → List ℕ
 timeline_line note = styled_decimal (format_spec 32 0 0 6 (2 ^ 64 - 1)) note.number ++ codes "  " ++ replicate (min (8 * note.hart) 56) 32
-    ++ cell note.what ++ codes "\n"
+    ++ hart_mark note.hart ++ cell note.what ++ codes "\n"
 
 unfoldable pub timeline_rows : List Note → List ℕ
 timeline_rows [] = []

@@ -1,10 +1,11 @@
 //! The lines that are printed after a script: the last events, and the columns of the timeline.
 ghost use Rattle.std.specs.Prelude.{◌*◌, ◌^◌, ◌-◌, ◌++◌, ◌<◌, OnOk, min, true, codes, decimal, replicate};
 ghost use Rattle.console.specs.Vocabulary.{format_spec, styled_decimal, Appends, numbered_text, stat_text};
-ghost use Rattle.console.specs.Events.{answer_cell, cell, last_line, last_of, timeline_line, timeline_of, timeline_rows, what_text};
+ghost use Rattle.console.specs.Events.{answer_cell, cell, hart_mark, last_line, last_of, timeline_line, timeline_of, timeline_rows, what_text};
 
 use crate::notes::{Note, Notes, What};
 use crate::numbers::{kind_word, start_name, start_number, stop_name, stop_number};
+use crate::session::HARTS;
 use plain_tree::{Answer, Stat};
 use std::io;
 use std::io::Write;
@@ -72,6 +73,7 @@ fn write_row<W: Write>(out: &mut W, note: &Note) -> io::Result<()>
 {
     write_number(out, note.number)?;
     write_spaces(out, note.hart)?;
+    write_mark(out, note.hart)?;
     write_cell(out, note.what)?;
     writeln!(out)
 }
@@ -89,6 +91,17 @@ fn write_spaces<W: Write>(out: &mut W, hart: u8) -> io::Result<()>
 {
     let before = (COLUMN * hart as usize).min(SPACES.len());
     out.write_all(&SPACES[..before])
+}
+
+// Names a hart that has no column.
+fn write_mark<W: Write>(out: &mut W, hart: u8) -> io::Result<()>
+    ensures { OnOk result (Appends (W.contents out.old) (W.contents out.new) (hart_mark hart)) }
+{
+    if (hart as usize) < HARTS {
+        Ok(())
+    } else {
+        write!(out, "hart {hart}: ")
+    }
 }
 
 fn write_cell<W: Write>(out: &mut W, what: What) -> io::Result<()>
