@@ -10,7 +10,7 @@ use clap::ArgMatches;
 use clap::error::ErrorKind;
 use console::{ConsoleFault, run_prompt, run_script, status};
 use console_threads::{ThreadsFault, run_threads};
-use mkfs::{ImageRefused, SaveRefused, read_image, save, shown, try_to_save};
+use mkfs::{ImageRefused, SaveRefused, read_image, save, try_to_save};
 use script::{IMAGE, Mode, SAVE, Schedule, has_prompt, has_threads, mode_of, options};
 use std::alloc::AllocError;
 use std::io::{BufWriter, Write};
@@ -36,7 +36,7 @@ enum Fault<'a> {
     #[error("error: '--prompt' answers each line when it is typed, and goes with no '--check', '--explain', '--threads' or '--schedule round'")]
     Prompt,
     /// The image's file can't be read, or is too large.
-    #[error("{0}: {1}")]
+    #[error("{0:?}: {1}")]
     Image(&'a str, ImageRefused),
     #[error("{0}")]
     Run(ConsoleFault),
@@ -91,7 +91,7 @@ impl<'a> Fault<'a> {
     fn of_image(path: &'a str, refused: ImageRefused) -> Fault<'a> {
         match refused {
             ImageRefused::NoMemory => Fault::Run(ConsoleFault::Memory),
-            refused => Fault::Image(shown(path), refused),
+            refused => Fault::Image(path, refused),
         }
     }
 

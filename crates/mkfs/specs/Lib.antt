@@ -6,4 +6,3 @@ pub mod Options
 pub mod Refusals
 pub mod Stated
 pub mod Widths
-pub mod Names

@@ -18,8 +18,7 @@ mod refused;
 mod replacing;
 pub mod widths;
 
-ghost use Rattle.std.specs.Prelude.{◌≡◌, ◌≤◌, ◌+◌, length, IfOk};
-ghost use Rattle.mkfs.specs.Names.{shown};
+ghost use Rattle.std.specs.Prelude.{◌≤◌, ◌+◌, length, IfOk};
 
 pub use crate::command_line::{FILES, IMAGE, INODES, SIZE, number, options};
 pub use crate::images::{ImageFile, ImageRefused, read_image};
@@ -32,13 +31,6 @@ pub use crate::replacing::{SaveRefused, save, try_to_save};
 use std::fs::{File, Files};
 use std::io;
 use std::io::Read;
-
-/// A file's name as a message has it: of none its quotation marks.
-pub fn shown(name: &str) -> &str
-    ensures { result.now ≡ shown name.now }
-{
-    if name.is_empty() { "\"\"" } else { name }
-}
 
 /// The file's bytes; of a longer one the first `most` and one more, so that a device that never ends is left there.
 pub fn read_at_most<R: Files + Alloc>(rt: &R, path: &str, most: usize) -> io::Result<Vec<u8, R::A>>

@@ -1,5 +1,4 @@
 //! How a file is replaced.
-use crate::shown;
 use std::alloc::{AllocError, Global};
 use std::fs::{File, Metadata, OpenOptions};
 use std::io::{ErrorKind, Write};
@@ -10,10 +9,10 @@ use thiserror::Error;
 #[derive(Debug, Drop, Error)]
 pub enum SaveRefused {
     /// A directory, a device, a pipe, or a link to one.
-    #[error("{0}: not a regular file")]
+    #[error("{0:?}: not a regular file")]
     NotRegular(String),
     /// What the system answered, of which file.
-    #[error("{0}: {1}")]
+    #[error("{0:?}: {1}")]
     File(String, io::Error),
     #[error("out of memory")]
     NoMemory,
@@ -30,7 +29,7 @@ fn of_file(alloc: Global, name: &str, error: io::Error) -> SaveRefused {
     if error.kind() == ErrorKind::OutOfMemory {
         return SaveRefused::NoMemory;
     }
-    match String::from_str(alloc, shown(name)) {
+    match String::from_str(alloc, name) {
         Ok(name) => SaveRefused::File(name, error),
         Err(_) => SaveRefused::NoMemory,
     }

@@ -10,7 +10,7 @@ use clap::error::ErrorKind;
 use mkfs::widths::{INODE_START, LARGEST_SIZE, LOG_BLOCKS};
 use mkfs::{
     FILES, IMAGE, INODES, MakeRefused, NewFile, SIZE, SaveRefused, data_start, is_file_name, make,
-    number, options, read_at_most, save, shown,
+    number, options, read_at_most, save,
 };
 use std::alloc::{AllocError, Global};
 use std::process::ExitCode;
@@ -27,13 +27,13 @@ enum Fault<'a> {
     #[error("refused {} {}", .0.number(), .0.name())]
     Refused(MakeRefused),
     /// The image can't be made, for the sake of this file.
-    #[error("refused {} {}: {}", .0.number(), .0.name(), .1)]
+    #[error("refused {} {}: {:?}", .0.number(), .0.name(), .1)]
     RefusedFile(MakeRefused, &'a str),
     /// What can't be read, and why.
-    #[error("{0}: {1}")]
+    #[error("{0:?}: {1}")]
     File(&'a str, io::Error),
     /// The image would stand in the place of this FILE.
-    #[error("{0}: is a FILE, and would be replaced by the image")]
+    #[error("{0:?}: is a FILE, and would be replaced by the image")]
     Replaces(&'a str),
     /// The image can't be written.
     #[error("{0}")]
@@ -67,7 +67,7 @@ impl<'a> Fault<'a> {
         if error.kind() == io::ErrorKind::OutOfMemory {
             return Fault::Refused(MakeRefused::NoMemory);
         }
-        Fault::File(shown(path), error)
+        Fault::File(path, error)
     }
 
     // What came of making an image of these files.
@@ -78,7 +78,7 @@ impl<'a> Fault<'a> {
             _ => None,
         };
         match place {
-            Some(place) if place < paths.len() => Fault::RefusedFile(refused, shown(paths[place])),
+            Some(place) if place < paths.len() => Fault::RefusedFile(refused, paths[place]),
             _ => Fault::Refused(refused),
         }
     }
@@ -177,7 +177,7 @@ fn run<'a>(
     let paths = matches.get_strs(FILES).unwrap_or([].as_slice());
     let image = matches.get_str(IMAGE).unwrap_or("");
     if let Some(path) = replaced(rt, image, paths) {
-        return Err(Fault::Replaces(shown(path)));
+        return Err(Fault::Replaces(path));
     }
     let files = load(rt, paths)?;
     let disk = make(rt.alloc(), size, ninodes, files.as_slice()).map_err(|refused| Fault::of_files(
