@@ -11,6 +11,18 @@ const NAME: &str = "mkfs";
 
 const VERSION: &str = "0.1, for images of xv6 (version 1)";
 
+// What an image can hold, the statuses, and where more is said.
+const AFTER_HELP: &str = "\
+Limits:
+  --size     up to 8191 blocks of 1024 bytes, into which the files and what comes before them fit
+  --inodes   2 to 65535, inode 0 and the root's among them
+  FILE       up to 274432 bytes
+  its name   1 to 14 bytes behind the last /, neither . nor .., and no name twice
+  all FILEs  up to 17150, and no more than inodes but two
+
+Status: 0 the image is written; 1 it can't be made, or a file fails; 2 a wrong command line.
+More is in docs/MKFS.md (causes, faults), docs/FORMATS.md (images).";
+
 /// How many blocks an image has, in the command line's words.
 pub const SIZE: &str = "size";
 
@@ -66,6 +78,7 @@ fn named<'a>(alloc: Global) -> Result<Command<'a>, AllocError>
     Command::new(alloc, NAME)
         .about("Makes an image of a file system")
         .version(VERSION)
+        .after_help(AFTER_HELP)
         .bin_name(NAME)
 }
 
