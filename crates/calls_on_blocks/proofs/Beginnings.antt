@@ -50,7 +50,7 @@ module _ (disk : List (List ℕ)) (failures : ℕ) (mountable : IsMountable disk
     pub book : BookOf (run L events s) (shown ++ shows N events s) list
     pub followed : Followed (sizes disk failures mountable) (length disk) Image (run L events s) list (marks_after (sizes disk failures mountable) events s m)
 
-  module _ (starts : (e : Event Call Outside) (s t : State L) (told : Told) (x : Turns N is_moving e (makes L e s).came t told (kept.told_of N (kept.placed N e s))) → OkAt e → MayStart Ok x.event) where
+  module _ (starts : (e : Event Call Outside) (s t : State L) (told : Told) (x : Turns N is_moving e (makes L e s).came t told (kept.placed N e s)) → OkAt e → MayStart Ok x.event) where
     follow : (events : List (Event Call Outside)) (s : State L) (shown : List Shown) (list : List Placed) (m : Marks) → BookOf s shown list → Followed (sizes disk failures mountable) (length disk) Image s list m → AllHonest L events s
         → N.Clean (run L events s).world → AllObey OkAt events → After events s shown m
     follow [] s shown list m b f honest clean ok = record {

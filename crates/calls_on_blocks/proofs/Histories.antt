@@ -93,7 +93,7 @@ module _ (N : MoveMachine) (moving : IsMoving N) (Ok : ℕ → Call → Type 0) 
     pub now : AllByRecursion (λ p. event_of p ≡ s.now) news
     pub book : Book (next L e s) (shown ++ shown_by e (makes L e s).came ∷ []) (list ++ news)
 
-  pub book_more : (OkAt : Event Call N.Outside → Type 0) → ((e : Event Call N.Outside) (s t : State L) (told : Told) (x : Turns N moving e (makes L e s).came t told (kept.told_of N (kept.placed N e s))) → OkAt e → MayStart Ok x.event)
+  pub book_more : (OkAt : Event Call N.Outside → Type 0) → ((e : Event Call N.Outside) (s t : State L) (told : Told) (x : Turns N moving e (makes L e s).came t told (kept.placed N e s)) → OkAt e → MayStart Ok x.event)
       → (e : Event Call N.Outside) (s : State L) (shown : List Shown) (list : List Placed) → Sound L s → IsHonest L e s → N.Clean (next L e s).world → (next L e s).now ≡ s.now + 1 → OkAt e → Book s shown list → More e s shown list
   book_more OkAt starts e s shown list sound honest clean counts ok b =
       let x = event_turns N moving (N.tree sound.first) e s b.told (sound_keeps L moving.lawful s sound) b.beside honest clean in

@@ -1,5 +1,5 @@
 -- Runs on a mounted disk as one list of tree steps.
-use Rattle.calls_on_blocks.proofs.Vocabulary.{◌≡◌, ◌⊎◌, inl, ◌<◌, ℕ, Bool, List, [], ◌∷◌, Option, Some, None, refl, ◌∙◌, ap, subst, Super, sizes_of, Call, none-some, Tree, put, hart_count, tree_in, settled_well, MoveStep, ExecResult, Waits, Ran, Stops, placed_with, Began, Refuses, Begins, Event, ActOf, Both, act_places, placed_at, began_to, begun_both, Outside, stage_of, go, IsMoving, RunsFrom, machine, Refusal, places_one, moves_history, moves_alone, start_is, ShowsItsTree, first_world, mounts_show_their_trees, block_moves, first, RunsOn, MountsHaveOneHistory, OneHartHasOneHistory, World, shared_of, serves, served_calls, child_of, begins as begins_below, block_calls}
+use Rattle.calls_on_blocks.proofs.Vocabulary.{◌≡◌, ◌⊎◌, inl, ◌<◌, ℕ, Bool, List, [], ◌∷◌, Option, Some, None, refl, sym, ◌∙◌, ap, subst, Super, sizes_of, Call, none-some, Tree, put, hart_count, tree_in, settle_again, settled_well, MoveStep, ExecResult, Waits, Ran, Stops, placed_with, Began, Refuses, Begins, Event, ActOf, Both, act_places, placed_at, began_to, begun_both, Outside, stage_of, go, IsMoving, RunsFrom, machine, Refusal, places_one, moves_history, moves_alone, start_is, ShowsItsTree, first_world, mounts_show_their_trees, block_moves, first, RunsOn, MountsHaveOneHistory, OneHartHasOneHistory, World, shared_of, serves, served_calls, child_of, begins as begins_below, block_calls}
 use Rattle.tree_laws.specs.WellFormed.{IsWellFormed}
 use Rattle.inode_machine.specs.World as above
 use Rattle.calls_on_blocks.proofs.Lawful.{lawful}
@@ -26,6 +26,7 @@ moving sizes = record {
   one = λ h op a m w. places_any h m w.seen;
   begins = λ h call busy w u e. begins h call busy w u e;
   rests = λ h w i. i.1.walk;
+  settled = λ w. sym (settle_again w.seen.all);
 }
   where
     begins : (h : ℕ) (call : Call) (busy : ℕ → Bool) (w u : Both World above.World) → (block_calls sizes).start h call busy w ≡ Begins u → (h < hart_count) × (stage_of u.seen ≡ stage_of w.seen)

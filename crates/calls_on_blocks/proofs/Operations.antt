@@ -1,5 +1,5 @@
 -- The operations on whole inodes act at one moment below, within what their call's transactions may record.
-use Rattle.calls_on_blocks.proofs.Vocabulary.{◌≡◌, ◌<◌, ℕ, List, length, Bool, true, Option, Super, IsBytes, Cause, OpenFile, Name, hart_count, AtomicWithin, Stage, MoveStep as Step, PlaysStep, Face, Query, Sight, InodeType, places, machine, JoinResult, LoanResult, LockResult, WriteResult as Wrote, Take, UnlockInode, UpStart, WalkDown, Forget, Store, Fill, Enter, Clear, Empty, Slot, Install, StatFile, ReadFile, JoinFile, WriteFile, Shut, SetDirectory, Lend, LendDirectory, Release, Join, Leave, Say, laws, ActsOnceAt, Labels, Keeps, HasInodes, IsMade, HasSpent, recorded_blocks, ActsWithin, ProgramsSpend, Spends, up_acts, up_start_acts, walk_down_acts, down_acts, forget_acts, join_file_acts, join_acts, leave_acts, lend_acts, lend_directory_acts, release_acts, claim_within, enter_within, fill_within, file_acts, open_acts, read_acts, slot_acts, install_acts, double_acts, close_acts, check_acts, say_acts, programs_spend, stat_acts, give_acts, settle_acts, take_acts, acts_within, store_within, clear_within, empty_within, free_within, write_within, handlers, layer}
+use Rattle.calls_on_blocks.proofs.Vocabulary.{◌≡◌, ◌<◌, ℕ, List, length, Bool, true, Option, Super, IsBytes, Cause, OpenFile, Name, hart_count, AtomicWithin, Stage, MoveStep as Step, TakesMove, Face, Query, Sight, InodeType, places, machine, JoinResult, LoanResult, LockResult, WriteResult as Wrote, Take, UnlockInode, UpStart, WalkDown, Forget, Store, Fill, Enter, Clear, Empty, Slot, Install, StatFile, ReadFile, JoinFile, WriteFile, Shut, SetDirectory, Lend, LendDirectory, Release, Join, Leave, Say, laws, ActsOnceAt, Labels, Keeps, HasInodes, IsMade, HasSpent, recorded_blocks, ActsWithin, ProgramsSpend, Spends, up_acts, up_start_acts, walk_down_acts, down_acts, forget_acts, join_file_acts, join_acts, leave_acts, lend_acts, lend_directory_acts, release_acts, claim_within, enter_within, fill_within, file_acts, open_acts, read_acts, slot_acts, install_acts, double_acts, close_acts, check_acts, say_acts, programs_spend, stat_acts, give_acts, settle_acts, take_acts, acts_within, store_within, clear_within, empty_within, free_within, write_within, handlers, layer}
 use Rattle.inode_machine.specs.Rules as rules
 use Rattle.inode_machine.specs.World as above
 use Rattle.inode_machine.specs.World.Op.{Up, Down, Free, Claim, LockFile, LockOpen, CheckFile, Double}
@@ -14,7 +14,7 @@ history =
       Tree = Stage;
       places = places;
       tree = above.stage_of;
-      Takes = PlaysStep;
+      Takes = TakesMove;
       Others = rules.Others;
       Clean = λ w. w.clean ≡ true;
     }

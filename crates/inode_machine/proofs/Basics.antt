@@ -26,5 +26,5 @@ pub use Rattle.inode_machine.proofs.Rules.{FairTo, Locking, MayRefer, UnlocksAll
 pub use Rattle.inode_machine.proofs.FileTablesSteps.{Sells, names_less, own_takes, sells_did}
 pub use Rattle.inode_machine.proofs.Starts.{Inherits, begun_same, inherit_begins, start_is}
 pub use Rattle.inode_machine.proofs.Tables.{Changes, changed_file_tables, changes, closed_file_tables, kept_open, less_not, lowest_same, tied_closed, users_fd, users_put, users_some, with_fd}
-pub use Rattle.inode_machine.proofs.Walking.{moves_good, moves_to, own_walk, refs_walk, stage_walk, walk_did, walk_named_did}
+pub use Rattle.inode_machine.proofs.Walking.{moves_good, moves_to, of_range, own_walk, refs_walk, stage_walk, walk_did, walk_named_did}
 pub use Rattle.inode_machine.proofs.Walks.{At, Gone, Known, Lost, Mending, On, Ready, Stays, few_listed, known_there, names_stay, on_refers, s-arrive, s-walk, s-walk-parent, stays_same}

@@ -119,7 +119,7 @@ s-start h s B Q base O0 e r ns n es w O go lost lt ready at pos follows path nam
     walks : (i : ℕ) (v : World) → Inv v → own_of h v ≡ O → Begun h i s base ns O v
         → Fine machine h (places h (UpStart (is_absolute (path_of s))) (Some i) (makes (Begin s 0)) v) 0 n B es v (marked h (makes (Begin s 0)) (counted_up h i v)) (λ l. Wp machine h B Q (go i) l (onto (own h (places h (UpStart (is_absolute (path_of s))) (Some i) (makes (Begin s 0)) v)) es) (marked h (makes (Begin s 0)) (counted_up h i v)))
     walks i v inv ov begun =
-        moves_good h 0 n B Q es v u1 (Begin s 0) (go i) (begun_by v.all h s (elements (path_of s)) 0 (new_id v)) (record { all = v.all; walk = Some to; found = None; opened = None; entered = None; left = None; told = None })
+        moves_good h 0 n B Q es v u1 (Begin s 0) tt (go i) (begun_by v.all h s (elements (path_of s)) 0 (new_id v)) (record { all = v.all; walk = Some to; found = None; opened = None; entered = None; left = None; told = None })
         begun_at
         (fair_then up.fair (fair up.fair.inv (walk_did h (Some to) None u1 (ap (λ (o : Own). o.desk.lender) up.owned ∙ at.stays.lender ∙ ready.free) lt up.fair.inv (ap (λ (o : Own). o.mine.pending) up.owned) (λ m q x. absurd cc) (λ z q. inl (let c : to ≡ z = cc in subst (λ (o : Walk). 0 < (u1.harts h).refs o.at) c refs1)) (λ z q. absurd cc))))
         (record { follows = follows; rests = ap (λ (o : Own). o.mine.walk) ov ∙ at.walk; place = place (settle v.all) (settled_row v.all h ∙ ap (λ (o : Own). o.row) ov ∙ at.stays.row); begins = plays })

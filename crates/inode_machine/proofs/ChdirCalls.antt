@@ -256,7 +256,7 @@ module _ (h : ℕ) (path : List ℕ) (w : World) (free : (w.desks h).lender ≡ 
       refused_at isnt =
           let step = chdir_refused_step u.all h j (new_id u) path (Some (d, e)) lt isnt in
           let b = begun_not es told in
-          moves_good h 1611 n B Q es u u (Look 0) (walk_step d ns (chdir_at path) lost (Some j)) (made_by u.all h (new_id u) (u.harts h).walk (Look 0)) (record { all = u.all; walk = None; found = Some j; opened = None; entered = None; left = None; told = Some (deed_of (Failed NotDirectory)) })
+          moves_good h 1611 n B Q es u u (Look 0) tt (walk_step d ns (chdir_at path) lost (Some j)) (made_by u.all h (new_id u) (u.harts h).walk (Look 0)) (record { all = u.all; walk = None; found = Some j; opened = None; entered = None; left = None; told = Some (deed_of (Failed NotDirectory)) })
           (made _ (refused_made u.all h s (Some j) (Some (d, e)) 0 (new_id u) NotDirectory step.0))
           f.fair
           (last_takes h d u (found_world h j u) O1 (locked_held x) y j (Failed NotDirectory) (new_id u) u.all (chdir_finder path) own1 inv on.walk refl isd live refl found step.1 refl (steps (found_world h j u) refl))
@@ -278,7 +278,7 @@ module _ (h : ℕ) (path : List ℕ) (w : World) (free : (w.desks h).lender ≡ 
       goes_at : is_directory (node_at u.all j).kind ≡ true → MoveFine h 1611 n B Q es u (Look 0) (walk_step d ns (chdir_at path) lost (Some j))
       goes_at isa =
           let b = begun_done (Look 0) es tt told in
-          moves_good h 1611 n B Q es u u (Look 0) (walk_step d ns (chdir_at path) lost (Some j)) (made_by u.all h (new_id u) (u.harts h).walk (Look 0)) (record { all = record (u.all) { cwd = put u.all.cwd h j }; walk = None; found = Some j; opened = None; entered = None; left = Some (u.all.cwd h); told = Some (deed_of Done) })
+          moves_good h 1611 n B Q es u u (Look 0) tt (walk_step d ns (chdir_at path) lost (Some j)) (made_by u.all h (new_id u) (u.harts h).walk (Look 0)) (record { all = record (u.all) { cwd = put u.all.cwd h j }; walk = None; found = Some j; opened = None; entered = None; left = Some (u.all.cwd h); told = Some (deed_of Done) })
           (made _ (chdir_made u.all h j 0 (new_id u) path (Some (d, e)) isa))
           (fair_then f.fair g.fair)
           (last_takes h d u (left_world h j (found_world h j u)) O1 (locked_held x) y j Done (new_id u) (settle (record (u.all) { cwd = put u.all.cwd h j })) (chdir_finder path) own1 inv on.walk refl isd live refl found (chdir_step u.all h j (new_id u) path (Some (d, e)) lt isa) (sym (settle_again (record (u.all) { cwd = put u.all.cwd h j }))) (steps (left_world h j (found_world h j u)) refl))
@@ -314,7 +314,7 @@ module _ (h : ℕ) (path : List ℕ) (w : World) (free : (w.desks h).lender ≡ 
   starts : (i n : ℕ) (v : World) (O : Own) (w1 : World) → 3000 ≤ n → elements path ≡ [] → Gone h base [] O0 O w1 → Inv v → own_of h v ≡ O → StartsAt h i s base [] O v
       → Fine machine h (places h (UpStart (is_absolute path)) (Some i) (makes (Begin s 0)) v) 0 n B [] v (marked h (makes (Begin s 0)) (counted_up h i v)) (λ l. Wp machine h B Q (chdir_at path i []) l (onto (own h (places h (UpStart (is_absolute path)) (Some i) (makes (Begin s 0)) v)) []) (marked h (makes (Begin s 0)) (counted_up h i v)))
   starts i n v O w1 few none gone inv ov at =
-      moves_good h 0 n B Q [] v u1 (Begin s 0) (chdir_at path i []) (begun v.all h s (elements path) 0 (new_id v)) (record { all = record (v.all) { cwd = put v.all.cwd h i }; walk = None; found = None; opened = None; entered = None; left = Some (v.all.cwd h); told = Some (deed_of Done) })
+      moves_good h 0 n B Q [] v u1 (Begin s 0) tt (chdir_at path i []) (begun v.all h s (elements path) 0 (new_id v)) (record { all = record (v.all) { cwd = put v.all.cwd h i }; walk = None; found = None; opened = None; entered = None; left = Some (v.all.cwd h); told = Some (deed_of Done) })
       made_is
       (fair_then at.up.fair (fair_then stills g.fair))
       (start_takes h v (left_world h i u2) s Done (new_id v) (settle (record (v.all) { cwd = put v.all.cwd h (start_of v.all h path) })) (chdir_finder path) lt inv (ap (λ (o : Own). o.mine.walk) ov ∙ gone.walk) none (chdir_place (settle v.all) h path lt) (chdir_step v.all h (start_of v.all h path) (new_id v) path None lt isa)

@@ -347,7 +347,7 @@ s-shut {A} {h} fd {k} {B} {Q} {n} {es} {w} {O} owns free lt pos walks none idle 
     rest v inv ov s e hit false q =
         let c = closing_less h fd s e v inv lt (opening_none v ov) (ap (λ (o : Own). o.desk.lent) ov ∙ unlent) hit (eq_isnt e.references 1 q) in
         let x = shuts h fd s e v O _ _ _ inv ov free lt (walk v ov) (still v ov) (opening_none v ov) empty unnoted hit c in
-        moves_good h 0 n B Q es v (close_less h v fd s e) (OwnMove (Close fd) 0) (k (Some None)) (made_by v.all h (new_id v) (v.harts h).walk (OwnMove (Close fd) 0)) (record { all = without_fd v.all h fd; walk = None; found = None; opened = None; entered = None; left = None; told = (shut_step fd).told })
+        moves_good h 0 n B Q es v (close_less h v fd s e) (OwnMove (Close fd) 0) tt (k (Some None)) (made_by v.all h (new_id v) (v.harts h).walk (OwnMove (Close fd) 0)) (record { all = without_fd v.all h fd; walk = None; found = None; opened = None; entered = None; left = None; told = (shut_step fd).told })
         (made_is v s e hit) x.fair x.takes bd pos
         (λ l r. (less l (row_of (without_fd v.all h fd) h) (with_fd v.desks h fd None h) (shut_world h fd v (put v.files s (Some (record { file = e.file; inode_type = e.inode_type; references = e.references - 1 }))) v.slots (with_walk v.harts h None None)) r x.row x.desk
         (λ z. record {
@@ -360,7 +360,7 @@ s-shut {A} {h} fd {k} {B} {Q} {n} {es} {w} {O} owns free lt pos walks none idle 
     rest v inv ov s e hit true q =
         let c = closing_last h fd s e v inv lt (opening_none v ov) (ap (λ (o : Own). o.desk.lent) ov ∙ unlent) hit (eq_is e.references 1 q) (let r = my_refs h v O e.file.number ov in let a = room e.file.number in omega (arith, r, a)) in
         let x = shuts h fd s e v O _ _ _ inv ov free lt (walk v ov) (still v ov) (opening_none v ov) empty unnoted hit c in
-        moves_good h 0 n B Q es v (close_last h v fd s e) (OwnMove (Close fd) 0) (k (Some (Some e.file.number))) (made_by v.all h (new_id v) (v.harts h).walk (OwnMove (Close fd) 0)) (record { all = without_fd v.all h fd; walk = None; found = None; opened = None; entered = None; left = None; told = (shut_step fd).told })
+        moves_good h 0 n B Q es v (close_last h v fd s e) (OwnMove (Close fd) 0) tt (k (Some (Some e.file.number))) (made_by v.all h (new_id v) (v.harts h).walk (OwnMove (Close fd) 0)) (record { all = without_fd v.all h fd; walk = None; found = None; opened = None; entered = None; left = None; told = (shut_step fd).told })
         (made_is v s e hit) x.fair x.takes bd pos
         (λ l r. (last l e.file.number (row_of (without_fd v.all h fd) h) (with_fd v.desks h fd None h) (shut_world h fd v (put v.files s None) (put v.slots e.file.number (v.slots e.file.number - 1)) (last_refs h v e.file.number)) r x.row x.desk (named v inv ov e.file.number x.desk.opening)
         (λ z. record {

@@ -234,7 +234,7 @@ module _ (h : ℕ) (path : List ℕ) (flags : ℕ) (w : World) (free : (w.desks 
 
       refused_at : (k : Cause) → open_kind flags (node_at u.all j).kind ≡ Some k → MoveFine h 1611 n B Q es u (Look 0) (create_found path flags d e ns (Some j))
       refused_at k why =
-          act_good_to h 1611 n B Q es u u s d 0 e (Some j) (Failed k) (record { all = u.all; walk = None; found = Some j; opened = None; entered = None; left = None; told = Some (record { act = record { step = s; answer = Failed k }; new = 0 }) }) u.all (create_found path flags d e ns (Some j)) lt inv mine live_at found (λ g q. absurd cc)
+          act_good_to h 1611 n B Q es u u s d 0 tt e (Some j) (Failed k) (record { all = u.all; walk = None; found = Some j; opened = None; entered = None; left = None; told = Some (record { act = record { step = s; answer = Failed k }; new = 0 }) }) u.all (create_found path flags d e ns (Some j)) lt inv mine live_at found (λ g q. absurd cc)
           (refused_made u.all h s (Some j) (Some (d, e)) 0 (new_id u) k refusal_is) refl
           (refusal_is, refl, open_place u.all h path flags lt) refl (λ q. absurd (let a = there_makes u.all path flags d j e flag found in cc (a, q)))
           f.fair (λ z. record { tree = settle u.all; walk = walks_are z }) (begun_refused c [] s k (told_step 0 s (Failed k) ∷ es) (follows path flags) written) (omega (arith, few))
@@ -259,7 +259,7 @@ module _ (h : ℕ) (path : List ℕ) (flags : ℕ) (w : World) (free : (w.desks 
 
       goes_at : open_kind flags (node_at u.all j).kind ≡ None → has_room (u.all.fds h) ≡ true → MoveFine h 1611 n B Q es u (Look 0) (create_found path flags d e ns (Some j))
       goes_at goes room =
-          act_good_to h 1611 n B Q es u u s d 0 e (Some j) (Opened fd (new_id u) isf) (record { all = T; walk = None; found = Some j; opened = Some (new_id u); entered = None; left = None; told = Some (record { act = record { step = s; answer = Opened fd (new_id u) isf }; new = 0 }) }) (settle T) (create_found path flags d e ns (Some j)) lt inv mine live_at found (λ g q. absurd cc)
+          act_good_to h 1611 n B Q es u u s d 0 tt e (Some j) (Opened fd (new_id u) isf) (record { all = T; walk = None; found = Some j; opened = Some (new_id u); entered = None; left = None; told = Some (record { act = record { step = s; answer = Opened fd (new_id u) isf }; new = 0 }) }) (settle T) (create_found path flags d e ns (Some j)) lt inv mine live_at found (λ g q. absurd cc)
           (there_made u.all h j (new_id u) path flags d e flag found goes room) refl
           (there_step u.all h j (new_id u) path flags d e lt flag found goes room (fresh_id u inv).least) (sym (settle_again T)) (λ q. absurd (let a = there_makes u.all path flags d j e flag found in cc (a, q)))
           (fair_then fair_a (fair_then fair_b note.fair)) (λ z. record { tree = settle T; walk = walks_are z })

@@ -1,6 +1,6 @@
 -- The act of an open that makes its file: at the entry's put the file is there, under its name, and open; or the hart has no descriptor left, and the file stays.
 use Rattle.inode_machine.proofs.Vocabulary.{◌≡◌, ◌≢◌, inl, ℕ, ◌+◌, ◌<◌, ◌≤◌, Bool, true, false, ◌&&◌, nat_lt, List, [], ◌∷◌, Option, Some, None, refl, sym, ◌∙◌, ap, subst, arith, if◌then◌else◌, nat_tests, Do, P, Safe, Descriptors, Node, Open, Opened, NoRoom, hart_count, descriptor_count, Name, Tree, put, look, live_directory, settle, is_directory, node_or, with_nodes, new_file, IsNewNode, creates, has_room, lowest, refusal_with, effect_with, answer_with, is_absent, place_of, IsInPlace, key_is, IsWellFormed, look_same, well_file, absent_slot, and_true, Walk, Step, Look, Note, World, Mark, EntryResult, InPlace, NoBlock, NoSlot, Enter, Mends, with_entry, Made, made_by, look_made, looked, new_id, file_for, Own, Held, own_of, Inv, machine, IsName, makes}
-use Rattle.inode_machine.proofs.Basics.{fair, fair_then, has_node, my_refs, refs_walk, stage_walk, Mendable, mended_own, acts_gone, act_good, no_walk, told_step, lowest_same, not_at, Fresh, fresh_id, Opening, opened_row, opened_tree, opened_world, opening}
+use Rattle.inode_machine.proofs.Basics.{fair, fair_then, has_node, my_refs, refs_walk, stage_walk, Mendable, mended_own, acts_gone, act_good, no_walk, of_range, told_step, lowest_same, not_at, Fresh, fresh_id, Opening, opened_row, opened_tree, opened_world, opening}
 use Rattle.inode_machine.proofs.Addings.{Adding, added_nodes, added_world, adding}
 use Rattle.inode_machine.proofs.Enters.{EnterFine, s-enter-with}
 use Rattle.inode_machine.proofs.Opens.{dirties, moves_full}
@@ -101,7 +101,7 @@ s-enter-file {A} {h} d i {x} {z} X e path flags {m} {k} {B} {Q} {n} {es} {w} {O}
 
     has : (v : World) → Inv v → own_of h v ≡ O → has_room (v.all.fds h) ≡ true → EnterFine h d e i (makes (Look i)) n B Q es v (u1 v) (k InPlace)
     has v inv ov room =
-        act_good h 1640 n B Q es v (u1 v) (Open path flags) d i e None (Opened fd (new_id v) true) made (k InPlace) lt inv (mine v ov) (live_at v ov) (look_is v ov) (λ g q. absurd cc)
+        act_good h 1640 n B Q es v (u1 v) (Open path flags) d i (of_range v i (fresh v ov).below) e None (Opened fd (new_id v) true) made (k InPlace) lt inv (mine v ov) (live_at v ov) (look_is v ov) (λ g q. absurd cc)
         (acts_gone v.all h (Open path flags) None (Some (d, e)) i (new_id v) (goes v ov)
         ∙ (λ r. record made { all = effect r; opened = if room r then Some (new_id v) else None; entered = if absent_is v.all d flags e flag (look_is v ov) r then Some i else None; told = Some (record { act = record { step = Open path flags; answer = answer r }; new = i }) }))
         refl (goes v ov)

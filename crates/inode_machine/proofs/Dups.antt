@@ -59,7 +59,7 @@ pub refused_good : {A : Type 0} (h more n : ℕ) (B : List Step → Type 0) (Q :
     → B (fails s c ∷ es) → more < n → ((l : ℕ) (u : World) → l + (more + 1) ≡ n → own_of h u ≡ record O { mine = record { refs = O.mine.refs; walk = None; pending = None } } → Safe machine h B Q p l (fails s c ∷ es) u)
     → Fine machine h ((h, record { move = OwnMove s 0; told = (made_by v.all h (new_id v) (v.harts h).walk (OwnMove s 0)).told }) ∷ []) more n B es v (with_made h (made_by v.all h (new_id v) (v.harts h).walk (OwnMove s 0)) v) (λ l. Wp machine h B Q p l (onto (own h ((h, record { move = OwnMove s 0; told = (made_by v.all h (new_id v) (v.harts h).walk (OwnMove s 0)).told }) ∷ [])) es) (with_made h (made_by v.all h (new_id v) (v.harts h).walk (OwnMove s 0)) v))
 refused_good h more n B Q es v O s c p ov free lt inv walks none r b pos next =
-    moves_good h more n B Q es v v (OwnMove s 0) p (made_by v.all h (new_id v) (v.harts h).walk (OwnMove s 0)) (record { all = v.all; walk = None; found = None; opened = None; entered = None; left = None; told = (fails s c).told })
+    moves_good h more n B Q es v v (OwnMove s 0) tt p (made_by v.all h (new_id v) (v.harts h).walk (OwnMove s 0)) (record { all = v.all; walk = None; found = None; opened = None; entered = None; left = None; told = (fails s c).told })
     (rw (r.now (resolve v.all h (path_of s)) (parent v.all h (path_of s))) (λ i. record { all = r.keeps i; walk = None; found = r.found (resolve v.all h (path_of s)) i; opened = None; entered = None; left = None; told = (fails s c).told }))
     (fair inv (walk_did h None None v (ap (λ (o : Own). o.desk.lender) ov ∙ free) lt inv (ap (λ (o : Own). o.mine.pending) ov ∙ none) (λ m q e. absurd cc) (λ z q. absurd cc) (λ j q. absurd cc)))
     (own_takes h v (record v { harts = with_walk v.harts h None None }) s (Failed c) r.follows r.path (ap (λ (o : Own). o.mine.walk) ov ∙ walks) r.makes r.inherits
@@ -393,7 +393,7 @@ s-double {A} {h} fd {k} {B} {Q} {n} {es} {w} {O} owns free lt pos walks none idl
         → Good machine (Option (Option ℕ)) h (λ a. places h (Double fd) a (dups fd a) v) 0 n B es v ⊥ (with_mark h (dups fd) (double_if h v s e b)) (λ l a u. Wp machine h B Q (k a) l (onto (own h (places h (Double fd) a (dups fd a) v)) es) u)
     rest v inv ov s e hit false q = let f = filling h v O ov free lt inv in quiet f.fair refl pos (λ l r. (full l (record v { clean = false; desks = put v.desks h (record (v.desks h) { full = true }) }) r refl f.owned).wp)
     rest v inv ov s e hit true q =
-        moves_good h 0 n B Q es v (doubled h v s e f) (OwnMove (Dup fd) 0) (k (Some (Some f))) (made_by v.all h (new_id v) (v.harts h).walk (OwnMove (Dup fd) 0)) (record { all = T; walk = None; found = None; opened = None; entered = None; left = None; told = (dupped fd f).told })
+        moves_good h 0 n B Q es v (doubled h v s e f) (OwnMove (Dup fd) 0) tt (k (Some (Some f))) (made_by v.all h (new_id v) (v.harts h).walk (OwnMove (Dup fd) 0)) (record { all = T; walk = None; found = None; opened = None; entered = None; left = None; told = (dupped fd f).told })
         made_is
         (fair inv (sells_did h v F D v.slots T (with_walk v.harts h None None) lt inv sells))
         (own_takes h v u (Dup fd) (NewFd f) refl refl (ap (λ (o : Own). o.mine.walk) ov ∙ walks) (λ z. refl) (λ g z. absurd cc) (

@@ -56,7 +56,7 @@ s-empty {A} {h} j fd key v {k} {B} {Q} {n} {es} {w} {O} owns free lt pos joined 
         → Fine machine h (places h (Empty j) tt (own_step (Truncate fd)) v0) 900 n B es v0 (marked h (own_step (Truncate fd)) (changed_record v0 j with_no_bytes)) (λ l. Wp machine h B Q (k tt) l (onto (own h (places h (Empty j) tt (own_step (Truncate fd)) v0)) es) (marked h (own_step (Truncate fd)) (changed_record v0 j with_no_bytes)))
     good v0 inv ov =
         subst (λ (z : Option Node). Fine machine h (places h (Empty j) tt (own_step (Truncate fd)) v0) 900 n B es v0 (marked h (own_step (Truncate fd)) (record v0 { disk = put v0.disk j (Some (with_no_bytes (node_or z))) })) (λ l. Wp machine h B Q (k tt) l (onto (own h (places h (Empty j) tt (own_step (Truncate fd)) v0)) es) (marked h (own_step (Truncate fd)) (record v0 { disk = put v0.disk j (Some (with_no_bytes (node_or z))) })))) (sym (has_disk h j v0 O (locked_held (Some v)) ov isj))
-        (moves_good h 900 n B Q es v0 (record v0 { disk = put v0.disk j (Some y) }) (OwnMove (Truncate fd) 0) (k tt) (made_by v0.all h (new_id v0) (v0.harts h).walk (OwnMove (Truncate fd) 0)) (record { all = T; walk = None; found = None; opened = None; entered = None; left = None; told = (empty_step fd).told })
+        (moves_good h 900 n B Q es v0 (record v0 { disk = put v0.disk j (Some y) }) (OwnMove (Truncate fd) 0) tt (k tt) (made_by v0.all h (new_id v0) (v0.harts h).walk (OwnMove (Truncate fd) 0)) (record { all = T; walk = None; found = None; opened = None; entered = None; left = None; told = (empty_step fd).told })
         (trunc_made v0.all h fd 0 (new_id v0) j at.file v (resolve v0.all h []) (parent v0.all h []) at.at file_j there)
         (fair_then c.fair (fair c.fair.inv (walk_did h None None u1 (ap (λ (o : Own). o.desk.lender) ov ∙ free) lt c.fair.inv (ap (λ (o : Own). o.mine.pending) ov ∙ none) (λ m q e. absurd cc) (λ z q. absurd cc) (λ i q. absurd cc))))
         (own_takes h v0 u (Truncate fd) Done refl refl (ap (λ (o : Own). o.mine.walk) ov ∙ walks) (λ q. refl) (λ g q. absurd cc)

@@ -27,7 +27,7 @@ s-install-empty {A} {h} fd s f inode_type y {m} {k} {B} {Q} {n} {es} {w} {O} own
     good : (v : World) → Inv v → own_of h v ≡ O
         → Fine machine h (places h (Install f inode_type) (Some fd) (own_step (Truncate fd)) v) 0 n B es v (marked h (own_step (Truncate fd)) (installed h v f inode_type s fd)) (λ l. Wp machine h B Q (k (Some fd)) l (onto (own h (places h (Install f inode_type) (Some fd) (own_step (Truncate fd)) v)) es) (marked h (own_step (Truncate fd)) (installed h v f inode_type s fd)))
     good v inv ov =
-        moves_good h 0 n B Q es v u (OwnMove (Truncate fd) 0) (k (Some fd)) (made_by v.all h (new_id v) (v.harts h).walk (OwnMove (Truncate fd) 0)) (record { all = v.all; walk = None; found = None; opened = None; entered = None; left = None; told = (empty_step fd).told })
+        moves_good h 0 n B Q es v u (OwnMove (Truncate fd) 0) tt (k (Some fd)) (made_by v.all h (new_id v) (v.harts h).walk (OwnMove (Truncate fd) 0)) (record { all = v.all; walk = None; found = None; opened = None; entered = None; left = None; told = (empty_step fd).told })
         (trunc_made v.all h fd 0 (new_id v) f.number at.file y (resolve v.all h []) (parent v.all h []) at.at file_is there ∙ (λ z. record { all = stays z; walk = None; found = None; opened = None; entered = None; left = None; told = (empty_step fd).told }))
         (fair_then c.lands (fair c.lands.inv (walk_did h None None u (ap (λ (o : Own). o.desk.lender) c.owned ∙ free) lt c.lands.inv (ap (λ (o : Own). o.mine.pending) c.owned ∙ none) (λ m q e. absurd cc) (λ z q. absurd cc) (λ i q. absurd cc))))
         (own_takes h v u1 (Truncate fd) Done refl refl (ap (λ (o : Own). o.mine.walk) ov ∙ walks) (λ q. refl) (λ g q. absurd cc)

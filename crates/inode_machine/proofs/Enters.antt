@@ -1,6 +1,6 @@
 -- A name is entered: without room for it nothing is; and mkdir's act, which is at that moment.
 use Rattle.inode_machine.proofs.Vocabulary.{◌≡◌, ◌≢◌, ℕ, ◌+◌, ◌<◌, ◌≤◌, Bool, true, false, nat_lt, List, [], ◌∷◌, Option, Some, None, refl, sym, ◌∙◌, ap, subst, arith, nat_tests, Do, Ran, ExecResult, P, own, onto, Good, Fine, Safe, Wp, Node, Mkdir, Done, hart_count, count_limit, Name, Tree, put, look, is_directory, live_directory, settle, node_or, node_at, with_nodes, raised, new_directory, IsNewNode, refusal_with, effect_with, answer_with, place_of, IsInPlace, IsWellFormed, and_true, put_same, put_other, look_same, effect_well, Step, Look, Note, World, Mark, Outside, Room, RoomFor, Picks, EntryResult, InPlace, NoBlock, NoSlot, Enter, Mends, with_entry, enter_if, enter_in, is_full_directory, Made, new_id, marked, places, with_mark, Own, Held, own_of, Inv, machine, IsName, makes}
-use Rattle.inode_machine.proofs.Basics.{s-owned, locks_it, has_disk, has_node, stage_walk, Mendable, mended_own, mend_fine, acts_gone, act_good, no_walk, told_step, two_put}
+use Rattle.inode_machine.proofs.Basics.{s-owned, locks_it, has_disk, has_node, stage_walk, Mendable, mended_own, mend_fine, acts_gone, act_good, no_walk, of_range, told_step, two_put}
 use Rattle.inode_machine.proofs.Addings.{Adding, added_world, adding}
 
 -- an entry's put, with its mark
@@ -93,7 +93,7 @@ s-enter-directory {A} {h} d i {x} {z} X e path {m} {k} {B} {Q} {n} {es} {w} {O} 
   where
     good : (v : World) → Inv v → own_of h v ≡ O → EnterFine h d e i (makes (Look i)) n B Q es v (record v { disk = put v.disk d (Some (with_entry e i X)) }) (k InPlace)
     good v inv ov =
-        act_good h 1640 n B Q es v u1 (Mkdir path) d i e None Done made (k InPlace) lt inv mine live_at look_is (λ g q. absurd cc)
+        act_good h 1640 n B Q es v u1 (Mkdir path) d i (of_range v i fresh.below) e None Done made (k InPlace) lt inv mine live_at look_is (λ g q. absurd cc)
         (acts_gone v.all h (Mkdir path) None (Some (d, e)) i (new_id v) goes ∙ (λ r. record made { all = effect r; told = Some (record { act = record { step = Mkdir path; answer = mkdir_answer v.all h (new_id v) path None (Some (d, e)) r }; new = i }) }))
         refl goes
         (goes, sym (mkdir_answer v.all h (new_id v) path None (Some (d, e))), record { node = λ q. fresh; file = λ q. absurd cc }, ap (λ (t : Tree). settle t) (sym effect), mkdir_place v.all h path lt)

@@ -1,5 +1,5 @@
 -- All calls of a run as one list of tree steps.
-use Rattle.inode_machine.proofs.Vocabulary.{◌≡◌, ◌⊎◌, inl, inr, ℕ, List, [], ◌∷◌, Option, Some, None, refl, subst, Call, TreeData, Tree, IsWellFormed, settled_well, Step as MoveStep, Event, Op, Answer, Mark, Outside, World, Makes, Frees, Orphans, Fills, Mends, Spoils, places, IsMoving, RunsFrom, is_covered, covered, CallsHaveOneHistory, OneHartHasOneHistory, Runs}
+use Rattle.inode_machine.proofs.Vocabulary.{◌≡◌, ◌⊎◌, inl, inr, ℕ, List, [], ◌∷◌, Option, Some, None, refl, sym, subst, Call, TreeData, Tree, IsWellFormed, settle_again, settled_well, Step as MoveStep, Event, Op, Answer, Mark, Outside, World, Makes, Frees, Orphans, Fills, Mends, Spoils, places, IsMoving, RunsFrom, is_covered, covered, CallsHaveOneHistory, OneHartHasOneHistory, Runs}
 use Rattle.inode_machine.proofs.Covered.{lawful}
 use Rattle.inode_machine.proofs.Basics.{moves_history, moves_alone, start_is}
 
@@ -19,6 +19,7 @@ moving = record {
   one = places_one;
   begins = λ h call busy w u e. let s = start_is is_covered h call busy w u e in (s.hart, s.stage);
   rests = λ h w i. i.walk;
+  settled = λ w. sym (settle_again w.all);
 }
 
 runs_from : (base : TreeData) (w : World) (events : List (Event Call Outside)) → Runs base w events → RunsFrom covered base w events

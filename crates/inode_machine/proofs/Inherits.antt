@@ -64,7 +64,7 @@ s-lend {A} {h} {c} {from} {k} {B} {Q} {n} {es} {w} {O} owns pos srv way le first
             let y = lends_one h c i x.slot e.0 v O inv ov srv x.below is unlent e.1 in
             quiet y.fair refl pos (λ l r. (more l i j (lent_world v h i x.slot e.0) x r (ap (λ (o : Own). next_used (i + 1) o.desk.fds) (sym ov) ∙ q) y.owned).wp)
         at None q =
-            moves_to h 0 n B Q es v (handed (lent_world v h i x.slot e.0) h c) (OwnMove (Inherit c) 0) (k (Lent i false)) (made_by v.all h (new_id v) (v.harts h).walk (OwnMove (Inherit c) 0)) (inherited_made v.all h c)
+            moves_to h 0 n B Q es v (handed (lent_world v h i x.slot e.0) h c) (OwnMove (Inherit c) 0) tt (k (Lent i false)) (made_by v.all h (new_id v) (v.harts h).walk (OwnMove (Inherit c) 0)) (inherited_made v.all h c)
             (made_is v.all h c (new_id v) (v.harts h).walk)
             (all_lent_fair h c i x.slot e.0 v O inv ov srv his x.below is unlent e.1 all)
             (all_lent_takes h c i x.slot e.0 v O inv ov srv his x.below is unlent e.1 all)
@@ -93,7 +93,7 @@ s-lend {A} {h} {c} {from} {k} {B} {Q} {n} {es} {w} {O} owns pos srv way le first
         → Good machine LoanResult h (λ a. places h (Lend c from) a (lends c a) v) 0 n B es v ⊥ (with_mark h (lends c) (lend_if h v c o)) (λ l a u. Wp machine h B Q (k a) l (onto (own h (places h (Lend c from) a (lends c a) v)) es) u)
     by v inv ov (Some i) q = some v inv ov i (next_is from i O.desk.fds le (ap (λ (o : Own). next_used from o.desk.fds) (sym ov) ∙ q)) (next_used (i + 1) (v.desks h).fds) refl
     by v inv ov None q =
-        moves_to h 0 n B Q es v (moved_in v h c) (OwnMove (Inherit c) 0) (k (Moved (v.desks c).directory)) (made_by v.all h (new_id v) (v.harts h).walk (OwnMove (Inherit c) 0)) (inherited_made v.all h c)
+        moves_to h 0 n B Q es v (moved_in v h c) (OwnMove (Inherit c) 0) tt (k (Moved (v.desks c).directory)) (made_by v.all h (new_id v) (v.harts h).walk (OwnMove (Inherit c) 0)) (inherited_made v.all h c)
         (made_is v.all h c (new_id v) (v.harts h).walk)
         (given_fair h c v O inv ov srv unlent unused his)
         (given_takes h c v O inv ov srv unlent unused his)

@@ -1,5 +1,6 @@
 -- The list that is kept beside a run is the one that explains it.
-use Rattle.inode_machine.proofs.Vocabulary.{◌≡◌, ◌≢◌, ◌⊎◌, inl, inr, ℕ, suc, ◌<◌, ◌≤◌, Bool, true, false, List, [], ◌∷◌, ◌++◌, map, length, Option, Some, None, refl, sym, ◌∙◌, ap, subst, arith, append_assoc, Reply, Call, Act, Shown, Chain, Explains, trace_of, TreeData, Placed, Tree, put, tree_of, hart_count, eq_self, eq_not, put_same, put_other, Deed, Move, Stage, Step as MoveStep, IsNext, MayEnd, PlaysStep, IsWholeCall, after, begins, told_by, History, starts, passes, Busy, Told, Turn, Happens, BeginsNext, PlaysAny, Goings, Calm, Lone, IsStartBy, climbing, finishes, moves_on, opened, shown_of, stepped, Starts, Steps, Nothing, Tells, runs_more, runs_none, grows, before, NeverClimbs, IsHart, apart_alone, apart_calm, opened_ok, run_explained, run_ok, starts_alone, starts_calm, AllMayStart, Apart, event_tells, played_end, played_next, told_more, Prog, Ret, Do, ExecResult, Waits, Ran, Stops, asks, OfNext, OpWithAnswer, Goes, Good, Grown, PlacesOne, Wp, onto, oldest_first, own, Theory, Began, Begins, Begun, EventOutcome, Refuses, busy_in, Ends, Event, Start, StepOf as Step, HonestStep, IsHonest, Run, Sound, State, AllHonest, all_told, fresh, moved, next, run, start_run, step_prog, step_run, step_unless, told, tried, unchanged, append_nil, oldest_first_more, Keeps, changed_tells, inv_of, sound_keeps, leads, sound_fresh, sound_run, MoveMachine, IsMoving, HasOneHistory, RunsFrom, Alone, NoneClimbs, StartsBy, climbs_at, machine_of, shown_by, shows, theory_of, IsTheHistory, history_of, kept, kept_by, kept_on, nothing_yet, placed, placed_prog, placed_run, placed_tried, placed_unless, told_of}
+use Rattle.inode_machine.proofs.Vocabulary.{◌≡◌, ◌≢◌, ◌⊎◌, inl, inr, ℕ, suc, ◌<◌, ◌≤◌, Bool, true, false, List, [], ◌∷◌, ◌++◌, map, length, Option, Some, None, refl, sym, ◌∙◌, ap, subst, arith, append_assoc, Reply, Call, Act, Shown, Chain, Explains, trace_of, TreeData, Placed, Tree, put, tree_of, hart_count, eq_self, eq_not, put_same, put_other, Deed, Move, Stage, Step as MoveStep, IsNext, MayEnd, TakesMove, IsWholeCall, after, begins, told_by, History, starts, passes, Busy, Told, Turn, Happens, BeginsNext, PlaysAny, Goings, Calm, Lone, IsStartBy, climbing, finishes, moves_on, opened, shown_of, stepped, Starts, Steps, Nothing, Tells, runs_more, runs_none, grows, before, NeverClimbs, IsHart, apart_alone, apart_calm, opened_ok, run_explained, run_ok, starts_alone, starts_calm, AllMayStart, Apart, event_tells, played_end, played_next, told_more, Prog, Ret, Do, ExecResult, Waits, Ran, Stops, asks, OfNext, OpWithAnswer, Goes, Good, Grown, PlacesOne, Wp, onto, oldest_first, own, Theory, Began, Begins, Begun, EventOutcome, Refuses, busy_in, Ends, Event, Start, StepOf as Step, HonestStep, IsHonest, Run, Sound, State, AllHonest, all_told, fresh, moved, next, run, start_run, step_prog, step_run, step_unless, told, tried, unchanged, append_nil, oldest_first_more, Keeps, changed_tells, inv_of, sound_keeps, leads, sound_fresh, sound_run, MoveMachine, IsMoving, HasOneHistory, RunsFrom, Alone, NoneClimbs, StartsBy, climbs_at, machine_of, shown_by, shows, theory_of, IsTheHistory, history_of, kept, kept_by, kept_on, nothing_yet, placed, placed_prog, placed_run, placed_tried, placed_unless, told_of}
+use Rattle.inode_machine.specs.Making.{hart_of}
 use Rattle.tree_laws.specs.History.HartStanding.{Free}
 use Rattle.atomic_programs.specs.Calls.{begun, makes}
 
@@ -17,22 +18,29 @@ module _ (N : MoveMachine) (moving : IsMoving N) where
     pub busy : (h : ℕ) (r : Run L) → s.running h ≡ Some r → (id : ℕ) × (t.history.calls h ≡ Busy id r.call (told_by [] (oldest_first r.done)))
     pub harts : (h : ℕ) (r : Run L) → s.running h ≡ Some r → h < hart_count
 
-  -- An event that led to s2, as one of moves.
-  pub record Turns (e : Event Call N.Outside) (came : EventOutcome L) (s2 : State L) (t : Told) (d : Option Deed) : Type 0 where
+  -- what hart h's event places is one move at most, its own, and is made; where it places none the tree and all walks stay
+  abbrev pub Places : ℕ → Stage → List (ℕ × MoveStep) → Stage → Type 0
+  Places h m [] m' = m' ≡ m
+  Places h m (p ∷ ps) m' = (ps ≡ []) × (p.0 ≡ h) × (h < hart_count) × TakesMove m h p.1 m'
+
+  -- An event that led to s2 and placed these, as one of moves.
+  pub record Turns (e : Event Call N.Outside) (came : EventOutcome L) (s2 : State L) (t : Told) (ps : List (ℕ × MoveStep)) : Type 0 where
     pub event : Turn
     pub then_ : Told
     pub happens : Happens t event then_
     pub beside : Beside s2 then_
-    pub written : then_.history ≡ kept_by N e came t.stage (N.tree s2.world) d t.history
+    pub places : Places (hart_of e) t.stage ps (N.tree s2.world)
+    pub written : then_.history ≡ kept_by N e came t.stage (N.tree s2.world) (told_of N ps) t.history
     pub shown : shown_of event ≡ shown_by e came
     pub calm : climbs_at e ≡ false → climbing event ≡ false
     pub alone : (h : ℕ) → StartsBy h e → IsStartBy h event
 
-  nothing_turns : (e : Event Call N.Outside) (came : EventOutcome L) (s s2 : State L) (t : Told) → Beside s t → s2.running ≡ s.running → N.tree s2.world ≡ N.tree s.world → Shown.Other ≡ shown_by e came → (d : Option Deed) → passes t.history ≡ kept_by N e came t.stage (N.tree s2.world) d t.history → Turns e came s2 t d
-  nothing_turns e came s s2 t b same stage shown d written = record {
+  nothing_turns : (e : Event Call N.Outside) (came : EventOutcome L) (s s2 : State L) (t : Told) → Beside s t → s2.running ≡ s.running → N.tree s2.world ≡ N.tree s.world → Shown.Other ≡ shown_by e came → passes t.history ≡ kept_by N e came t.stage (N.tree s2.world) None t.history → Turns e came s2 t []
+  nothing_turns e came s s2 t b same stage shown written = record {
     event = Nothing;
     then_ = record { stage = t.stage; history = passes t.history };
     happens = refl;
+    places = stage ∙ sym b.stage;
     written = written;
     beside = record {
       stage = b.stage ∙ sym stage;
@@ -47,12 +55,13 @@ module _ (N : MoveMachine) (moving : IsMoving N) where
 
   -- Starts.
 
-  begun_turns : (h : ℕ) (call : Call) (s : State L) (t : Told) → Beside s t → s.running h ≡ None → (o : Began N.Refusal N.World) → L.start h call (busy_in L s) s.world ≡ o → Turns (Start h call) (begun L h call s o).came (begun L h call s o).after t None
-  begun_turns h call s t b none (Refuses why) q = nothing_turns (Start h call) _ s (unchanged L s) t b refl refl refl _ refl
+  begun_turns : (h : ℕ) (call : Call) (s : State L) (t : Told) → Beside s t → s.running h ≡ None → (o : Began N.Refusal N.World) → L.start h call (busy_in L s) s.world ≡ o → Turns (Start h call) (begun L h call s o).came (begun L h call s o).after t []
+  begun_turns h call s t b none (Refuses why) q = nothing_turns (Start h call) _ s (unchanged L s) t b refl refl refl refl
   begun_turns h call s t b none (Begins u) q = record {
     event = Starts h call;
     then_ = record { stage = t.stage; history = starts t.history h call };
     happens = record { hart = begins.0; free = b.free h none; world = refl };
+    places = begins.1 ∙ sym b.stage;
     written = refl;
     beside = record {
       stage = b.stage ∙ sym begins.1;
@@ -77,8 +86,8 @@ module _ (N : MoveMachine) (moving : IsMoving N) where
       run_is : (x y : Run L) → ◌≡◌ {A = Option (Run L)} (Some x) (Some y) → x ≡ y
       run_is x y e = cc
 
-  start_turns : (h : ℕ) (call : Call) (s : State L) (t : Told) → Beside s t → (x : Option (Run L)) → s.running h ≡ x → Turns (Start h call) (start_run L h call s x).came (start_run L h call s x).after t None
-  start_turns h call s t b (Some r) q = nothing_turns (Start h call) _ s (unchanged L s) t b refl refl refl _ refl
+  start_turns : (h : ℕ) (call : Call) (s : State L) (t : Told) → Beside s t → (x : Option (Run L)) → s.running h ≡ x → Turns (Start h call) (start_run L h call s x).came (start_run L h call s x).after t []
+  start_turns h call s t b (Some r) q = nothing_turns (Start h call) _ s (unchanged L s) t b refl refl refl refl
   start_turns h call s t b None q = begun_turns h call s t b q (L.start h call (busy_in L s) s.world) refl
 
   -- Steps.
@@ -114,23 +123,29 @@ module _ (N : MoveMachine) (moving : IsMoving N) where
     pub plays : PlaysAny t.stage h move deed (N.tree w)
     pub next : BeginsNext r.call (told_by [] (oldest_first r.done)) move
     pub is : deed ≡ told_of N ps
+    pub places : Places h t.stage ps (N.tree w)
     pub acts : after deed (told_by [] (oldest_first r.done)) ≡ told_by [] (oldest_first (onto (own h ps) r.done))
 
-  one_move : (h : ℕ) (s : State L) (r : Run L) (ps : List (ℕ × MoveStep)) (w : N.World) (t : Told) → t.stage ≡ N.tree s.world → PlacesAny h ps → Goes (machine_of N) (N.tree s.world) ps (N.tree w) → Grown (Begun L r.call) (own h ps) r.done → OneMove h r ps w t
-  one_move h s r ps w t stage (inl e) goes grown = record {
+  one_move : (h : ℕ) (s : State L) (r : Run L) (ps : List (ℕ × MoveStep)) (w : N.World) (t : Told) → h < hart_count → t.stage ≡ N.tree s.world → PlacesAny h ps → Goes (machine_of N) (N.tree s.world) ps (N.tree w) → Grown (Begun L r.call) (own h ps) r.done → OneMove h r ps w t
+  one_move h s r ps w t hart stage (inl e) goes grown = record {
     move = None;
     deed = None;
-    plays = (refl, subst (λ (z : List (ℕ × MoveStep)). Goes (machine_of N) (N.tree s.world) z (N.tree w)) e goes ∙ sym stage);
+    plays = (refl, went ∙ sym stage);
     next = tt;
     is = (λ z. told_of N (sym e z));
+    places = subst (λ (z : List (ℕ × MoveStep)). Places h t.stage z (N.tree w)) (sym e) (went ∙ sym stage);
     acts = (λ z. told_by [] (oldest_first (onto (own h (sym e z)) r.done)));
   }
-  one_move h s r ps w t stage (inr p) goes grown = record {
+    where
+      went : N.tree w ≡ N.tree s.world
+      went = subst (λ (z : List (ℕ × MoveStep)). Goes (machine_of N) (N.tree s.world) z (N.tree w)) e goes
+  one_move h s r ps w t hart stage (inr p) goes grown = record {
     move = Some e.move;
     deed = e.told;
-    plays = subst (λ (z : Stage). PlaysStep z h e (N.tree w)) (sym stage) (subst (λ (z : Stage). PlaysStep (N.tree s.world) h e z) (sym went.2) went.1);
+    plays = takes.0;
     next = begins_next;
     is = (λ z. told_of N (sym p.1 z));
+    places = subst (λ (z : List (ℕ × MoveStep)). Places h t.stage z (N.tree w)) (sym p.1) (refl, refl, hart, takes);
     acts = sym (told_more [] (oldest_first r.done) e) ∙ ap (told_by []) (sym (oldest_first_more e r.done)) ∙ (λ z. told_by [] (oldest_first (onto (sym mine z) r.done)));
   }
     where
@@ -140,8 +155,11 @@ module _ (N : MoveMachine) (moving : IsMoving N) where
       mine : own h ps ≡ e ∷ []
       mine = ap (own h) p.1 ∙ rw (eq_self h) refl
 
-      went : (mid : Stage) × PlaysStep (N.tree s.world) h e mid × (N.tree w ≡ mid)
+      went : (mid : Stage) × TakesMove (N.tree s.world) h e mid × (N.tree w ≡ mid)
       went = subst (λ (z : List (ℕ × MoveStep)). Goes (machine_of N) (N.tree s.world) z (N.tree w)) p.1 goes
+
+      takes : TakesMove t.stage h e (N.tree w)
+      takes = subst (λ (z : Stage). TakesMove z h e (N.tree w)) (sym stage) (subst (λ (z : Stage). TakesMove (N.tree s.world) h e z) (sym went.2) went.1)
 
       begins_next : IsNext r.call (told_by [] (oldest_first r.done)) (begins e.move)
       begins_next = elim (subst (λ (z : List MoveStep). Grown (Begun L r.call) z r.done) mine grown) [
@@ -155,11 +173,12 @@ module _ (N : MoveMachine) (moving : IsMoving N) where
   EndsSo h r ps (Do op m k) w = Unit {0}
 
   moved_turns : (h : ℕ) (x : N.Outside) (s : State L) (t : Told) (r : Run L) (did : OpWithAnswer (machine_of N)) (ps : List (ℕ × MoveStep)) (p : P Reply) (w : N.World) → Beside s t → s.running h ≡ Some r → PlacesAny h ps → Goes (machine_of N) (N.tree s.world) ps (N.tree w) → Grown (Begun L r.call) (own h ps) r.done → EndsSo h r ps p w
-      → Turns (Step h x) (moved L h s r did ps p w).came (moved L h s r did ps p w).after t (told_of N ps)
+      → Turns (Step h x) (moved L h s r did ps p w).came (moved L h s r did ps p w).after t ps
   moved_turns h x s t r did ps (Do op m k) w b is any goes grown end = record {
     event = Steps h v.move None;
     then_ = stepped t h v.deed (N.tree w) None;
     happens = record { hart = b.harts h r is; id = (b.busy h r is).0; c = r.call; acts = told_by [] (oldest_first r.done); busy = (b.busy h r is).1; next = v.next; told = v.deed; stage = N.tree w; plays = v.plays; reply = tt; world = refl };
+    places = v.places;
     written = (λ z. finishes None h (moves_on t.stage (N.tree w) h (v.is z) t.history));
     beside = record {
       stage = refl;
@@ -176,7 +195,7 @@ module _ (N : MoveMachine) (moving : IsMoving N) where
   }
     where
       v : OneMove h r ps w t
-      v = one_move h s r ps w t b.stage any goes grown
+      v = one_move h s r ps w t (b.harts h r is) b.stage any goes grown
 
       new : Run L
       new = record { call = r.call; start = r.start; prog = Do op m k; count = suc r.count; done = onto (own h ps) r.done }
@@ -190,6 +209,7 @@ module _ (N : MoveMachine) (moving : IsMoving N) where
     event = Steps h v.move (Some reply);
     then_ = stepped t h v.deed (N.tree w) (Some reply);
     happens = record { hart = b.harts h r is; id = (b.busy h r is).0; c = r.call; acts = told_by [] (oldest_first r.done); busy = (b.busy h r is).1; next = v.next; told = v.deed; stage = N.tree w; plays = v.plays; reply = (end.1, subst (λ (z : List Act). MayEnd r.call z reply) (sym v.acts) (played_end r.call [] (oldest_first (onto (own h ps) r.done)) reply end.0)); world = refl };
+    places = v.places;
     written = (λ z. finishes (Some reply) h (moves_on t.stage (N.tree w) h (v.is z) t.history));
     beside = record {
       stage = refl;
@@ -206,7 +226,7 @@ module _ (N : MoveMachine) (moving : IsMoving N) where
   }
     where
       v : OneMove h r ps w t
-      v = one_move h s r ps w t b.stage any goes grown
+      v = one_move h s r ps w t (b.harts h r is) b.stage any goes grown
 
       tells : Tells t h (b.busy h r is).0 r.call (told_by [] (oldest_first r.done)) v.deed (N.tree w)
       tells = event_tells t h (b.busy h r is).0 r.call (told_by [] (oldest_first r.done)) v.deed (N.tree w) (b.busy h r is).1
@@ -222,35 +242,35 @@ module _ (N : MoveMachine) (moving : IsMoving N) where
   tried_turns : (h n more : ℕ) (x : N.Outside) (s : State L) (t : Told) (r : Run L) (op : N.Op) (m : N.Answer op → Option N.Mark) (k : N.Answer op → P Reply) (wait : Type 0) (d : ExecResult (N.Answer op) N.World) → Beside s t → s.running h ≡ Some r
       → Good (machine_of N) (N.Answer op) h (λ a. N.places h op a (m a) s.world) more n (Begun L r.call) r.done s.world wait d (λ l a u. Wp (machine_of N) h (Begun L r.call) (Ends L h r.call) (k a) l (onto (own h (N.places h op a (m a) s.world)) r.done) u)
       → N.Clean (tried L h s r op (λ a. N.places h op a (m a) s.world) k d).after.world
-      → Turns (Step h x) (tried L h s r op (λ a. N.places h op a (m a) s.world) k d).came (tried L h s r op (λ a. N.places h op a (m a) s.world) k d).after t (told_of N (placed_tried N (λ a. N.places h op a (m a) s.world) d))
-  tried_turns h n more x s t r op m k wait Waits b is g clean = nothing_turns (Step h x) _ s (unchanged L s) t b refl refl refl _ refl
+      → Turns (Step h x) (tried L h s r op (λ a. N.places h op a (m a) s.world) k d).came (tried L h s r op (λ a. N.places h op a (m a) s.world) k d).after t (placed_tried N (λ a. N.places h op a (m a) s.world) d)
+  tried_turns h n more x s t r op m k wait Waits b is g clean = nothing_turns (Step h x) _ s (unchanged L s) t b refl refl refl refl
   tried_turns h n more x s t r op m k wait (Ran a w) b is g clean =
       let c : N.Clean w = subst N.Clean (world_moved h s r (op, a) (N.places h op a (m a) s.world) (k a) w) clean in
       moved_turns h x s t r (op, a) (N.places h op a (m a) s.world) (k a) w b is (moving.one h op a (m a) s.world) (g.goes c) (g.begun c) (ends_so h g.left r (N.places h op a (m a) s.world) (k a) w g.next c)
-  tried_turns h n more x s t r op m k wait (Stops w) b is g clean = nothing_turns (Step h x) _ s (tried L h s r op (λ a. N.places h op a (m a) s.world) k (Stops w)).after t b refl (g.tree clean) refl _ refl
+  tried_turns h n more x s t r op m k wait (Stops w) b is g clean = nothing_turns (Step h x) _ s (tried L h s r op (λ a. N.places h op a (m a) s.world) k (Stops w)).after t b refl (g.tree clean) refl refl
 
   prog_turns : (h n : ℕ) (x : N.Outside) (s : State L) (t : Told) (r : Run L) (p : P Reply) → Beside s t → s.running h ≡ Some r → N.Inv s.world → OfNext (λ op v. N.Honest h op v x) (asks p) s.world → Wp (machine_of N) h (Begun L r.call) (Ends L h r.call) p n r.done s.world
-      → N.Clean (step_prog L h x s r p).after.world → Turns (Step h x) (step_prog L h x s r p).came (step_prog L h x s r p).after t (told_of N (placed_prog N h x s.world p))
-  prog_turns h n x s t r (Ret reply) b is inv honest g clean = nothing_turns (Step h x) _ s (unchanged L s) t b refl refl refl _ refl
+      → N.Clean (step_prog L h x s r p).after.world → Turns (Step h x) (step_prog L h x s r p).came (step_prog L h x s r p).after t (placed_prog N h x s.world p)
+  prog_turns h n x s t r (Ret reply) b is inv honest g clean = nothing_turns (Step h x) _ s (unchanged L s) t b refl refl refl refl
   prog_turns h n x s t r (Do op m k) b is inv honest g clean = tried_turns h n (N.more op) x s t r op m k (N.MayWait h op s.world) (N.go h x op m s.world) b is ((g s.world [] (moving.lawful.laws.same h s.world) inv).2 x honest) clean
 
   unless_turns : (base : Stage) (h : ℕ) (x : N.Outside) (s : State L) (t : Told) (r : Run L) → Keeps L base s → Beside s t → s.running h ≡ Some r → (b : Bool) → s.stopped ≡ b → HonestStep L h x s.world b (Some r)
-      → N.Clean (step_unless L h x s b r).after.world → Turns (Step h x) (step_unless L h x s b r).came (step_unless L h x s b r).after t (told_of N (placed_unless N h x s.world b r.prog))
-  unless_turns base h x s t r keeps b is true q honest clean = nothing_turns (Step h x) _ s (unchanged L s) t b refl refl refl _ refl
+      → N.Clean (step_unless L h x s b r).after.world → Turns (Step h x) (step_unless L h x s b r).came (step_unless L h x s b r).after t (placed_unless N h x s.world b r.prog)
+  unless_turns base h x s t r keeps b is true q honest clean = nothing_turns (Step h x) _ s (unchanged L s) t b refl refl refl refl
   unless_turns base h x s t r keeps b is false q honest clean = prog_turns h (keeps.going h r is).left x s t r r.prog b is (inv_of L s.stopped s.world keeps.holds q) honest ((keeps.going h r is).wp q) clean
 
   step_turns : (base : Stage) (h : ℕ) (x : N.Outside) (s : State L) (t : Told) → Keeps L base s → Beside s t → (o : Option (Run L)) → s.running h ≡ o → HonestStep L h x s.world s.stopped o
-      → N.Clean (step_run L h x s o).after.world → Turns (Step h x) (step_run L h x s o).came (step_run L h x s o).after t (told_of N (placed_run N h x s o))
-  step_turns base h x s t keeps b None q honest clean = nothing_turns (Step h x) _ s (unchanged L s) t b refl refl refl _ refl
+      → N.Clean (step_run L h x s o).after.world → Turns (Step h x) (step_run L h x s o).came (step_run L h x s o).after t (placed_run N h x s o)
+  step_turns base h x s t keeps b None q honest clean = nothing_turns (Step h x) _ s (unchanged L s) t b refl refl refl refl
   step_turns base h x s t keeps b (Some r) q honest clean = unless_turns base h x s t r keeps b q s.stopped refl honest clean
 
-  pub event_turns : (base : Stage) (e : Event Call N.Outside) (s : State L) (t : Told) → Keeps L base s → Beside s t → IsHonest L e s → N.Clean (next L e s).world → Turns e (makes L e s).came (next L e s) t (told_of N (placed N e s))
+  pub event_turns : (base : Stage) (e : Event Call N.Outside) (s : State L) (t : Told) → Keeps L base s → Beside s t → IsHonest L e s → N.Clean (next L e s).world → Turns e (makes L e s).came (next L e s) t (placed N e s)
   event_turns base (Start h call) s t keeps b honest clean = start_turns h call s t b (s.running h) refl
   event_turns base (Step h x) s t keeps b honest clean = step_turns base h x s t keeps b (s.running h) refl honest clean
 
   -- Runs.
 
-  record Turned (base : Tree) (events : List (Event Call N.Outside)) (s : State L) (b : History) (before : List Turn) : Type 0 where
+  pub record Turned (base : Tree) (events : List (Event Call N.Outside)) (s : State L) (b : History) (before : List Turn) : Type 0 where
     pub more : List Turn
     pub end : Told
     pub runs : Goings (opened base) (before ++ more) end
@@ -306,7 +326,7 @@ module _ (N : MoveMachine) (moving : IsMoving N) where
         alone = λ h z. more_alone h x.event y.more (x.alone h z.0) (y.alone h z.1);
       }
 
-  turned : (base : TreeData) (w : N.World) (events : List (Event Call N.Outside)) → RunsFrom N base w events → Turned (tree_of base) events (fresh L w) nothing_yet []
+  pub turned : (base : TreeData) (w : N.World) (events : List (Event Call N.Outside)) → RunsFrom N base w events → Turned (tree_of base) events (fresh L w) nothing_yet []
   turned base w events r = run_turns (tree_of base) events (fresh L w) (opened (tree_of base)) [] (sound_fresh L w r.holds r.idle) (record {
     stage = λ z. record { tree = sym r.tree z; walk = λ h. sym (moving.rests h w (r.idle h)) z };
     free = λ h q. refl;

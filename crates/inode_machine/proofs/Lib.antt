@@ -75,5 +75,9 @@ pub mod LinkNames
 pub mod LinkCalls
 pub mod Names
 pub mod Budgets
+pub mod MadeMoves
+pub mod MayMoves
+pub mod Ranges
 pub mod Kept
+pub mod RunMoves
 pub mod Moving

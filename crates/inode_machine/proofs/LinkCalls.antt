@@ -299,7 +299,7 @@ module _ (h : ℕ) (old new : List ℕ) (w : World) (free : (w.desks h).lender �
 
       refused_at : is_directory (node_at u.all j).kind ≡ true → MoveFine h 1611 n B Q es u (Look 0) (walk_step d ns (link_at old new) lost (Some j))
       refused_at isa =
-          moves_good h 1611 n B Q es u u (Look 0) (walk_step d ns (link_at old new) lost (Some j)) (made_by u.all h (new_id u) (u.harts h).walk (Look 0)) (record { all = u.all; walk = None; found = Some j; opened = None; entered = None; left = None; told = Some (deed_of (Failed IsDirectory)) })
+          moves_good h 1611 n B Q es u u (Look 0) tt (walk_step d ns (link_at old new) lost (Some j)) (made_by u.all h (new_id u) (u.harts h).walk (Look 0)) (record { all = u.all; walk = None; found = Some j; opened = None; entered = None; left = None; told = Some (deed_of (Failed IsDirectory)) })
           (made _ (refused_made u.all h s (Some j) (Some (d, e)) 0 (new_id u) IsDirectory (find_refused u.all h j old (Some (d, e)) isa)))
           f.fair
           (last_takes h d u (found_world h j u) O1 (locked_held x) y j (Failed IsDirectory) (new_id u) u.all (find_finder old) own1 inv on.walk refl isd live refl reached (find_refused_step u.all h j (new_id u) old (Some (d, e)) lt unheld isa) refl (walks_are (found_world h j u) refl))
@@ -334,7 +334,7 @@ module _ (h : ℕ) (old new : List ℕ) (w : World) (free : (w.desks h).lender �
 
       goes_at : is_directory (node_at u.all j).kind ≡ false → MoveFine h 1611 n B Q es u (Look 0) (walk_step d ns (link_at old new) lost (Some j))
       goes_at isnt =
-          moves_good h 1611 n B Q es u u (Look 0) (walk_step d ns (link_at old new) lost (Some j)) (made_by u.all h (new_id u) (u.harts h).walk (Look 0)) (record { all = held_tree u.all u.all.nodes h (Some (low j)); walk = None; found = Some j; opened = None; entered = None; left = None; told = Some (deed_of Done) })
+          moves_good h 1611 n B Q es u u (Look 0) tt (walk_step d ns (link_at old new) lost (Some j)) (made_by u.all h (new_id u) (u.harts h).walk (Look 0)) (record { all = held_tree u.all u.all.nodes h (Some (low j)); walk = None; found = Some j; opened = None; entered = None; left = None; told = Some (deed_of Done) })
           (made _ (find_made u.all h j (new_id u) old (Some (d, e)) isnt))
           (fair_then f.fair r.fair)
           (last_takes h d u u3 O1 (locked_held x) y j Done (new_id u) (settle (held_tree u.all u.all.nodes h (Some (low j)))) (find_finder old) own1 inv on.walk refl isd live refl reached (find_step u.all h j (new_id u) old (Some (d, e)) lt unheld isnt) (sym (settle_again (held_tree u.all u.all.nodes h (Some (low j))))) (walks_are u3 refl))
@@ -382,7 +382,7 @@ module _ (h : ℕ) (old new : List ℕ) (w : World) (free : (w.desks h).lender �
   starts : (i n : ℕ) (v : World) (O : Own) (w1 : World) → 3000 ≤ n → elements old ≡ [] → Gone h base [] O0 O w1 → Inv v → own_of h v ≡ O → StartsAt h i s base [] O v
       → Fine machine h (places h (UpStart (is_absolute old)) (Some i) (makes (Begin s 0)) v) 0 n B [] v (marked h (makes (Begin s 0)) (counted_up h i v)) (λ l. Wp machine h B Q (link_at old new i []) l (onto (own h (places h (UpStart (is_absolute old)) (Some i) (makes (Begin s 0)) v)) []) (marked h (makes (Begin s 0)) (counted_up h i v)))
   starts i n v O w1 few none gone inv ov at =
-      moves_good h 0 n B Q [] v u1 (Begin s 0) (link_at old new i []) (begun v.all h s (elements old) 0 (new_id v)) (record { all = v.all; walk = None; found = None; opened = None; entered = None; left = None; told = Some (deed_of (Failed IsDirectory)) })
+      moves_good h 0 n B Q [] v u1 (Begin s 0) tt (link_at old new i []) (begun v.all h s (elements old) 0 (new_id v)) (record { all = v.all; walk = None; found = None; opened = None; entered = None; left = None; told = Some (deed_of (Failed IsDirectory)) })
       (start_made v.all h s 0 (new_id v) none ∙ ap (λ (m : Made). record m { found = None }) (refused_made v.all h s (Some p0) None 0 (new_id v) IsDirectory (find_refused v.all h p0 old None isa)))
       (fair_then at.up.fair stills)
       (start_takes h v u2 s (Failed IsDirectory) (new_id v) v.all (find_finder old) lt inv (ap (λ (o : Own). o.mine.walk) ov ∙ gone.walk) none (find_place (settle v.all) h old lt (ap (λ (r : Row). r.hold) (settled_row v.all h) ∙ unheld)) (find_refused_step v.all h p0 (new_id v) old None lt unheld isa) refl

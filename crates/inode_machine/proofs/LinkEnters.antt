@@ -58,7 +58,7 @@ s-enter-name {A} {h} d j {x} X e path {k} {B} {Q} {n} {es} {w} {O} owns free lt 
   where
     good : (v : World) → Inv v → own_of h v ≡ O → EnterFine h d e j (makes (Look 0)) n B Q es v (record v { disk = put v.disk d (Some (with_entry e j X)) }) (k InPlace)
     good v inv ov =
-        act_good h 1640 n B Q es v u1 (EnterStep path) d 0 e None Done made (k InPlace) lt inv mine live_at look_is (λ g q. absurd cc)
+        act_good h 1640 n B Q es v u1 (EnterStep path) d 0 tt e None Done made (k InPlace) lt inv mine live_at look_is (λ g q. absurd cc)
         (gone_made v.all h (EnterStep path) None (Some (d, e)) (new_id v) T goes effect (enter_answer v.all h (new_id v) path None (Some (d, e))) refl refl refl refl) refl goes
         (goes, sym (enter_answer v.all h (new_id v) path None (Some (d, e))), record { node = λ q. absurd cc; file = λ q. absurd cc }, ap (λ (t : Tree). settle t) (sym effect), enter_place v.all h j path lt held)
         (λ q. absurd cc) ends (stage_walk h None None u2) b pos (λ l q. (then_ l u3 q owned).wp)

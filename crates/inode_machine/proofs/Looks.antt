@@ -83,7 +83,7 @@ pub quit_good : {A : Type 0} (h more n d : ℕ) (B : List Step → Type 0) (Q : 
     → MoveFine h more n B Q es v (GiveUpWalk y.step) p
 quit_good h more n d B Q es v O x y p ov free lt inv walks none at isd dead b pos then_ =
     let node_at : v.all.nodes y.at ≡ x.node = ap v.all.nodes at ∙ has_node h d v O x ov isd in
-    moves_good h more n B Q es v v (GiveUpWalk y.step) p (made_by v.all h (new_id v) (v.harts h).walk (GiveUpWalk y.step)) (record { all = v.all; walk = None; found = None; opened = None; entered = None; left = None; told = Some (fail y.step) }) refl
+    moves_good h more n B Q es v v (GiveUpWalk y.step) tt p (made_by v.all h (new_id v) (v.harts h).walk (GiveUpWalk y.step)) (record { all = v.all; walk = None; found = None; opened = None; entered = None; left = None; told = Some (fail y.step) }) refl
     (fair inv (walk_did h None None v (ap (λ (o : Own). o.desk.lender) ov ∙ free) lt inv (ap (λ (o : Own). o.mine.pending) ov ∙ none) (λ m q e. absurd cc) (λ z q. absurd cc) (λ i q. absurd cc)))
     (record { walk = y; is = ap (λ (o : Own). o.mine.walk) ov ∙ walks; step = refl; lost = settle_dead v.all y.at (ap (λ (z : Option Node). live_directory z) node_at ∙ dead); deed = refl; stage = stage_walk h None None v })
     b pos
@@ -108,7 +108,7 @@ pub look_on_good : {A : Type 0} (h more n d : ℕ) (B : List Step → Type 0) (Q
     → Safe machine h B Q p l (record { move = Look 0; told = None } ∷ es) u)
     → MoveFine h more n B Q es v (Look 0) p
 look_on_good {A} h more n d B Q es v O x y e r j p ov free lt inv walks none at isd live rest finds b pos then_ =
-    moves_good h more n B Q es v v (Look 0) p (made_by v.all h (new_id v) (v.harts h).walk (Look 0)) (record { all = v.all; walk = Some to; found = Some j; opened = None; entered = None; left = None; told = None })
+    moves_good h more n B Q es v v (Look 0) tt p (made_by v.all h (new_id v) (v.harts h).walk (Look 0)) (record { all = v.all; walk = Some to; found = Some j; opened = None; entered = None; left = None; told = None })
     (ap (λ (z : Option Walk). look_made v.all h z 0 (new_id v)) mine ∙ (λ i. looked v.all h y (rest i) (look_is i) 0 (new_id v)))
     (fair_then note.fair (fair note.fair.inv (walk_did h (Some to) (Some j) u1 (ap (λ (o : Own). o.desk.lender) note.owned ∙ free) lt note.fair.inv idle
     (λ m q s. let a : note_of v.all j ≡ m = some_is (sym (ap (λ (z : Desk). z.noted) (put_same v.desks h (record (v.desks h) { noted = Some (note_of v.all j) }))) ∙ q) in (λ z. type_of (v.all.nodes (sym a z).number)) ∙ (λ z. (a z).inode_type))
@@ -186,7 +186,7 @@ pub look_refused_good : {A : Type 0} (h more n d : ℕ) (B : List Step → Type 
     → ((l : ℕ) (u : World) → l + (more + 1) ≡ n → own_of h u ≡ record O { mine = record { refs = O.mine.refs; walk = None; pending = None } } → Safe machine h B Q p l (record { move = Look 0; told = Some (record { act = record { step = y.step; answer = Failed c }; new = 0 }) } ∷ es) u)
     → MoveFine h more n B Q es v (Look 0) p
 look_refused_good {A} h more n d B Q es v O x y f c res par p ov free lt inv walks none at isd live finds same plays refusal stays place other found b pos then_ =
-    moves_good h more n B Q es v v (Look 0) p (made_by v.all h (new_id v) (v.harts h).walk (Look 0)) (record { all = v.all; walk = None; found = None; opened = None; entered = None; left = None; told = Some (record { act = record { step = y.step; answer = Failed c }; new = 0 }) })
+    moves_good h more n B Q es v v (Look 0) tt p (made_by v.all h (new_id v) (v.harts h).walk (Look 0)) (record { all = v.all; walk = None; found = None; opened = None; entered = None; left = None; told = Some (record { act = record { step = y.step; answer = Failed c }; new = 0 }) })
     (ap (λ (z : Option Walk). look_made v.all h z 0 (new_id v)) walk_is ∙ (λ i. looked v.all h y y.rest (look_is i) 0 (new_id v)) ∙ same v.all (new_id v) ∙ acts_refused v.all h y.step res par 0 (new_id v) c (refusal v.all (agrees_all h v O ov)) found)
     (fair inv (walk_did h None None v (ap (λ (o : Own). o.desk.lender) ov ∙ free) lt inv (ap (λ (o : Own). o.mine.pending) ov ∙ none) (λ m q e. absurd cc) (λ z q. absurd cc) (λ i q. absurd cc)))
     (record { walk = y; is = walk_is; live = ap (λ (z : Option Node). live_directory z) settled ∙ live_at; looks = subst (λ (z : Option ℕ). LookupLeadsTo (stage_of v) h y y.rest z 0 (Some (record { act = record { step = y.step; answer = Failed c }; new = 0 })) (stage_of (record v { harts = with_walk v.harts h None None }))) (sym look_settled) (plays (stage_of v) (stage_of (record v { harts = with_walk v.harts h None None })) (Some (record { act = record { step = y.step; answer = Failed c }; new = 0 })) takes) })

@@ -1,5 +1,5 @@
 -- A call follows its path to the last name's directory, or loses its walk, or has no elements to follow.
-use Rattle.inode_machine.proofs.Vocabulary.{◌≡◌, inl, inr, ℕ, ◌+◌, ◌*◌, ◌<◌, ◌≤◌, true, false, List, [], ◌∷◌, ◌++◌, length, Option, Some, None, refl, sym, ◌∙◌, ap, subst, arith, Do, own, Fine, Safe, Begun, Ends, NoEntry, Reply, Call, Action, Inherit, Failed, hart_count, Name, Tree, elements, start_of, settle, path_of, follows_path, refusal_with, refused, IsInPlace, Act, row_of, settled_row, Stage, Step, MayEnd, fail, Begin, Look, Note, World, stage_of, Join, with_joined, with_walk, begun, found_by, new_id, Held, Own, own_of, nothing, Idle, Inv, machine, ThisP as P, WalkStop, NotThere, NoMemory, makes, failed, stopped, start, tail, walk_parent, in_parent, covered_calls}
+use Rattle.inode_machine.proofs.Vocabulary.{◌≡◌, inl, inr, ℕ, ◌+◌, ◌*◌, ◌<◌, ◌≤◌, true, false, List, [], ◌∷◌, ◌++◌, length, Option, Some, None, refl, sym, ◌∙◌, ap, subst, arith, Do, Safe, Begun, Ends, NoEntry, Reply, Call, Action, Inherit, Failed, hart_count, Name, Tree, elements, start_of, settle, path_of, follows_path, refusal_with, refused, IsInPlace, Act, row_of, settled_row, Stage, Step, MayEnd, fail, Begin, Look, Note, World, stage_of, Join, with_joined, with_walk, begun, found_by, new_id, Held, Own, own_of, nothing, Idle, Inv, machine, ThisP as P, WalkStop, NotThere, NoMemory, makes, failed, stopped, start, tail, walk_parent, in_parent, covered_calls}
 use Rattle.atomic_programs.specs.Logic as logic
 use Rattle.tree_laws.specs.Moves.{StartLeadsTo}
 use Rattle.inode_machine.proofs.Basics.{AllNames, fair, s-owned, fine_after, locks_none, UnlocksAll, walk_did, own_walk, stage_walk, moves_good, s-join, flagging, MoveFine, On, Gone, Ready, Lost, s-walk-parent, Follows, walking_begun, walking_on, walking_told, walking_quit, begun_refused, begun_walking, written_by, quit_step, told_step, Walked, gone_at, home, joined_own, may_rest, ready_at, HasJoined, IsAnswerable, s-end}
@@ -41,7 +41,7 @@ pub begin_good : {A : Type 0} (h more n : ℕ) (B : List Step → Type 0) (Q : A
     → ((l : ℕ) (u : World) → l + (more + 1) ≡ n → own_of h u ≡ record O { mine = record { refs = O.mine.refs; walk = None; pending = None } } → Safe machine h B Q p l (begin_refused s ∷ es) u)
     → MoveFine h more n B Q es v (Begin s 0) p
 begin_good h more n B Q es v O O0 s p ov free lt inv walks none row leads path b pos then_ =
-    moves_good h more n B Q es v v (Begin s 0) p (begun v.all h s (elements (path_of s)) 0 (new_id v)) (record { all = v.all; walk = None; found = None; opened = None; entered = None; left = None; told = Some (fail s) })
+    moves_good h more n B Q es v v (Begin s 0) tt p (begun v.all h s (elements (path_of s)) 0 (new_id v)) (record { all = v.all; walk = None; found = None; opened = None; entered = None; left = None; told = Some (fail s) })
     (ap (λ (z : List Name). begun v.all h s z 0 (new_id v)) path ∙ rw (leads.missing v.all (Some (start_of v.all h (path_of s)))) refl)
     (fair inv (walk_did h None None v (ap (λ (o : Own). o.desk.lender) ov ∙ free) lt inv (ap (λ (o : Own). o.mine.pending) ov ∙ none) (λ m q e. absurd cc) (λ z q. absurd cc) (λ i q. absurd cc)))
     (record {

@@ -148,7 +148,7 @@ module _ (h : ℕ) (path : List ℕ) (flags : ℕ) (w : World) (free : (w.desks 
       refused_at : (k : Cause) → open_kind flags (node_at u.all j).kind ≡ Some k → MoveFine h 1611 n B Q es u (Look 0) (walk_step d ns (open_at path flags) lost (Some j))
       refused_at k why =
           let b = begun_refused (Look 0) k es tt told in
-          moves_good h 1611 n B Q es u u (Look 0) (walk_step d ns (open_at path flags) lost (Some j)) (made_by u.all h (new_id u) (u.harts h).walk (Look 0)) (record { all = u.all; walk = None; found = Some j; opened = None; entered = None; left = None; told = Some (deed_of (Failed k)) })
+          moves_good h 1611 n B Q es u u (Look 0) tt (walk_step d ns (open_at path flags) lost (Some j)) (made_by u.all h (new_id u) (u.harts h).walk (Look 0)) (record { all = u.all; walk = None; found = Some j; opened = None; entered = None; left = None; told = Some (deed_of (Failed k)) })
           (made _ (refused_made u.all h s (Some j) (Some (d, e)) 0 (new_id u) k (open_kind_is u.all h j path flags (Some (d, e)) plain ∙ why)))
           f.fair
           (last_takes h d u (found_world h j u) O1 (locked_held x) y j (Failed k) (new_id u) u.all (open_finder path flags plain) own1 inv on.walk refl isd live refl found (open_refused_step u.all h j (new_id u) path flags (Some (d, e)) k lt plain why) refl walks_are)
@@ -168,7 +168,7 @@ module _ (h : ℕ) (path : List ℕ) (flags : ℕ) (w : World) (free : (w.desks 
 
       goes_at : open_kind flags (node_at u.all j).kind ≡ None → has_room (u.all.fds h) ≡ true → MoveFine h 1611 n B Q es u (Look 0) (walk_step d ns (open_at path flags) lost (Some j))
       goes_at goes room =
-          moves_good h 1611 n B Q es u u (Look 0) (walk_step d ns (open_at path flags) lost (Some j)) (made_by u.all h (new_id u) (u.harts h).walk (Look 0)) (record { all = T; walk = None; found = Some j; opened = Some (new_id u); entered = None; left = None; told = Some (deed_of (Opened fd (new_id u) isf)) })
+          moves_good h 1611 n B Q es u u (Look 0) tt (walk_step d ns (open_at path flags) lost (Some j)) (made_by u.all h (new_id u) (u.harts h).walk (Look 0)) (record { all = T; walk = None; found = Some j; opened = Some (new_id u); entered = None; left = None; told = Some (deed_of (Opened fd (new_id u) isf)) })
           (made _ (open_made u.all h j 0 (new_id u) path flags (Some (d, e)) plain goes room))
           (fair_then fair_a (fair_then fair_b note.fair))
           (last_takes h d u uc O1 (locked_held x) y j (Opened fd (new_id u) isf) (new_id u) (settle T) (open_finder path flags plain) own1 inv on.walk refl isd live refl found (open_step u.all h j (new_id u) path flags (Some (d, e)) lt plain goes room (fresh_id u inv).least) (sym (settle_again T)) walks_are)
@@ -327,7 +327,7 @@ module _ (h : ℕ) (path : List ℕ) (flags : ℕ) (w : World) (free : (w.desks 
           → Fine machine h (places h (UpStart (is_absolute path)) (Some i) (makes (Begin s 0)) v) 0 n B [] v (marked h (makes (Begin s 0)) (counted_up h i v)) (λ l. Wp machine h B Q (open_at path flags i []) l (onto (own h (places h (UpStart (is_absolute path)) (Some i) (makes (Begin s 0)) v)) []) (marked h (makes (Begin s 0)) (counted_up h i v)))
       refused_at k why =
           let b = begun_refused (Begin s 0) k [] (open_follows path flags).first (λ xs r p. p) in
-          moves_good h 0 n B Q [] v u1 (Begin s 0) (open_at path flags i []) (begun v.all h s (elements path) 0 (new_id v)) (record { all = v.all; walk = None; found = None; opened = None; entered = None; left = None; told = Some (deed_of (Failed k)) })
+          moves_good h 0 n B Q [] v u1 (Begin s 0) tt (open_at path flags i []) (begun v.all h s (elements path) 0 (new_id v)) (record { all = v.all; walk = None; found = None; opened = None; entered = None; left = None; told = Some (deed_of (Failed k)) })
           (made _ (refused_made v.all h s (Some p0) None 0 (new_id v) k (open_kind_is v.all h p0 path flags None plain ∙ why)))
           (fair_then at.up.fair stills)
           (start_takes h v u2 s (Failed k) (new_id v) v.all (open_finder path flags plain) lt inv (ap (λ (o : Own). o.mine.walk) ov ∙ gone.walk) none (open_place (settle v.all) h path flags lt) (open_refused_step v.all h p0 (new_id v) path flags None k lt plain why) refl walks_are)
@@ -347,7 +347,7 @@ module _ (h : ℕ) (path : List ℕ) (flags : ℕ) (w : World) (free : (w.desks 
       goes_at : open_kind flags (node_at v.all p0).kind ≡ None → has_room (v.all.fds h) ≡ true
           → Fine machine h (places h (UpStart (is_absolute path)) (Some i) (makes (Begin s 0)) v) 0 n B [] v (marked h (makes (Begin s 0)) (counted_up h i v)) (λ l. Wp machine h B Q (open_at path flags i []) l (onto (own h (places h (UpStart (is_absolute path)) (Some i) (makes (Begin s 0)) v)) []) (marked h (makes (Begin s 0)) (counted_up h i v)))
       goes_at goes room =
-          moves_good h 0 n B Q [] v u1 (Begin s 0) (open_at path flags i []) (begun v.all h s (elements path) 0 (new_id v)) (record { all = opened_tree v.all h fd (new_id v) i flags; walk = None; found = None; opened = Some (new_id v); entered = None; left = None; told = Some (deed_of (Opened fd (new_id v) isf)) })
+          moves_good h 0 n B Q [] v u1 (Begin s 0) tt (open_at path flags i []) (begun v.all h s (elements path) 0 (new_id v)) (record { all = opened_tree v.all h fd (new_id v) i flags; walk = None; found = None; opened = Some (new_id v); entered = None; left = None; told = Some (deed_of (Opened fd (new_id v) isf)) })
           (made _ (open_made v.all h p0 0 (new_id v) path flags None plain goes room) ∙ (λ z. record { all = opened_tree v.all h fd (new_id v) (sym at.start z) flags; walk = None; found = None; opened = Some (new_id v); entered = None; left = None; told = Some (deed_of (Opened fd (new_id v) isf)) }))
           (fair_then at.up.fair (fair_then stills (fair stills.inv o.did)))
           (start_takes h v u3 s (Opened fd (new_id v) isf) (new_id v) (settle (opened_tree v.all h fd (new_id v) p0 flags)) (open_finder path flags plain) lt inv (ap (λ (z : Own). z.mine.walk) ov ∙ gone.walk) none (open_place (settle v.all) h path flags lt) (open_step v.all h p0 (new_id v) path flags None lt plain goes room (fresh_id v inv).least)

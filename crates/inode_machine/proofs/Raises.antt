@@ -75,7 +75,7 @@ s-store-move {A} {h} i c s o {x} y {k} {B} {Q} {n} {es} {w} {O} owns free lt pos
 
         by : ((O.desk.full ≡ true) ⊎ B (done_step s ∷ es)) → Goal v u1
         by (inl f) = moves_full h 2 n B Q es v u1 (OwnMove s 0) (k tt) (made_by v.all h (new_id v) (v.harts h).walk (OwnMove s 0)) made m.made ends (inv.tied.spoiled h (ap (λ (z : Own). z.desk.full) ov ∙ f)) pos next
-        by (inr b) = moves_good h 2 n B Q es v u1 (OwnMove s 0) (k tt) (made_by v.all h (new_id v) (v.harts h).walk (OwnMove s 0)) made m.made ends takes b pos next
+        by (inr b) = moves_good h 2 n B Q es v u1 (OwnMove s 0) tt (k tt) (made_by v.all h (new_id v) (v.harts h).walk (OwnMove s 0)) made m.made ends takes b pos next
 
 -- A link that has all its links already is refused, and the hart holds nothing.
 pub bump_stopped : {A : Type 0} (h j more n : ℕ) (B : List Step → Type 0) (Q : A → List Step → World → Type 0) (es : List Step) (v : World) (O : Own) (X : Node) (p : P machine A)
@@ -83,7 +83,7 @@ pub bump_stopped : {A : Type 0} (h j more n : ℕ) (B : List Step → Type 0) (Q
     → ((l : ℕ) (u : World) → l + (more + 1) ≡ n → own_of h u ≡ record O { row = record (O.row) { hold = None }; mine = record { refs = O.mine.refs; walk = None; pending = None } } → Safe machine h B Q p l (fails Bump TooManyLinks ∷ es) u)
     → MoveFine h more n B Q es v (OwnMove Bump 0) p
 bump_stopped {A} h j more n B Q es v O X p ov free joined lt inv walks none holds there full b pos rest =
-    moves_good h more n B Q es v v (OwnMove Bump 0) p (made_by v.all h (new_id v) (v.harts h).walk (OwnMove Bump 0)) (record { all = held_tree v.all v.all.nodes h None; walk = None; found = None; opened = None; entered = None; left = None; told = (fails Bump TooManyLinks).told }) m.made
+    moves_good h more n B Q es v v (OwnMove Bump 0) tt p (made_by v.all h (new_id v) (v.harts h).walk (OwnMove Bump 0)) (record { all = held_tree v.all v.all.nodes h None; walk = None; found = None; opened = None; entered = None; left = None; told = (fails Bump TooManyLinks).told }) m.made
     (fair_then r.fair (fair r.fair.inv (walk_did h None None u1 (ap (λ (z : Own). z.desk.lender) r.owned ∙ free) lt r.fair.inv (ap (λ (z : Own). z.mine.pending) r.owned ∙ none) (λ q e f. absurd cc) (λ q e. absurd cc) (λ q e. absurd cc))))
     (own_takes h v u2 Bump (Failed TooManyLinks) refl refl (ap (λ (z : Own). z.mine.walk) ov ∙ walks) (λ q. refl) (λ g q. absurd cc) (m.steps (resolve (settle v.all) h []) (parent (settle v.all) h [])) (ap (λ (z : Stage). z.walk) (stage_walk h None None u1)))
     b pos

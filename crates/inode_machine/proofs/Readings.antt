@@ -212,7 +212,7 @@ pub part_good : {A : Type 0} (h more n : ℕ) (B : List Step → Type 0) (Q : A 
     → Fine machine h ((h, record { move = OwnMove (Read fd count) 0; told = (made_by v.all h (new_id v) (v.harts h).walk (OwnMove (Read fd count) 0)).told }) ∷ []) more n B es v (with_made h (made_by v.all h (new_id v) (v.harts h).walk (OwnMove (Read fd count) 0)) (record v { files = put v.files s (Some (entry_moved e (length b))) }))
     (λ l. Wp machine h B Q p l (onto (own h ((h, record { move = OwnMove (Read fd count) 0; told = (made_by v.all h (new_id v) (v.harts h).walk (OwnMove (Read fd count) 0)).told }) ∷ [])) es) (with_made h (made_by v.all h (new_id v) (v.harts h).walk (OwnMove (Read fd count) 0)) (record v { files = put v.files s (Some (entry_moved e (length b))) })))
 part_good {A} h more n B Q es v O fd count s e b p ov free lt inv walks none hit ours whole b_is goes bd pos then_ =
-    moves_good h more n B Q es v (record v { files = put v.files s (Some (entry_moved e (length b))) }) (OwnMove (Read fd count) 0) p (made_by v.all h (new_id v) (v.harts h).walk (OwnMove (Read fd count) 0)) (record { all = u.all; walk = None; found = None; opened = None; entered = None; left = None; told = (read_step fd count b).told })
+    moves_good h more n B Q es v (record v { files = put v.files s (Some (entry_moved e (length b))) }) (OwnMove (Read fd count) 0) tt p (made_by v.all h (new_id v) (v.harts h).walk (OwnMove (Read fd count) 0)) (record { all = u.all; walk = None; found = None; opened = None; entered = None; left = None; told = (read_step fd count b).told })
     made_is
     m.fair
     (own_takes h v u (Read fd count) (Bytes b) refl refl (ap (λ (o : Own). o.mine.walk) ov ∙ walks) (λ z. refl) (λ g z. absurd cc) (

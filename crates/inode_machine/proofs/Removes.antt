@@ -63,7 +63,7 @@ s-clear {A} {h} d c {x} {z} X Z e path {k} {B} {Q} {n} {es} {w} {O} owns free lt
 
     good : (v : World) → Inv v → own_of h v ≡ O → Goal v (record v { disk = put v.disk d (Some (without_entry e X)) })
     good v inv ov =
-        act_good h 1620 n B Q es v u1 (Unlink path) d 0 e (Some c) Done made (k tt) lt inv mine live_at look_is (λ g q. absurd cc)
+        act_good h 1620 n B Q es v u1 (Unlink path) d 0 tt e (Some c) Done made (k tt) lt inv mine live_at look_is (λ g q. absurd cc)
         (acts_gone v.all h (Unlink path) (Some c) (Some (d, e)) 0 (new_id v) goes ∙ (λ i. record made { all = effect i; told = Some (record { act = record { step = Unlink path; answer = unlink_answer v.all h (new_id v) path (Some c) (Some (d, e)) i }; new = 0 }) }))
         refl goes
         (goes, sym (unlink_answer v.all h (new_id v) path (Some c) (Some (d, e))), record { node = λ q. absurd cc; file = λ q. absurd cc }, ap (λ (t : Tree). settle t) (sym effect), unlink_place v.all h path lt)

@@ -1,5 +1,5 @@
 -- The rules of the operations that place nothing.
-use Rattle.inode_machine.proofs.Vocabulary.{◌≡◌, ◌≢◌, ◌⊎◌, inl, inr, ℕ, ◌+◌, ◌<◌, true, false, ◌==◌, List, [], ◌∷◌, Option, Some, None, refl, sym, ◌∙◌, ap, subst, arith, ◌-◌, Bool, Do, unmarked, P, own, onto, Good, Fine, Safe, Wp, Goes, Node, hart_count, root, Tree, put, look, is_live, settle, sum_below, one_if, folders_of, links_in, raises, IsWellFormed, eq_self, eq_is, eq_not, either, same_or, put_same, put_other, one_yes, sum_same, sum_changed, sum_part, look_live, folder_linked, linked_live, look_same, Walk, Step, PlaysStep, Stage, Mine, Entry, World, Op, Answer, Mark, stage_of, Note, Outside, file_count, with_refs, lock_if, counted_up, locked, up_if, has_place, marked, go, places, with_mark, Up, Own, file_tables_of, Opens, number_is, Held, view, is_hart, own_of, Found, IsReferredTo, IsReached, IsAlone, reference_limit, Inv, IsOut, MayWait, machine, more, Others, LocksNone, Asks, Rests, looking_cost, Honest, KeepsFiles, Sought, Query, Sight, InodeType, seen_in, type_of}
+use Rattle.inode_machine.proofs.Vocabulary.{◌≡◌, ◌≢◌, ◌⊎◌, inl, inr, ℕ, ◌+◌, ◌<◌, true, false, ◌==◌, List, [], ◌∷◌, Option, Some, None, refl, sym, ◌∙◌, ap, subst, arith, ◌-◌, Bool, Do, unmarked, P, own, onto, Good, Fine, Safe, Wp, Goes, Node, hart_count, root, Tree, put, look, is_live, settle, sum_below, one_if, folders_of, links_in, raises, IsWellFormed, eq_self, eq_is, eq_not, either, same_or, put_same, put_other, one_yes, sum_same, sum_changed, sum_part, look_live, folder_linked, linked_live, look_same, Walk, Step, TakesMove, Stage, Mine, Entry, World, Op, Answer, Mark, stage_of, Note, Outside, file_count, with_refs, lock_if, counted_up, locked, up_if, has_place, marked, go, places, with_mark, Up, Own, file_tables_of, Opens, number_is, Held, view, is_hart, own_of, Found, IsReferredTo, IsReached, IsAlone, reference_limit, Inv, IsOut, MayWait, machine, more, Others, LocksNone, Asks, Rests, looking_cost, Honest, KeepsFiles, Sought, Query, Sight, InodeType, seen_in, type_of}
 use Rattle.inode_machine.specs.World.{Take}
 use Rattle.inode_machine.proofs.Frame.{file_tables_same, put_elim, ours_none, ours_some, kept_here, HartStep, Fair, fair, files_then, own_inodes, has_inode, has_none, found_more, two_refs, refers_put}
 
@@ -47,7 +47,7 @@ pub quiet : {h more n : ℕ} {B : List Step → Type 0} {es : List Step} {v u : 
 quiet f same pos next = quiet_to (fair_to f) same pos next
 
 -- it made a move
-pub acted_to : {h more n : ℕ} {B : List Step → Type 0} {es : List Step} {v u : World} {e : Step} {Next : ℕ → Type 0} → FairTo h v u → PlaysStep (stage_of v) h e (stage_of u) → B (e ∷ es) → more < n
+pub acted_to : {h more n : ℕ} {B : List Step → Type 0} {es : List Step} {v u : World} {e : Step} {Next : ℕ → Type 0} → FairTo h v u → TakesMove (stage_of v) h e (stage_of u) → B (e ∷ es) → more < n
     → ((l : ℕ) → l + (more + 1) ≡ n → Next l) → Fine machine h ((h, e) ∷ []) more n B es v u Next
 acted_to {h} {more} {n} {B} {es} {v} {u} {e} f takes b pos next =
     record {
@@ -61,7 +61,7 @@ acted_to {h} {more} {n} {B} {es} {v} {u} {e} f takes b pos next =
       next = next (n - (more + 1)) (omega (arith, pos));
     }
 
-pub acted : {h more n : ℕ} {B : List Step → Type 0} {es : List Step} {v u : World} {e : Step} {Next : ℕ → Type 0} → Fair h v u → PlaysStep (stage_of v) h e (stage_of u) → B (e ∷ es) → more < n
+pub acted : {h more n : ℕ} {B : List Step → Type 0} {es : List Step} {v u : World} {e : Step} {Next : ℕ → Type 0} → Fair h v u → TakesMove (stage_of v) h e (stage_of u) → B (e ∷ es) → more < n
     → ((l : ℕ) → l + (more + 1) ≡ n → Next l) → Fine machine h ((h, e) ∷ []) more n B es v u Next
 acted f takes b pos next = acted_to (fair_to f) takes b pos next
 

@@ -91,7 +91,7 @@ s-stat-file {A} {h} fd {k} {B} {Q} {n} {es} {w} {O} owns free lt pos walks none 
     told v inv ov s e q hit (Some g) r = subst (λ (z : Option Entry). EntryOut h v z) (sym (entry_is h fd s e v q hit)) (is_out h e.file.number g v O inv ov (empty e.file.number) r)
     told v inv ov s e q hit None r =
         fine_after a.fair refl
-        (moves_good h 3 n B Q es u u (OwnMove (Fstat fd) 0) (k (Some (e.file.number, face_or (face_of (v.disk e.file.number))))) (made_by v.all h (new_id v) (v.harts h).walk (OwnMove (Fstat fd) 0)) (record { all = v.all; walk = None; found = None; opened = None; entered = None; left = None; told = Some deed })
+        (moves_good h 3 n B Q es u u (OwnMove (Fstat fd) 0) tt (k (Some (e.file.number, face_or (face_of (v.disk e.file.number))))) (made_by v.all h (new_id v) (v.harts h).walk (OwnMove (Fstat fd) 0)) (record { all = v.all; walk = None; found = None; opened = None; entered = None; left = None; told = Some deed })
         made_is
         (fair a.fair.inv (walk_did h None None u (ap (λ (o : Own). o.desk.lender) ov ∙ free) lt a.fair.inv (ap (λ (o : Own). o.mine.pending) ov ∙ none) (λ y z p. absurd cc) (λ z p. absurd cc) (λ j p. absurd cc))) (record {
           follows = refl;

@@ -264,7 +264,7 @@ s-check-file {A} {h} fd {k} {B} {Q} {n} {es} {w} {O} owns free lt pos walks none
     by_cause v inv ov s e hit (Some c) stops =
         refused_good h 0 n B Q es v O (WritePart fd []) c (k (Some c)) ov free lt inv walks none (table_refuses h fd s e [] c v inv lt hit stops) (bf c) pos (λ l u p own2. bad l c u p own2)
     by_cause v inv ov s e hit None goes =
-        moves_good h 0 n B Q es v v (OwnMove (WritePart fd []) 0) (k None) (made_by v.all h (new_id v) (v.harts h).walk (OwnMove (WritePart fd []) 0)) (record { all = v.all; walk = None; found = None; opened = None; entered = None; left = None; told = (wrote_step fd []).told })
+        moves_good h 0 n B Q es v v (OwnMove (WritePart fd []) 0) tt (k None) (made_by v.all h (new_id v) (v.harts h).walk (OwnMove (WritePart fd []) 0)) (record { all = v.all; walk = None; found = None; opened = None; entered = None; left = None; told = (wrote_step fd []).told })
         (rw (empty_piece_goes v.all h fd e (resolve v.all h []) (parent v.all h []) hit.file (inv.inode_types s e hit.at).inode_type goes)
         (λ r. record { all = write_effect v.all h fd 0 (new_id v) [] (resolve v.all h []) (parent v.all h []) r; walk = None; found = None; opened = None; entered = None; left = None; told = Some (record { act = record { step = WritePart fd []; answer = write_answer v.all h fd (new_id v) [] (resolve v.all h []) (parent v.all h []) r }; new = 0 }) }))
         (fair inv (walk_did h None None v (ap (λ (o : Own). o.desk.lender) ov ∙ free) lt inv (ap (λ (o : Own). o.mine.pending) ov ∙ none) (λ m q p. absurd cc) (λ z p. absurd cc) (λ j p. absurd cc)))
@@ -354,7 +354,7 @@ s-write-file {A} {h} fd i offset b y {k} {B} {Q} {n} {es} {w} {O} owns free lt p
     whole : (v : World) → Inv v → own_of h v ≡ O → (s : ℕ) (e : Entry) → OpensFile (after_piece h i s e (with_bytes e.file.offset b y) b v) key.opened.slot → Behind h fd s e v → e.file.number ≡ i → e.file.writable ≡ true → write_kind y.kind e.file.offset b ≡ None → Goal v (Ran Whole (piece_at v s e b (Some y) false))
     whole v inv ov s e after hit num writable goes =
         let a = writing h fd i s e y b v O ov free lt inv walks none hit num isi writable goes in
-        moves_good h 97 n B Q es v (piece_at v s e b (Some y) false) (OwnMove (WritePart fd b) 0) (k Whole) (made_by v.all h (new_id v) (v.harts h).walk (OwnMove (WritePart fd b) 0)) (record { all = (after_piece h i s e (with_bytes e.file.offset b y) b v).all; walk = None; found = None; opened = None; entered = None; left = None; told = (wrote_step fd b).told })
+        moves_good h 97 n B Q es v (piece_at v s e b (Some y) false) (OwnMove (WritePart fd b) 0) tt (k Whole) (made_by v.all h (new_id v) (v.harts h).walk (OwnMove (WritePart fd b) 0)) (record { all = (after_piece h i s e (with_bytes e.file.offset b y) b v).all; walk = None; found = None; opened = None; entered = None; left = None; told = (wrote_step fd b).told })
         a.made a.fair a.takes bd pos
         (λ l q. (then_ l (after_piece h i s e (with_bytes e.file.offset b y) b v) q after a.owned).wp)
 

@@ -19,3 +19,4 @@ pub mod Examples
 pub mod Stories
 pub mod Shortages
 pub mod Kept
+pub mod Making

@@ -1,7 +1,19 @@
 -- Calls whose steps are moves on the tree, over any machine: what their events show of calls, and that one list of tree steps explains
 -- them.
-use Rattle.std.specs.Prelude.{◌≡◌, ◌⊎◌, ℕ, ◌<◌, Bool, false, List, [], ◌∷◌, Option, None}
-use Rattle.inode_machine.specs.Vocabulary.{Reply, Call, Placed, TreeData, tree_of, call_climbs, Shown, Chain, Explains, trace_of, Begun, Replied, Other, hart_count, IsWellFormed, Prog, ExecResult, Machine, Theory, Began, Begins, Lawful, Event, Start, Step, Outcome, Started, Refused, WasIdle, DidWait, DidRun, DidEnd, DidStop, WasStopped, State, AllHonest, fresh, makes, next, run, Stage, MoveStep, PlaysStep, IsWholeCall}
+use Rattle.std.specs.Prelude.{◌≡◌, ◌⊎◌, ℕ, zero, suc, ◌<◌, Bool, false, List, [], ◌∷◌, Option, None}
+use Rattle.inode_machine.specs.Vocabulary.{Reply, Call, Placed, TreeData, tree_of, call_climbs, Shown, Chain, Explains, trace_of, Begun, Replied, Other, hart_count, IsWellFormed, Prog, ExecResult, Machine, Theory, Began, Begins, Lawful, Event, Start, Step, Outcome, Started, Refused, WasIdle, DidWait, DidRun, DidEnd, DidStop, WasStopped, State, AllHonest, fresh, makes, next, run, settle, Stage, Move, MoveStep, PlaysStep, IsWholeCall, Begin, Look, Own, GiveUpWalk}
+
+-- the number that a lookup has for a new node is none, or of the tree's range
+abbrev pub IsOfRange : Stage → Move → Type 0
+IsOfRange m (Begin s new) = Unit {0}
+IsOfRange m (Look zero) = Unit {0}
+IsOfRange m (Look (suc n)) = suc n < m.tree.ninodes
+IsOfRange m (GiveUpWalk s) = Unit {0}
+IsOfRange m (Own s new) = Unit {0}
+
+-- the move is made, with such a number
+abbrev pub TakesMove : Stage → ℕ → MoveStep → Stage → Type 0
+TakesMove m h e m' = PlaysStep m h e m' × IsOfRange m e.move
 
 -- a machine whose steps are moves of a call on the tree, and calls over it
 pub record MoveMachine : Type 1 where
@@ -44,7 +56,7 @@ machine_of m =
       go = m.go;
       places = m.places;
       tree = m.tree;
-      Takes = PlaysStep;
+      Takes = TakesMove;
       Inv = m.Inv;
       Halted = m.Halted;
       Others = m.Others;
@@ -118,8 +130,7 @@ module _ (m : MoveMachine) where
   shows (e ∷ es) s = shown_by e (makes (theory_of m) e s).came ∷ shows es (next (theory_of m) e s)
 
   -- what is shown of the machine and its calls: an operation places no move, or one of its own hart; a start is of one of eight harts and
-  -- leaves the tree; and
-  -- a hart that is idle walks nowhere
+  -- leaves the tree; a hart that is idle walks nowhere; and the tree has settled
   pub record IsMoving : Type 0 where
     pub lawful : Lawful (theory_of m)
     pub one : (h : ℕ) (op : m.Op) (a : m.Answer op) (mark : Option m.Mark) (w : m.World)
@@ -127,6 +138,7 @@ module _ (m : MoveMachine) where
     pub begins : (h : ℕ) (call : Call) (busy : ℕ → Bool) (w u : m.World) → m.start h call busy w ≡ Begins u
         → (h < hart_count) × (m.tree u ≡ m.tree w)
     pub rests : (h : ℕ) (w : m.World) → m.Idle h w → (m.tree w).walk h ≡ None
+    pub settled : (w : m.World) → settle (m.tree w).tree ≡ (m.tree w).tree
 
   -- One list of tree steps explains the run's trace, and leads from its first tree to the tree that its world has.
   pub record HasOneHistory (base : TreeData) (w : m.World) (events : List (Event Call m.Outside)) : Type 0 where

@@ -1,7 +1,7 @@
 -- What a hart has, what always holds, and the machine.
 use Rattle.std.specs.Prelude.{◌≡◌, ◌≢◌, ◌⊎◌, ℕ, zero, suc, ◌+◌, ◌<◌, ◌≤◌, Bool, true, false, ◌||◌, List, [], ◌∷◌, length, ◌==◌, nat_lt, if◌then◌else◌, Option, Some, None, IsSome}
-use Rattle.inode_machine.specs.Vocabulary.{Node, OpenFile, Directory, hart_count, descriptor_count, name_len, piece_len, count_limit, is_file, no_driver, holds_raised, Name, hold_names, is_directory, is_live, look, Key, Row, row_of, key_names, sum_below, one_if, IsWellFormed, Walk, Machine, Stage, MoveStep as Step, PlaysStep}
-use Rattle.inode_machine.specs.Basics.{OfDirectory, type_of, Query, Mine, Entry, Note, Desk, World, Op, Answer, Mark, Outside, stage_of, file_count, is_at, is_free, place_count, referenced, entry_of, offset_of, read_refused, next_used, child_of, given_of}
+use Rattle.inode_machine.specs.Vocabulary.{Node, OpenFile, Directory, hart_count, descriptor_count, name_len, piece_len, count_limit, is_file, no_driver, holds_raised, Name, hold_names, is_directory, is_live, look, Key, Row, row_of, key_names, sum_below, one_if, IsWellFormed, Walk, Machine, Stage, MoveStep as Step}
+use Rattle.inode_machine.specs.Basics.{OfDirectory, type_of, Query, Mine, Entry, Note, Desk, World, Op, Answer, Mark, Outside, stage_of, file_count, is_at, is_free, place_count, referenced, entry_of, offset_of, read_refused, next_used, child_of, given_of, TakesMove}
 use Rattle.inode_machine.specs.Inodes.Query.{AtNothing, AtName, AtEntries}
 use Rattle.inode_machine.specs.World.Op.{Take, UnlockInode, UpStart, Up, WalkDown, Down, Free, Forget, Claim, Store, Fill, Enter, Clear, Empty, Slot, Install, StatFile, LockFile, ReadFile, CheckFile, JoinFile, LockOpen, WriteFile, Double, Shut, SetDirectory, Lend, LendDirectory, Release, Join, Leave, Say}
 use Rattle.inode_machine.specs.World.Outside.{Room, RoomFor, Picks}
@@ -470,7 +470,7 @@ machine =
       go = go;
       places = places;
       tree = stage_of;
-      Takes = PlaysStep;
+      Takes = TakesMove;
       Inv = Inv;
       Halted = Inv;
       Others = Others;

@@ -16,7 +16,7 @@ pub use Rattle.plain_tree.specs.Widths.{count_limit, name_len, piece_len, root_d
 pub use Rattle.plain_tree.specs.declared.answer.Cause.TheVariants.{BadDescriptor, BadMode, DotName, Exists, IsDirectory, NoDriver, NoEntry, NotDirectory, NotEmpty, TooManyLinks}
 pub use Rattle.atomic_programs.specs.Logic.{Machine}
 pub use Rattle.plain_tree.specs.Calls.{piece, piece_count}
-pub use Rattle.plain_tree.specs.Steps.{content, emptied, empty_it, has, has_driver, has_room, holds_raised, is_file, is_used, new_directory, no_driver, node_or, opens_one, read_write, refusal, size_of, with_nodes, write_kind, write_only, written_kind}
+pub use Rattle.plain_tree.specs.Steps.{IsInPlace, IsLeastUnused, IsNewNode, content, emptied, empty_it, has, has_driver, has_room, holds_raised, is_file, is_used, new_directory, no_driver, node_or, opens_one, read_write, refusal, size_of, with_nodes, write_kind, write_only, written_kind}
 unfoldable pub use Rattle.plain_tree.specs.Steps.{cleared, entries, first_free}
 pub use Rattle.plain_tree.specs.declared.answer.NodeType.{NodeType}
 pub use Rattle.plain_tree.specs.declared.node.NodeKind.{NodeKind}

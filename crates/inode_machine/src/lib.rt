@@ -9,6 +9,7 @@ ghost use Rattle.inode_machine.specs.Shortages.{NoOpenFileForNew, NoOpenFileLeft
 ghost use Rattle.inode_machine.specs.Stories.{ClimbsAcross, LinksWhileUnlinked, OffsetIsShared, RaiseIsSeen, StaysInTheRemoved, WalkFails, WalkFailsStill};
 ghost use Rattle.inode_machine.specs.Theory.{CallsAreExplained, WorldsRest, WorldsStayInOrder, WorldsWithAFileRest};
 ghost use Rattle.inode_machine.specs.Kept.{RunsHaveTheHistory};
+ghost use Rattle.inode_machine.specs.Making.{RunsMakeMoves};
 ghost use Rattle.inode_machine.specs.Histories.{covered};
 
 /// For every list of events of any harts, the replies of all eleven calls, with any flags, of pieces and paths of any length,
@@ -117,4 +118,10 @@ pub fn harts_meet()
 /// The list that is kept beside a run of the eleven calls over whole inodes explains it, and leads to its tree.
 pub fn runs_have_the_history()
     ensures { RunsHaveTheHistory covered }
+{}
+
+/// Each event of such a run makes what it places of that list's moves as code makes it (`MayMake`, `stage_by`, `told_by_move`), and
+/// where it places nothing the tree and all walks stay.
+pub fn runs_make_moves()
+    ensures { RunsMakeMoves covered }
 {}
