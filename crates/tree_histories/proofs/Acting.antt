@@ -1,7 +1,8 @@
 -- A step that acted on the tree, as the move of a walk makes it.
-use Rattle.tree_histories.proofs.Vocabulary.{◌≡◌, ℕ, Bool, true, false, nat_lt, Option, Some, None, refl, sym, ◌∙◌, ap, subst, option_map, Cause, Call, Action, OpenStep as Open, Truncate, ReadStep as Read, WritePart, Find, Bump, Enter, Unbump, UnlinkStep as Unlink, MkdirStep as Mkdir, ChdirStep as Chdir, DupStep as Dup, CloseStep as Close, FstatStep as Fstat, InheritStep as Inherit, StepAnswer, TreeStep, IsAppliedAt, IsBadChoice, Outcome, applied, in_place, IsInPlace, IsNewNode, makes_node, path_of, place_of, refusal, refused, Name, Tree, parent, resolve, settle, hart_count, and_true, Made, act_all, act_answer, acts, own_made, refused_all, Deed, ActedOn, ActsSo, new_in, step_for}
+use Rattle.tree_histories.proofs.Vocabulary.{◌≡◌, ℕ, Bool, true, false, nat_lt, Option, Some, None, refl, sym, ◌∙◌, ap, subst, option_map, Cause, Call, Action, StepAnswer, TreeStep, IsAppliedAt, IsBadChoice, Outcome, applied, in_place, IsInPlace, IsLeastUnused, IsNewNode, makes_node, opens_one, path_of, place_of, refusal, refused, Name, Tree, parent, resolve, settle, hart_count, and_true, Made, act_all, act_answer, act_entered, acts, own_made, Deed, ActedOn, ActsSo, new_in, step_for}
 use Rattle.plain_tree.specs.declared.call.Call.TheVariants as calls
 use Rattle.tree_laws.specs.Moves as moves
+use Rattle.inode_machine.proofs.MadeMoves.{own_opened, refused_settles}
 
 -- a step that isn't a raise changes nothing where it is refused
 pub refused_same : (t : Tree) (h : ℕ) (c : Call) (b : Bool) → refused t h (step_for c b) ≡ t
@@ -18,33 +19,17 @@ refused_same t h (calls.Fstat fd) b = refl
 refused_same t h (calls.Close fd) b = refl
 refused_same t h (calls.Inherit child) b = refl
 
--- what a refused step leaves, settled
-pub refused_settles : (t : Tree) (h : ℕ) (s : Action) → settle t ≡ t → refused t h s ≡ settle (refused_all t h s)
-refused_settles t h Bump q = refl
-refused_settles t h (Open path flags) q = sym q
-refused_settles t h (Truncate fd) q = sym q
-refused_settles t h (Read fd n) q = sym q
-refused_settles t h (WritePart fd b) q = sym q
-refused_settles t h (Find old) q = sym q
-refused_settles t h (Enter new) q = sym q
-refused_settles t h Unbump q = sym q
-refused_settles t h (Unlink path) q = sym q
-refused_settles t h (Mkdir path) q = sym q
-refused_settles t h (Chdir path) q = sym q
-refused_settles t h (Dup fd) q = sym q
-refused_settles t h (Close fd) q = sym q
-refused_settles t h (Fstat fd) q = sym q
-refused_settles t h (Inherit child) q = sym q
-
 -- a step in its place
 applied_place : (t : Tree) (s : TreeStep) (id : ℕ) → IsInPlace t s.hart s.action → applied t s id ≡ in_place t s (refusal t s.hart s.action) id
 applied_place t s id place =
     let both : (nat_lt s.hart hart_count ≡ true) × (place_of t s.hart s.action ≡ true) = and_true (nat_lt s.hart hart_count) (place_of t s.hart s.action) place in
     rw (both.0, both.1) refl
 
--- the tree after a step and the number that is told are those of what a move makes, by the id of a new open file; and its walk is over
-pub record EndsAs (x : ℕ → Made) (d : Option Deed) (t' : Tree) : Type 0 where
+-- the tree after a step and the number that is told are those of what a move makes, by the id of a new open file, the least that is unused;
+-- and its walk is over
+pub record EndsAs (t : Tree) (x : ℕ → Made) (d : Option Deed) (t' : Tree) : Type 0 where
   pub id : ℕ
+  pub least : (x id).opened ≡ Some id → IsLeastUnused t id
   pub tree : t' ≡ settle (x id).all
   pub told : d ≡ option_map new_in (x id).told
   pub walk : (x id).walk ≡ None
@@ -76,11 +61,17 @@ module _ (t : Tree) (h : ℕ) (s : Action) (new : ℕ) (t' : Tree) (settled : se
   never_bad : {A : Type 0} → IsBadChoice t st → (refusal t h s ≡ None → makes_node t s Q ≡ true → IsNewNode t new) → A
   never_bad bad node = absurd (bad.bad (node bad.not_refused bad.makes))
 
+  opens : (b : Bool) (r : Option Cause) (id : ℕ) → act_entered r b id ≡ Some id → b ≡ true
+  opens true r id e = refl
+  opens false None id e = absurd cc
+  opens false (Some k) id e = absurd cc
+
   ends_here : (d : Option Deed) → refused t h s ≡ t → IsInPlace t h s → (refusal t h s ≡ None → makes_node t s Q ≡ true → IsNewNode t new) → ActedOn t st d t'
-      → EndsAs (λ id. acts t h s R Q new id) d t'
+      → EndsAs t (λ id. acts t h s R Q new id) d t'
   ends_here None same place node x = never_bad x.0 node
   ends_here (Some d) same place node x = record {
     id = x.1.1.id;
+    least = λ e. x.1.1.least (opens (opens_one t h s) (refusal t h s) x.1.1.id e);
     tree = tree_after x.1.1.id x.1.0 place x.1.1.made ∙ act_tree same x.1.1.id (refusal t h s);
     told = told_so d x.0 (record { act = record { step = s; answer = act_answer (refusal t h s) t h s R Q x.1.1.id }; new = new }) refl;
     walk = refl;
@@ -88,10 +79,10 @@ module _ (t : Tree) (h : ℕ) (s : Action) (new : ℕ) (t' : Tree) (settled : se
 
   -- a step of a walk
   pub ends_so : (d : Option Deed) (res : Option ℕ) (par : Option (ℕ × Name)) → refused t h s ≡ t → ActsSo t h s res par new → ActedOn t st d t'
-      → EndsAs (λ id. acts t h s res par new id) d t'
+      → EndsAs t (λ id. acts t h s res par new id) d t'
   ends_so d res par same so x =
-      subst (λ (r : Option ℕ). EndsAs (λ id. acts t h s r par new id) d t') so.found
-      (subst (λ (p : Option (ℕ × Name)). EndsAs (λ id. acts t h s R p new id) d t') so.behind
+      subst (λ (r : Option ℕ). EndsAs t (λ id. acts t h s r par new id) d t') so.found
+      (subst (λ (p : Option (ℕ × Name)). EndsAs t (λ id. acts t h s R p new id) d t') so.behind
       (ends_here d same so.place (λ none makes. so.node none (ap (makes_node t s) (sym so.behind) ∙ makes)) x))
 
   own_told : (o : Option Cause) (m : Made) → option_map new_in (own_made o t h s m).told ≡ option_map new_in m.told
@@ -103,10 +94,11 @@ module _ (t : Tree) (h : ℕ) (s : Action) (new : ℕ) (t' : Tree) (settled : se
   own_walk (Some k) m = refl
 
   -- a step without a path
-  pub ends_own : (d : Option Deed) → ActsSo t h s R Q new → ActedOn t st d t' → EndsAs (λ id. own_made (refusal t h s) t h s (acts t h s R Q new id)) d t'
+  pub ends_own : (d : Option Deed) → ActsSo t h s R Q new → ActedOn t st d t' → EndsAs t (λ id. own_made (refusal t h s) t h s (acts t h s R Q new id)) d t'
   ends_own None so x = never_bad x.0 so.node
   ends_own (Some d) so x = record {
     id = x.1.1.id;
+    least = λ e. x.1.1.least (opens (opens_one t h s) (refusal t h s) x.1.1.id (sym (own_opened t h s (acts t h s R Q new x.1.1.id) (refusal t h s)) ∙ e));
     tree = tree_after x.1.1.id x.1.0 so.place x.1.1.made ∙ own_tree x.1.1.id (refusal t h s) refl;
     told = told_so d x.0 (record { act = record { step = s; answer = act_answer (refusal t h s) t h s R Q x.1.1.id }; new = new }) refl
         ∙ sym (own_told (refusal t h s) (acts t h s R Q new x.1.1.id));

@@ -186,6 +186,7 @@ module _ (k0 k1 k2 k3 : KeptTree) (h : ℕ) (m : Mark) (d : Option Deed) (was : 
       let stage2 : stage_of k2 ≡ stage_by (stage_of k0) h t.id v = ap stage_of kept ∙ (told_stage k1 h d was ∙ t.stage) in
       record {
         id = t.id;
+        least = t.least;
         stage = same ∙ stage2;
         book = λ b B.
             let told : Option moves.Deed = told_by_move (stage_of k0) h t.id v in

@@ -15,9 +15,10 @@ module _ (k : KeptTree) (h : ℕ) (u : Under) (is : hart_in k h ≡ Some u) wher
 
   -- a step acted
   tells_end : (v : Move) (d : Option Deed) (k' : KeptTree) → k' ≡ record (with_walk k h None) { tree = k'.tree }
-      → EndsAs (λ id. made_by (tree_of k.tree) h id ((stage_of k).walk h) v) d (tree_of k'.tree) → Tells k h v d k'
+      → EndsAs (tree_of k.tree) (λ id. made_by (tree_of k.tree) h id ((stage_of k).walk h) v) d (tree_of k'.tree) → Tells k h v d k'
   tells_end v d k' kept e = record {
     id = e.id;
+    least = e.least;
     stage = ap stage_of kept ∙ (stage_walk k h None u k'.tree is
         ∙ (ap (λ (t : Tree). let n : Stage = record { tree = t; walk = put (stage_of k).walk h None } in n) e.tree
         ∙ ap (λ (w : Option moves.Walk). let n : Stage = record { tree = settle (made_by (tree_of k.tree) h e.id ((stage_of k).walk h) v).all; walk = put (stage_of k).walk h w } in n) (sym e.walk)));
@@ -26,10 +27,11 @@ module _ (k : KeptTree) (h : ℕ) (u : Under) (is : hart_in k h ≡ Some u) wher
 
   -- a walk goes on, or is over, and the tree stays
   tells_walk : (v : Move) (w : Option Walk) (x : Made) → settle (tree_of k.tree) ≡ tree_of k.tree → made_by (tree_of k.tree) h 0 ((stage_of k).walk h) v ≡ x
-      → x.all ≡ tree_of k.tree → x.walk ≡ option_map (walk_of (call_in u.whole)) w → (d : Option Deed) → d ≡ option_map new_in x.told
+      → x.all ≡ tree_of k.tree → x.walk ≡ option_map (walk_of (call_in u.whole)) w → x.opened ≡ None → (d : Option Deed) → d ≡ option_map new_in x.told
       → (k' : KeptTree) → k' ≡ with_walk k h w → Tells k h v d k'
-  tells_walk v w x settled made all walk d told k' kept = record {
+  tells_walk v w x settled made all walk none d told k' kept = record {
     id = 0;
+    least = λ e. absurd (let opens : x.opened ≡ Some 0 = ap (λ (y : Made). y.opened) (sym made) ∙ e in cc (opens, none));
     stage = ap stage_of kept ∙ (stage_walk k h w u k.tree is
         ∙ (ap (λ (t : Tree). let n : Stage = record { tree = t; walk = put (stage_of k).walk h (option_map (walk_of (call_in u.whole)) w) } in n) (sym settled ∙ ap settle (sym all))
         ∙ (ap (λ (y : Option moves.Walk). let n : Stage = record { tree = settle x.all; walk = put (stage_of k).walk h y } in n) (sym walk)
@@ -40,10 +42,10 @@ module _ (k : KeptTree) (h : ℕ) (u : Under) (is : hart_in k h ≡ Some u) wher
   -- ---- a walk begins
 
   begins_end : (s : Action) (es : List Name) → es ≡ [] → MayBegin (tree_of k.tree) h s es 0 → settle (tree_of k.tree) ≡ tree_of k.tree → refused (tree_of k.tree) h s ≡ tree_of k.tree
-      → (d : Option Deed) (t' : Tree) → ActedOn (tree_of k.tree) (record { hart = h; new = 0; action = s }) d t' → EndsAs (λ id. begun (tree_of k.tree) h s es 0 id) d t'
+      → (d : Option Deed) (t' : Tree) → ActedOn (tree_of k.tree) (record { hart = h; new = 0; action = s }) d t' → EndsAs (tree_of k.tree) (λ id. begun (tree_of k.tree) h s es 0 id) d t'
   begins_end s [] cut may settled same d t' x =
       let e = ends_so (tree_of k.tree) h s 0 t' settled d (Some (start_of (tree_of k.tree) h (path_of s))) None same may x in
-      record { id = e.id; tree = e.tree; told = e.told; walk = e.walk }
+      record { id = e.id; least = e.least; tree = e.tree; told = e.told; walk = e.walk }
   begins_end s (e ∷ es) cut may settled same d t' x = absurd cc
 
   pub tells_begun : (d : Option Deed) (k' : KeptTree) (start : ℕ) → IsWalk (call_in u.whole) None (action_in u.whole) start (elements (path_of (action_in u.whole)))
@@ -60,16 +62,17 @@ module _ (k : KeptTree) (h : ℕ) (u : Under) (is : hart_in k h ≡ Some u) wher
   begins_on : (s : Action) (w : Walk) (start : ℕ) (es : List Name) → start ≡ start_of (tree_of k.tree) h (path_of s) → IsWalk (call_in u.whole) (Some w) s start es
       → ((begun (tree_of k.tree) h s es 0 0).all ≡ tree_of k.tree)
       × ((begun (tree_of k.tree) h s es 0 0).walk ≡ Some (walk_of (call_in u.whole) w))
+      × ((begun (tree_of k.tree) h s es 0 0).opened ≡ None)
       × (None ≡ option_map new_in (begun (tree_of k.tree) h s es 0 0).told)
   begins_on s w start [] at q = absurd cc
-  begins_on s w start (e ∷ es) at q = (refl, sym (q ∙ ap (λ (n : ℕ). Some (walk_on s n (e ∷ es))) at), refl)
+  begins_on s w start (e ∷ es) at q = (refl, sym (q ∙ ap (λ (n : ℕ). Some (walk_on s n (e ∷ es))) at), refl, refl)
 
   pub tells_start : (w : Walk) (start : ℕ) → start ≡ start_of (tree_of k.tree) h (path_of (action_in u.whole))
       → IsWalk (call_in u.whole) (Some w) (action_in u.whole) start (elements (path_of (action_in u.whole)))
       → settle (tree_of k.tree) ≡ tree_of k.tree → (k' : KeptTree) → k' ≡ with_walk k h (Some w) → Tells k h (Begin (action_in u.whole) 0) None k'
   tells_start w start at q settled k' kept =
       let b = begins_on (action_in u.whole) w start (elements (path_of (action_in u.whole))) at q in
-      tells_walk (Begin (action_in u.whole) 0) (Some w) (begun (tree_of k.tree) h (action_in u.whole) (elements (path_of (action_in u.whole))) 0 0) settled refl b.0 b.1 None b.2 k' kept
+      tells_walk (Begin (action_in u.whole) 0) (Some w) (begun (tree_of k.tree) h (action_in u.whole) (elements (path_of (action_in u.whole))) 0 0) settled refl b.0 b.1 b.2 None b.3 k' kept
 
   -- ---- an element is looked up
 
@@ -82,7 +85,7 @@ module _ (k : KeptTree) (h : ℕ) (u : Under) (is : hart_in k h ≡ Some u) wher
 
     looks_end : (es : List Name) (found : Option ℕ) → IsNextWalk (call_in u.whole) None (record W { rest = es }) found → MayLook (tree_of k.tree) h W es found new
         → settle (tree_of k.tree) ≡ tree_of k.tree
-        → (d : Option Deed) (t' : Tree) → ActedOn (tree_of k.tree) (record { hart = h; new = new; action = W.step }) d t' → EndsAs (λ id. looked (tree_of k.tree) h W es found new id) d t'
+        → (d : Option Deed) (t' : Tree) → ActedOn (tree_of k.tree) (record { hart = h; new = new; action = W.step }) d t' → EndsAs (tree_of k.tree) (λ id. looked (tree_of k.tree) h W es found new id) d t'
     looks_end [] found next may settled d t' x = ends_so (tree_of k.tree) h W.step new t' settled d found (Some (W.at, W.next)) (refused_same (tree_of k.tree) h (call_in u.whole) w.is_new) may x
     looks_end (e ∷ es) None next may settled d t' x = ends_so (tree_of k.tree) h W.step new t' settled d None None (refused_same (tree_of k.tree) h (call_in u.whole) w.is_new) may x
     looks_end (e ∷ es) (Some n) next may settled d t' x = absurd (let q : None ≡ Some (walk_on W.step n (e ∷ es)) = next in cc)
@@ -91,7 +94,7 @@ module _ (k : KeptTree) (h : ℕ) (u : Under) (is : hart_in k h ≡ Some u) wher
         → IsActed k (record { hart = h; new = new; action = W.step }) d k' → MayMake (stage_of k) h (Look new) → Tells k h (Look new) d k'
     tells_looked d k' next x may =
         tells_end (Look new) d k' x.kept
-        (subst (λ (o : Option moves.Walk). EndsAs (λ id. look_made (tree_of k.tree) h o new id) d (tree_of k'.tree)) walk_there
+        (subst (λ (o : Option moves.Walk). EndsAs (tree_of k.tree) (λ id. look_made (tree_of k.tree) h o new id) d (tree_of k'.tree)) walk_there
         (looks_end W.rest (look (tree_of k.tree).nodes W.at W.next) next (may_look (sym walk_there) may.move.0) may.settled d (tree_of k'.tree) x.acted))
       where
         may_look : (stage_of k).walk h ≡ Some W → MayLookOn (tree_of k.tree) h ((stage_of k).walk h) new → MayLookOn (tree_of k.tree) h (Some W) new
@@ -100,18 +103,19 @@ module _ (k : KeptTree) (h : ℕ) (u : Under) (is : hart_in k h ≡ Some u) wher
     looks_on : (w2 : Walk) (es : List Name) (found : Option ℕ) → IsNextWalk (call_in u.whole) (Some w2) (record W { rest = es }) found
         → ((looked (tree_of k.tree) h W es found new 0).all ≡ tree_of k.tree)
         × ((looked (tree_of k.tree) h W es found new 0).walk ≡ Some (walk_of (call_in u.whole) w2))
+        × ((looked (tree_of k.tree) h W es found new 0).opened ≡ None)
         × (None ≡ option_map new_in (looked (tree_of k.tree) h W es found new 0).told)
     looks_on w2 [] None next = absurd cc
     looks_on w2 [] (Some n) next = absurd cc
     looks_on w2 (e ∷ es) None next = absurd cc
-    looks_on w2 (e ∷ es) (Some n) next = (refl, sym next, refl)
+    looks_on w2 (e ∷ es) (Some n) next = (refl, sym next, refl, refl)
 
     pub tells_next : (w2 : Walk) → IsNextWalk (call_in u.whole) (Some w2) W (look (tree_of k.tree).nodes W.at W.next)
         → settle (tree_of k.tree) ≡ tree_of k.tree → (k' : KeptTree) → k' ≡ with_walk k h (Some w2) → Tells k h (Look new) None k'
     tells_next w2 next settled k' kept =
         let b = looks_on w2 W.rest (look (tree_of k.tree).nodes W.at W.next) next in
         tells_walk (Look new) (Some w2) (looked (tree_of k.tree) h W W.rest (look (tree_of k.tree).nodes W.at W.next) new 0) settled
-        (ap (λ (o : Option moves.Walk). look_made (tree_of k.tree) h o new 0) (sym walk_there)) b.0 b.1 None b.2 k' kept
+        (ap (λ (o : Option moves.Walk). look_made (tree_of k.tree) h o new 0) (sym walk_there)) b.0 b.1 b.2 None b.3 k' kept
 
   -- without a walk nothing is looked up
   pub tells_nowhere : u.walk ≡ None → (new : ℕ) → settle (tree_of k.tree) ≡ tree_of k.tree → (k' : KeptTree) → k' ≡ k → Tells k h (Look new) None k'
@@ -120,6 +124,7 @@ module _ (k : KeptTree) (h : ℕ) (u : Under) (is : hart_in k h ≡ Some u) wher
       let made : look_made (tree_of k.tree) h ((stage_of k).walk h) new 0 ≡ look_made (tree_of k.tree) h None new 0 = ap (λ (o : Option moves.Walk). look_made (tree_of k.tree) h o new 0) (sym nowhere) in
       record {
         id = 0;
+        least = λ e. absurd (let opens : None ≡ Some 0 = ap (λ (y : Made). y.opened) (sym made) ∙ e in cc);
         stage = ap stage_of kept
             ∙ (ap (λ (f : ℕ → Option moves.Walk). let n : Stage = record { tree = tree_of k.tree; walk = f } in n) (sym (walk_same k h None nowhere))
             ∙ (ap (λ (t : Tree). let n : Stage = record { tree = t; walk = put (stage_of k).walk h None } in n) (sym settled)
@@ -132,7 +137,7 @@ module _ (k : KeptTree) (h : ℕ) (u : Under) (is : hart_in k h ≡ Some u) wher
   pub tells_quit : (s : Action) → settle (tree_of k.tree) ≡ tree_of k.tree → (d : Option Deed) → d ≡ Some (record { new = 0 })
       → (k' : KeptTree) → k' ≡ with_walk k h None → Tells k h (GiveUpWalk s) d k'
   tells_quit s settled d told k' kept =
-      tells_walk (GiveUpWalk s) None (made_by (tree_of k.tree) h 0 ((stage_of k).walk h) (GiveUpWalk s)) settled refl refl refl d told k' kept
+      tells_walk (GiveUpWalk s) None (made_by (tree_of k.tree) h 0 ((stage_of k).walk h) (GiveUpWalk s)) settled refl refl refl refl d told k' kept
 
   pub tells_own : (s : Action) (d : Option Deed) (k' : KeptTree) → IsActed k (record { hart = h; new = 0; action = s }) d k' → MayMake (stage_of k) h (Own s 0)
       → Tells k h (Own s 0) d k'

@@ -13,12 +13,12 @@ unfoldable pub use Rattle.tree_histories.specs.Stands.{stand_from}
 pub use Rattle.std.proofs.lemmas.List.{append-nil, get_or-set_other, get_or-set_same, get_or_past}
 pub use Rattle.plain_tree.specs.Explains.{IsInTime, ends_at}
 pub use Rattle.std.proofs.Common.{IfOk, max, set, ◌/◌}
-pub use Rattle.tree_histories.specs.Moving.{ActedOn, ActsSo, HaveFallen, IsActed, IsMoved, MayBegin, MayLook, MayLookOn, MayMake, MovesBy, NoneFalls, OnlyMoves, StaysFor, Tells, TellsOf, WereLost, makes_none, new_in, told_in}
+pub use Rattle.tree_histories.specs.Moving.{ActedOn, HaveFallen, IsActed, IsMoved, MovesBy, NoneFalls, OnlyMoves, StaysFor, Tells, TellsOf, WereLost, makes_none, new_in, told_in}
 pub use Rattle.tree_histories.specs.Ordered.{IsDue, IsOrdered, StandsFrom}
 pub use Rattle.tree_histories.specs.declared.ends.Due.{Due}
 pub use Rattle.tree_histories.specs.declared.kept.Deed.{Deed}
 pub use Rattle.tree_histories.specs.declared.position.Position.{Position}
-pub use Rattle.inode_machine.specs.Marks.{Made, act_all, act_answer, acts, begun, look_made, looked, made_by, own_made, refused_all}
+pub use Rattle.inode_machine.specs.Marks.{Made, act_all, act_answer, act_entered, acts, begun, look_made, looked, made_by, own_made}
 pub use Rattle.plain_tree.proofs.LeadLemmas.{step_placed}
 pub use Rattle.plain_tree.proofs.StepLaws.{applied_step, chain_one, step_one}
 pub use Rattle.std.proofs.Math.ListN.{get_or-append}
@@ -31,10 +31,12 @@ pub use Rattle.tree_histories.specs.declared.standing.Walk.{Walk}
 pub use Rattle.tree_laws.specs.History.{entry_of, replies, starts, tells, tells_any, writes, writes_any}
 pub use Rattle.tree_laws.specs.Moves.{fail}
 pub use Rattle.inode_machine.specs.Kept.{nothing_yet}
+pub use Rattle.inode_machine.specs.Making.{ActsSo, MayBegin, MayLook, MayLookOn, MayMake, OpensLeast}
 pub use Rattle.path_walk.specs.Asks.{op_in}
 pub use Rattle.path_walk.specs.declared.elements.Element.{Element}
 pub use Rattle.plain_tree.proofs.TreeLemmas.{put_back, set_put}
 pub use Rattle.plain_tree.specs.Calls.{IsWhole}
+pub use Rattle.plain_tree.specs.Steps.{IsLeastUnused, opens_one}
 pub use Rattle.plain_tree.specs.Tree.{is_absolute}
 unfoldable pub use Rattle.plain_tree.specs.Tree.{climbs_in}
 pub use Rattle.plain_tree.specs.declared.refused.NoMemory.{NoMemory}

@@ -1,45 +1,12 @@
 -- What is kept where a call makes a move.
-use Rattle.std.specs.Prelude.{◌≡◌, ℕ, ◌<◌, ◌^◌, Bool, true, false, List, [], ◌∷◌, length, Option, Some, None, slice_index_or}
-use Rattle.tree_histories.specs.Vocabulary.{option_map, Action, TreeStep, StepAnswer, IsApplied, IsBadChoice, path_of, refusal, makes_node, IsInPlace, IsNewNode, Name, Tree, elements, look, parent, resolve, settle, start_of, tree_of, hart_count, History, Move, Stage, Begin, Look, GiveUpWalk, Own, all_fall, moves_on, Makes, stage_by, told_by_move, mark_in, Heard, Mark, action_in}
+use Rattle.std.specs.Prelude.{◌≡◌, ℕ, ◌<◌, Bool, true, false, List, length, Option, Some, None, slice_index_or}
+use Rattle.tree_histories.specs.Vocabulary.{option_map, Action, TreeStep, StepAnswer, IsApplied, IsBadChoice, Tree, tree_of, hart_count, History, Move, Stage, all_fall, moves_on, Makes, MayMake, OpensLeast, stage_by, told_by_move, mark_in, Heard, Mark, action_in}
 use Rattle.tree_laws.specs.Moves as moves
 use Rattle.path_walk.specs.declared.asks.Mark.TheVariants as mark
 use Rattle.tree_histories.specs.declared.kept.Deed.{Deed}
 use Rattle.tree_histories.specs.Books.{IsBook}
 use Rattle.tree_histories.specs.Sights.{MarksBy}
 use Rattle.tree_histories.specs.Keeping.{HasHeard, KeptTree, Under, hart_in, is_lost, stage_of, walking, with_walk, written}
-
--- The tree makes the step as the move does: the step has its place, its path leads to what was found for the move, and a node that it makes
--- takes a number that is free.
-pub record ActsSo (t : Tree) (h : ℕ) (s : Action) (res : Option ℕ) (par : Option (ℕ × Name)) (new : ℕ) : Type 0 where
-  pub place : IsInPlace t h s
-  pub found : resolve t h (path_of s) ≡ res
-  pub behind : parent t h (path_of s) ≡ par
-  pub node : refusal t h s ≡ None → makes_node t s par ≡ true → IsNewNode t new
-
-abbrev pub MayBegin : Tree → ℕ → Action → List Name → ℕ → Type 0
-MayBegin t h s [] new = ActsSo t h s (Some (start_of t h (path_of s))) None new
-MayBegin t h s (e ∷ es) new = Unit {0}
-
-abbrev pub MayLook : Tree → ℕ → moves.Walk → List Name → Option ℕ → ℕ → Type 0
-MayLook t h w [] found new = ActsSo t h w.step found (Some (w.at, w.next)) new
-MayLook t h w (e ∷ es) None new = ActsSo t h w.step None None new
-MayLook t h w (e ∷ es) (Some n) new = Unit {0}
-
-abbrev pub MayLookOn : Tree → ℕ → Option moves.Walk → ℕ → Type 0
-MayLookOn t h None new = Unit {0}
-MayLookOn t h (Some w) new = MayLook t h w w.rest (look t.nodes w.at w.next) new
-
-abbrev pub MayMove : Stage → ℕ → Move → Type 0
-MayMove m h (Begin s new) = MayBegin m.tree h s (elements (path_of s)) new
-MayMove m h (Look new) = MayLookOn m.tree h (m.walk h) new × (new < 2 ^ 16)
-MayMove m h (GiveUpWalk s) = Unit {0}
-MayMove m h (Own s new) = ActsSo m.tree h s (resolve m.tree h (path_of s)) (parent m.tree h (path_of s)) new
-
--- The hart makes this move in a settled tree, and where its step acts the tree makes that as well.
-pub record MayMake (m : Stage) (h : ℕ) (v : Move) : Type 0 where
-  pub hart : h < hart_count
-  pub settled : settle m.tree ≡ m.tree
-  pub move : MayMove m h v
 
 -- a mark for which the kept tree stays: what it frees isn't in the settled tree, or there was no room, and no list explains the run
 abbrev pub makes_none : Mark → Bool
@@ -75,9 +42,10 @@ pub record OnlyMoves (k k' : KeptTree) : Type 0 where
 abbrev pub new_in : moves.Deed → Deed
 new_in d = record { new = d.new }
 
--- the stage is that of the move, and what is told is what the move tells
+-- the stage is that of the move, where a file that it opens has the least id that is unused, and what is told is what the move tells
 pub record Tells (k : KeptTree) (h : ℕ) (v : Move) (d : Option Deed) (k' : KeptTree) : Type 0 where
   pub id : ℕ
+  pub least : OpensLeast (stage_of k) h id v
   pub stage : stage_of k' ≡ stage_by (stage_of k) h id v
   pub told : d ≡ option_map new_in (told_by_move (stage_of k) h id v)
 
@@ -108,9 +76,11 @@ HaveFallen before k k' = (m : Stage) (b : History) → WereLost before m → IsB
 abbrev pub NoneFalls : List Bool → KeptTree → KeptTree → Type 0
 NoneFalls before k k' = WereLost before (stage_of k) → k' ≡ k
 
--- Kept is what the theory keeps: the stage of the move, and the history with what it tells and with the walks that it loses.
+-- Kept is what the theory keeps: the stage of the move, where a file that it opens has the least id that is unused, and the history with what
+-- it tells and with the walks that it loses.
 pub record IsMoved (k : KeptTree) (h : ℕ) (v : Move) (k' : KeptTree) : Type 0 where
   pub id : ℕ
+  pub least : OpensLeast (stage_of k) h id v
   pub stage : stage_of k' ≡ stage_by (stage_of k) h id v
   pub book : (b : History) → IsBook k b
       → IsBook k' (moves_on (stage_of k) (stage_by (stage_of k) h id v) h (told_by_move (stage_of k) h id v) b)

@@ -28,6 +28,7 @@ pub use Rattle.whole_calls.specs.declared.whole.Whole.{Whole}
 pub use Rattle.atomic_programs.specs.Prog.{Ret}
 pub use Rattle.inode_machine.specs.Inodes.{empty_in, face_of as face_seen, found_in, is_empty_kind, seen_in, type_of_kind}
 pub use Rattle.inode_machine.specs.Kept.{stage_by, told_by_move}
+pub use Rattle.inode_machine.specs.Making.{MayMake, OpensLeast}
 pub use Rattle.inode_machine.specs.Programs.{program}
 pub use Rattle.inode_machine.specs.World.{Op}
 pub use Rattle.inode_machine.specs.World.Mark.{Makes}
