@@ -1,6 +1,5 @@
 -- The history of a run beside its log: a stop leaves the tree after a beginning of it.
 use Rattle.calls_on_blocks.proofs.Vocabulary.{◌≡◌, ℕ, suc, ◌+◌, List, [], ◌∷◌, ◌++◌, map, refl, sym, ◌∙◌, ap, subst, arith, AllByRecursion, Call, Placed, Trace, Shown, Chain, Explains, Rises, trace_of, TreeData, Tree, tree_of, Stage, Told, Turn, Happens, Goings, opened, shown_of, runs_more, runs_none, runs_one, AllBelow, AllFrom, run_grew, run_below, AllMayStart, MayStart, Apart, happens_trace, opened_ok, run_explained, run_ok, Theory, Event, State, IsHonest, fresh, makes, next, Sound, sound_keeps, MoveMachine, IsMoving, shown_by, theory_of, Beside, Turns, event_turns}
-use Rattle.plain_tree.specs.Explains.{noted}
 use Rattle.tree_laws.specs.WellFormed.{IsWellFormed}
 use Rattle.calls_on_blocks.proofs.Following.{event_of}
 use Rattle.tree_laws.proofs.Cut.{noted_events}

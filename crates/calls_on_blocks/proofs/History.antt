@@ -1,7 +1,9 @@
 -- Runs on a mounted disk as one list of tree steps.
-use Rattle.calls_on_blocks.proofs.Vocabulary.{◌≡◌, ◌⊎◌, inl, ◌<◌, ℕ, Bool, List, [], ◌∷◌, Option, Some, None, refl, sym, ◌∙◌, ap, subst, Super, sizes_of, Call, none-some, Tree, put, hart_count, tree_in, settle_again, settled_well, MoveStep, ExecResult, Waits, Ran, Stops, placed_with, Began, Refuses, Begins, Event, ActOf, Both, act_places, placed_at, began_to, begun_both, Outside, stage_of, go, IsMoving, RunsFrom, machine, Refusal, places_one, moves_history, moves_alone, start_is, ShowsItsTree, first_world, mounts_show_their_trees, block_moves, first, RunsOn, MountsHaveOneHistory, OneHartHasOneHistory, World, shared_of, serves, served_calls, child_of, begins as begins_below, block_calls}
+use Rattle.calls_on_blocks.proofs.Vocabulary.{◌≡◌, ◌⊎◌, inl, ◌<◌, ℕ, Bool, List, [], ◌∷◌, ◌++◌, Option, Some, None, refl, sym, ◌∙◌, ap, subst, arith, Super, sizes_of, Call, none-some, Tree, put, hart_count, tree_in, settle_again, settled_well, MoveStep, ExecResult, Waits, Ran, Stops, placed_with, Began, Refuses, Begins, Event, ActOf, Both, act_places, placed_at, began_to, begun_both, Outside, stage_of, go, IsMoving, RunsFrom, machine, Refusal, places_one, moves_history, moves_alone, start_is, ShowsItsTree, first_world, mounts_show_their_trees, block_moves, first, RunsOn, MountsHaveOneHistory, OneHartHasOneHistory, World, shared_of, serves, served_calls, child_of, begins as begins_below, block_calls}
 use Rattle.tree_laws.specs.WellFormed.{IsWellFormed}
 use Rattle.inode_machine.specs.World as above
+use Rattle.inode_machine.proofs.RunMoves.{run_moves}
+use Rattle.calls_on_blocks.specs.History.{MountsMakeMoves}
 use Rattle.calls_on_blocks.proofs.Lawful.{lawful}
 use Rattle.calls_on_blocks.proofs.Starting.{begun_here, below_count}
 
@@ -60,3 +62,11 @@ one_history disk failures events r calm = moves_history (block_moves (sizes_of d
 
 pub one_hart : OneHartHasOneHistory
 one_hart disk failures h events r alone = moves_alone (block_moves (sizes_of disk)) (moving (sizes_of disk)) (tree_in disk) (first disk failures) h events (runs_from disk failures events r) alone
+
+pub makes_moves : MountsMakeMoves
+makes_moves disk failures before later e r calm =
+    run_moves (block_moves (sizes_of disk)) (moving (sizes_of disk)) (tree_in disk) (first disk failures) before later e (runs_from disk failures (before ++ e ∷ later) r) calm
+    (let size = shows.shows.size in let many = shows.shows.blocks.seen.good.many_inodes in omega (arith, size, many))
+  where
+    shows : ShowsItsTree disk failures
+    shows = mounts_show_their_trees disk failures r.mountable

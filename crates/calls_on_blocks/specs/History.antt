@@ -1,7 +1,8 @@
 -- What a mounted file system's runs come to: one list of tree steps.
-use Rattle.std.specs.Prelude.{ℕ, List, None}
+use Rattle.std.specs.Prelude.{ℕ, List, ◌∷◌, ◌++◌, None}
 use Rattle.calls_on_blocks.specs.Vocabulary.{Super, sizes_of, Call, tree_in, Event, AllHonest, fresh, run, Both, Outside, MoveMachine, HasOneHistory, NoneClimbs, Alone, IsMountable, first_world, mounted}
 use Rattle.inode_machine.specs.World as above
+use Rattle.inode_machine.specs.Making.{MakesItsMoves}
 use Rattle.calls_on_blocks.specs.Layer.{World}
 use Rattle.calls_on_blocks.specs.Theory.{block_calls}
 
@@ -56,3 +57,11 @@ abbrev pub OneHartHasOneHistory : Type 0
 OneHartHasOneHistory =
     (disk : List (List ℕ)) (failures h : ℕ) (events : List (Event Call Outside)) → RunsOn disk failures events → Alone h events
     → HasOneHistory (block_moves (sizes_of disk)) (tree_in disk) (first disk failures) events
+
+-- Each of their events makes the moves that it places as code makes them, where no path climbs.
+abbrev pub MountsMakeMoves : Type 0
+MountsMakeMoves =
+    (disk : List (List ℕ)) (failures : ℕ) (before later : List (Event Call Outside)) (e : Event Call Outside)
+    → RunsOn disk failures (before ++ e ∷ later) → NoneClimbs (before ++ e ∷ later)
+    → MakesItsMoves (block_moves (sizes_of disk)) e
+    (run (block_calls (sizes_of disk)) before (fresh (block_calls (sizes_of disk)) (first disk failures)))

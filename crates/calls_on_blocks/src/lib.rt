@@ -4,7 +4,7 @@
 #![tactic(auto)]
 
 ghost use Rattle.calls_on_blocks.specs.Laws.{CallsAreLawful, CodeIsOfIt};
-ghost use Rattle.calls_on_blocks.specs.History.{MountsHaveOneHistory, OneHartHasOneHistory};
+ghost use Rattle.calls_on_blocks.specs.History.{MountsHaveOneHistory, MountsMakeMoves, OneHartHasOneHistory};
 ghost use Rattle.calls_on_blocks.specs.Stops.{MarksAreTold, OneHartLeavesABeginning, StopsLeaveABeginning, StopsLeaveImages};
 ghost use Rattle.calls_on_blocks.specs.Whole.{CutsHaveReplies, MarksPartNone};
 ghost use Rattle.calls_on_blocks.specs.Heads.{LogsLeaveGoodHeads, LogsMayBegin};
@@ -32,6 +32,12 @@ pub fn mounts_have_one_history()
 /// Where one hart alone makes calls the same holds for any paths.
 pub fn one_hart_has_one_history()
     ensures { OneHartHasOneHistory }
+{}
+
+/// Each event of a run whose calls have that one history makes what it places of the moves behind it as code makes them on a tree
+/// that is kept beside the run, and where it places nothing tree and walks stay.
+pub fn mounts_make_moves()
+    ensures { MountsMakeMoves }
 {}
 
 /// Wherever a mounted file system is stopped, in the middle of calls or of a commit, by the device's failure or not, its disk
