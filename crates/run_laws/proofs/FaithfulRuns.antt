@@ -19,7 +19,7 @@ itself h op m a w = (record { op = op; answer = a; mark = m a; told = told_by h 
 
 module _ (sizes : Super) where
   -- a step makes operations of its own hart alone
-  alone_places : (h : ℕ) (op : Op) (a : AnswerBelow op) (m : Option (ActOf whole_inodes)) (w : Both World above.World)
+  pub alone_places : (h : ℕ) (op : Op) (a : AnswerBelow op) (m : Option (ActOf whole_inodes)) (w : Both World above.World)
       → (lowered_inode_calls sizes).M.places h op a m w ≡ all_by h (own h ((lowered_inode_calls sizes).M.places h op a m w))
   alone_places h op a None w = refl
   alone_places h op a (Some t) w = at (whole_inodes.go h t.outside t.op t.mark w.seen)
@@ -44,7 +44,7 @@ module _ (sizes : Super) where
       let b = is_below h call can in
       all_within sizes h b.0 (has_inodes sizes w.real.blocks w.seen from.shows.0 base.1) (most_written call) (program call) (call_fits call (served_is call b.1))
 
-  faithful : Lawful (faithful_calls inode_calls (layer sizes) (handlers sizes) (begins sizes) IsOperation)
+  pub faithful : Lawful (faithful_calls inode_calls (layer sizes) (handlers sizes) (begins sizes) IsOperation)
   faithful =
       faithful_lawful inode_calls (layer sizes) (handlers sizes) (begins sizes) IsOperation whole_lawful (whole_lower_laws sizes) (whole_starts_both sizes) (lowered_lawful sizes) alone (λ w. tt) itself
       (recorded_blocks operations) (λ h r s. HasSpent sizes h s r.blocks) unspent (λ call. affords operations (program call) unspent (transactions_are_small call)) none_spent uses

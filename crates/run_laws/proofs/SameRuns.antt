@@ -8,7 +8,7 @@ seen_same : (h : ℕ) (t : Option (ActOf machine)) (g : above.World) → seen_af
 seen_same h None g = refl
 seen_same h (Some t) g = refl
 
-both_same : {A : Type 0} (h : ℕ) (m : A → Option (ActOf machine)) (g : above.World) (d : ExecResult A World) → both whole_inodes h m g d ≡ both machine h m g d
+pub both_same : {A : Type 0} (h : ℕ) (m : A → Option (ActOf machine)) (g : above.World) (d : ExecResult A World) → both whole_inodes h m g d ≡ both machine h m g d
 both_same h m g Waits = refl
 both_same h m g (Ran a r) = λ i. Ran a (record { real = r; seen = seen_same h (m a) g i })
 both_same h m g (Stops r) = refl

@@ -24,12 +24,12 @@ abbrev did : ℕ → World → (op : Op) → (Answer op → Option Mark) → Ans
 did h v op m a = record { op = op; answer = a; mark = m a; told = told_by h (m a) v }
 
 -- an operation's mark counts at its answer alone
-abbrev answer_or : {A S : Type 0} → A → ExecResult A S → A
+abbrev pub answer_or : {A S : Type 0} → A → ExecResult A S → A
 answer_or a Waits = a
 answer_or a (Ran b s) = b
 answer_or a (Stops s) = a
 
-mark_there : {A : Type 0} (h : ℕ) (m : A → Option Mark) (a : A) (u : World) (d : ExecResult A World) → with_mark h m d ≡ Ran a u → with_mark h (λ _. m a) d ≡ Ran a u
+pub mark_there : {A : Type 0} (h : ℕ) (m : A → Option Mark) (a : A) (u : World) (d : ExecResult A World) → with_mark h m d ≡ Ran a u → with_mark h (λ _. m a) d ≡ Ran a u
 mark_there h m a u Waits e = e
 mark_there {A} h m a u (Ran b w) e = let same : b ≡ a = ap (answer_or a) e in ap (λ (z : A). Ran b (marked h (m z) w)) (sym same) ∙ e
 mark_there h m a u (Stops w) e = e

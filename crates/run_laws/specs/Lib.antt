@@ -11,6 +11,7 @@ pub mod OneList
 pub mod Wants
 pub mod Searches
 pub mod Seen
+pub mod UnderWay
 pub mod Transactions
 pub mod Answered
 pub mod Changes

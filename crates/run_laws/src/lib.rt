@@ -15,6 +15,7 @@ ghost use Rattle.run_laws.specs.Searches.{ClaimsFindReferences, SearchesSeeAll};
 ghost use Rattle.run_laws.specs.Seen.{CallsLookEverywhere};
 ghost use Rattle.run_laws.specs.Standing.{CallsWithoutRoomTakeBack};
 ghost use Rattle.run_laws.specs.Transactions.{TransactionsRecordAtMostTen};
+ghost use Rattle.run_laws.specs.UnderWay.{MovesAreMadeAsOperationsAct};
 ghost use Rattle.run_laws.specs.Wants.{NoRoomOnlyWhereThereIsNone};
 ghost use Rattle.run_laws.specs.Worlds.{WorldsRefineWholeInodes};
 ghost use Rattle.run_laws.specs.StepBounds.{CallsTakeFewSteps, RunsTakeFewSteps};
@@ -54,6 +55,16 @@ pub fn calls_go_on_as_they_acted<D: Device>(world: &World<D>)
 pub fn operations_act_first_or_last()
     ensures { OperationsActFirstOrLast }
 {}
+
+/// In such a run each hart's call is in one operation on whole inodes at a time, of which some steps on the blocks have run. A step that
+/// runs goes on with that operation's own program, or ends it and begins the call's next one, or gives the reply. An operation acts in its
+/// program's first step or in its last one, as said; there the machine of whole inodes gives the answer with which its program ends, now
+/// or later, and its mark, at that answer, makes the move that the event places. An event in which no operation acts places none.
+pub fn moves_are_made_as_operations_act<D: Device>(world: &World<D>)
+    ensures { MovesAreMadeAsOperationsAct D.contents D.failures world.now }
+{
+    let _ = world;
+}
 
 /// In such a run each step found room just where no operation on whole inodes was answered that there is none, nor the step on the tree
 /// which acts there.
