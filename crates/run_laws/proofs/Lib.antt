@@ -44,6 +44,7 @@ pub mod UnderWay
 pub mod UnderWaySteps
 pub mod Followed
 pub mod UnderWayRuns
+pub mod PlacesAt
 pub mod Traced
 pub mod Numbered
 pub mod Left

@@ -175,6 +175,21 @@ module _ (sizes : Super) where
   EventDoes (Start h call) s made was now = StartDoes h call made.came was now
   EventDoes (Step h x) s made was now = StepDoes h x s made made.came was now
 
+  -- ---- what a step places
+
+  module _ (h : ℕ) (x : Outside) (s : State (block_calls sizes)) (made : Made (block_calls sizes)) (was now : ℕ → Option UnderWay) where
+    abbrev pub PlacesAt : ActingTime → (first : Bool) → (r : RunsAStep h x s made was now) → P (Handover (Answer r.under.op) Carry) → Type 0
+    PlacesAt InFirst true r left =
+        (a : Answer r.under.op)
+        × (placed (block_moves sizes) (Step h x) s ≡ places h r.under.op a (r.under.mark a) s.world.seen)
+        × SeesTruly r.under.op a s.world.seen
+        × (or_else r.acts r.under.acted ≡ Some a)
+    PlacesAt InFirst false r left = (placed (block_moves sizes) (Step h x) s ≡ []) × (or_else r.acts r.under.acted ≡ r.under.acted)
+    PlacesAt InLast first r (Ret z) =
+        placed (block_moves sizes) (Step h x) s ≡ places h r.under.op z.answer (r.under.mark z.answer) s.world.seen
+    PlacesAt InLast first r (Do op m k) = placed (block_moves sizes) (Step h x) s ≡ []
+    PlacesAt InOne first r left = Unit {0}
+
   -- ---- a run
 
   -- Events from this world on: under k h is what hart h's call is in after the first k of them. So it is before each event, and so the
@@ -187,6 +202,15 @@ module _ (sizes : Super) where
     pub leads_on : (es : List (EventOf Call Outside)) (e : EventOf Call Outside) (rest : List (EventOf Call Outside))
         → es ++ e ∷ rest ≡ events
         → let s = run L es (fresh L start) in EventDoes e s (makes L e s) (under (length es)) (under (suc (length es)))
+
+-- So an operation that acts first places, in its first step, what its mark makes at an answer that it has from there on, and nothing
+-- behind that; one that acts last places, in the step in which its program ends, what its mark makes at the answer that this ends with, and
+-- nothing before.
+abbrev pub StepsPlaceInTime : Type 0
+StepsPlaceInTime =
+    (sizes : Super) (h : ℕ) (x : Outside) (s : State (block_calls sizes)) (made : Made (block_calls sizes)) (was now : ℕ → Option UnderWay)
+    → (r : RunsAStep sizes h x s made was now)
+    → PlacesAt sizes h x s made was now (time_of r.under.op) (none_ran r.under.ran) r (r.rest r.answer)
 
 module _ {D : Type 0} (contents : D → List (List ℕ)) (failures : D → ℕ) where
   -- So it is in each history of a run of this world, where it is as a mount left it.

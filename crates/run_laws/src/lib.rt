@@ -15,7 +15,7 @@ ghost use Rattle.run_laws.specs.Searches.{ClaimsFindReferences, SearchesSeeAll};
 ghost use Rattle.run_laws.specs.Seen.{CallsLookEverywhere};
 ghost use Rattle.run_laws.specs.Standing.{CallsWithoutRoomTakeBack};
 ghost use Rattle.run_laws.specs.Transactions.{TransactionsRecordAtMostTen};
-ghost use Rattle.run_laws.specs.UnderWay.{MovesAreMadeAsOperationsAct};
+ghost use Rattle.run_laws.specs.UnderWay.{MovesAreMadeAsOperationsAct, StepsPlaceInTime};
 ghost use Rattle.run_laws.specs.Wants.{NoRoomOnlyWhereThereIsNone};
 ghost use Rattle.run_laws.specs.Worlds.{WorldsRefineWholeInodes};
 ghost use Rattle.run_laws.specs.StepBounds.{CallsTakeFewSteps, RunsTakeFewSteps};
@@ -61,7 +61,8 @@ pub fn operations_act_first_or_last()
 /// program's first step or in its last one, as said; there the machine of whole inodes gives the answer with which its program ends, now
 /// or later, and its mark, at that answer, makes the move that the event places. An event in which no operation acts places none.
 pub fn moves_are_made_as_operations_act<D: Device>(world: &World<D>)
-    ensures { MovesAreMadeAsOperationsAct D.contents D.failures world.now }
+    ensures made { MovesAreMadeAsOperationsAct D.contents D.failures world.now }
+    ensures in_time { StepsPlaceInTime }
 {
     let _ = world;
 }
