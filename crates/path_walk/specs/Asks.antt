@@ -28,8 +28,6 @@ use Rattle.path_walk.specs.declared.asks.Face.{Face}
 use Rattle.path_walk.specs.declared.asks.Sight.{Sight}
 use Rattle.path_walk.specs.declared.asks.Heard.{Heard}
 use Rattle.path_walk.specs.declared.asks.Heard.TheVariants as heard
-use Rattle.path_walk.specs.declared.asks.Turn.{Turn}
-use Rattle.path_walk.specs.declared.asks.Turn.TheVariants as turn
 use Rattle.path_walk.specs.declared.asks.Mark.{Mark}
 use Rattle.path_walk.specs.declared.asks.Mark.TheVariants as mark
 
@@ -276,11 +274,7 @@ mark_at (Do op m k) x = m (answer_to [] op x)
 abbrev pub reply_to : Call → CallAnswer → Reply
 reply_to call a = record { answer = a; call = call }
 
-abbrev pub turned : {C : Type 0} → (C → P Reply) → Call → Turn C CallAnswer → P Reply
-turned program call (turn.Asks c) = program c
-turned program call (turn.Ends a) = Ret (reply_to call a)
-
--- the same of a call that is stepped in its place, and whose answer stands in another where it has ended
+-- of a call that is stepped in its place, and whose answer stands in another where it has ended
 abbrev pub stepped : P Reply → Call → CallAnswer → Bool → P Reply
 stepped p call a false = p
 stepped p call a true = Ret (reply_to call a)

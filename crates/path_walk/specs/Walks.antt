@@ -45,10 +45,11 @@ module _ (s : Action) (path : List ℕ) (after : After) where
   walk_of to ns (walking.Down d then_) = Do (WalkDown d) unmarked (λ last. next_of to then_ (with_last ns d last))
   walk_of to ns (walking.Leave d e) = Do (UnlockInode d) unmarked (λ _. after.found d (Some (name_in path e)) ns)
 
-  abbrev pub walked_to : Goal → List ℕ → Walked → P Reply
-  walked_to to ns (walked.Walks w) = walk_of to ns w
-  walked_to to ns (walked.Reached d e) = after.found d (option_map (name_in path) e) ns
-  walked_to to ns (walked.Lost why) = after.lost (stop_of why) ns
+  -- after a step, where the walk stands so
+  abbrev pub walked_to : Goal → List ℕ → Walk → Walked → P Reply
+  walked_to to ns w walked.Walks = walk_of to ns w
+  walked_to to ns w (walked.Reached d e) = after.found d (option_map (name_in path) e) ns
+  walked_to to ns w (walked.Lost why) = after.lost (stop_of why) ns
 
 -- ---- how long its list may grow
 
@@ -69,10 +70,10 @@ most_left path (walking.UnlockInode d then_) = 1 + most_next path then_
 most_left path (walking.Down d then_) = 1 + most_next path then_
 most_left path (walking.Leave d e) = 0
 
-abbrev pub most_walked : List ℕ → Walked → ℕ
-most_walked path (walked.Walks w) = most_left path w
-most_walked path (walked.Reached d e) = 0
-most_walked path (walked.Lost why) = 0
+abbrev pub most_walked : List ℕ → Walk → Walked → ℕ
+most_walked path w walked.Walks = most_left path w
+most_walked path w (walked.Reached d e) = 0
+most_walked path w (walked.Lost why) = 0
 
 -- its places are in the path
 abbrev pub next_stands : List ℕ → Next → Type 0
@@ -88,7 +89,7 @@ Stands path (walking.UnlockInode d then_) = next_stands path then_
 Stands path (walking.Down d then_) = next_stands path then_
 Stands path (walking.Leave d e) = IsElement path e
 
-abbrev pub StandsAt : List ℕ → Walked → Type 0
-StandsAt path (walked.Walks w) = Stands path w
-StandsAt path (walked.Reached d e) = IfSome e (IsElement path)
-StandsAt path (walked.Lost why) = Unit {0}
+abbrev pub StandsAt : List ℕ → Walk → Walked → Type 0
+StandsAt path w walked.Walks = Stands path w
+StandsAt path w (walked.Reached d e) = IfSome e (IsElement path)
+StandsAt path w (walked.Lost why) = Unit {0}

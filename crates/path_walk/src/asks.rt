@@ -1,11 +1,9 @@
 //! What a call asks of whole inodes, and what it hears.
 ghost use Rattle.std.specs.Prelude.{◌≡◌, ◌<◌, ◌+◌, ◌^◌, ◌++◌, ℕ, List, length, false};
-ghost use Rattle.path_walk.specs.Vocabulary.{Reply, Call, P};
-ghost use Rattle.path_walk.specs.declared.asks.Turn.TheVariants as turns;
-ghost use Rattle.path_walk.specs.Asks.{at_in, bool_in, checked_in, claimed_in, claimed_of, count_in, doubled_in, entered_in, entered_of, face_in_stat, joined_in, joined_of, loan_in, loan_of, locked_in, locked_of, number_in, op_in, shut_in, sight_in, sight_of, start_in, stepped, turned, with_face, wrote_in, wrote_of, IsNamed, IsNamedInTwo, OnlySeeks};
+ghost use Rattle.path_walk.specs.Asks.{at_in, bool_in, checked_in, claimed_in, claimed_of, count_in, doubled_in, entered_in, entered_of, face_in_stat, joined_in, joined_of, loan_in, loan_of, locked_in, locked_of, number_in, op_in, shut_in, sight_in, sight_of, start_in, with_face, wrote_in, wrote_of, IsNamed, IsNamedInTwo, OnlySeeks};
 
 use crate::elements::Element;
-use plain_tree::{Answer, Cause};
+use plain_tree::Cause;
 
 /// What is looked for in an inode whose lock is taken. A name stands in the call's path.
 #[derive(Clone, Copy)]
@@ -334,32 +332,6 @@ impl Heard {
         match self {
             Heard::Old(old) => *old,
             _ => 0,
-        }
-    }
-}
-
-/// How a call goes on: it asks, or ends.
-pub enum Turn<C, R> {
-    Asks(C),
-    Ends(R),
-}
-
-impl<C: Copy> Turn<C, Answer> {
-    /// Leaves what it asks next in the one place, or what it ends with in the other: true where it has ended.
-    #[inline(always)]
-    pub fn leave(self, at: &mut C, says: &mut Answer) -> bool
-        ensures goes { (program : C → P Reply) (call : Call) → turned program call self ≡ stepped (program at.new) call says.new result }
-        ensures asks { result ≡ false → self ≡ turns.Asks at.new }
-    {
-        match self {
-            Turn::Asks(next) => {
-                *at = next;
-                false
-            }
-            Turn::Ends(answer) => {
-                *says = answer;
-                true
-            }
         }
     }
 }

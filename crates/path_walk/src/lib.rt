@@ -10,8 +10,7 @@ mod numbers;
 mod walk;
 
 pub use crate::asks::{
-    Ask, Claimed, Entered, Face, Heard, InodeType, Joined, Loan, Locked, Mark, Query, Sight, Turn,
-    Wrote,
+    Ask, Claimed, Entered, Face, Heard, InodeType, Joined, Loan, Locked, Mark, Query, Sight, Wrote,
 };
 pub use crate::elements::{Element, is_absolute, next_element};
 pub use crate::numbers::{MOST_LISTED, Numbers};

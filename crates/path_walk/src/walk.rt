@@ -2,7 +2,7 @@
 ghost use Rattle.std.specs.Prelude.{◌≡◌, ◌≢◌, ◌≤◌, ◌+◌, ℕ, All, List, Option, Some, drop, length};
 ghost use Rattle.path_walk.specs.Vocabulary.{elements, Action, is_directory_face, is_live_face, face_or, Call, stopped};
 ghost use Rattle.path_walk.specs.Asks.{asks, hears, mark_at, marked_as, op_in, sight_of, reply_to, face_of, IsNamed, OnlySeeks};
-ghost use Rattle.path_walk.specs.Walks.{After, Stands, StandsAt, elements_from, most_left, most_walked, onward, walk_of, walked_to, most_next, next_of, next_stands, stop_of};
+ghost use Rattle.path_walk.specs.Walks.{After, Stands, StandsAt, elements_from, most_left, most_walked, onward, walk_of, walked_to, stop_of};
 
 use crate::asks::{Ask, Face, Heard, InodeType, Mark, Query, Sight};
 use crate::elements::{Element, is_absolute, next_element};
@@ -52,43 +52,35 @@ pub enum Walk {
 /// How a walk goes on: it walks, or has come to its end.
 #[derive(Clone, Copy)]
 pub enum Walked {
-    Walks(Walk),
+    Walks,
     Reached(u32, Option<Element>),
     Lost(Lost),
 }
 
 /// On from a directory, at this place of the path.
-fn onward(goal: Goal, directory: u32, path: &[u8], rest: usize) -> Walked
+fn onward(walk: &mut Walk, goal: Goal, directory: u32, path: &[u8], rest: usize) -> Walked
     requires rest { rest ≤ length path.now }
     requires nonzero { All (λ b. b ≢ 0) path.now }
     ensures goes { (s : Action) (after : After) (list : List ℕ)
-        → walked_to s path.now after goal list result ≡ onward s path.now after goal directory (elements (drop rest path.now)) list }
-    ensures most { most_walked path.now result ≤ elements_from path.now rest }
-    ensures stands { StandsAt path.now result }
+        → walked_to s path.now after goal list walk.new result
+        ≡ onward s path.now after goal directory (elements (drop rest path.now)) list }
+    ensures most { most_walked path.now walk.new result ≤ elements_from path.now rest }
+    ensures stands { StandsAt path.now walk.new result }
 {
     match (goal, next_element(path, rest)) {
         (Goal::Inside, None) => Walked::Reached(directory, None),
-        (Goal::Inside, Some(element)) => Walked::Walks(Walk::Look(directory, element)),
+        (Goal::Inside, Some(element)) => {
+            *walk = Walk::Look(directory, element);
+            Walked::Walks
+        }
         (Goal::Parent, None) => Walked::Lost(Lost::NotThere),
-        (Goal::Parent, Some(element)) => match next_element(path, element.rest) {
-            None => Walked::Walks(Walk::See(directory, element)),
-            Some(_) => Walked::Walks(Walk::Look(directory, element)),
-        },
-    }
-}
-
-/// After a directory was left.
-fn go_on(goal: Goal, next: Next, path: &[u8]) -> Walked
-    requires stands { next_stands path.now next }
-    requires nonzero { All (λ b. b ≢ 0) path.now }
-    ensures goes { (s : Action) (after : After) (list : List ℕ)
-        → walked_to s path.now after goal list result ≡ next_of s path.now after goal next list }
-    ensures most { most_walked path.now result ≤ most_next path.now next }
-    ensures stands { StandsAt path.now result }
-{
-    match next {
-        Next::Go(directory, rest) => onward(goal, directory, path, rest),
-        Next::Quits(why) => Walked::Lost(why),
+        (Goal::Parent, Some(element)) => {
+            *walk = match next_element(path, element.rest) {
+                None => Walk::See(directory, element),
+                Some(_) => Walk::Look(directory, element),
+            };
+            Walked::Walks
+        }
     }
 }
 
@@ -137,47 +129,61 @@ impl Walk {
         }
     }
 
-    pub fn next(self, goal: Goal, heard: &Heard, path: &[u8], list: &mut Numbers) -> Walked
+    /// Goes on in its place with what it hears.
+    #[inline(always)]
+    pub fn step(&mut self, goal: Goal, heard: &Heard, path: &[u8], list: &mut Numbers) -> Walked
         requires nonzero { All (λ b. b ≢ 0) path.now }
-        requires room { length list.old + most_left path.now self ≤ MOST_LISTED }
-        requires stands { Stands path.now self }
+        requires room { length list.old + most_left path.now self.old ≤ MOST_LISTED }
+        requires stands { Stands path.now self.old }
         ensures goes { (text : List ℕ) (s : Action) (after : After)
-            → hears text (walk_of s path.now after goal list.old self) heard.now ≡ walked_to s path.now after goal list.new result }
-        ensures most { length list.new + most_walked path.now result ≤ length list.old + most_left path.now self }
-        ensures stands { StandsAt path.now result }
+            → hears text (walk_of s path.now after goal list.old self.old) heard.now
+            ≡ walked_to s path.now after goal list.new self.new result }
+        ensures most { length list.new + most_walked path.now self.new result ≤ length list.old + most_left path.now self.old }
+        ensures stands { StandsAt path.now self.new result }
     {
         match self {
             Walk::Start => match heard.start() {
-                Some(directory) => onward(goal, directory, path, 0),
+                Some(directory) => onward(self, goal, directory, path, 0),
                 None => Walked::Lost(Lost::NoMemory),
             },
-            Walk::Look(directory, element) => match heard.sight().found {
-                Some(number) => Walked::Walks(Walk::Up(directory, number, element.rest)),
-                None => Walked::Walks(Walk::UnlockInode(directory, Next::Quits(Lost::NotThere))),
-            },
+            Walk::Look(directory, element) => {
+                *self = match heard.sight().found {
+                    Some(number) => Walk::Up(*directory, number, element.rest),
+                    None => Walk::UnlockInode(*directory, Next::Quits(Lost::NotThere)),
+                };
+                Walked::Walks
+            }
             Walk::See(directory, element) => {
-                if is_directory(&heard.sight()) {
-                    Walked::Walks(Walk::Leave(directory, element))
+                *self = if is_directory(&heard.sight()) {
+                    Walk::Leave(*directory, *element)
                 } else {
-                    Walked::Walks(Walk::UnlockInode(directory, Next::Quits(Lost::NotThere)))
-                }
+                    Walk::UnlockInode(*directory, Next::Quits(Lost::NotThere))
+                };
+                Walked::Walks
             }
             Walk::Up(directory, number, rest) => {
                 let next = if heard.is() {
-                    Next::Go(number, rest)
+                    Next::Go(*number, *rest)
                 } else {
                     Next::Quits(Lost::NoMemory)
                 };
-                Walked::Walks(Walk::UnlockInode(directory, next))
+                *self = Walk::UnlockInode(*directory, next);
+                Walked::Walks
             }
-            Walk::UnlockInode(directory, next) => Walked::Walks(Walk::Down(directory, next)),
+            Walk::UnlockInode(directory, next) => {
+                *self = Walk::Down(*directory, *next);
+                Walked::Walks
+            }
             Walk::Down(directory, next) => {
                 if heard.is() {
-                    list.push(directory);
+                    list.push(*directory);
                 }
-                go_on(goal, next, path)
+                match *next {
+                    Next::Go(directory, rest) => onward(self, goal, directory, path, rest),
+                    Next::Quits(why) => Walked::Lost(why),
+                }
             }
-            Walk::Leave(directory, element) => Walked::Reached(directory, Some(element)),
+            Walk::Leave(directory, element) => Walked::Reached(*directory, Some(*element)),
         }
     }
 

@@ -1,11 +1,10 @@
 -- What is left of each call.
 use Rattle.std.specs.Prelude.{◌≡◌, ◌≤◌, ℕ, ◌+◌, ◌-◌, ◌||◌, Bool, List, [], length, Option, Some, None}
-use Rattle.whole_calls.specs.Vocabulary.{Name, elements, same_name, dot, dotdot, CallAnswer, NoEntry, Reply, Do, unmarked, name_in, IsElement, Face, UnlockInode, Store, SetDirectory, Join, P, failed, done, drop, give_up, tail, say, stopped, dup_program, stat_program, chdir_at, face_of, reply_to, After, Stands, most_left, walk_of, Turn, Element, Walk}
+use Rattle.whole_calls.specs.Vocabulary.{Name, elements, same_name, dot, dotdot, NoEntry, Reply, Do, unmarked, name_in, IsElement, Face, UnlockInode, Store, SetDirectory, Join, P, failed, done, drop, give_up, tail, say, stopped, dup_program, stat_program, chdir_at, face_of, reply_to, After, Stands, most_left, walk_of, Element, Walk}
 use Rattle.plain_tree.specs.declared.call.Call.TheVariants as calls
 use Rattle.plain_tree.specs.declared.step.Action.TheVariants as steps
 use Rattle.inode_machine.specs.Naming as naming
 use Rattle.whole_calls.specs.Ends.{dropping_of, ending_of}
-use Rattle.path_walk.specs.declared.asks.Turn.TheVariants as turn
 use Rattle.whole_calls.specs.declared.chdir.Chdir.{Chdir}
 use Rattle.whole_calls.specs.declared.chdir.Chdir.TheVariants as chdir
 use Rattle.whole_calls.specs.declared.descriptors.Dup.{Dup}
@@ -34,10 +33,6 @@ Fits path ns Fresh = (ns ≡ []) × (length (elements path) ≤ most_listed)
 Fits path ns (Walks w) = Stands path w × (length ns + most_left path w ≤ most_listed)
 Fits path ns (Names e) = IsElement path e
 Fits path ns Past = Unit {0}
-
-abbrev pub FitsOn : {C : Type 0} → (C → Stage) → List ℕ → List ℕ → Turn C CallAnswer → Type 0
-FitsOn stage path ns (turn.Asks c) = Fits path ns (stage c)
-FitsOn stage path ns (turn.Ends a) = Unit {0}
 
 -- ---- dup, fstat
 

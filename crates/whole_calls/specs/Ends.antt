@@ -1,5 +1,5 @@
 -- What is left of a call that ends.
-use Rattle.std.specs.Prelude.{ℕ, List, Option, Some, None}
+use Rattle.std.specs.Prelude.{ℕ, Bool, true, false, List, Some}
 use Rattle.whole_calls.specs.Vocabulary.{Reply, Call, Do, unmarked, AtNothing, Take, UnlockInode, Free, Forget, Leave, Frees, P, drop, give_up, free_listed, free_all, tail, say, reply_to}
 use Rattle.whole_calls.specs.declared.dropping.Dropping.{Dropping}
 use Rattle.whole_calls.specs.declared.dropping.Dropping.TheVariants as dropping
@@ -23,9 +23,10 @@ dropping_of k (dropping.Free n) = Do (Free n) (λ _. Some (Frees n)) (λ _. free
 dropping_of k (dropping.GiveFreed n) = freed_locked n k
 dropping_of k (dropping.Forget n) = freed n k
 
-abbrev pub after_drop : P Reply → Option Dropping → P Reply
-after_drop k None = k
-after_drop k (Some d) = dropping_of k d
+-- after a step, where it stands so, and is over or not
+abbrev pub after_drop : P Reply → Dropping → Bool → P Reply
+after_drop k d true = k
+after_drop k d false = dropping_of k d
 
 -- ---- an inode of the list is freed, and then k
 
@@ -35,9 +36,9 @@ freeing_of k (freeing.Take n) = Do (Take n AtNothing) unmarked (λ _. dropping_o
 freeing_of k (freeing.Frees d) = dropping_of (Do Leave unmarked (λ _. k)) d
 freeing_of k freeing.Leave = Do Leave unmarked (λ _. k)
 
-abbrev pub after_free : P Reply → Option Freeing → P Reply
-after_free k None = k
-after_free k (Some f) = freeing_of k f
+abbrev pub after_free : P Reply → Freeing → Bool → P Reply
+after_free k f true = k
+after_free k f false = freeing_of k f
 
 -- ---- the end of a call: what it has in hand is given up; its transaction is left; the inodes of its list are freed; and it replies
 

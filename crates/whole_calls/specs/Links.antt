@@ -1,11 +1,10 @@
 -- What is left of a link.
 use Rattle.std.specs.Prelude.{◌≡◌, ◌≤◌, ℕ, ◌+◌, ◌-◌, List, [], length, Option, Some, None, if◌then◌else◌}
-use Rattle.whole_calls.specs.Vocabulary.{Name, elements, CallAnswer, NoEntry, IsDirectory, Reply, Action, Do, name_in, IsElement, Face, is_directory_type, Store, Enter, P, own_step, failed, done, drop, give_up, tail, stopped, bump_refused, enters, link_at, link_in, link_name, link_program, link_raise, lower, named_on, face_of, reply_to, After, Stands, most_left, walk_of, Turn, Element, Walk}
+use Rattle.whole_calls.specs.Vocabulary.{Name, elements, NoEntry, IsDirectory, Reply, Action, Do, name_in, IsElement, Face, is_directory_type, Store, Enter, P, own_step, failed, done, drop, give_up, tail, stopped, bump_refused, enters, link_at, link_in, link_name, link_program, link_raise, lower, named_on, face_of, reply_to, After, Stands, most_left, walk_of, Element, Walk}
 use Rattle.plain_tree.specs.declared.call.Call.TheVariants as calls
 use Rattle.plain_tree.specs.declared.step.Action.TheVariants as steps
 use Rattle.whole_calls.specs.Calls.{most_listed}
 use Rattle.whole_calls.specs.Ends.{dropping_of, ending_of}
-use Rattle.path_walk.specs.declared.asks.Turn.TheVariants as turn
 use Rattle.whole_calls.specs.declared.link.Link.{Link}
 use Rattle.whole_calls.specs.declared.link.Link.TheVariants as linking
 use Rattle.path_walk.specs.declared.walk.Goal.TheVariants as goal
@@ -77,7 +76,3 @@ module _ (old new : List ℕ) where
   LinkFits ns (WalksNew w) = Stands new w × (length ns + most_left new w ≤ most_listed)
   LinkFits ns (Names e) = IsElement new e
   LinkFits ns Past = Unit {0}
-
-  abbrev pub LinkFitsOn : List ℕ → Turn Link CallAnswer → Type 0
-  LinkFitsOn ns (turn.Asks c) = LinkFits ns (link_stage c)
-  LinkFitsOn ns (turn.Ends a) = Unit {0}

@@ -1,10 +1,9 @@
 -- What is left of a read.
 use Rattle.std.specs.Prelude.{◌≡◌, ◌≤◌, ℕ, ◌++◌, List, take, drop, length}
-use Rattle.whole_calls.specs.Vocabulary.{CallAnswer, Reply, LocksIt, P, say, read_on, read_program, count_in, reply_to, IsNamed, Ask, Heard, Turn}
+use Rattle.whole_calls.specs.Vocabulary.{Reply, LocksIt, P, say, read_on, read_program, count_in, reply_to, IsNamed, Ask, Heard}
 use Rattle.plain_tree.specs.declared.answer.Answer.TheVariants as answers
 use Rattle.plain_tree.specs.declared.call.Call.TheVariants as calls
 use Rattle.path_walk.specs.declared.asks.Ask.TheVariants as ask
-use Rattle.path_walk.specs.declared.asks.Turn.TheVariants as turn
 use Rattle.whole_calls.specs.declared.reading.Read.{Read}
 use Rattle.whole_calls.specs.declared.reading.Read.TheVariants as reading
 
@@ -33,7 +32,3 @@ abbrev pub ReadFits : List ℕ → Read → Type 0
 ReadFits buffer reading.Lock = Unit {0}
 ReadFits buffer (reading.Part n offset) = Unit {0}
 ReadFits buffer (reading.Says count) = count ≤ length buffer
-
-abbrev pub ReadFitsOn : List ℕ → Turn Read CallAnswer → Type 0
-ReadFitsOn buffer (turn.Asks c) = ReadFits buffer c
-ReadFitsOn buffer (turn.Ends a) = Unit {0}

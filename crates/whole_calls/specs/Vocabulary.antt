@@ -2,13 +2,12 @@
 pub use Rattle.path_walk.specs.Vocabulary.{Do, UnlockInode, Name, P, Ret, Take, elements, face_or, file_for, piece, stopped, unmarked}
 pub use Rattle.inode_machine.specs.Vocabulary.{creates, dot, dotdot, has, piece_count, piece_len}
 unfoldable pub use Rattle.inode_machine.specs.Vocabulary.{same_name}
-pub use Rattle.path_walk.specs.Asks.{IsNamed, IsNamedInTwo, asks, checked_in, claimed_of, count_in, entered_of, face_of, hears, joined_of, loan_of, mark_at, marked_as, op_in, reply_to, sight_of, type_of, stepped, turned, wrote_of}
+pub use Rattle.path_walk.specs.Asks.{IsNamed, IsNamedInTwo, asks, checked_in, claimed_of, count_in, entered_of, face_of, hears, joined_of, loan_of, mark_at, marked_as, op_in, reply_to, sight_of, type_of, stepped, wrote_of}
 pub use Rattle.inode_machine.specs.Parts.{done, drop, failed, free_all, free_listed, full, give_up, mends_if_full, own_step, say, tail}
 pub use Rattle.path_walk.specs.Elements.{IsElement, name_in}
 pub use Rattle.path_walk.specs.Walks.{After, Stands, StandsAt, most_left, most_walked, walk_of, walked_to}
 pub use Rattle.path_walk.specs.declared.asks.Heard.{Heard}
 pub use Rattle.inode_machine.specs.World.Op.{Claim, Empty, Enter, Fill, Forget, Free, Install, Join, JoinFile, Leave, Lend, Release, SetDirectory, Store, Up, WriteFile}
-pub use Rattle.path_walk.specs.declared.asks.Turn.{Turn}
 pub use Rattle.inode_machine.specs.Inodes.{AtNothing, Face, OfDirectory, OfFile, InodeType, is_directory_type, open_refusal, stat_of_face}
 pub use Rattle.path_walk.specs.declared.asks.Ask.{Ask}
 pub use Rattle.inode_machine.specs.Descriptors.{checked_reply, close_program, dup_program, joined_on, read_on, read_program, refused_to, stat_program, write_from, write_piece, write_program, write_reply, writes, wrote_on}

@@ -1,9 +1,8 @@
 -- What is left of a write.
 use Rattle.std.specs.Prelude.{◌≡◌, ◌≤◌, ℕ, zero, suc, ◌+◌, ◌*◌, List, [], length}
-use Rattle.whole_calls.specs.Vocabulary.{piece, piece_count, piece_len, CallAnswer, Reply, Do, unmarked, JoinFile, WriteFile, Join, Leave, P, say, joined_on, refused_to, write_from, write_piece, write_program, write_reply, writes, wrote_on, reply_to, wrote_of, IsNamed, Ask, Turn}
+use Rattle.whole_calls.specs.Vocabulary.{piece, piece_count, piece_len, Reply, Do, unmarked, JoinFile, WriteFile, Join, Leave, P, say, joined_on, refused_to, write_from, write_piece, write_program, write_reply, writes, wrote_on, reply_to, wrote_of, IsNamed, Ask}
 use Rattle.plain_tree.specs.declared.call.Call.TheVariants as calls
 use Rattle.path_walk.specs.declared.asks.Ask.TheVariants as ask
-use Rattle.path_walk.specs.declared.asks.Turn.TheVariants as turn
 use Rattle.whole_calls.specs.declared.writing.Piece.{Piece}
 use Rattle.whole_calls.specs.declared.writing.Write.{Write}
 use Rattle.whole_calls.specs.declared.writing.Write.TheVariants as writing
@@ -44,7 +43,3 @@ WriteFits bytes (writing.Part p n offset) = IsPieceOf bytes p
 WriteFits bytes (writing.Leave p w) = IsPieceOf bytes p
 WriteFits bytes (writing.JoinNext p) = IsPieceOf bytes p
 WriteFits bytes (writing.Says a) = Unit {0}
-
-abbrev pub WriteFitsOn : List ℕ → Turn Write CallAnswer → Type 0
-WriteFitsOn bytes (turn.Asks c) = WriteFits bytes c
-WriteFitsOn bytes (turn.Ends a) = Unit {0}

@@ -1,16 +1,13 @@
 //! chdir.
-ghost use Rattle.std.specs.Prelude.{◌≡◌, ◌≢◌, ◌≤◌, ◌+◌, ℕ, All, [], List, Option, Some, length, false};
+ghost use Rattle.std.specs.Prelude.{◌≡◌, ◌≢◌, ℕ, All, [], List, Option, Some, false};
 ghost use Rattle.plain_tree.specs.declared.call.Call.TheVariants as calls;
 ghost use Rattle.plain_tree.specs.declared.step.Action.TheVariants as steps;
-ghost use Rattle.whole_calls.specs.Vocabulary.{asks, hears, mark_at, marked_as, op_in, stepped, turned, IsNamed, chdir_program, StandsAt, most_walked, walked_to};
-ghost use Rattle.whole_calls.specs.Calls.{chdir_of, chdir_stage, Fits, FitsOn, Fresh, chdir_after};
-ghost use Rattle.path_walk.specs.declared.walk.Goal.TheVariants as goals;
+ghost use Rattle.whole_calls.specs.Vocabulary.{asks, hears, mark_at, marked_as, op_in, stepped, IsNamed, chdir_program};
+ghost use Rattle.whole_calls.specs.Calls.{chdir_of, chdir_stage, Fits, Fresh};
 
 use crate::dropping::Dropping;
 use crate::ending::Ending;
-use path_walk::{
-    Ask, Goal, Heard, MOST_LISTED, Mark, Numbers, Query, Turn, Walk, Walked, is_directory, stopped,
-};
+use path_walk::{Ask, Goal, Heard, Mark, Numbers, Query, Walk, Walked, is_directory, stopped};
 use plain_tree::{Answer, Cause};
 
 /// The new directory first, then the old one's reference is dropped.
@@ -21,20 +18,6 @@ pub enum Chdir {
     Look(u32),
     SetDirectory(u32),
     Ends(Ending),
-}
-
-/// After a step of the walk.
-fn walked(walked: Walked) -> Chdir
-    ensures program { (path list : List ℕ)
-        → chdir_of path list result ≡ walked_to (steps.Chdir path) path (chdir_after path) goals.Inside list walked }
-    ensures fits { (path list : List ℕ) → StandsAt path walked → length list + most_walked path walked ≤ MOST_LISTED
-        → Fits path list (chdir_stage result) }
-{
-    match walked {
-        Walked::Walks(walk) => Chdir::Walks(walk),
-        Walked::Reached(number, _) => Chdir::Look(number),
-        Walked::Lost(why) => Chdir::Ends(Ending::Leaves(stopped(why))),
-    }
 }
 
 impl Chdir {
@@ -58,36 +41,7 @@ impl Chdir {
         }
     }
 
-    pub fn next(self, heard: &Heard, path: &[u8], list: &mut Numbers) -> Turn<Chdir, Answer>
-        requires nonzero { All (λ b. b ≢ 0) path.now }
-        requires fits { Fits path.now list.old (chdir_stage self) }
-        ensures goes { (text : List ℕ)
-            → hears text (chdir_of path.now list.old self) heard.now ≡ turned (chdir_of path.now list.new) (calls.Chdir path.now) result }
-        ensures fits { FitsOn chdir_stage path.now list.new result }
-    {
-        match self {
-            Chdir::Join => Turn::Asks(Chdir::Walks(Walk::Start)),
-            Chdir::Walks(walk) => Turn::Asks(walked(walk.next(Goal::Inside, heard, path, list))),
-            Chdir::Look(number) => {
-                if is_directory(&heard.sight()) {
-                    Turn::Asks(Chdir::SetDirectory(number))
-                } else {
-                    let answer = Answer::Failed(Cause::NotDirectory);
-                    Turn::Asks(Chdir::Ends(Ending::Gives(Dropping::UnlockInode(number), answer)))
-                }
-            }
-            Chdir::SetDirectory(_) => {
-                let dropping = Dropping::Down(heard.old());
-                Turn::Asks(Chdir::Ends(Ending::Gives(dropping, Answer::Done)))
-            }
-            Chdir::Ends(ending) => match ending.next(heard, list) {
-                Turn::Asks(ending) => Turn::Asks(Chdir::Ends(ending)),
-                Turn::Ends(answer) => Turn::Ends(answer),
-            },
-        }
-    }
-
-    /// The same in its place: true where it has ended, with its answer left in `says`.
+    /// Goes on in its place with what it hears: true where it has ended, with its answer left in `says`.
     #[inline(always)]
     pub fn step(
         &mut self,
@@ -103,7 +57,28 @@ impl Chdir {
             ≡ stepped (chdir_of path.now list.new self.new) (calls.Chdir path.now) says.new result }
         ensures fits { result ≡ false → Fits path.now list.new (chdir_stage self.new) }
     {
-        (*self).next(heard, path, list).leave(self, says)
+        match self {
+            Chdir::Join => *self = Chdir::Walks(Walk::Start),
+            Chdir::Walks(walk) => match walk.step(Goal::Inside, heard, path, list) {
+                Walked::Walks => {}
+                Walked::Reached(number, _) => *self = Chdir::Look(number),
+                Walked::Lost(why) => *self = Chdir::Ends(Ending::Leaves(stopped(why))),
+            },
+            Chdir::Look(number) => {
+                *self = if is_directory(&heard.sight()) {
+                    Chdir::SetDirectory(*number)
+                } else {
+                    let answer = Answer::Failed(Cause::NotDirectory);
+                    Chdir::Ends(Ending::Gives(Dropping::UnlockInode(*number), answer))
+                };
+            }
+            Chdir::SetDirectory(_) => {
+                let dropping = Dropping::Down(heard.old());
+                *self = Chdir::Ends(Ending::Gives(dropping, Answer::Done));
+            }
+            Chdir::Ends(ending) => return ending.step(heard, list, says),
+        }
+        false
     }
 
     pub fn mark(&self, heard: &Heard) -> Option<Mark>

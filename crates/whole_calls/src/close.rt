@@ -2,11 +2,11 @@
 ghost use Rattle.std.specs.Prelude.{◌≡◌, ◌≤◌, ℕ, [], List, Option, Some};
 ghost use Rattle.plain_tree.specs.declared.call.Call.TheVariants as calls;
 ghost use Rattle.plain_tree.specs.declared.step.Action.TheVariants as steps;
-ghost use Rattle.whole_calls.specs.Vocabulary.{asks, hears, loan_of, mark_at, marked_as, op_in, stepped, turned, IsNamed, close_program, inherit_program, lend_from, lend_on};
+ghost use Rattle.whole_calls.specs.Vocabulary.{asks, hears, loan_of, mark_at, marked_as, op_in, stepped, IsNamed, close_program, inherit_program, lend_from, lend_on};
 ghost use Rattle.whole_calls.specs.Closes.{close_of, inherit_of};
 
 use crate::dropping::Dropping;
-use path_walk::{Ask, Heard, Loan, Mark, Turn};
+use path_walk::{Ask, Heard, Loan, Mark};
 use plain_tree::{Answer, Cause};
 
 /// close: with the last descriptor the open file's reference is dropped.
@@ -39,32 +39,34 @@ impl Close {
         }
     }
 
-    pub fn next(self, heard: &Heard) -> Turn<Close, Answer>
-        ensures { (text : List ℕ) (fd : ℕ) → hears text (close_of fd self) heard.now ≡ turned (close_of fd) (calls.Close fd) result }
-    {
-        match self {
-            Close::Shut => match heard.shut() {
-                None => Turn::Ends(Answer::Failed(Cause::BadDescriptor)),
-                Some(None) => Turn::Asks(Close::Say),
-                Some(Some(number)) => Turn::Asks(Close::Join(number)),
-            },
-            Close::Join(number) => Turn::Asks(Close::Drops(Dropping::Down(number))),
-            Close::Drops(dropping) => match dropping.next(heard) {
-                Some(dropping) => Turn::Asks(Close::Drops(dropping)),
-                None => Turn::Asks(Close::Leave),
-            },
-            Close::Leave => Turn::Asks(Close::Say),
-            Close::Say => Turn::Ends(Answer::Done),
-        }
-    }
-
-    /// The same in its place: true where it has ended, with its answer left in `says`.
+    /// Goes on in its place with what it hears: true where it has ended, with its answer left in `says`.
     #[inline(always)]
     pub fn step(&mut self, heard: &Heard, says: &mut Answer) -> bool
         ensures { (text : List ℕ) (fd : ℕ)
             → hears text (close_of fd self.old) heard.now ≡ stepped (close_of fd self.new) (calls.Close fd) says.new result }
     {
-        (*self).next(heard).leave(self, says)
+        match self {
+            Close::Shut => match heard.shut() {
+                None => {
+                    *says = Answer::Failed(Cause::BadDescriptor);
+                    return true;
+                }
+                Some(None) => *self = Close::Say,
+                Some(Some(number)) => *self = Close::Join(number),
+            },
+            Close::Join(number) => *self = Close::Drops(Dropping::Down(*number)),
+            Close::Drops(dropping) => {
+                if dropping.step(heard) {
+                    *self = Close::Leave;
+                }
+            }
+            Close::Leave => *self = Close::Say,
+            Close::Say => {
+                *says = Answer::Done;
+                return true;
+            }
+        }
+        false
     }
 
     pub fn mark(&self) -> Option<Mark>
@@ -132,30 +134,28 @@ impl Inherit {
         }
     }
 
-    pub fn next(self, heard: &Heard) -> Turn<Inherit, Answer>
-        ensures { (text : List ℕ) (child : ℕ)
-            → hears text (inherit_of child self) heard.now ≡ turned (inherit_of child) (calls.Inherit child) result }
-    {
-        match self {
-            Inherit::Lend(left, _) => Turn::Asks(lent(left, heard.loan())),
-            Inherit::Directory => Turn::Asks(Inherit::Join(heard.old())),
-            Inherit::Join(old) => Turn::Asks(Inherit::Drops(Dropping::Down(old))),
-            Inherit::Drops(dropping) => match dropping.next(heard) {
-                Some(dropping) => Turn::Asks(Inherit::Drops(dropping)),
-                None => Turn::Asks(Inherit::Leave),
-            },
-            Inherit::Leave => Turn::Asks(Inherit::Release),
-            Inherit::Release => Turn::Ends(Answer::Done),
-        }
-    }
-
-    /// The same in its place: true where it has ended, with its answer left in `says`.
+    /// Goes on in its place with what it hears: true where it has ended, with its answer left in `says`.
     #[inline(always)]
     pub fn step(&mut self, heard: &Heard, says: &mut Answer) -> bool
         ensures { (text : List ℕ) (child : ℕ)
             → hears text (inherit_of child self.old) heard.now ≡ stepped (inherit_of child self.new) (calls.Inherit child) says.new result }
     {
-        (*self).next(heard).leave(self, says)
+        match self {
+            Inherit::Lend(left, _) => *self = lent(*left, heard.loan()),
+            Inherit::Directory => *self = Inherit::Join(heard.old()),
+            Inherit::Join(old) => *self = Inherit::Drops(Dropping::Down(*old)),
+            Inherit::Drops(dropping) => {
+                if dropping.step(heard) {
+                    *self = Inherit::Leave;
+                }
+            }
+            Inherit::Leave => *self = Inherit::Release,
+            Inherit::Release => {
+                *says = Answer::Done;
+                return true;
+            }
+        }
+        false
     }
 
     pub fn mark(&self, heard: &Heard) -> Option<Mark>

@@ -2,11 +2,11 @@
 ghost use Rattle.std.specs.Prelude.{◌≡◌, ℕ, [], List, Option, Some};
 ghost use Rattle.plain_tree.specs.declared.call.Call.TheVariants as calls;
 ghost use Rattle.plain_tree.specs.declared.step.Action.TheVariants as steps;
-ghost use Rattle.whole_calls.specs.Vocabulary.{asks, hears, mark_at, marked_as, op_in, stepped, turned, face_of, IsNamed, dup_program, stat_program, stat_of_face};
+ghost use Rattle.whole_calls.specs.Vocabulary.{asks, hears, mark_at, marked_as, op_in, stepped, face_of, IsNamed, dup_program, stat_program, stat_of_face};
 ghost use Rattle.whole_calls.specs.Calls.{dup_of, stat_of};
 ghost use Rattle.plain_tree.specs.declared.answer.Answer.TheVariants as answers;
 
-use path_walk::{Ask, Face, Heard, InodeType, Mark, Turn};
+use path_walk::{Ask, Face, Heard, InodeType, Mark};
 use plain_tree::{Answer, Cause, Full, NodeType, Stat};
 
 /// dup: one step for descriptor and count; without an open file the reply alone.
@@ -33,26 +33,27 @@ impl Dup {
         }
     }
 
-    pub fn next(self, heard: &Heard) -> Turn<Dup, Answer>
-        ensures { (text : List ℕ) (fd : ℕ) → hears text (dup_of fd self) heard.now ≡ turned (dup_of fd) (calls.Dup fd) result }
-    {
-        match self {
-            Dup::Double => match heard.doubled() {
-                None => Turn::Ends(Answer::Failed(Cause::BadDescriptor)),
-                Some(None) => Turn::Asks(Dup::Says(Answer::Full(Full::Descriptors))),
-                Some(Some(fd)) => Turn::Asks(Dup::Says(Answer::Fd(fd))),
-            },
-            Dup::Says(answer) => Turn::Ends(answer),
-        }
-    }
-
-    /// The same in its place: true where it has ended, with its answer left in `says`.
+    /// Goes on in its place with what it hears: true where it has ended, with its answer left in `says`.
     #[inline(always)]
     pub fn step(&mut self, heard: &Heard, says: &mut Answer) -> bool
         ensures { (text : List ℕ) (fd : ℕ)
             → hears text (dup_of fd self.old) heard.now ≡ stepped (dup_of fd self.new) (calls.Dup fd) says.new result }
     {
-        (*self).next(heard).leave(self, says)
+        match self {
+            Dup::Double => match heard.doubled() {
+                None => {
+                    *says = Answer::Failed(Cause::BadDescriptor);
+                    return true;
+                }
+                Some(None) => *self = Dup::Says(Answer::Full(Full::Descriptors)),
+                Some(Some(fd)) => *self = Dup::Says(Answer::Fd(fd)),
+            },
+            Dup::Says(answer) => {
+                *says = *answer;
+                return true;
+            }
+        }
+        false
     }
 
     pub fn mark(&self, heard: &Heard) -> Option<Mark>
@@ -110,28 +111,29 @@ impl Fstat {
         }
     }
 
-    pub fn next(self, heard: &Heard) -> Turn<Fstat, Answer>
-        ensures { (text : List ℕ) (fd : ℕ) → hears text (stat_of fd self) heard.now ≡ turned (stat_of fd) (calls.Fstat fd) result }
-    {
-        match self {
-            Fstat::Look => match heard.stat() {
-                None => Turn::Ends(Answer::Failed(Cause::BadDescriptor)),
-                Some((number, face)) => {
-                    Turn::Asks(Fstat::UnlockInode(u32::from(number), stat_answer(number, &face)))
-                }
-            },
-            Fstat::UnlockInode(_, answer) => Turn::Asks(Fstat::Says(answer)),
-            Fstat::Says(answer) => Turn::Ends(answer),
-        }
-    }
-
-    /// The same in its place: true where it has ended, with its answer left in `says`.
+    /// Goes on in its place with what it hears: true where it has ended, with its answer left in `says`.
     #[inline(always)]
     pub fn step(&mut self, heard: &Heard, says: &mut Answer) -> bool
         ensures { (text : List ℕ) (fd : ℕ)
             → hears text (stat_of fd self.old) heard.now ≡ stepped (stat_of fd self.new) (calls.Fstat fd) says.new result }
     {
-        (*self).next(heard).leave(self, says)
+        match self {
+            Fstat::Look => match heard.stat() {
+                None => {
+                    *says = Answer::Failed(Cause::BadDescriptor);
+                    return true;
+                }
+                Some((number, face)) => {
+                    *self = Fstat::UnlockInode(u32::from(number), stat_answer(number, &face));
+                }
+            },
+            Fstat::UnlockInode(_, answer) => *self = Fstat::Says(*answer),
+            Fstat::Says(answer) => {
+                *says = *answer;
+                return true;
+            }
+        }
+        false
     }
 
     pub fn mark(&self) -> Option<Mark>

@@ -28,23 +28,23 @@ impl Dropping {
         }
     }
 
-    /// What comes next; nothing where the reference is gone.
-    pub fn next(self, heard: &Heard) -> Option<Dropping>
-        ensures { (text : List ℕ) (k : P Reply) → hears text (dropping_of k self) heard.now ≡ after_drop k result }
+    /// Goes on in its place: true where the reference is gone.
+    pub fn step(&mut self, heard: &Heard) -> bool
+        ensures { (text : List ℕ) (k : P Reply) → hears text (dropping_of k self.old) heard.now ≡ after_drop k self.new result }
     {
         match self {
-            Dropping::UnlockInode(n) => Some(Dropping::Down(n)),
+            Dropping::UnlockInode(n) => *self = Dropping::Down(*n),
             Dropping::Down(n) => {
-                if heard.is() {
-                    Some(Dropping::Free(n))
-                } else {
-                    None
+                if !heard.is() {
+                    return true;
                 }
+                *self = Dropping::Free(*n);
             }
-            Dropping::Free(n) => Some(Dropping::GiveFreed(n)),
-            Dropping::GiveFreed(n) => Some(Dropping::Forget(n)),
-            Dropping::Forget(_) => None,
+            Dropping::Free(n) => *self = Dropping::GiveFreed(*n),
+            Dropping::GiveFreed(n) => *self = Dropping::Forget(*n),
+            Dropping::Forget(_) => return true,
         }
+        false
     }
 
     pub fn mark(&self) -> Option<Mark>

@@ -1,10 +1,10 @@
 //! The end of a call with a transaction.
 ghost use Rattle.std.specs.Prelude.{◌≡◌, ℕ, List, Option, Some};
-ghost use Rattle.whole_calls.specs.Vocabulary.{Reply, Call, Action, asks, hears, mark_at, marked_as, op_in, reply_to, stepped, turned, IsNamed, P, free_all, say, tail};
+ghost use Rattle.whole_calls.specs.Vocabulary.{Reply, Call, Action, asks, hears, mark_at, marked_as, op_in, reply_to, stepped, IsNamed, P, free_all, say, tail};
 ghost use Rattle.whole_calls.specs.Ends.{after_free, ending_of, freeing_of};
 
 use crate::dropping::Dropping;
-use path_walk::{Ask, Heard, Mark, Numbers, Query, Turn};
+use path_walk::{Ask, Heard, Mark, Numbers, Query};
 use plain_tree::Answer;
 
 /// An inode of the call's list is freed in a transaction of its own.
@@ -29,18 +29,21 @@ impl Freeing {
         }
     }
 
-    pub fn next(self, heard: &Heard) -> Option<Freeing>
-        ensures { (text : List ℕ) (k : P Reply) → hears text (freeing_of k self) heard.now ≡ after_free k result }
+    /// Goes on in its place: true where the inode is freed, and the transaction left.
+    pub fn step(&mut self, heard: &Heard) -> bool
+        ensures { (text : List ℕ) (k : P Reply) → hears text (freeing_of k self.old) heard.now ≡ after_free k self.new result }
     {
         match self {
-            Freeing::Join(n) => Some(Freeing::Take(n)),
-            Freeing::Take(n) => Some(Freeing::Frees(Dropping::Free(n))),
-            Freeing::Frees(dropping) => match dropping.next(heard) {
-                Some(dropping) => Some(Freeing::Frees(dropping)),
-                None => Some(Freeing::Leave),
-            },
-            Freeing::Leave => None,
+            Freeing::Join(n) => *self = Freeing::Take(*n),
+            Freeing::Take(n) => *self = Freeing::Frees(Dropping::Free(*n)),
+            Freeing::Frees(dropping) => {
+                if dropping.step(heard) {
+                    *self = Freeing::Leave;
+                }
+            }
+            Freeing::Leave => return true,
         }
+        false
     }
 
     pub fn mark(&self) -> Option<Mark>
@@ -86,34 +89,34 @@ impl Ending {
         }
     }
 
-    pub fn next(self, heard: &Heard, list: &mut Numbers) -> Turn<Ending, Answer>
-        ensures { (text : List ℕ) (call : Call)
-            → hears text (ending_of call list.old self) heard.now ≡ turned (ending_of call list.new) call result }
-    {
-        match self {
-            Ending::GivesTwo(dropping, n, answer) => match dropping.next(heard) {
-                Some(dropping) => Turn::Asks(Ending::GivesTwo(dropping, n, answer)),
-                None => Turn::Asks(Ending::Gives(Dropping::UnlockInode(n), answer)),
-            },
-            Ending::Gives(dropping, answer) => match dropping.next(heard) {
-                Some(dropping) => Turn::Asks(Ending::Gives(dropping, answer)),
-                None => Turn::Asks(Ending::Leaves(answer)),
-            },
-            Ending::Leaves(answer) => Turn::Asks(free_next(list, answer)),
-            Ending::Frees(freeing, answer) => match freeing.next(heard) {
-                Some(freeing) => Turn::Asks(Ending::Frees(freeing, answer)),
-                None => Turn::Asks(free_next(list, answer)),
-            },
-            Ending::Says(answer) => Turn::Ends(answer),
-        }
-    }
-
-    /// The same in its place: true where it has ended, with its answer left in `says`.
+    /// Goes on in its place with what it hears: true where it has ended, with its answer left in `says`.
     pub fn step(&mut self, heard: &Heard, list: &mut Numbers, says: &mut Answer) -> bool
         ensures { (text : List ℕ) (call : Call)
             → hears text (ending_of call list.old self.old) heard.now ≡ stepped (ending_of call list.new self.new) call says.new result }
     {
-        (*self).next(heard, list).leave(self, says)
+        match self {
+            Ending::GivesTwo(dropping, n, answer) => {
+                if dropping.step(heard) {
+                    *self = Ending::Gives(Dropping::UnlockInode(*n), *answer);
+                }
+            }
+            Ending::Gives(dropping, answer) => {
+                if dropping.step(heard) {
+                    *self = Ending::Leaves(*answer);
+                }
+            }
+            Ending::Leaves(answer) => *self = free_next(list, *answer),
+            Ending::Frees(freeing, answer) => {
+                if freeing.step(heard) {
+                    *self = free_next(list, *answer);
+                }
+            }
+            Ending::Says(answer) => {
+                *says = *answer;
+                return true;
+            }
+        }
+        false
     }
 
     pub fn mark(&self) -> Option<Mark>

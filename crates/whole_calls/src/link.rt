@@ -1,16 +1,14 @@
 //! link: the count goes up first, and down again where the name can't be entered.
 ghost use Rattle.std.specs.Prelude.{◌≡◌, ◌≢◌, ◌≤◌, ◌+◌, ◌++◌, ℕ, All, [], List, Option, Some, length, false};
-ghost use Rattle.whole_calls.specs.Vocabulary.{elements, asks, entered_of, face_of, hears, mark_at, marked_as, op_in, reply_to, sight_of, stepped, turned, IsNamedInTwo, name_in, IsElement, face_or, bump_refused, link_at, link_found, link_program, lower, named_on, give_up, tail, StandsAt, most_walked, walked_to, Heard};
+ghost use Rattle.whole_calls.specs.Vocabulary.{elements, asks, entered_of, face_of, hears, mark_at, marked_as, op_in, reply_to, sight_of, stepped, IsNamedInTwo, name_in, IsElement, face_or, bump_refused, link_at, link_found, link_program, lower, named_on, give_up, tail, Heard};
 ghost use Rattle.plain_tree.specs.declared.call.Call.TheVariants as calls;
-ghost use Rattle.plain_tree.specs.declared.step.Action.TheVariants as steps;
-ghost use Rattle.whole_calls.specs.Links.{link_action, link_of, new_after, old_after, link_stage, LinkFits, LinkFitsOn, Fresh, Past, took};
+ghost use Rattle.whole_calls.specs.Links.{link_action, link_of, link_stage, LinkFits, Fresh, Past, took};
 ghost use Rattle.whole_calls.specs.declared.link.Link.TheVariants as linking;
-ghost use Rattle.path_walk.specs.declared.walk.Goal.TheVariants as goals;
 
 use crate::dropping::Dropping;
 use crate::ending::Ending;
 use path_walk::{
-    Ask, Element, Entered, Face, Goal, Heard, MOST_LISTED, Mark, Numbers, Query, Sight, Turn, Walk,
+    Ask, Element, Entered, Face, Goal, Heard, MOST_LISTED, Mark, Numbers, Query, Sight, Walk,
     Walked, face_or, is_directory, is_live, next_element, stopped,
 };
 use plain_tree::{Answer, Cause, Full};
@@ -42,33 +40,6 @@ fn refuse(number: u32, answer: Answer) -> Link
     ensures past { link_stage result ≡ Past }
 {
     Link::Ends(Ending::Gives(Dropping::UnlockInode(number), answer))
-}
-
-fn walked_old(walked: Walked) -> Link
-    ensures program { (old new list : List ℕ)
-        → link_of old new list result ≡ walked_to (steps.Find old) old (old_after old new) goals.Inside list walked }
-    ensures fits { (old new list : List ℕ) → StandsAt old walked
-        → length list + most_walked old walked + length (elements new) ≤ MOST_LISTED → LinkFits old new list (link_stage result) }
-{
-    match walked {
-        Walked::Walks(walk) => Link::WalksOld(walk),
-        Walked::Reached(number, _) => Link::Take(number),
-        Walked::Lost(why) => Link::Ends(Ending::Leaves(stopped(why))),
-    }
-}
-
-fn walked_new(walked: Walked, number: u32) -> Link
-    ensures program { (old new list : List ℕ)
-        → link_of old new list result ≡ walked_to (steps.Enter new) new (new_after old new number) goals.Parent list walked }
-    ensures fits { (old new list : List ℕ) → StandsAt new walked → length list + most_walked new walked ≤ MOST_LISTED
-        → LinkFits old new list (link_stage result) }
-{
-    match walked {
-        Walked::Walks(walk) => Link::WalksNew(walk, number),
-        Walked::Reached(directory, Some(element)) => Link::Look(directory, element, number),
-        Walked::Reached(_, None) => Link::TakeRaised(number, Answer::Failed(Cause::NoEntry)),
-        Walked::Lost(why) => Link::TakeRaised(number, stopped(why)),
-    }
 }
 
 /// Why a link isn't raised: there are too many.
@@ -180,63 +151,7 @@ impl Link {
         }
     }
 
-    pub fn next(
-        self,
-        heard: &Heard,
-        old: &[u8],
-        new: &[u8],
-        list: &mut Numbers,
-    ) -> Turn<Link, Answer>
-        requires old_nonzero { All (λ b. b ≢ 0) old.now }
-        requires new_nonzero { All (λ b. b ≢ 0) new.now }
-        requires fits { LinkFits old.now new.now list.old (link_stage self) }
-        ensures goes { (text : List ℕ)
-            → hears text (link_of old.now new.now list.old self) heard.now
-            ≡ turned (link_of old.now new.now list.new) (calls.Link old.now new.now) result }
-        ensures fits { LinkFitsOn old.now new.now list.new result }
-    {
-        let next = match self {
-            Link::Join => Link::WalksOld(Walk::Start),
-            Link::WalksOld(walk) => walked_old(walk.next(Goal::Inside, heard, old, list)),
-            Link::Take(number) => took(number, &heard.sight()),
-            Link::Raise(number, _) => Link::UnlockInode(number),
-            Link::UnlockInode(number) => gave(number, new),
-            Link::WalksNew(walk, number) => {
-                walked_new(walk.next(Goal::Parent, heard, new, list), number)
-            }
-            Link::Look(directory, element, number) => {
-                let sight = heard.sight();
-                if is_live(&sight) {
-                    looked(directory, element, number, sight.found)
-                } else {
-                    fail(directory, number, Answer::Failed(Cause::NoEntry))
-                }
-            }
-            Link::Enter(directory, _, number) => entered(directory, number, heard.entered()),
-            Link::GiveNamed(dropping, number) => match dropping.next(heard) {
-                Some(dropping) => Link::GiveNamed(dropping, number),
-                None => Link::Ends(Ending::Gives(Dropping::Down(number), Answer::Done)),
-            },
-            Link::GiveFailed(dropping, number, answer) => match dropping.next(heard) {
-                Some(dropping) => Link::GiveFailed(dropping, number, answer),
-                None => Link::TakeRaised(number, answer),
-            },
-            Link::TakeRaised(number, answer) => {
-                Link::Lower(number, face_or(&heard.sight()), answer)
-            }
-            Link::Lower(number, _, answer) => {
-                Link::Ends(Ending::Gives(Dropping::UnlockInode(number), answer))
-            }
-            Link::Ends(ending) => match ending.next(heard, list) {
-                Turn::Asks(ending) => Link::Ends(ending),
-                Turn::Ends(answer) => return Turn::Ends(answer),
-            },
-        };
-        Turn::Asks(next)
-    }
-
-    /// The same in its place: true where it has ended, with its answer left in `says`.
-    #[inline(always)]
+    /// Goes on in its place with what it hears: true where it has ended, with its answer left in `says`.
     pub fn step(
         &mut self,
         heard: &Heard,
@@ -253,7 +168,56 @@ impl Link {
             ≡ stepped (link_of old.now new.now list.new self.new) (calls.Link old.now new.now) says.new result }
         ensures fits { result ≡ false → LinkFits old.now new.now list.new (link_stage self.new) }
     {
-        (*self).next(heard, old, new, list).leave(self, says)
+        match self {
+            Link::Join => *self = Link::WalksOld(Walk::Start),
+            Link::WalksOld(walk) => match walk.step(Goal::Inside, heard, old, list) {
+                Walked::Walks => {}
+                Walked::Reached(number, _) => *self = Link::Take(number),
+                Walked::Lost(why) => *self = Link::Ends(Ending::Leaves(stopped(why))),
+            },
+            Link::Take(number) => *self = took(*number, &heard.sight()),
+            Link::Raise(number, _) => *self = Link::UnlockInode(*number),
+            Link::UnlockInode(number) => *self = gave(*number, new),
+            Link::WalksNew(walk, number) => match walk.step(Goal::Parent, heard, new, list) {
+                Walked::Walks => {}
+                Walked::Reached(directory, Some(element)) => {
+                    *self = Link::Look(directory, element, *number);
+                }
+                Walked::Reached(_, None) => {
+                    *self = Link::TakeRaised(*number, Answer::Failed(Cause::NoEntry));
+                }
+                Walked::Lost(why) => *self = Link::TakeRaised(*number, stopped(why)),
+            },
+            Link::Look(directory, element, number) => {
+                let sight = heard.sight();
+                *self = if is_live(&sight) {
+                    looked(*directory, *element, *number, sight.found)
+                } else {
+                    fail(*directory, *number, Answer::Failed(Cause::NoEntry))
+                };
+            }
+            Link::Enter(directory, _, number) => {
+                *self = entered(*directory, *number, heard.entered());
+            }
+            Link::GiveNamed(dropping, number) => {
+                if dropping.step(heard) {
+                    *self = Link::Ends(Ending::Gives(Dropping::Down(*number), Answer::Done));
+                }
+            }
+            Link::GiveFailed(dropping, number, answer) => {
+                if dropping.step(heard) {
+                    *self = Link::TakeRaised(*number, *answer);
+                }
+            }
+            Link::TakeRaised(number, answer) => {
+                *self = Link::Lower(*number, face_or(&heard.sight()), *answer);
+            }
+            Link::Lower(number, _, answer) => {
+                *self = Link::Ends(Ending::Gives(Dropping::UnlockInode(*number), *answer));
+            }
+            Link::Ends(ending) => return ending.step(heard, list, says),
+        }
+        false
     }
 
     pub fn mark(&self, heard: &Heard, new: &[u8]) -> Option<Mark>

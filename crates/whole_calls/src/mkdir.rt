@@ -1,19 +1,18 @@
 //! mkdir: the new directory with its two entries first, then its name and its parent's count.
-ghost use Rattle.std.specs.Prelude.{◌≡◌, ◌≢◌, ◌≤◌, ◌+◌, ℕ, All, [], List, Option, Some, length, false};
-ghost use Rattle.whole_calls.specs.Vocabulary.{elements, asks, claimed_of, entered_of, face_of, hears, mark_at, marked_as, op_in, reply_to, sight_of, stepped, turned, IsNamed, name_in, IsElement, face_or, mkdir_on, mkdir_program, mkdir_refused, mkdir_with, name_directory, give_up, tail, StandsAt, most_walked, walked_to, Heard};
+ghost use Rattle.std.specs.Prelude.{◌≡◌, ◌≢◌, ◌≤◌, ℕ, All, [], List, Option, Some, length, false};
+ghost use Rattle.whole_calls.specs.Vocabulary.{elements, asks, claimed_of, entered_of, face_of, hears, mark_at, marked_as, op_in, reply_to, sight_of, stepped, IsNamed, name_in, IsElement, face_or, mkdir_on, mkdir_program, mkdir_refused, mkdir_with, name_directory, give_up, tail, Heard};
 ghost use Rattle.plain_tree.specs.declared.call.Call.TheVariants as calls;
 ghost use Rattle.plain_tree.specs.declared.step.Action.TheVariants as steps;
-ghost use Rattle.whole_calls.specs.Calls.{Fits, FitsOn, Fresh, Past};
-ghost use Rattle.whole_calls.specs.Makes.{mkdir_after, mkdir_of, mkdir_stage};
+ghost use Rattle.whole_calls.specs.Calls.{Fits, Fresh, Past};
+ghost use Rattle.whole_calls.specs.Makes.{mkdir_of, mkdir_stage};
 ghost use Rattle.whole_calls.specs.declared.mkdir.Mkdir.TheVariants as making;
-ghost use Rattle.path_walk.specs.declared.walk.Goal.TheVariants as goals;
 
 use crate::dropping::Dropping;
 use crate::ending::Ending;
 use crate::opens::NewName;
 use path_walk::{
     Ask, Claimed, Element, Entered, Face, Goal, Heard, InodeType, MOST_LISTED, Mark, Numbers,
-    Query, Sight, Turn, Walk, Walked, face_or, is_live, next_element, stopped,
+    Query, Sight, Walk, Walked, face_or, is_live, next_element, stopped,
 };
 use plain_tree::{Answer, Cause, Full};
 
@@ -41,20 +40,6 @@ fn refuse(number: u32, answer: Answer) -> Mkdir
     ensures past { mkdir_stage result ≡ Past }
 {
     Mkdir::Ends(Ending::Gives(Dropping::UnlockInode(number), answer))
-}
-
-fn walked(walked: Walked) -> Mkdir
-    ensures program { (path list : List ℕ)
-        → mkdir_of path list result ≡ walked_to (steps.Mkdir path) path (mkdir_after path) goals.Parent list walked }
-    ensures fits { (path list : List ℕ) → StandsAt path walked → length list + most_walked path walked ≤ MOST_LISTED
-        → Fits path list (mkdir_stage result) }
-{
-    match walked {
-        Walked::Walks(walk) => Mkdir::Walks(walk),
-        Walked::Reached(directory, Some(element)) => Mkdir::Look(directory, element),
-        Walked::Reached(_, None) => Mkdir::Ends(Ending::Leaves(Answer::Failed(Cause::NoEntry))),
-        Walked::Lost(why) => Mkdir::Ends(Ending::Leaves(stopped(why))),
-    }
 }
 
 fn begin(path: &[u8]) -> Mkdir
@@ -157,56 +142,7 @@ impl Mkdir {
         }
     }
 
-    pub fn next(self, heard: &Heard, path: &[u8], list: &mut Numbers) -> Turn<Mkdir, Answer>
-        requires nonzero { All (λ b. b ≢ 0) path.now }
-        requires fits { Fits path.now list.old (mkdir_stage self) }
-        ensures goes { (text : List ℕ)
-            → hears text (mkdir_of path.now list.old self) heard.now ≡ turned (mkdir_of path.now list.new) (calls.Mkdir path.now) result }
-        ensures fits { FitsOn mkdir_stage path.now list.new result }
-    {
-        let next = match self {
-            Mkdir::Join => begin(path),
-            Mkdir::Walks(walk) => walked(walk.next(Goal::Parent, heard, path, list)),
-            Mkdir::Look(directory, element) => {
-                let sight = heard.sight();
-                if is_live(&sight) {
-                    looked(directory, element, &sight)
-                } else {
-                    refuse(directory, Answer::Failed(Cause::NoEntry))
-                }
-            }
-            Mkdir::Claim(directory, element, face) => {
-                claimed(directory, element, face, heard.claimed())
-            }
-            Mkdir::ForgetSame(directory) => refuse(directory, Answer::Full(Full::MemInodes)),
-            Mkdir::TakeNew(name, face) => Mkdir::StoreNew(name, face),
-            Mkdir::StoreNew(name, face) => Mkdir::Fill(name, face),
-            Mkdir::Fill(name, face) => {
-                if heard.is() {
-                    Mkdir::Enter(name, face)
-                } else {
-                    Mkdir::Unmake(name, Answer::Full(Full::Blocks))
-                }
-            }
-            Mkdir::Enter(name, face) => entered(name, face, heard.entered()),
-            Mkdir::Raise(name, _) => {
-                let dropping = Dropping::UnlockInode(name.directory);
-                Mkdir::Ends(Ending::GivesTwo(dropping, name.number, Answer::Done))
-            }
-            Mkdir::Unmake(name, answer) => {
-                let dropping = Dropping::UnlockInode(name.number);
-                Mkdir::Ends(Ending::GivesTwo(dropping, name.directory, answer))
-            }
-            Mkdir::Ends(ending) => match ending.next(heard, list) {
-                Turn::Asks(ending) => Mkdir::Ends(ending),
-                Turn::Ends(answer) => return Turn::Ends(answer),
-            },
-        };
-        Turn::Asks(next)
-    }
-
-    /// The same in its place: true where it has ended, with its answer left in `says`.
-    #[inline(always)]
+    /// Goes on in its place with what it hears: true where it has ended, with its answer left in `says`.
     pub fn step(
         &mut self,
         heard: &Heard,
@@ -221,7 +157,53 @@ impl Mkdir {
             ≡ stepped (mkdir_of path.now list.new self.new) (calls.Mkdir path.now) says.new result }
         ensures fits { result ≡ false → Fits path.now list.new (mkdir_stage self.new) }
     {
-        (*self).next(heard, path, list).leave(self, says)
+        match self {
+            Mkdir::Join => *self = begin(path),
+            Mkdir::Walks(walk) => match walk.step(Goal::Parent, heard, path, list) {
+                Walked::Walks => {}
+                Walked::Reached(directory, Some(element)) => {
+                    *self = Mkdir::Look(directory, element);
+                }
+                Walked::Reached(_, None) => {
+                    *self = Mkdir::Ends(Ending::Leaves(Answer::Failed(Cause::NoEntry)));
+                }
+                Walked::Lost(why) => *self = Mkdir::Ends(Ending::Leaves(stopped(why))),
+            },
+            Mkdir::Look(directory, element) => {
+                let sight = heard.sight();
+                *self = if is_live(&sight) {
+                    looked(*directory, *element, &sight)
+                } else {
+                    refuse(*directory, Answer::Failed(Cause::NoEntry))
+                };
+            }
+            Mkdir::Claim(directory, element, face) => {
+                *self = claimed(*directory, *element, *face, heard.claimed());
+            }
+            Mkdir::ForgetSame(directory) => {
+                *self = refuse(*directory, Answer::Full(Full::MemInodes));
+            }
+            Mkdir::TakeNew(name, face) => *self = Mkdir::StoreNew(*name, *face),
+            Mkdir::StoreNew(name, face) => *self = Mkdir::Fill(*name, *face),
+            Mkdir::Fill(name, face) => {
+                *self = if heard.is() {
+                    Mkdir::Enter(*name, *face)
+                } else {
+                    Mkdir::Unmake(*name, Answer::Full(Full::Blocks))
+                };
+            }
+            Mkdir::Enter(name, face) => *self = entered(*name, *face, heard.entered()),
+            Mkdir::Raise(name, _) => {
+                let dropping = Dropping::UnlockInode(name.directory);
+                *self = Mkdir::Ends(Ending::GivesTwo(dropping, name.number, Answer::Done));
+            }
+            Mkdir::Unmake(name, answer) => {
+                let dropping = Dropping::UnlockInode(name.number);
+                *self = Mkdir::Ends(Ending::GivesTwo(dropping, name.directory, *answer));
+            }
+            Mkdir::Ends(ending) => return ending.step(heard, list, says),
+        }
+        false
     }
 
     pub fn mark(&self, heard: &Heard, path: &[u8]) -> Option<Mark>

@@ -1,17 +1,17 @@
 //! open: what is there is opened, or a new file made.
-ghost use Rattle.std.specs.Prelude.{◌≡◌, ◌≢◌, ◌≤◌, ◌+◌, ℕ, All, [], List, Option, Some, length, ◌==◌, false};
-ghost use Rattle.whole_calls.specs.Vocabulary.{creates, has, elements, asks, claimed_of, entered_of, face_of, hears, mark_at, marked_as, op_in, reply_to, sight_of, type_of, stepped, turned, IsNamed, name_in, IsElement, face_or, open_refusal, create_found, empties, make_on, make_with, open_face, open_program, give_up, tail, StandsAt, most_walked, walked_to, Heard};
+ghost use Rattle.std.specs.Prelude.{◌≡◌, ◌≢◌, ◌≤◌, ℕ, All, [], List, Option, Some, length, ◌==◌, false};
+ghost use Rattle.whole_calls.specs.Vocabulary.{creates, has, elements, asks, claimed_of, entered_of, face_of, hears, mark_at, marked_as, op_in, reply_to, sight_of, type_of, stepped, IsNamed, name_in, IsElement, face_or, open_refusal, create_found, empties, make_on, make_with, open_face, open_program, give_up, tail, Heard};
 ghost use Rattle.plain_tree.specs.declared.call.Call.TheVariants as calls;
 ghost use Rattle.plain_tree.specs.declared.step.Action.TheVariants as steps;
-ghost use Rattle.whole_calls.specs.Calls.{Fits, FitsOn, Fresh, Past};
-ghost use Rattle.whole_calls.specs.Opens.{installed, open_after, open_goal, open_of, open_stage};
+ghost use Rattle.whole_calls.specs.Calls.{Fits, Fresh, Past};
+ghost use Rattle.whole_calls.specs.Opens.{installed, open_goal, open_of, open_stage};
 ghost use Rattle.whole_calls.specs.declared.opens.Open.TheVariants as opening;
 
 use crate::dropping::Dropping;
 use crate::ending::Ending;
 use path_walk::{
     Ask, Claimed, Element, Entered, Goal, Heard, InodeType, MOST_LISTED, Mark, Numbers, Query,
-    Sight, Turn, Walk, Walked, face_or, is_live, next_element, stopped,
+    Sight, Walk, Walked, face_or, is_live, next_element, stopped,
 };
 use plain_tree::{Answer, Cause, Full};
 
@@ -121,21 +121,6 @@ fn refuse(number: u32, answer: Answer) -> Open
     ensures past { open_stage result ≡ Past }
 {
     Open::Ends(Ending::Gives(Dropping::UnlockInode(number), answer))
-}
-
-/// After a step of the walk.
-fn walked(walked: Walked, flags: u32) -> Open
-    ensures program { (path list : List ℕ)
-        → open_of path flags list result ≡ walked_to (steps.Open path flags) path (open_after path flags) (open_goal flags) list walked }
-    ensures fits { (path list : List ℕ) → StandsAt path walked → length list + most_walked path walked ≤ MOST_LISTED
-        → Fits path list (open_stage result) }
-{
-    match walked {
-        Walked::Walks(walk) => Open::Walks(walk),
-        Walked::Reached(number, None) => Open::Take(number),
-        Walked::Reached(directory, Some(element)) => Open::Look(directory, element),
-        Walked::Lost(why) => Open::Ends(Ending::Leaves(stopped(why))),
-    }
 }
 
 /// A transaction is joined.
@@ -276,79 +261,7 @@ impl Open {
         }
     }
 
-    pub fn next(
-        self,
-        heard: &Heard,
-        path: &[u8],
-        flags: u32,
-        list: &mut Numbers,
-    ) -> Turn<Open, Answer>
-        requires nonzero { All (λ b. b ≢ 0) path.now }
-        requires fits { Fits path.now list.old (open_stage self) }
-        ensures goes { (text : List ℕ)
-            → hears text (open_of path.now flags list.old self) heard.now
-            ≡ turned (open_of path.now flags list.new) (calls.Open path.now flags) result }
-        ensures fits { FitsOn open_stage path.now list.new result }
-    {
-        let next = match self {
-            Open::Join => begin(path, flags),
-            Open::Walks(walk) => walked(walk.next(goal(flags), heard, path, list), flags),
-            Open::Take(number) => took(number, flags, &heard.sight()),
-            Open::Slot(found) => {
-                if heard.is() {
-                    Open::Install(found)
-                } else {
-                    refuse(found.number, Answer::Full(Full::OpenFiles))
-                }
-            }
-            Open::Install(found) => installed(found, flags, heard.start()),
-            Open::Empty(number, fd) => Open::UnlockInode(number, fd),
-            Open::UnlockInode(_, fd) => Open::Ends(Ending::Leaves(Answer::Fd(fd))),
-            Open::Look(directory, element) => {
-                let sight = heard.sight();
-                if is_live(&sight) {
-                    looked(directory, element, sight.found)
-                } else {
-                    refuse(directory, Answer::Failed(Cause::NoEntry))
-                }
-            }
-            Open::Up(directory, number) => {
-                if heard.is() {
-                    Open::GiveParent(Dropping::UnlockInode(directory), number)
-                } else {
-                    refuse(directory, Answer::Full(Full::MemInodes))
-                }
-            }
-            Open::GiveParent(dropping, number) => match dropping.next(heard) {
-                Some(dropping) => Open::GiveParent(dropping, number),
-                None => Open::Take(number),
-            },
-            Open::Claim(directory, element) => claimed(directory, element, heard.claimed()),
-            Open::ForgetSame(directory) => refuse(directory, Answer::Full(Full::MemInodes)),
-            Open::TakeNew(name) => Open::StoreNew(name, face_or(&heard.sight()).inode_type),
-            Open::StoreNew(name, inode_type) => Open::Enter(name, inode_type),
-            Open::Enter(name, inode_type) => entered(name, inode_type, heard.entered()),
-            Open::GiveEntered(dropping, number, inode_type) => match dropping.next(heard) {
-                Some(dropping) => Open::GiveEntered(dropping, number, inode_type),
-                None => Open::Slot(Found {
-                    number,
-                    inode_type,
-                    made: true,
-                }),
-            },
-            Open::Unmake(number, directory, answer) => {
-                Open::Ends(Ending::GivesTwo(Dropping::UnlockInode(number), directory, answer))
-            }
-            Open::Ends(ending) => match ending.next(heard, list) {
-                Turn::Asks(ending) => Open::Ends(ending),
-                Turn::Ends(answer) => return Turn::Ends(answer),
-            },
-        };
-        Turn::Asks(next)
-    }
-
-    /// The same in its place: true where it has ended, with its answer left in `says`.
-    #[inline(always)]
+    /// Goes on in its place with what it hears: true where it has ended, with its answer left in `says`.
     pub fn step(
         &mut self,
         heard: &Heard,
@@ -365,14 +278,75 @@ impl Open {
         ensures fits { result ≡ false → Fits path.now list.new (open_stage self.new) }
     {
         match self {
-            Open::Walks(walk) => {
-                let walk = *walk;
-                walk_on(self, walk, heard, path, flags, list);
-                false
+            Open::Join => *self = begin(path, flags),
+            Open::Walks(walk) => match walk.step(goal(flags), heard, path, list) {
+                Walked::Walks => {}
+                Walked::Reached(number, None) => *self = Open::Take(number),
+                Walked::Reached(directory, Some(element)) => {
+                    *self = Open::Look(directory, element);
+                }
+                Walked::Lost(why) => *self = Open::Ends(Ending::Leaves(stopped(why))),
+            },
+            Open::Take(number) => *self = took(*number, flags, &heard.sight()),
+            Open::Slot(found) => {
+                *self = if heard.is() {
+                    Open::Install(*found)
+                } else {
+                    refuse(found.number, Answer::Full(Full::OpenFiles))
+                };
             }
-            Open::Ends(ending) => ending.step(heard, list, says),
-            _ => go_on(self, heard, path, flags, list, says),
+            Open::Install(found) => *self = installed(*found, flags, heard.start()),
+            Open::Empty(number, fd) => *self = Open::UnlockInode(*number, *fd),
+            Open::UnlockInode(_, fd) => *self = Open::Ends(Ending::Leaves(Answer::Fd(*fd))),
+            Open::Look(directory, element) => {
+                let sight = heard.sight();
+                *self = if is_live(&sight) {
+                    looked(*directory, *element, sight.found)
+                } else {
+                    refuse(*directory, Answer::Failed(Cause::NoEntry))
+                };
+            }
+            Open::Up(directory, number) => {
+                *self = if heard.is() {
+                    Open::GiveParent(Dropping::UnlockInode(*directory), *number)
+                } else {
+                    refuse(*directory, Answer::Full(Full::MemInodes))
+                };
+            }
+            Open::GiveParent(dropping, number) => {
+                if dropping.step(heard) {
+                    *self = Open::Take(*number);
+                }
+            }
+            Open::Claim(directory, element) => {
+                *self = claimed(*directory, *element, heard.claimed());
+            }
+            Open::ForgetSame(directory) => {
+                *self = refuse(*directory, Answer::Full(Full::MemInodes));
+            }
+            Open::TakeNew(name) => {
+                *self = Open::StoreNew(*name, face_or(&heard.sight()).inode_type);
+            }
+            Open::StoreNew(name, inode_type) => *self = Open::Enter(*name, *inode_type),
+            Open::Enter(name, inode_type) => {
+                *self = entered(*name, *inode_type, heard.entered());
+            }
+            Open::GiveEntered(dropping, number, inode_type) => {
+                if dropping.step(heard) {
+                    *self = Open::Slot(Found {
+                        number: *number,
+                        inode_type: *inode_type,
+                        made: true,
+                    });
+                }
+            }
+            Open::Unmake(number, directory, answer) => {
+                let dropping = Dropping::UnlockInode(*number);
+                *self = Open::Ends(Ending::GivesTwo(dropping, *directory, *answer));
+            }
+            Open::Ends(ending) => return ending.step(heard, list, says),
         }
+        false
     }
 
     /// The move that is made here, if one is.
@@ -427,34 +401,4 @@ impl Open {
             _ => None,
         }
     }
-}
-
-/// A step of the walk, in its place.
-fn walk_on(at: &mut Open, walk: Walk, heard: &Heard, path: &[u8], flags: u32, list: &mut Numbers)
-    requires nonzero { All (λ b. b ≢ 0) path.now }
-    requires fits { Fits path.now list.old (open_stage (opening.Walks walk)) }
-    ensures goes { (text : List ℕ)
-        → hears text (open_of path.now flags list.old (opening.Walks walk)) heard.now ≡ open_of path.now flags list.new at.new }
-    ensures fits { Fits path.now list.new (open_stage at.new) }
-{
-    *at = walked(walk.next(goal(flags), heard, path, list), flags);
-}
-
-/// Any other step, in its place.
-fn go_on(
-    at: &mut Open,
-    heard: &Heard,
-    path: &[u8],
-    flags: u32,
-    list: &mut Numbers,
-    says: &mut Answer,
-) -> bool
-    requires nonzero { All (λ b. b ≢ 0) path.now }
-    requires fits { Fits path.now list.old (open_stage at.old) }
-    ensures goes { (text : List ℕ)
-        → hears text (open_of path.now flags list.old at.old) heard.now
-        ≡ stepped (open_of path.now flags list.new at.new) (calls.Open path.now flags) says.new result }
-    ensures fits { result ≡ false → Fits path.now list.new (open_stage at.new) }
-{
-    (*at).next(heard, path, flags, list).leave(at, says)
 }

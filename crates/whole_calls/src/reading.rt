@@ -2,10 +2,10 @@
 ghost use Rattle.std.specs.Prelude.{◌≡◌, ◌<◌, ◌^◌, ℕ, [], List, Option, Some, length, false};
 ghost use Rattle.plain_tree.specs.declared.call.Call.TheVariants as calls;
 ghost use Rattle.plain_tree.specs.declared.step.Action.TheVariants as steps;
-ghost use Rattle.whole_calls.specs.Vocabulary.{asks, hears, mark_at, marked_as, op_in, stepped, turned, read_program};
-ghost use Rattle.whole_calls.specs.Reads.{FilledFrom, HasRoomIn, ReadAsks, ReadFits, ReadFitsOn, read_of};
+ghost use Rattle.whole_calls.specs.Vocabulary.{asks, hears, mark_at, marked_as, op_in, stepped, read_program};
+ghost use Rattle.whole_calls.specs.Reads.{FilledFrom, HasRoomIn, ReadAsks, ReadFits, read_of};
 
-use path_walk::{Ask, Heard, Locked, Mark, Turn};
+use path_walk::{Ask, Heard, Locked, Mark};
 use plain_tree::Answer;
 
 #[derive(Clone, Copy)]
@@ -35,26 +35,7 @@ impl Read {
         }
     }
 
-    /// The buffer has what was read.
-    pub fn next(self, heard: &Heard, buffer: &[u8]) -> Turn<Read, Answer>
-        requires short { length buffer.now < 2 ^ 31 }
-        requires fits { ReadFits buffer.now self }
-        requires count { HasRoomIn buffer.now self heard.now }
-        ensures goes { (fd : ℕ) (old : List ℕ) → FilledFrom old buffer.now self heard.now
-            → hears buffer.now (read_of fd old self) heard.now ≡ turned (read_of fd buffer.now) (calls.Read fd buffer.now) result }
-        ensures fits { ReadFitsOn buffer.now result }
-    {
-        match self {
-            Read::Lock => match heard.locked() {
-                Locked::Refused(cause) => Turn::Ends(Answer::Failed(cause)),
-                Locked::Locks(number, offset) => Turn::Asks(Read::Part(number, offset)),
-            },
-            Read::Part(_, _) => Turn::Asks(Read::Says(heard.count())),
-            Read::Says(count) => Turn::Ends(Answer::Count(count as u32)),
-        }
-    }
-
-    /// The same in its place: true where it has ended, with its answer left in `says`.
+    /// Goes on in its place with what it hears: true where it has ended, with its answer left in `says`. The buffer has what was read.
     #[inline(always)]
     pub fn step(&mut self, heard: &Heard, buffer: &[u8], says: &mut Answer) -> bool
         requires short { length buffer.now < 2 ^ 31 }
@@ -65,7 +46,21 @@ impl Read {
             ≡ stepped (read_of fd buffer.now self.new) (calls.Read fd buffer.now) says.new result }
         ensures fits { result ≡ false → ReadFits buffer.now self.new }
     {
-        (*self).next(heard, buffer).leave(self, says)
+        match self {
+            Read::Lock => match heard.locked() {
+                Locked::Refused(cause) => {
+                    *says = Answer::Failed(cause);
+                    return true;
+                }
+                Locked::Locks(number, offset) => *self = Read::Part(number, offset),
+            },
+            Read::Part(_, _) => *self = Read::Says(heard.count()),
+            Read::Says(count) => {
+                *says = Answer::Count(*count as u32);
+                return true;
+            }
+        }
+        false
     }
 
     pub fn mark(&self, heard: &Heard) -> Option<Mark>

@@ -1,17 +1,16 @@
 //! unlink: a name removed.
-ghost use Rattle.std.specs.Prelude.{◌≡◌, ◌≢◌, ◌≤◌, ◌+◌, ℕ, All, [], List, Option, Some, length, false};
+ghost use Rattle.std.specs.Prelude.{◌≡◌, ◌≢◌, ◌≤◌, ℕ, All, [], List, Option, Some, length, false};
 ghost use Rattle.plain_tree.specs.declared.call.Call.TheVariants as calls;
 ghost use Rattle.plain_tree.specs.declared.step.Action.TheVariants as steps;
-ghost use Rattle.whole_calls.specs.Vocabulary.{asks, face_of, hears, mark_at, marked_as, op_in, stepped, turned, reply_to, sight_of, IsNamed, is_directory_type, face_or, unlink_program, unlink_found, StandsAt, most_walked, walked_to, give_up, tail, name_in, elements};
-ghost use Rattle.whole_calls.specs.Calls.{Fits, FitsOn, Fresh, Past, unlink_stage, cleared, gave_parent, is_dots, unlink_after, unlink_of};
-ghost use Rattle.path_walk.specs.declared.walk.Goal.TheVariants as goals;
+ghost use Rattle.whole_calls.specs.Vocabulary.{asks, face_of, hears, mark_at, marked_as, op_in, stepped, reply_to, sight_of, IsNamed, is_directory_type, face_or, unlink_program, unlink_found, IsElement, give_up, tail, name_in, elements};
+ghost use Rattle.whole_calls.specs.Calls.{Fits, Fresh, Past, unlink_stage, cleared, gave_parent, is_dots, unlink_in, unlink_of};
 ghost use Rattle.whole_calls.specs.declared.unlink.Unlink.TheVariants as unlinking;
 
 use crate::dropping::Dropping;
 use crate::ending::Ending;
 use path_walk::{
-    Ask, Element, Face, Goal, Heard, InodeType, MOST_LISTED, Mark, Numbers, Query, Sight, Turn,
-    Walk, Walked, face_or, is_live, next_element, stopped,
+    Ask, Element, Face, Goal, Heard, InodeType, MOST_LISTED, Mark, Numbers, Query, Sight, Walk,
+    Walked, face_or, is_live, next_element, stopped,
 };
 use plain_tree::{Answer, Cause, Full};
 
@@ -75,24 +74,17 @@ fn is_dots(name: &[u8]) -> bool
     false
 }
 
-/// After a step of the walk.
-fn walked(walked: Walked, path: &[u8]) -> Unlink
-    requires stands { StandsAt path.now walked }
+/// The parent is reached, with the name that is to go.
+fn reached(directory: u32, element: Element, path: &[u8]) -> Unlink
+    requires { IsElement path.now element }
     ensures program { (list : List ℕ)
-        → unlink_of path.now list result ≡ walked_to (steps.Unlink path.now) path.now (unlink_after path.now) goals.Parent list walked }
-    ensures fits { (list : List ℕ) → length list + most_walked path.now walked ≤ MOST_LISTED → Fits path.now list (unlink_stage result) }
+        → unlink_of path.now list result ≡ unlink_in path.now directory (Some (name_in path.now element)) list }
+    ensures fits { (list : List ℕ) → Fits path.now list (unlink_stage result) }
 {
-    match walked {
-        Walked::Walks(walk) => Unlink::Walks(walk),
-        Walked::Reached(directory, Some(element)) => {
-            if is_dots(&path[element.start..element.end]) {
-                Unlink::Dots(directory)
-            } else {
-                Unlink::Look(directory, element)
-            }
-        }
-        Walked::Reached(_, None) => Unlink::Ends(Ending::Leaves(Answer::Failed(Cause::NoEntry))),
-        Walked::Lost(why) => Unlink::Ends(Ending::Leaves(stopped(why))),
+    if is_dots(&path[element.start..element.end]) {
+        Unlink::Dots(directory)
+    } else {
+        Unlink::Look(directory, element)
     }
 }
 
@@ -141,65 +133,7 @@ impl Unlink {
         }
     }
 
-    pub fn next(self, heard: &Heard, path: &[u8], list: &mut Numbers) -> Turn<Unlink, Answer>
-        requires nonzero { All (λ b. b ≢ 0) path.now }
-        requires fits { Fits path.now list.old (unlink_stage self) }
-        ensures goes { (text : List ℕ)
-            → hears text (unlink_of path.now list.old self) heard.now
-            ≡ turned (unlink_of path.now list.new) (calls.Unlink path.now) result }
-        ensures fits { FitsOn unlink_stage path.now list.new result }
-    {
-        let next = match self {
-            Unlink::Join => begin(path),
-            Unlink::Walks(walk) => walked(walk.next(Goal::Parent, heard, path, list), path),
-            Unlink::Dots(directory) => {
-                if is_live(&heard.sight()) {
-                    refuse(directory, Answer::Failed(Cause::DotName))
-                } else {
-                    refuse(directory, Answer::Failed(Cause::NoEntry))
-                }
-            }
-            Unlink::Look(directory, element) => found(directory, element, &heard.sight()),
-            Unlink::Up(name, number) => {
-                if heard.is() {
-                    Unlink::Take(name, number)
-                } else {
-                    refuse(name.directory, Answer::Full(Full::MemInodes))
-                }
-            }
-            Unlink::Take(name, number) => {
-                if heard.sight().empty {
-                    Unlink::Clear(name, number, face_or(&heard.sight()))
-                } else {
-                    let answer = Answer::Failed(Cause::NotEmpty);
-                    Unlink::Ends(Ending::GivesTwo(
-                        Dropping::UnlockInode(number),
-                        name.directory,
-                        answer,
-                    ))
-                }
-            }
-            Unlink::Clear(name, number, face) => cleared(name, number, face),
-            Unlink::LowerParent(name, number, face) => {
-                Unlink::GiveParent(Dropping::UnlockInode(name.directory), number, face)
-            }
-            Unlink::GiveParent(dropping, number, face) => match dropping.next(heard) {
-                Some(dropping) => Unlink::GiveParent(dropping, number, face),
-                None => Unlink::Lower(number, face),
-            },
-            Unlink::Lower(number, _) => {
-                Unlink::Ends(Ending::Gives(Dropping::UnlockInode(number), Answer::Done))
-            }
-            Unlink::Ends(ending) => match ending.next(heard, list) {
-                Turn::Asks(ending) => Unlink::Ends(ending),
-                Turn::Ends(answer) => return Turn::Ends(answer),
-            },
-        };
-        Turn::Asks(next)
-    }
-
-    /// The same in its place: true where it has ended, with its answer left in `says`.
-    #[inline(always)]
+    /// Goes on in its place with what it hears: true where it has ended, with its answer left in `says`.
     pub fn step(
         &mut self,
         heard: &Heard,
@@ -215,14 +149,60 @@ impl Unlink {
         ensures fits { result ≡ false → Fits path.now list.new (unlink_stage self.new) }
     {
         match self {
-            Unlink::Walks(walk) => {
-                let walk = *walk;
-                walk_on(self, walk, heard, path, list);
-                false
+            Unlink::Join => *self = begin(path),
+            Unlink::Walks(walk) => match walk.step(Goal::Parent, heard, path, list) {
+                Walked::Walks => {}
+                Walked::Reached(directory, Some(element)) => {
+                    *self = reached(directory, element, path);
+                }
+                Walked::Reached(_, None) => {
+                    *self = Unlink::Ends(Ending::Leaves(Answer::Failed(Cause::NoEntry)));
+                }
+                Walked::Lost(why) => *self = Unlink::Ends(Ending::Leaves(stopped(why))),
+            },
+            Unlink::Dots(directory) => {
+                *self = if is_live(&heard.sight()) {
+                    refuse(*directory, Answer::Failed(Cause::DotName))
+                } else {
+                    refuse(*directory, Answer::Failed(Cause::NoEntry))
+                };
             }
-            Unlink::Ends(ending) => ending.step(heard, list, says),
-            _ => go_on(self, heard, path, list, says),
+            Unlink::Look(directory, element) => {
+                *self = found(*directory, *element, &heard.sight());
+            }
+            Unlink::Up(name, number) => {
+                *self = if heard.is() {
+                    Unlink::Take(*name, *number)
+                } else {
+                    refuse(name.directory, Answer::Full(Full::MemInodes))
+                };
+            }
+            Unlink::Take(name, number) => {
+                *self = if heard.sight().empty {
+                    Unlink::Clear(*name, *number, face_or(&heard.sight()))
+                } else {
+                    let dropping = Dropping::UnlockInode(*number);
+                    let answer = Answer::Failed(Cause::NotEmpty);
+                    Unlink::Ends(Ending::GivesTwo(dropping, name.directory, answer))
+                };
+            }
+            Unlink::Clear(name, number, face) => *self = cleared(*name, *number, *face),
+            Unlink::LowerParent(name, number, face) => {
+                let dropping = Dropping::UnlockInode(name.directory);
+                *self = Unlink::GiveParent(dropping, *number, *face);
+            }
+            Unlink::GiveParent(dropping, number, face) => {
+                if dropping.step(heard) {
+                    *self = Unlink::Lower(*number, *face);
+                }
+            }
+            Unlink::Lower(number, _) => {
+                let dropping = Dropping::UnlockInode(*number);
+                *self = Unlink::Ends(Ending::Gives(dropping, Answer::Done));
+            }
+            Unlink::Ends(ending) => return ending.step(heard, list, says),
         }
+        false
     }
 
     /// The move that is made here, if one is.
@@ -304,27 +284,4 @@ fn found(directory: u32, element: Element, sight: &Sight) -> Unlink
             Unlink::Up(name, number)
         }
     }
-}
-
-/// A step of the walk, in its place.
-fn walk_on(at: &mut Unlink, walk: Walk, heard: &Heard, path: &[u8], list: &mut Numbers)
-    requires nonzero { All (λ b. b ≢ 0) path.now }
-    requires fits { Fits path.now list.old (unlink_stage (unlinking.Walks walk)) }
-    ensures goes { (text : List ℕ)
-        → hears text (unlink_of path.now list.old (unlinking.Walks walk)) heard.now ≡ unlink_of path.now list.new at.new }
-    ensures fits { Fits path.now list.new (unlink_stage at.new) }
-{
-    *at = walked(walk.next(Goal::Parent, heard, path, list), path);
-}
-
-/// Any other step, in its place.
-fn go_on(at: &mut Unlink, heard: &Heard, path: &[u8], list: &mut Numbers, says: &mut Answer) -> bool
-    requires nonzero { All (λ b. b ≢ 0) path.now }
-    requires fits { Fits path.now list.old (unlink_stage at.old) }
-    ensures goes { (text : List ℕ)
-        → hears text (unlink_of path.now list.old at.old) heard.now
-        ≡ stepped (unlink_of path.now list.new at.new) (calls.Unlink path.now) says.new result }
-    ensures fits { result ≡ false → Fits path.now list.new (unlink_stage at.new) }
-{
-    (*at).next(heard, path, list).leave(at, says)
 }

@@ -1,11 +1,11 @@
 //! write: each piece in a transaction of its own; the first that is refused, or finds no block, ends the call.
 ghost use Rattle.std.specs.Prelude.{◌≡◌, ◌≢◌, ◌+◌, ◌<◌, ◌^◌, ℕ, [], List, Option, Some, length, false};
-ghost use Rattle.whole_calls.specs.Vocabulary.{piece_count, asks, checked_in, hears, joined_of, mark_at, marked_as, op_in, reply_to, stepped, turned, wrote_of, checked_reply, joined_on, write_from, write_program, wrote_on};
+ghost use Rattle.whole_calls.specs.Vocabulary.{piece_count, asks, checked_in, hears, mark_at, marked_as, op_in, reply_to, stepped, wrote_of, checked_reply, write_from, write_program, wrote_on};
 ghost use Rattle.plain_tree.specs.declared.call.Call.TheVariants as calls;
 ghost use Rattle.plain_tree.specs.declared.step.Action.TheVariants as steps;
-ghost use Rattle.whole_calls.specs.Writes.{IsPieceOf, WriteAsks, WriteFits, WriteFitsOn, more_after, write_of};
+ghost use Rattle.whole_calls.specs.Writes.{IsPieceOf, WriteAsks, WriteFits, more_after, write_of};
 
-use path_walk::{Ask, Heard, Joined, Mark, Turn, Wrote};
+use path_walk::{Ask, Heard, Joined, Mark, Wrote};
 use plain_tree::{Answer, Full};
 
 const PIECE_LEN: usize = 3072;
@@ -39,22 +39,6 @@ fn pieces(bytes: &[u8]) -> usize
         1
     } else {
         (bytes.len() + 3071) / PIECE_LEN
-    }
-}
-
-/// A transaction was wanted for the first piece.
-fn joined(joined: Joined, bytes: &[u8]) -> Turn<Write, Answer>
-    requires { length bytes.now < 2 ^ 31 }
-    ensures goes { (fd : ℕ) → joined_on fd bytes.now (joined_of joined) ≡ turned (write_of fd bytes.now) (calls.Write fd bytes.now) result }
-    ensures fits { WriteFitsOn bytes.now result }
-{
-    match joined {
-        Joined::Refused(cause) => Turn::Ends(Answer::Failed(cause)),
-        Joined::For(number) => Turn::Asks(Write::Lock(Piece {
-            number,
-            index: 0,
-            more: pieces(bytes) - 1,
-        })),
     }
 }
 
@@ -121,28 +105,7 @@ impl Write {
         }
     }
 
-    pub fn next(self, heard: &Heard, bytes: &[u8]) -> Turn<Write, Answer>
-        requires short { length bytes.now < 2 ^ 31 }
-        requires fits { WriteFits bytes.now self }
-        ensures goes { (text : List ℕ) (fd : ℕ)
-            → hears text (write_of fd bytes.now self) heard.now ≡ turned (write_of fd bytes.now) (calls.Write fd bytes.now) result }
-        ensures fits { WriteFitsOn bytes.now result }
-    {
-        match self {
-            Write::Check => Turn::Ends(checked(heard)),
-            Write::Join => joined(heard.joined(), bytes),
-            Write::Lock(piece) => {
-                let (number, offset) = heard.at();
-                Turn::Asks(Write::Part(piece, number, offset))
-            }
-            Write::Part(piece, _, _) => Turn::Asks(Write::Leave(piece, heard.wrote())),
-            Write::Leave(piece, wrote) => Turn::Asks(left(piece, wrote, bytes)),
-            Write::JoinNext(piece) => Turn::Asks(Write::Lock(piece)),
-            Write::Says(answer) => Turn::Ends(answer),
-        }
-    }
-
-    /// The same in its place: true where it has ended, with its answer left in `says`.
+    /// Goes on in its place with what it hears: true where it has ended, with its answer left in `says`.
     #[inline(always)]
     pub fn step(&mut self, heard: &Heard, bytes: &[u8], says: &mut Answer) -> bool
         requires short { length bytes.now < 2 ^ 31 }
@@ -152,7 +115,38 @@ impl Write {
             ≡ stepped (write_of fd bytes.now self.new) (calls.Write fd bytes.now) says.new result }
         ensures fits { result ≡ false → WriteFits bytes.now self.new }
     {
-        (*self).next(heard, bytes).leave(self, says)
+        match self {
+            Write::Check => {
+                *says = checked(heard);
+                return true;
+            }
+            Write::Join => match heard.joined() {
+                Joined::Refused(cause) => {
+                    *says = Answer::Failed(cause);
+                    return true;
+                }
+                Joined::For(number) => {
+                    let more = pieces(bytes) - 1;
+                    *self = Write::Lock(Piece {
+                        number,
+                        index: 0,
+                        more,
+                    });
+                }
+            },
+            Write::Lock(piece) => {
+                let (number, offset) = heard.at();
+                *self = Write::Part(*piece, number, offset);
+            }
+            Write::Part(piece, _, _) => *self = Write::Leave(*piece, heard.wrote()),
+            Write::Leave(piece, wrote) => *self = left(*piece, *wrote, bytes),
+            Write::JoinNext(piece) => *self = Write::Lock(*piece),
+            Write::Says(answer) => {
+                *says = *answer;
+                return true;
+            }
+        }
+        false
     }
 
     pub fn mark(&self, heard: &Heard, bytes: &[u8]) -> Option<Mark>
