@@ -79,6 +79,7 @@ impl Search {
     }
 
     /// How it goes on.
+    #[inline(always)]
     #[tactic(auto, using(fs_machine::proofs::Going::goes_bind))]
     pub fn next(
         &mut self,

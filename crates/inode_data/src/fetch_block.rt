@@ -64,6 +64,7 @@ impl Part for FetchBlock {
         }
     }
 
+    #[inline(always)]
     fn next(&mut self, answer: &Answer, hand: &Hand) -> Option<Fetched> {
         match self {
             FetchBlock::Table(i, fetch) => {

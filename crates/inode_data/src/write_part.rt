@@ -95,6 +95,7 @@ impl WritePart {
 
     /// How it goes on.
     #[tactic(auto, using(fs_machine::proofs::Going::goes_bind, fs_machine::proofs::Goings::fetched_goes))]
+    #[inline(always)]
     pub fn next(&mut self, bytes: &[u8], answer: &Answer, hand: &mut Hand) -> Option<Written>
         requires came { (before : HandState) × WriteReady bytes.now self.old before
             × IsAfter (write_asked self.old) before answer.now hand.old }

@@ -110,36 +110,45 @@ impl OneStep {
         }
     }
 
-    /// What is heard after it. Of an inode whose lock came into hand nothing is learned yet.
-    pub fn next(&self, notes: &mut Notes, answer: &Answer, hand: &Hand) -> Heard
+    /// What is heard after it is left in `heard`. Of an inode whose lock came into hand nothing is learned yet.
+    pub fn next(&self, notes: &mut Notes, answer: &Answer, hand: &Hand, heard: &mut Heard)
         requires came { (before : HandState) × StepReady self.now before × IsAfter (step_asked self.now) before answer.now hand.now }
         ensures goes { (path : List ℕ) (before : HandState) → StepReady self.now before
             → IsAfter (step_asked self.now) before answer.now hand.now
             → Goes (step_left path notes.old self.now before) (answer_in (step_asked self.now) answer.now hand.now)
-            (Ret (handed path notes.new result hand.now)) }
+            (Ret (handed path notes.new heard.new hand.now)) }
         ensures notes { notes.new ≡ step_notes self.now (yes_in answer.now) notes.old }
     {
         match *self {
-            OneStep::UnlockInode(_) => Heard::WasDone,
-            OneStep::SetDirectory(seat) => Heard::Old(known_number(hand, seat)),
-            OneStep::UpRoot(seat) => Heard::Start(number_to(hand, seat)),
-            OneStep::UpDirectory(seat) => Heard::Start(number_to(hand, seat)),
-            OneStep::Up(seat, _) => Heard::Is(number_to(hand, seat).is_some()),
-            OneStep::UpAside(_) => Heard::Is(hand.aside.is_some()),
-            OneStep::WalkDown(_) => Heard::Is(answer.yes()),
-            OneStep::Down(seat) => Heard::Is(dies(notes, seat, answer)),
-            OneStep::Forget(_) => Heard::WasDone,
-            OneStep::Slot => Heard::Is(answer.yes()),
-            OneStep::Install(_, _) => Heard::Start(number_in(answer)),
-            OneStep::CheckFile(_) => Heard::Checked(checked_in(answer)),
-            OneStep::JoinFile(_) => Heard::Joined(joined_in(answer)),
-            OneStep::Double(_) => Heard::Doubled(doubled_in(answer)),
-            OneStep::Shut(seat, _) => Heard::Shut(shut_in(answer, known_number(hand, seat))),
-            OneStep::Lend(seat, _, _) => Heard::Loan(loan_in(answer, known_number(hand, seat))),
-            OneStep::LendDirectory(seat, _) => Heard::Old(old_in(answer, known_number(hand, seat))),
-            OneStep::Release => Heard::WasDone,
-            OneStep::Join => Heard::WasDone,
-            OneStep::Say => Heard::WasDone,
+            OneStep::UnlockInode(_) => *heard = Heard::WasDone,
+            OneStep::SetDirectory(seat) => *heard = Heard::Old(known_number(hand, seat)),
+            OneStep::UpRoot(seat) => *heard = Heard::Start(number_to(hand, seat)),
+            OneStep::UpDirectory(seat) => *heard = Heard::Start(number_to(hand, seat)),
+            OneStep::Up(seat, _) => *heard = Heard::Is(number_to(hand, seat).is_some()),
+            OneStep::UpAside(_) => *heard = Heard::Is(hand.aside.is_some()),
+            OneStep::WalkDown(_) => *heard = Heard::Is(answer.yes()),
+            OneStep::Down(seat) => *heard = Heard::Is(dies(notes, seat, answer)),
+            OneStep::Forget(_) => *heard = Heard::WasDone,
+            OneStep::Slot => *heard = Heard::Is(answer.yes()),
+            OneStep::Install(_, _) => *heard = Heard::Start(number_in(answer)),
+            OneStep::CheckFile(_) => *heard = Heard::Checked(checked_in(answer)),
+            OneStep::JoinFile(_) => *heard = Heard::Joined(joined_in(answer)),
+            OneStep::Double(_) => *heard = Heard::Doubled(doubled_in(answer)),
+            OneStep::Shut(seat, _) => *heard = Heard::Shut(shut_in(
+                answer,
+                known_number(hand, seat),
+            )),
+            OneStep::Lend(seat, _, _) => *heard = Heard::Loan(loan_in(
+                answer,
+                known_number(hand, seat),
+            )),
+            OneStep::LendDirectory(seat, _) => *heard = Heard::Old(old_in(
+                answer,
+                known_number(hand, seat),
+            )),
+            OneStep::Release => *heard = Heard::WasDone,
+            OneStep::Join => *heard = Heard::WasDone,
+            OneStep::Say => *heard = Heard::WasDone,
         }
     }
 }

@@ -193,6 +193,7 @@ impl InodePart {
     }
 
     // An inode is locked by the reference at a seat, or where none is there by the first listed one.
+    #[inline(always)]
     fn begin_take(&mut self, number: u32, query: Query, sizes: &Super, hand: &Hand)
         requires sizes { IsSized sizes.now }
         requires begins { (path : List ℕ) × (notes : NotesState)
@@ -246,6 +247,7 @@ impl InodePart {
 
     /// How it goes on in a call, where it reads nothing into that: true where it is over, with what is heard left in `heard`. The record
     /// of a locked inode may change in hand.
+    #[inline(always)]
     #[tactic(auto, using(crate::proofs::Goings::leave_on))]
     pub fn next(
         &mut self,
@@ -275,7 +277,7 @@ impl InodePart {
     {
         match self {
             InodePart::One(step) => {
-                *heard = step.next(notes, answer, hand);
+                step.next(notes, answer, hand, heard);
                 true
             }
             InodePart::Leave(finish) => match finish.next(answer, hand) {

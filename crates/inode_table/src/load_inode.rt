@@ -57,6 +57,7 @@ impl Part for LoadInode {
         }
     }
 
+    #[inline(always)]
     #[tactic(auto, using(fs_machine::proofs::Going::goes_bind, fs_machine::proofs::Goings::fetched_goes))]
     fn next(&mut self, answer: &Answer, hand: &Hand) -> Option<Dinode> {
         match self {

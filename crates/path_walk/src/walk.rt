@@ -111,6 +111,7 @@ pub fn is_live(sight: &Sight) -> bool
 }
 
 impl Walk {
+    #[inline(always)]
     pub fn ask(&self, path: &[u8]) -> Ask
         ensures asks { (s : Action) (after : After) (goal : Goal) (list : List ℕ)
             → asks (walk_of s path.now after goal list self.now) ≡ Some (op_in path.now result) }

@@ -28,6 +28,7 @@ impl Chdir {
         Chdir::Join
     }
 
+    #[inline(always)]
     pub fn ask(&self, path: &[u8]) -> Ask
         ensures asks { (list : List ℕ) → asks (chdir_of path.now list self.now) ≡ Some (op_in path.now result) }
         ensures named { (list : List ℕ) → Fits path.now list (chdir_stage self.now) → IsNamed path.now result }

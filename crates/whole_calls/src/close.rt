@@ -26,6 +26,7 @@ impl Close {
         Close::Shut
     }
 
+    #[inline(always)]
     pub fn ask(&self, fd: u32) -> Ask
         ensures asks { asks (close_of fd self.now) ≡ Some (op_in [] result) }
         ensures named { (path : List ℕ) → IsNamed path result }
@@ -120,6 +121,7 @@ impl Inherit {
         Inherit::Lend(15, 0)
     }
 
+    #[inline(always)]
     pub fn ask(&self, child: u8) -> Ask
         ensures asks { asks (inherit_of child self.now) ≡ Some (op_in [] result) }
         ensures named { (path : List ℕ) → IsNamed path result }

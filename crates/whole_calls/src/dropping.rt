@@ -16,6 +16,7 @@ pub enum Dropping {
 }
 
 impl Dropping {
+    #[inline(always)]
     pub fn ask(&self) -> Ask
         ensures asks { (path : List ℕ) (k : P Reply) → asks (dropping_of k self.now) ≡ Some (op_in path result) }
         ensures named { (path : List ℕ) → IsNamed path result }
@@ -29,6 +30,7 @@ impl Dropping {
     }
 
     /// Goes on in its place: true where the reference is gone.
+    #[inline(always)]
     pub fn step(&mut self, heard: &Heard) -> bool
         ensures { (text : List ℕ) (k : P Reply) → hears text (dropping_of k self.old) heard.now ≡ after_drop k self.new result }
     {

@@ -17,6 +17,7 @@ pub enum Freeing {
 }
 
 impl Freeing {
+    #[inline(always)]
     pub fn ask(&self) -> Ask
         ensures asks { (path : List ℕ) (k : P Reply) → asks (freeing_of k self.now) ≡ Some (op_in path result) }
         ensures named { (path : List ℕ) → IsNamed path result }
@@ -77,6 +78,7 @@ fn free_next(list: &mut Numbers, answer: Answer) -> Ending
 }
 
 impl Ending {
+    #[inline(always)]
     pub fn ask(&self) -> Ask
         ensures asks { (path : List ℕ) (call : Call) (list : List ℕ) → asks (ending_of call list self.now) ≡ Some (op_in path result) }
         ensures named { (path : List ℕ) → IsNamed path result }
@@ -90,6 +92,7 @@ impl Ending {
     }
 
     /// Goes on in its place with what it hears: true where it has ended, with its answer left in `says`.
+    #[inline(always)]
     pub fn step(&mut self, heard: &Heard, list: &mut Numbers, says: &mut Answer) -> bool
         ensures { (text : List ℕ) (call : Call)
             → hears text (ending_of call list.old self.old) heard.now ≡ stepped (ending_of call list.new self.new) call says.new result }

@@ -123,6 +123,7 @@ impl Link {
     }
 
     /// The next operation. The new path stands behind the old one.
+    #[inline(always)]
     pub fn ask(&self, old: &[u8], new: &[u8]) -> Ask
         ensures asks { (list : List ℕ) → LinkFits old.now new.now list (link_stage self.now)
             → asks (link_of old.now new.now list self.now) ≡ Some (op_in (old.now ++ new.now) result) }

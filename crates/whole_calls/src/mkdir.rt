@@ -122,6 +122,7 @@ impl Mkdir {
         Mkdir::Join
     }
 
+    #[inline(always)]
     pub fn ask(&self, path: &[u8]) -> Ask
         ensures asks { (list : List ℕ) → asks (mkdir_of path.now list self.now) ≡ Some (op_in path.now result) }
         ensures named { (list : List ℕ) → Fits path.now list (mkdir_stage self.now) → IsNamed path.now result }

@@ -235,6 +235,7 @@ impl Open {
         Open::Join
     }
 
+    #[inline(always)]
     pub fn ask(&self, path: &[u8], flags: u32) -> Ask
         ensures asks { (list : List ℕ) → asks (open_of path.now flags list self.now) ≡ Some (op_in path.now result) }
         ensures named { (list : List ℕ) → Fits path.now list (open_stage self.now) → IsNamed path.now result }
@@ -262,6 +263,7 @@ impl Open {
     }
 
     /// Goes on in its place with what it hears: true where it has ended, with its answer left in `says`.
+    #[inline(always)]
     pub fn step(
         &mut self,
         heard: &Heard,

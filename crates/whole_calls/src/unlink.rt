@@ -109,6 +109,7 @@ impl Unlink {
         Unlink::Join
     }
 
+    #[inline(always)]
     pub fn ask(&self, path: &[u8]) -> Ask
         ensures asks { (list : List ℕ) → asks (unlink_of path.now list self.now) ≡ Some (op_in path.now result) }
         ensures named { (list : List ℕ) → Fits path.now list (unlink_stage self.now) → IsNamed path.now result }
@@ -134,6 +135,7 @@ impl Unlink {
     }
 
     /// Goes on in its place with what it hears: true where it has ended, with its answer left in `says`.
+    #[inline(always)]
     pub fn step(
         &mut self,
         heard: &Heard,

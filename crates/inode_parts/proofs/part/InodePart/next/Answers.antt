@@ -15,7 +15,7 @@ pub returns-in-One-clause-under : goal.returns-in-One-clause-under
 returns-in-One-clause-under c op start before =
     let did = c.next in
     rw c.in-One.is (λ under ready after.
-    step_leaves (text_in c.args.call.now) c.args.notes.now did.new.notes before c.args.hand.now c.args.answer.now did.result op c.in-One.step start under after (did.ensures.goes (text_in c.args.call.now) before ready after) did.ensures.notes)
+    step_leaves (text_in c.args.call.now) c.args.notes.now did.new.notes before c.args.hand.now c.args.answer.now did.new.heard op c.in-One.step start under after (did.ensures.goes (text_in c.args.call.now) before ready after) did.ensures.notes)
 
 pub returns-in-Store-clause-under : goal.returns-in-Store-clause-under
 returns-in-Store-clause-under c op start before =
