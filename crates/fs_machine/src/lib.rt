@@ -25,6 +25,7 @@ mod limits;
 mod listed;
 mod op;
 mod perform;
+mod perform_blocks;
 mod queue;
 mod retired;
 mod shared;
