@@ -17,7 +17,7 @@ pub use Rattle.fs_machine.proofs.GivenDirectory.{given_nowhere, given_there}
 pub use Rattle.fs_machine.proofs.Held.{dying-apart, dying-in, file_refused, file_tried, join_refused, join_tried, lock-apart, open_tried, own-in, still-in, unreferenced}
 pub use Rattle.fs_machine.proofs.Making.{fresh_good}
 pub use Rattle.fs_machine.proofs.Parts.{committed-in, dropped-in, got-in, joined-in, locked-in, read-in}
-pub use Rattle.fs_machine.proofs.Stepping.{after-prepared, bare-fits, of-next, prepared-stops, prepared-waits, ran-step, stops-step, waits-step}
+pub use Rattle.fs_machine.proofs.Stepping.{after-prepared, bare-fits, of-next, prepared-stops, prepared-waits, ran-asked, ran-step, stops-step, waits-step}
 pub use Rattle.fs_machine.specs.Hands.{first_in, first_listed, with_content, with_first}
 pub use Rattle.fs_machine.specs.Limits.{descriptor_count}
 pub use Rattle.fs_machine.specs.Ops.{dropped_by}

@@ -17,6 +17,11 @@ module _ {A : Type 0} (hart : ℕ) (x : Outside) (old : State) (o : steps.Op) wh
       let same_u : kind_of u (answer u) ≡ kind = subst (λ (v : steps.Op). kind_of v (answer v) ≡ kind) (sym e) same in
       rw did_u (rw (same_u, goes) refl)
 
+  -- the operation that it asks for is this one
+  pub ran-asked : (p : P A) (new : State) (answer : (o : steps.Op) → steps.Answer o) → asks p ≡ Some o → exec hart x o old ≡ Ran (answer o) new
+      → (u : steps.Op) → asks p ≡ Some u → exec hart x u old ≡ Ran (answer u) new
+  ran-asked p new answer is did u same = subst (λ (v : steps.Op). exec hart x v old ≡ Ran (answer v) new) (cc (sym is ∙ same)) did
+
   pub waits-step : (p : P A) → asks p ≡ Some o → exec hart x o old ≡ Waits → advance kind_of (exec hart x) p old ≡ StillWaits
   waits-step (Ret a) is did = absurd (cc is)
   waits-step (Do u m k) is did =

@@ -1,13 +1,13 @@
 // Controls, and a step of any of them.
-ghost use Rattle.std.specs.Prelude.{◌≡◌, ◌<◌, ℕ, Some, None, IfSome, IfNone};
+ghost use Rattle.std.specs.Prelude.{◌≡◌, ◌<◌, ℕ, Option, Some, None, IfSome, IfNone};
 ghost use Rattle.atomic_programs.specs.Prog.{asks};
-ghost use Rattle.fs_machine.specs.Steps.{state_of};
+ghost use Rattle.fs_machine.specs.Steps.{Op as StepOp, Answer as StepAnswer, state_of};
 ghost use Rattle.fs_machine.specs.Machines.{P, MayNext};
 ghost use Rattle.fs_machine.specs.Places.{StepsAt};
 ghost use Rattle.fs_machine.specs.Hands.{HandFits, with_buffer};
 ghost use Rattle.fs_machine.specs.declared.hand.Place.{Place as PlaceState};
 ghost use Rattle.fs_machine.specs.Ops.{op_in, answer_in, CanDo, Prepared, IsAfter};
-ghost use Rattle.fs_machine.specs.Controls.{Goes, left_after, bare};
+ghost use Rattle.fs_machine.specs.Controls.{Goes, left_after, bare, TellsAt};
 ghost use Rattle.fs_machine.specs.declared.hand.Hand.{Hand as HandState};
 ghost use Rattle.fs_machine.specs.declared.op.Op.{Op as OpState};
 
@@ -39,6 +39,9 @@ pub trait Control: Drop {
 
     ghost Ends: { Self.Out → HandState → Type 0 };
 
+    // What it tells of a step besides: standing so with this in hand it was answered so, and ended, or stands so with that in hand.
+    ghost Tells: { Self → HandState → ((o : StepOp) → StepAnswer o) → Option Self.Out → Self → HandState → Type 0 };
+
     /// The next operation. Bytes to be recorded are written in their buffer.
     fn op(&self, hand: &mut Hand) -> Op
         requires ready { Ready self.now hand.old }
@@ -53,6 +56,8 @@ pub trait Control: Drop {
         ensures goes { (before : HandState) → Ready self.old before → IsAfter (asked self.old) before answer.now hand.old
             → Goes (left self.old before) (answer_in (asked self.old) answer.now hand.old)
             (left_after left (value self.new) result self.new hand.new) }
+        ensures tells { (before : HandState) → Ready self.old before → IsAfter (asked self.old) before answer.now hand.old
+            → Tells self.old before (answer_in (asked self.old) answer.now hand.old) result self.new hand.new }
         ensures ready { IfNone result (Ready self.new hand.new) }
         ensures ends { IfSome result (λ out. Ends out hand.new) }
         ensures hand { bare hand.new ≡ bare hand.old };
@@ -170,6 +175,8 @@ impl<C: Control> Machine<C> {
         ensures steps { StepsAt D.contents D.failures D.Called (λ m. C.left m.control m.hand)
             (λ out. C.value self.new.control out self.new.hand) (λ _ _ m. C.Ready m.control m.hand) (λ out. C.Ends out self.new.hand)
             self.new hart self.old self.new result core.old core.new }
+        ensures tells { TellsAt C.left C.Tells hart self.old.control self.old.hand result self.new.control self.new.hand
+            (state_of D.contents D.failures core.old) (state_of D.contents D.failures core.new) }
         ensures fits { HandFits hart (state_of D.contents D.failures core.new) self.new.hand }
     {
         let op = self.control.op(&mut self.hand);

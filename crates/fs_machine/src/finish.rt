@@ -36,6 +36,8 @@ impl Control for Finish {
 
     ghost Ends = { λ _ h. h.txn ≡ None };
 
+    ghost Tells = { λ _ _ _ _ _ _. Unit {0} };
+
     fn op(&self, hand: &mut Hand) -> Op {
         match self {
             Finish::Leave => Op::Leave,

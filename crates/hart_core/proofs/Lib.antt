@@ -1,6 +1,7 @@
 pub mod Lemmas
 pub mod Vocabulary
 pub mod Stepping
+pub mod Telling
 pub mod Mounted
 pub mod Refusals
 pub mod RightCalls

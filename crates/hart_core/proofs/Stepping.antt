@@ -1,5 +1,5 @@
 -- A call's step in its hart's place.
-use Rattle.hart_core.proofs.Vocabulary.{◌≡◌, ◌≢◌, ◌<◌, ◌≤◌, ℕ, zero, suc, Bool, true, false, List, [], ◌∷◌, Option, Some, None, refl, sym, ◌∙◌, ap, subst, length, get_or, set, replicate, length-set, get_or-set_same, get_or-set_other, arith, nat_eq, slice_get, eqb-true, eqb-false, get_or_past, set-set, Reply, Ret, Do, plain, Start, Step, Started, WasIdle, DidRun, PlainHonestStep, plain_makes, plain_step, hart_step, hart_moved, PlainHonest, program_at, plain_at, hart_advances, start_gives, Kind, Core, Outside, Passes, state_of, P, LeavesTied, Running, running_of, HasBegun, StepsAt, has_running, stays, HasOne, blocks, code, HartFits, AreHarts, block_calls, Call, Super}
+use Rattle.hart_core.proofs.Vocabulary.{◌≡◌, ◌≢◌, ◌<◌, ◌≤◌, ℕ, zero, suc, Bool, true, false, List, [], ◌∷◌, Option, Some, None, refl, sym, ◌∙◌, ap, subst, length, get_or, set, replicate, length-set, get_or-set_same, get_or-set_other, arith, nat_eq, slice_get, eqb-true, eqb-false, get_or_past, set-set, Reply, Ret, Do, plain, Start, Step, Started, WasIdle, DidRun, PlainHonestStep, plain_makes, plain_step, hart_step, hart_moved, PlainHonest, program_at, plain_at, hart_advances, start_gives, Kind, Core, Heard, Outside, Passes, state_of, P, LeavesTied, Running, running_of, HasBegun, StepsAt, has_running, stays, HasOne, blocks, code, HartFits, AreHarts, block_calls, Call, Super}
 use Rattle.atomic_programs.specs.declared.machines.SteppedInPlace.TheVariants.{Ran}
 use Rattle.fs_machine.specs.Steps.{State}
 
@@ -28,10 +28,10 @@ module _ {D : Type 0} (contents : D → List (List ℕ)) (failures : D → ℕ) 
   abbrev t : State
   t = state_of contents failures new
 
-  pub ran : (kind : Kind) (o p : Option Running) → StepsAt contents failures Called h o p (Ran kind) old new
+  pub ran : (kind : Kind) (last : Option Heard) (o p : Option Running) → StepsAt contents failures Called h o p (Ran kind) last old new
       → hart_step blocks code h Passes s false (program_at running_of o) ≡ record { came = DidRun kind; left = program_at running_of p; shared = t; stopped = false }
-  ran kind None p steps = absurd steps
-  ran kind (Some m) p steps =
+  ran kind last None p steps = absurd steps
+  ran kind last (Some m) p steps =
       hart_advances blocks code h Passes s (running_of m) _ steps.2.moves
       ∙ moved_on (running_of steps.0) kind t (has_running h t steps.0 steps.2.fits)
       ∙ (λ i. record { came = DidRun kind; left = program_at running_of (sym steps.1 i); shared = t; stopped = false })

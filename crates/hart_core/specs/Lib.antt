@@ -9,3 +9,4 @@ pub mod Runs
 pub mod Promised
 pub mod Stops
 pub mod Unfinished
+pub mod Telling

@@ -11,7 +11,7 @@ pub use Rattle.atomic_programs.specs.Calls.{DidRun, DidStop, DidWait, Outcome as
 pub use Rattle.atomic_programs.specs.Plain.{MayOf, Plain, PlainHonest, PlainHonestStep, hart_step, plain_makes, plain_outcomes, plain_run}
 pub use Rattle.calls_on_blocks.specs.Theory.{block_calls, block_code, child_of, has_file, reserved}
 pub use Rattle.plain_tree.specs.declared.trace.TracedCall.{TracedCall}
-pub use Rattle.syscalls.specs.Machines.{Running, RunningFits}
+pub use Rattle.syscalls.specs.Machines.{Running, RunningFits, TellsOf, heard_of}
 unfoldable pub use Rattle.syscalls.specs.Machines.{running_of}
 pub use Rattle.atomic_programs.specs.Tables.{PlaceFits, plain_at}
 pub use Rattle.calls_on_blocks.specs.History.{first}
@@ -30,6 +30,8 @@ pub use Rattle.image_tree.specs.Shape.{is_orphan}
 pub use Rattle.image_tree.specs.declared.fault.MountFault.{MountFault}
 pub use Rattle.image_tree.specs.declared.fault.MountFault.TheVariants.{DeviceFault}
 pub use Rattle.inode_parts.specs.Sizes.{IsSized}
+pub use Rattle.path_walk.specs.declared.asks.Heard.{Heard}
+pub use Rattle.syscalls.specs.Places.{HasBegun}
 pub use Rattle.inodes_on_blocks.specs.Below.{disk_of}
 pub use Rattle.inodes_on_blocks.specs.OnBlocks.{is_joined}
 pub use Rattle.inodes_on_blocks.specs.Seen.{IsRecoveredSo}

@@ -1,12 +1,13 @@
 -- What a world is to its callers, and what it keeps.
-use Rattle.std.specs.Prelude.{◌≡◌, ℕ, List}
-use Rattle.hart_core.specs.Vocabulary.{Super, sizes_of, Reply, Call, EventOf as Event, OutcomeOf as Outcome, fresh, Plain, PlainHonest, plain_makes, CameTo, plain_at, Kind, Outside, running_of, IsSized, Refusal, IsMountable, first, block_calls, block_code}
+use Rattle.std.specs.Prelude.{◌≡◌, ℕ, List, Option}
+use Rattle.hart_core.specs.Vocabulary.{Super, Heard, sizes_of, Reply, Call, EventOf as Event, OutcomeOf as Outcome, fresh, Plain, PlainHonest, plain_makes, CameTo, plain_at, Kind, Outside, running_of, IsSized, Refusal, IsMountable, first, block_calls, block_code}
 use Rattle.hart_core.specs.Harts.{HartsOf, children_in, shared_of}
 
--- eight harts, and the sizes of their disk
+-- Eight harts, and the sizes of their disk; last: what the call that replied last heard in its last step.
 pub record WorldOf (D : Type 0) : Type 0 where
   pub harts : HartsOf D
   pub sizes : Super
+  pub last : Option Heard
 
 module _ {D : Type 0} (contents : D → List (List ℕ)) (failures : D → ℕ) (sizes : Super) where
   -- the harts as programs of calls on a disk of these sizes

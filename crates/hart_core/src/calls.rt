@@ -1,16 +1,18 @@
 // The calls that eight harts have under way.
 ghost use Rattle.std.specs.Prelude.{◌≡◌, ◌<◌, [], ◌∷◌, false, None, IfOk, get_or, is_some, replicate, slice_set};
+ghost use Rattle.std.specs.Option.{MatchOption};
 ghost use Rattle.atomic_programs.specs.Plain.{PlainHonestStep, MayOf, hart_step};
 ghost use Rattle.atomic_programs.specs.Machines.{program_at};
 ghost use Rattle.fs_machine.specs.Steps.{state_of};
 ghost use Rattle.fs_machine.specs.Machines.{CallsOnce};
 ghost use Rattle.fs_machine.specs.Tied.{LeavesTied};
 ghost use Rattle.inode_parts.specs.Sizes.{IsSized};
-ghost use Rattle.syscalls.specs.Machines.{running_of};
+ghost use Rattle.syscalls.specs.Machines.{heard_of, running_of};
 ghost use Rattle.syscalls.specs.Places.{HasBegun};
 ghost use Rattle.whole_calls.specs.Wholes.{IsCall};
 ghost use Rattle.hart_core.specs.Blocks.{blocks, code};
 ghost use Rattle.hart_core.specs.Harts.{outcome_of, outcome_with, said, AreIdle, HartFits, IsTold};
+ghost use Rattle.hart_core.specs.Telling.{TellsOutcome, heard_at};
 
 use crate::in_place::step;
 use crate::outcome::BareOutcome;
@@ -122,6 +124,7 @@ impl Calls {
     pub fn step<D: Device>(
         &mut self,
         replied: &mut Option<Reply>,
+        last: &mut Option<Heard>,
         hart: u8,
         core: &mut Core<D>,
         stopped: &mut bool,
@@ -146,10 +149,14 @@ impl Calls {
         ensures told { IsTold result replied.new }
         ensures others { LeavesTied hart (state_of D.contents D.failures core.old) (state_of D.contents D.failures core.new) }
         ensures called { CallsOnce D.Called core.old.log.cache.device core.new.log.cache.device }
+        ensures tells { TellsOutcome hart (get_or self.old hart None) (outcome_with result replied.new)
+            (heard_at last.new (get_or self.new hart None)) (get_or self.new hart None) (state_of D.contents D.failures core.old)
+            (state_of D.contents D.failures core.new) }
     {
         step(
             &mut self.places[hart as usize],
             replied,
+            last,
             hart,
             core,
             stopped,
@@ -169,9 +176,10 @@ impl Calls {
         self.places[hart as usize].start(sizes, call);
     }
 
-    /// What a hart's call heard in its last step, where an operation over whole inodes ended there.
+    /// What the call under way of a hart heard in its last step, where an operation over whole inodes ended there.
     pub fn heard(&self, hart: u8) -> Option<Heard>
         requires { hart < HARTS }
+        ensures { MatchOption (get_or self.now hart None) (Unit {0}) (λ call. result ≡ heard_of call) }
     {
         self.places[hart as usize].heard()
     }

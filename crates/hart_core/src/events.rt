@@ -3,6 +3,7 @@ ghost use Rattle.std.specs.Prelude.{◌≡◌};
 ghost use Rattle.hart_core.specs.Vocabulary.{with_answer, CallsOnce};
 ghost use Rattle.hart_core.specs.Events.{event_of, came_of, said_of};
 ghost use Rattle.hart_core.specs.Harts.{shared_of};
+ghost use Rattle.hart_core.specs.Telling.{TellsEvent, hart_of, heard_by};
 ghost use Rattle.hart_core.specs.Worlds.{Answers, Makes};
 
 use crate::outcome::Outcome;
@@ -51,6 +52,8 @@ impl<D: Device> World<D> {
             (with_answer (event_of event) (said_of result (shared_of D.contents D.failures self.new.harts))) self.old.harts }
         ensures sizes { self.new.sizes ≡ self.old.sizes }
         ensures called { CallsOnce D.Called self.old.harts.core.log.cache.device self.new.harts.core.log.cache.device }
+        ensures tells { TellsEvent D.contents D.failures self.old.sizes event self.old.harts result (heard_by self.new (hart_of event))
+            self.new.harts }
     {
         match event {
             Event::Start { hart, call } => match self.start(hart, call) {

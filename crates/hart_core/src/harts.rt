@@ -1,5 +1,5 @@
 // Eight harts' machines over all that they share.
-ghost use Rattle.std.specs.Prelude.{◌≡◌, ◌<◌, ◌&&◌, false, Some, None, get_or, is_some, length, replicate, slice_get, slice_set};
+ghost use Rattle.std.specs.Prelude.{◌≡◌, ◌<◌, ◌&&◌, true, false, Option, Some, None, get_or, is_some, length, replicate, slice_get, slice_set};
 ghost use Rattle.atomic_programs.specs.Calls.{Start as StartOf, Step as StepOf, Started};
 ghost use Rattle.atomic_programs.specs.Plain.{plain_makes, PlainHonest};
 ghost use Rattle.group_log.specs.Phases.{is_point};
@@ -9,7 +9,10 @@ ghost use Rattle.inode_machine.specs.Exec.{is_at};
 ghost use Rattle.calls_on_blocks.specs.Theory.{block_calls, has_file, reserved};
 ghost use Rattle.hart_core.specs.Harts.{outcome_of, outcome_with, said, IsTold, shared_of, programs_of, busy_in, children_in, AreIdle};
 ghost use Rattle.hart_core.specs.Starts.{fault_of};
+ghost use Rattle.hart_core.specs.Telling.{SetsAt, TellsOutcome, heard_at};
 ghost use Rattle.inode_parts.specs.Sizes.{IsSized};
+ghost use Rattle.path_walk.specs.declared.asks.Heard.{Heard as HeardState};
+ghost use Rattle.syscalls.specs.Places.{HasBegun};
 ghost use Rattle.atomic_programs.specs.Prog.{plain};
 
 use crate::calls::Calls;
@@ -122,6 +125,8 @@ impl<D: Device> Harts<D> {
             (programs_of D.contents D.failures self.old) ≡ record { came = Started; after = programs_of D.contents D.failures self.new } }
         ensures core { self.new.core ≡ self.old.core }
         ensures children { self.new.children ≡ slice_set self.old.children hart child }
+        ensures begun { HasBegun sizes.now call (get_or self.new.calls hart None) }
+        ensures others { SetsAt hart self.old.calls self.new.calls }
         ensures eight { length self.old.children ≡ HARTS }
     {
         self.calls.begin(hart, sizes, call);
@@ -130,9 +135,14 @@ impl<D: Device> Harts<D> {
 
     /// One operation of a hart's call. It is idle where there is no such hart, or the hart has no call; and a call is stopped by the
     /// device's failure in this very step, or since the device has failed before. At most one call of the device is made.
-    /// A reply is left in a place of its own, which is empty before.
+    /// A reply is left in a place of its own, which is empty before, and what its call heard in this step in `last`.
     #[inline(always)]
-    pub fn step(&mut self, replied: &mut Option<Reply>, hart: u8) -> BareOutcome
+    pub fn step(
+        &mut self,
+        replied: &mut Option<Reply>,
+        last: &mut Option<Heard>,
+        hart: u8,
+    ) -> BareOutcome
         requires may { MayStep hart (programs_of D.contents D.failures self.old) }
         requires none { replied.old ≡ None }
         ensures makes { plain_makes blocks code
@@ -145,6 +155,10 @@ impl<D: Device> Harts<D> {
         ensures children { self.new.children ≡ self.old.children }
         ensures told { IsTold result replied.new }
         ensures called { CallsOnce D.Called self.old.core.log.cache.device self.new.core.log.cache.device }
+        ensures tells { TellsOutcome hart (get_or self.old.calls hart None) (outcome_with result replied.new)
+            (heard_at last.new (get_or self.new.calls hart None)) (get_or self.new.calls hart None)
+            (shared_of D.contents D.failures self.old) (shared_of D.contents D.failures self.new) }
+        ensures others { SetsAt hart self.old.calls self.new.calls }
     {
         // What holds of the harts is needed in both cases.
         let _ = &self.calls;
@@ -152,11 +166,14 @@ impl<D: Device> Harts<D> {
             return BareOutcome::Idle;
         }
         self.calls
-            .step(replied, hart, &mut self.core, &mut self.stopped)
+            .step(replied, last, hart, &mut self.core, &mut self.stopped)
     }
 
-    /// What a hart's call heard in its last step, where an operation over whole inodes ended there.
-    pub fn heard(&self, hart: u8) -> Option<Heard> {
+    /// What the call under way of a hart heard in its last step, where an operation over whole inodes ended there.
+    pub fn heard(&self, hart: u8) -> Option<Heard>
+        ensures { (last : Option HeardState) → is_some (get_or self.now.calls hart None) ≡ true
+            → result ≡ heard_at last (get_or self.now.calls hart None) }
+    {
         // What holds of the harts is needed in both cases.
         let _ = &self.calls;
         if hart >= HARTS {

@@ -3,21 +3,24 @@ ghost use Rattle.std.specs.Prelude.{◌≡◌, ◌<◌, false, None};
 ghost use Rattle.hart_core.specs.Vocabulary.{PlainHonestStep, MayOf, hart_step, program_at, state_of, CallsOnce, LeavesTied, running_of};
 ghost use Rattle.hart_core.specs.Blocks.{blocks, code};
 ghost use Rattle.hart_core.specs.Harts.{outcome_of, outcome_with, said, HartFits, IsTold};
+ghost use Rattle.hart_core.specs.Telling.{TellsOutcome, heard_at};
 
 use crate::outcome::{BareOutcome, Stop};
 use atomic_programs::machines::SteppedInPlace;
 use block_device::Device;
 use buffer_cache::HARTS;
 use fs_machine::Core;
+use path_walk::Heard;
 use plain_tree::Reply;
 use syscalls::CallPlace;
 
 /// A step of the call that stands in this place, if one does, unless the world has stopped. Once it has replied the place is idle, and
-/// the reply stands in a place of its own.
+/// the reply stands in a place of its own, with what it heard in this step in `last`.
 #[inline(always)]
 pub(crate) fn step<D: Device>(
     place: &mut CallPlace,
     replied: &mut Option<Reply>,
+    last: &mut Option<Heard>,
     hart: u8,
     core: &mut Core<D>,
     stopped: &mut bool,
@@ -41,6 +44,8 @@ pub(crate) fn step<D: Device>(
     ensures told { IsTold result replied.new }
     ensures others { LeavesTied hart (state_of D.contents D.failures core.old) (state_of D.contents D.failures core.new) }
     ensures called { CallsOnce D.Called core.old.log.cache.device core.new.log.cache.device }
+    ensures tells { TellsOutcome hart place.old (outcome_with result replied.new) (heard_at last.new place.new) place.new
+        (state_of D.contents D.failures core.old) (state_of D.contents D.failures core.new) }
 {
     if !place.is_busy() {
         return BareOutcome::Idle;
@@ -48,7 +53,7 @@ pub(crate) fn step<D: Device>(
     if *stopped {
         return BareOutcome::Stopped(Stop::Halted);
     }
-    match place.step(replied, hart, core) {
+    match place.step(replied, last, hart, core) {
         SteppedInPlace::Waits => BareOutcome::Waits,
         SteppedInPlace::Ran(kind) => BareOutcome::Ran(kind),
         SteppedInPlace::Done((), _kind) => BareOutcome::Done,

@@ -1,8 +1,11 @@
 // Lists of events.
-ghost use Rattle.std.specs.Prelude.{◌≡◌, ◌≤◌, IfOk, IfErr, length, []};
+ghost use Rattle.std.specs.Prelude.{◌≡◌, ◌≤◌, ℕ, IfOk, IfErr, Option, length, []};
 ghost use Rattle.hart_core.specs.Vocabulary.{vec_capacity};
 ghost use Rattle.hart_core.specs.Runs.{HasHistory, OneHistory};
 ghost use Rattle.hart_core.specs.Stops.{HasMarks, RunLeavesABeginning};
+ghost use Rattle.hart_core.specs.Telling.{NotesRun, hart_of, heard_by, heard_in};
+ghost use Rattle.hart_core.specs.declared.events.Came.{Came as CameState};
+ghost use Rattle.path_walk.specs.declared.asks.Heard.{Heard as HeardState};
 
 use crate::events::{Came, Event, Run};
 use crate::marks::{doubt_of, last_of, no_marks, note};
@@ -16,13 +19,19 @@ use std::alloc::{AllocError, Global};
 
 /// Who is told of a run's events, in their order, as they are made. Nothing of the run depends on it.
 pub trait Observer {
+    // What it makes of what it is told.
+    ghost Took: { Self → CameState → Option HeardState → Self → Type 0 };
+
     /// What the next event came to; and, of a step that ran, what its hart's call heard, where one of its operations over whole inodes
     /// ended in it.
-    fn noted(&mut self, came: &Came, heard: Option<Heard>);
+    fn noted(&mut self, came: &Came, heard: Option<Heard>)
+        ensures { Took self.old came.now heard self.new };
 }
 
 /// Nobody.
 impl Observer for () {
+    ghost Took = { λ _ _ _ _. Unit {0} };
+
     fn noted(&mut self, _came: &Came, _heard: Option<Heard>) {}
 }
 
@@ -42,7 +51,9 @@ struct Ran<D: Device> {
     marks: Marks,
 }
 
-fn hart_of(event: &Event) -> u8 {
+fn hart_of(event: &Event) -> u8
+    ensures { result ≡ hart_of event.now }
+{
     match event {
         Event::Start { hart, .. } => *hart,
         Event::Step { hart } => *hart,
@@ -50,7 +61,9 @@ fn hart_of(event: &Event) -> u8 {
 }
 
 // What the hart's call heard in an event that came to this.
-fn heard_in<D: Device>(world: &World<D>, hart: u8, came: &Came) -> Option<Heard> {
+fn heard_in<D: Device>(world: &World<D>, hart: u8, came: &Came) -> Option<Heard>
+    ensures { result ≡ heard_in came.now (heard_by world.now hart) }
+{
     match came {
         Came::Stepped(Outcome::Ran(_) | Outcome::Done(_)) => world.heard(hart),
         _ => None,
@@ -68,6 +81,8 @@ fn run_all<D: Device, O: Observer>(
     requires room { length events.items ≤ vec_capacity room }
     ensures history { HasMarks D.contents D.failures world.sizes world.harts events.items result.outcomes.items
         result.world.harts result.marks }
+    ensures notes { NotesRun D.contents D.failures O.Took world.sizes world.harts observer.old events.items result.outcomes.items
+        result.world.harts observer.new }
     ensures each { length result.outcomes.items ≡ length events.items }
     ensures sizes { result.world.sizes ≡ world.sizes }
 {
@@ -131,6 +146,8 @@ pub fn run_noted<D: Device, O: Observer>(
     events: &[Event],
     observer: &mut O,
 ) -> Result<Run<D>, (World<D>, NoMemory)>
+    ensures notes { IfOk result (λ r. NotesRun D.contents D.failures O.Took world.sizes world.harts observer.old events.now
+        r.outcomes.items r.world.harts observer.new) }
     ensures history { IfOk result
         (λ r. HasHistory D.contents D.failures world.sizes world.harts events.now r.outcomes.items r.world.harts) }
     ensures explained { IfOk result (λ r. OneHistory D.contents D.failures world events.now r.outcomes.items r.world.harts) }

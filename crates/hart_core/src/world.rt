@@ -1,5 +1,5 @@
 // The world: eight harts with their calls on a mounted disk.
-ghost use Rattle.std.specs.Prelude.{◌≡◌, IfOk, IfErr, None, length};
+ghost use Rattle.std.specs.Prelude.{◌≡◌, IfOk, IfErr, None, get_or, length};
 ghost use Rattle.block_device.specs.Calls.{ComesByCalls};
 ghost use Rattle.atomic_programs.specs.Calls.{Start as StartOf, Step as StepOf};
 ghost use Rattle.group_log.specs.Phases.{is_point};
@@ -10,7 +10,9 @@ ghost use Rattle.hart_core.specs.Harts.{outcome_of, said, shared_of};
 ghost use Rattle.hart_core.specs.Mounting.{HandsBack, Rests};
 ghost use Rattle.hart_core.specs.Promised.{IdleHartsHaveNothing, QuietBlocksAreAnImage, WaitsByTheRule};
 ghost use Rattle.hart_core.specs.Starts.{child_refusal, fault_of, others_refusal, refusal_of, start_outcome, IsOfBytes};
+ghost use Rattle.hart_core.specs.Telling.{SetsAt, TellsOutcome, heard_by};
 ghost use Rattle.hart_core.specs.Worlds.{Makes, Answers};
+ghost use Rattle.syscalls.specs.Places.{HasBegun};
 
 use crate::harts::Harts;
 use crate::mount::mount_harts;
@@ -34,6 +36,8 @@ pub struct World<D: Device> {
     sizes: Super,
     // A step leaves its reply here, and it is taken from here in the same step.
     replied: Option<Reply>,
+    // What the call that replied last heard in its last step.
+    last: Option<Heard>,
 }
 
 impl<D: Device> Model for World<D> {
@@ -42,7 +46,7 @@ impl<D: Device> Model for World<D> {
 
     ghost Value = { WorldOf D };
 
-    ghost view = { λ w. record { harts = w.harts; sizes = w.sizes } };
+    ghost view = { λ w. record { harts = w.harts; sizes = w.sizes; last = w.last } };
 
     ghost invariant = { λ w. IsWorld D.contents D.failures w.sizes w.harts × (w.replied ≡ None) };
 }
@@ -66,6 +70,7 @@ impl<D: Device> World<D> {
                     harts,
                     sizes,
                     replied: None,
+                    last: None,
                 })
             }
             Err(fault) => Err(fault),
@@ -127,6 +132,9 @@ impl<D: Device> World<D> {
             (start_outcome result) self.new.harts }
         ensures sizes { self.new.sizes ≡ self.old.sizes }
         ensures core { self.new.harts.core ≡ self.old.harts.core }
+        ensures begun { IfOk result (λ _. (get_or self.old.harts.calls hart None ≡ None)
+            × HasBegun self.old.sizes call (get_or self.new.harts.calls hart None) × (fault_of call ≡ None)
+            × SetsAt hart self.old.harts.calls self.new.harts.calls) }
         ensures back { IfErr result (λ e. (e.0 ≡ call) × (self.new ≡ self.old)) }
     {
         match self.find_start_refusal(hart, &call) {
@@ -149,16 +157,26 @@ impl<D: Device> World<D> {
             (StepOf hart (said result (shared_of D.contents D.failures self.new.harts))) self.old.harts }
         ensures sizes { self.new.sizes ≡ self.old.sizes }
         ensures called { CallsOnce D.Called self.old.harts.core.log.cache.device self.new.harts.core.log.cache.device }
+        ensures tells { TellsOutcome hart (get_or self.old.harts.calls hart None) result (heard_by self.new hart)
+            (get_or self.new.harts.calls hart None) (shared_of D.contents D.failures self.old.harts)
+            (shared_of D.contents D.failures self.new.harts) }
+        ensures others { SetsAt hart self.old.harts.calls self.new.harts.calls }
     {
-        let told = self.harts.step(&mut self.replied, hart);
+        let told = self.harts.step(&mut self.replied, &mut self.last, hart);
         told.outcome(&mut self.replied)
     }
 
     /// What a hart's call heard in its last step that ran, where one of its operations over whole inodes ended in that step; of a call that
-    /// has replied, until the hart begins the next one. A reader who keeps the tree beside a world (the crate explain) goes on by it. No
-    /// clause says what it is; rows show it.
-    pub fn heard(&self, hart: u8) -> Option<Heard> {
-        self.harts.heard(hart)
+    /// has replied, until another one does. A reader who keeps the tree beside a world (the crate explain) goes on by it: `step` says what
+    /// it is after each step.
+    pub fn heard(&self, hart: u8) -> Option<Heard>
+        ensures { result ≡ heard_by self.now hart }
+    {
+        if self.harts.is_busy(hart) {
+            self.harts.heard(hart)
+        } else {
+            self.last
+        }
     }
 
     /// Where the log's commit is: none is under way, or so many of its blocks were copied.
@@ -185,6 +203,7 @@ impl<D: Device> World<D> {
             harts,
             sizes: _,
             replied: _,
+            last: _,
         } = self;
         harts.unmount()
     }

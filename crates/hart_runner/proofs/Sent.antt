@@ -17,6 +17,7 @@ use Rattle.group_log.specs.contracts.log.Log as log
 use Rattle.fs_machine.proofs.entries.Inode.TheSendSync as inode
 use Rattle.plain_tree.proofs.answer.Reply.TheSendSync as reply
 use Rattle.plain_tree.proofs.call.Call.TheSendSync as call
+use Rattle.path_walk.proofs.asks.Heard.TheSendSync as heard
 use Rattle.syscalls.proofs.place.CallPlace.TheSendSync as place
 use Rattle.hart_core.specs.contracts.world.World as world
 use Rattle.locked_world.proofs.locked.Share.TheSendSync as share
@@ -34,7 +35,7 @@ log_send : (D : RattleType) (g : DeviceGhosts D.Denot) → IsSend D → IsSend (
 log_send D g s = search (cache_send, sendable, crosses) depth 60 fits 20000
 
 world_send : (D : RattleType) (g : DeviceGhosts D.Denot) → IsSend D → IsSend (world.the_row D g)
-world_send D g s = search (place.the_send, log_send, inode.the_send, reply.the_send, sendable, crosses) depth 60 fits 20000
+world_send D g s = search (place.the_send, log_send, inode.the_send, reply.the_send, heard.the_send, sendable, crosses) depth 60 fits 20000
 
 pub locked_send : (L : RattleType) (g : LedgerGhosts L.Denot) → IsSend (locked.the_row L g)
 locked_send L g = search (world_send, story.the_send, book.the_send, call.the_send, fused.the_send, sendable, crosses) depth 60 fits 20000

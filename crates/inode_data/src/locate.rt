@@ -111,6 +111,8 @@ impl Control for Locate {
 
     ghost Ends = { λ _ _. Unit {0} };
 
+    ghost Tells = { λ _ _ _ _ _ _. Unit {0} };
+
     fn op(&self, hand: &mut Hand) -> Op {
         match &self.stage {
             Stage::Direct(_, take) => take.op(hand),

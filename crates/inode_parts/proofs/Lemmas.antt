@@ -1,5 +1,5 @@
 -- What the proofs of this crate's functions use: its lemmas, and what they speak of.
-pub use Rattle.inode_parts.proofs.Vocabulary.{Ask, AskTold, BeginsWith, Bool, Comes, Dinode, Emptying, EnteredState, Entry, Face, FillsAs, FillsFrom, Found, Free, Goes, GoesOrLeaves, HasRoomFor, Having, Heard, IfSome, InodePart, IsAfter, IsAlone, IsAmid, IsLoadedAt, IsOnWay, IsPart, Leaves, List, Locks, Name, Named, None, Option, P, Part, PartReady, PartTold, Place, Query, ReadFilePart, ReadsInto, Refuses, RelockPart, RelockReady, Reply, Ret, InodePlace, Sees, Some, Take, TakePart, UnderWay, WholeFits, WriteFilePart, WriteFileReady, [], answer_to, ap, append-nil, arith, beside_buffers, beside_emptying, beside_in, beside_inode, beside_new, bind, call_in, carry_in, code_enter as enter, counted, drop, empty_seat, enter_left, enter_part_left, entered, entries, face_by, face_unless_free, file_ends, file_left, file_seat, fill_left, fill_names as fill, filled, filled_to, free_ends, free_seat, freeing_left, handed, having, hears, inode_at, is_some, left_after, length, listed_ends, lock_file_left, lock_left, lock_loaded, lock_seat, looked, lookup, name_in, named_ends, new_left, new_value, not, note_at, note_of, number_at, number_found, number_in, open_ends, open_left, open_seat, other, part_left, part_left_after, piece, program, put_entry, query_in, read_file_left, read_left, record_in, record_left, record_place, reference_at, refl, relock_left, search_left, seat_of_lock, second_in, slot_in, type_of, stat_ends, stat_left, step_for, store_inode as store, subst, sym, take, take_left, text_in, true, truncate, truncate_left, whole_of, whole_with, with_first, with_record, with_text, write_file_left, write_left, write_over, ℕ, ◌*◌, ◌++◌, ◌-◌, ◌<◌, ◌^◌, ◌∙◌, ◌≡◌}
+pub use Rattle.inode_parts.proofs.Vocabulary.{Ask, AskTold, BeginsWith, Bool, Carry, Comes, Dinode, Emptying, EnteredState, Entry, Face, FillsAs, FillsFrom, Found, Free, Goes, GoesOrLeaves, HasRoomFor, Having, Heard, IfSome, InodePart, IsAfter, IsAlone, IsAmid, IsLoadedAt, IsOnWay, IsPart, Leaves, List, Locks, Name, Named, None, Option, P, Part, PartReady, PartTold, Place, Query, ReadFilePart, ReadsInto, Refuses, RelockPart, RelockReady, Reply, Ret, InodePlace, Sees, Some, Take, TakePart, UnderWay, WholeFits, WriteFilePart, WriteFileReady, [], answer_to, ap, append-nil, arith, beside_buffers, beside_emptying, beside_in, beside_inode, beside_new, bind, call_in, carry_in, code_enter as enter, counted, drop, empty_seat, enter_left, enter_part_left, entered, entries, face_by, face_unless_free, file_ends, file_left, file_seat, fill_left, fill_names as fill, filled, filled_to, free_ends, free_seat, freeing_left, handed, having, hears, inode_at, is_some, left_after, length, listed_ends, lock_file_left, lock_left, lock_loaded, lock_seat, looked, lookup, name_in, named_ends, new_left, new_value, not, note_at, note_of, number_at, number_found, number_in, open_ends, open_left, open_seat, other, part_left, part_left_after, piece, program, put_entry, query_in, read_file_left, read_left, record_in, record_left, record_place, reference_at, refl, relock_left, search_left, seat_of_lock, second_in, slot_in, type_of, stat_ends, stat_left, step_for, store_inode as store, subst, sym, take, take_left, text_in, true, truncate, truncate_left, whole_of, whole_with, with_first, with_record, with_text, write_file_left, write_left, write_over, ℕ, ◌*◌, ◌++◌, ◌-◌, ◌<◌, ◌^◌, ◌∙◌, ◌≡◌}
 unfoldable pub use Rattle.inode_parts.proofs.Vocabulary.{answer_in}
 pub use Rattle.inode_parts.specs.Vocabulary.{Writes as WriteFile, asks, entered_as, file_asked, first_in, freeing_asked, lock_asked, new_asked, new_seat, op_in, open_asked, piece_len, read_asked, reply_to, search_asked, write_asked}
 pub use Rattle.inodes_on_blocks.proofs.Vocabulary.{Enter, drop_all, min, replicate, rules, take_all}
@@ -37,7 +37,7 @@ pub use Rattle.inode_parts.proofs.Frees.{free_on, free_over, free_stays}
 pub use Rattle.inode_parts.proofs.Goings.{aside_goes, checked_goes, directory_goes, doubled_goes, down_goes, give_goes, installed_goes, joined_goes, lent_goes, moved_goes, root_goes, settle_goes, shut_goes, slot_goes, up_goes, walked_goes}
 pub use Rattle.inode_parts.proofs.Lefts.{lock_file_after, read_after, stat_after, take_after, write_after}
 pub use Rattle.inode_parts.proofs.LockedFiles.{loaded_still, other_still}
-pub use Rattle.inode_parts.proofs.Lowering.{asks_on, asks_with, ends_on, goes_within, new_is}
+pub use Rattle.inode_parts.proofs.Lowering.{asks_on, asks_with, ends_on, goes_within, new_is, nothing_in, same_hears}
 pub use Rattle.inode_parts.proofs.Relocks.{came_alone, came_block, came_buffers, came_goes, came_number, came_some, relock_comes, relock_is_part, relock_leaves, relock_ready, relocked_by, taken_by}
 pub use Rattle.inode_parts.proofs.Stores.{store_is_part}
 pub use Rattle.inode_parts.proofs.Takes.{take_asks, take_is_part}

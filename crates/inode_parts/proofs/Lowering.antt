@@ -8,7 +8,7 @@ same_asks : (p : above.P Reply) → progs.asks p ≡ asks p
 same_asks (Ret r) = refl
 same_asks (Do op m k) = refl
 
-same_hears : (sizes : Super) (text : List ℕ) (p : above.P Reply) (x : Heard) → hears text p x ≡ hears_in sizes p (text, x)
+pub same_hears : (sizes : Super) (text : List ℕ) (p : above.P Reply) (x : Heard) → hears text p x ≡ hears_in sizes p (text, x)
 same_hears sizes text (Ret r) x = refl
 same_hears sizes text (Do op m k) x = refl
 

@@ -29,3 +29,4 @@ pub mod InodeParts
 pub mod Coming
 pub mod UnderWay
 pub mod Calls
+pub mod Telling

@@ -8,6 +8,7 @@ ghost use Rattle.inode_parts.specs.InodeParts.{part_left, part_left_after, part_
 ghost use Rattle.inode_parts.specs.Leaving.{having, heard_if};
 ghost use Rattle.inode_parts.specs.UnderWay.{GoesOrLeaves, UnderWay};
 ghost use Rattle.inode_parts.specs.Sizes.{IsSized};
+ghost use Rattle.inode_parts.specs.Telling.{BeginsAsking, LoweredTells};
 
 use crate::note::Notes;
 use crate::part::InodePart;
@@ -68,6 +69,7 @@ impl Lowered {
         requires sizes { IsSized sizes.now }
         requires empty { IsEmpty hand.old }
         ensures program { lowered_left self.new hand.new ≡ lowered sizes.now nothing (program call) }
+        ensures asks { BeginsAsking sizes.now nothing (program call) self.new hand.new }
         ensures ready { LoweredReady self.new hand.new }
         ensures hand { bare hand.new ≡ bare hand.old }
     {
@@ -161,6 +163,8 @@ impl Control for Lowered {
     ghost Ready = { LoweredReady };
 
     ghost Ends = { λ _ h. IsEmpty h };
+
+    ghost Tells = { LoweredTells };
 
     #[inline(always)]
     fn op(&self, hand: &mut Hand) -> Op {

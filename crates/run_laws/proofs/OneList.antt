@@ -1,7 +1,8 @@
 -- All beginnings of a run of a mounted world agree with one list.
-use Rattle.run_laws.proofs.Vocabulary.{All, ◌≡◌, ◌⊎◌, inl, inr, ℕ, zero, suc, ◌≤◌, false, List, [], ◌∷◌, length, take, refl, sym, ◌∙◌, ap, subst, arith, Super, sizes_of, tree_in, Call, Placed, Trace, TracedCall, call_climbs, Explains, IsNamedPart, Shown, trace_of, tree_of, TreeData, before, IsHart, NeverClimbs, apart_alone, apart_calm, Theory, EventOf, State, fresh, run, Code, Plain, plain_run, erase-run, Outside, MoveMachine, shows, RunsOn, block_moves, first, block_calls, block_code, is_code, disk_after as disk_left, Event, HartsOf, Rests, IsHistory, NoneClimbs, OneHart, all_shown, shown, trace_in, WorldOf, AllStarted, long_history, one_each, shown_is, started, mountable, rests_erased, honest_run, AgreesWithTheList, RunsHaveOneList}
+use Rattle.run_laws.proofs.Vocabulary.{All, ◌≡◌, ◌⊎◌, inl, inr, ℕ, zero, suc, ◌≤◌, false, List, [], ◌∷◌, length, take, Option, refl, sym, ◌∙◌, ap, subst, arith, Super, sizes_of, tree_in, Call, Placed, Trace, TracedCall, call_climbs, Explains, IsNamedPart, Shown, trace_of, tree_of, TreeData, before, IsHart, NeverClimbs, apart_alone, apart_calm, Theory, EventOf, State, fresh, run, Code, Plain, plain_run, erase-run, Outside, MoveMachine, shows, RunsOn, block_moves, first, block_calls, block_code, is_code, disk_after as disk_left, Event, HartsOf, Rests, IsHistory, NoneClimbs, OneHart, all_shown, shown, trace_in, WorldOf, AllStarted, long_history, one_each, shown_is, started, mountable, rests_erased, honest_run, AgreesWithTheList, RunsHaveOneList}
 use Rattle.plain_tree.specs.Explains.{Chain}
 use Rattle.hart_core.specs.declared.events.Came.{Came}
+use Rattle.path_walk.specs.declared.asks.Heard.{Heard}
 use Rattle.run_laws.specs.OneList.{disk_after}
 use Rattle.run_laws.proofs.Growing.{IsSoFar, list_on, shows_first, so_it_is}
 
@@ -34,10 +35,10 @@ module _ {D : Type 0} (contents : D → List (List ℕ)) (failures : D → ℕ) 
   abbrev start : State L
   start = fresh L (first disk count)
 
-  module _ (events : List Event) (cs : List Came) (new : HartsOf D) (history : List (EventOf Call Outside))
+  module _ (last : Option Heard) (events : List Event) (cs : List Came) (new : HartsOf D) (history : List (EventOf Call Outside))
       (is : IsHistory contents failures sizes w events cs new history) (clean : L.M.Clean (run L history start).world) where
     abbrev world : WorldOf D
-    world = record { harts = w; sizes = sizes }
+    world = record { harts = w; sizes = sizes; last = last }
 
     abbrev Agrees : ℕ → Type 0
     Agrees k = AgreesWithTheList contents failures (tree_in (contents device)) world events cs history k
@@ -112,6 +113,6 @@ module _ {D : Type 0} (contents : D → List (List ℕ)) (failures : D → ℕ) 
       let long = long_history contents failures (sizes_of (contents now)) w.harts new events cs history here in
       let each = one_each contents failures (sizes_of (contents now)) w.harts new events cs (history, here) in
       subst (λ (z : WorldOf D). AgreesWithTheList contents failures (tree_in (contents device)) z events cs history k)
-      (λ i. record { harts = w.harts; sizes = sym same i })
-      (all_agree contents failures device w.harts mounted.rests events cs new history here (subst (Roomy history) same clean) calm k
+      (λ i. record { harts = w.harts; sizes = sym same i; last = w.last })
+      (all_agree contents failures device w.harts mounted.rests w.last events cs new history here (subst (Roomy history) same clean) calm k
       (omega (arith, le, long, each)))

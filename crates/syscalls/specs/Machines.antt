@@ -1,6 +1,6 @@
 -- A call under way, with all that its hart has in hand.
-use Rattle.syscalls.specs.Vocabulary.{Reply, State, P, HandFits, Machine, lowered_left, LoweredReady, Lowered}
-use Rattle.std.specs.Prelude.{ℕ}
+use Rattle.syscalls.specs.Vocabulary.{Reply, State, P, HandFits, Heard, Machine, TellsBy, heard_if, lowered_left, LoweredReady, LoweredTells, Lowered}
+use Rattle.std.specs.Prelude.{ℕ, Option}
 
 abbrev pub Running : Type 0
 Running = Machine Lowered (Unit {0})
@@ -13,3 +13,11 @@ running_of m = lowered_left m.control m.hand
 pub record RunningFits (hart : ℕ) (s : State) (m : Running) : Type 0 where
   pub ready : LoweredReady m.control m.hand
   pub fits : HandFits hart s m.hand
+
+-- what the call heard in its last step
+abbrev pub heard_of : Running → Option Heard
+heard_of m = heard_if m.control.ended m.control.heard
+
+-- what a step of it that ran tells; the call may have ended
+abbrev pub TellsOf : ℕ → Running → Option (Unit {0}) → Running → (old new : State) → Type 0
+TellsOf hart m out left = TellsBy lowered_left LoweredTells hart m.control m.hand out left.control left.hand

@@ -1,17 +1,18 @@
 -- The place of a hart's call, and a step of what stands there.
 use Rattle.std.specs.Prelude.{◌≡◌, ℕ, List, Bool, true, false, Option, Some, None, IsSome}
-use Rattle.syscalls.specs.Vocabulary.{Super, Reply, Call, RestOrResult, Still, stepped_at, SteppedInPlace, Waits, Ran, Done, Stopped, State, state_of, Answers, CallsOnce, Moves, LeavesTied, Kind, Core, program, lowered, nothing}
-use Rattle.syscalls.specs.Machines.{Running, running_of, RunningFits}
+use Rattle.syscalls.specs.Vocabulary.{Super, Reply, Call, Heard, BeginsAsking, RestOrResult, Still, stepped_at, SteppedInPlace, Waits, Ran, Done, Stopped, State, state_of, Answers, CallsOnce, Moves, LeavesTied, Kind, Core, program, lowered, nothing}
+use Rattle.syscalls.specs.Machines.{Running, heard_of, running_of, RunningFits, TellsOf}
 
 -- what is seen of a place, by whether a call is under way there
 abbrev pub call_at : Bool → Running → Option Running
 call_at true m = Some m
 call_at false m = None
 
--- a call has begun there, on a disk of these sizes: all of its program is left, and it has nothing in hand
+-- A call has begun there, on a disk of these sizes: all of its program is left, it has nothing in hand, and it asks its first operation.
 abbrev pub HasBegun : Super → Call → Option Running → Type 0
 HasBegun sizes call None = ⊥
 HasBegun sizes call (Some m) = (running_of m ≡ lowered sizes nothing (program call)) × ((hart : ℕ) (s : State) → RunningFits hart s m)
+    × BeginsAsking sizes nothing (program call) m.control m.hand
 
 -- a step with its reply, which stands in a place of its own (one that is done has left one)
 abbrev pub with_reply : SteppedInPlace (Unit {0}) Kind → Option Reply → SteppedInPlace Reply Kind
@@ -35,9 +36,17 @@ left_in (Ran kind) m = Some m
 left_in (Done reply kind) m = None
 left_in Stopped m = Some m
 
+-- What a step tells: one that ran, where the call has replied also that what it heard is left here; any other leaves all as it was.
+abbrev pub TellsStep : ℕ → Running → SteppedInPlace Reply Kind → Running → Option Heard → (old new : State) → Type 0
+TellsStep hart m Waits left last old new = (left.control ≡ m.control) × (left.hand ≡ m.hand)
+TellsStep hart m (Ran kind) left last old new = TellsOf hart m None left old new
+TellsStep hart m (Done reply kind) left last old new = TellsOf hart m (Some tt) left old new × (last ≡ heard_of left)
+TellsStep hart m Stopped left last old new = (left.control ≡ m.control) × (left.hand ≡ m.hand)
+
 module _ {D : Type 0} (contents : D → List (List ℕ)) (failures : D → ℕ) (Called : D → D → Type 0) where
   -- the step of a call is the next operation of its program, and leaves this of it
-  pub record StepsCall (hart : ℕ) (call left : Running) (result : SteppedInPlace Reply Kind) (old new : Core D) : Type 0 where
+  pub record StepsCall (hart : ℕ) (call left : Running) (result : SteppedInPlace Reply Kind) (last : Option Heard) (old new : Core D)
+      : Type 0 where
     pub moves : Moves running_of (λ reply. reply) hart call (stepped_at left result) (state_of contents failures old)
         (state_of contents failures new)
     pub honest : Answers running_of hart call (stepped_at left result) (state_of contents failures old) (state_of contents failures new)
@@ -45,8 +54,11 @@ module _ {D : Type 0} (contents : D → List (List ℕ)) (failures : D → ℕ) 
     pub fits : RestOrResult (RunningFits hart (state_of contents failures new)) (λ _. Unit {0}) (stepped_at left result)
     pub others : LeavesTied hart (state_of contents failures old) (state_of contents failures new)
     pub called : CallsOnce Called old.log.cache.device new.log.cache.device
+    pub tells : TellsStep hart call result left last (state_of contents failures old) (state_of contents failures new)
 
-  -- the step of a place in which a call is under way
-  abbrev pub StepsAt : (hart : ℕ) → Option Running → Option Running → SteppedInPlace Reply Kind → (old new : Core D) → Type 0
-  StepsAt hart None after result old new = ⊥
-  StepsAt hart (Some call) after result old new = (left : Running) × (after ≡ left_in result left) × StepsCall hart call left result old new
+  -- the step of a place in which a call is under way; last: what one that replied has heard in its last step
+  abbrev pub StepsAt : (hart : ℕ) → Option Running → Option Running → SteppedInPlace Reply Kind → (last : Option Heard) → (old new : Core D)
+      → Type 0
+  StepsAt hart None after result last old new = ⊥
+  StepsAt hart (Some call) after result last old new =
+      (left : Running) × (after ≡ left_in result left) × StepsCall hart call left result last old new

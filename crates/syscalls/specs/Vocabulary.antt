@@ -10,11 +10,15 @@ pub use Rattle.fs_machine.specs.Tied.{LeavesTied}
 pub use Rattle.fs_machine.specs.declared.control.Machine.{Machine}
 pub use Rattle.fs_machine.specs.declared.kind.Kind.{Kind}
 pub use Rattle.fs_machine.specs.declared.shared.Core.{Core}
+pub use Rattle.fs_machine.specs.Controls.{TellsBy}
 pub use Rattle.inode_parts.specs.Calls.{LoweredReady, RunsByParts, lowered_left, path_of}
+pub use Rattle.inode_parts.specs.Leaving.{heard_if}
+pub use Rattle.inode_parts.specs.Telling.{BeginsAsking, LoweredTells}
 pub use Rattle.inode_parts.specs.Expecting.{RunsAlone}
 pub use Rattle.inode_parts.specs.Parts.{lowered}
 pub use Rattle.inode_parts.specs.declared.lowered.Lowered.{Lowered}
 pub use Rattle.atomic_programs.specs.declared.machines.SteppedInPlace.{SteppedInPlace}
 pub use Rattle.fs_layout.specs.declared.superblock.Super.{Super}
+pub use Rattle.path_walk.specs.declared.asks.Heard.{Heard}
 pub use Rattle.plain_tree.specs.declared.answer.Reply.{Reply}
 pub use Rattle.plain_tree.specs.declared.call.Call.{Call}

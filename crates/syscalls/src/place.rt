@@ -6,7 +6,7 @@ ghost use Rattle.fs_machine.specs.Machines.{MayNext};
 ghost use Rattle.whole_calls.specs.Wholes.{IsCall};
 ghost use Rattle.fs_machine.specs.Empty.{IsEmpty};
 ghost use Rattle.inode_parts.specs.Sizes.{IsSized};
-ghost use Rattle.syscalls.specs.Machines.{running_of, RunningFits};
+ghost use Rattle.syscalls.specs.Machines.{heard_of, running_of, RunningFits};
 ghost use Rattle.syscalls.specs.Places.{with_reply, HasBegun, IsReplied, StepsAt};
 
 use crate::calls_run_by_parts;
@@ -121,12 +121,12 @@ impl CallPlace {
     }
 
     /// One operation of the call under way. Once it has replied the place is idle, and the reply stands in a place of its own, which is
-    /// empty
-    /// before.
+    /// empty before; and `last` is what it heard in this step.
     #[inline(always)]
     pub fn step<D: Device>(
         &mut self,
         replied: &mut Option<Reply>,
+        last: &mut Option<Heard>,
         hart: u8,
         core: &mut Core<D>,
     ) -> SteppedInPlace<(), Kind>
@@ -135,7 +135,8 @@ impl CallPlace {
         requires may { MatchOption self.old ⊥ (λ call. MayNext hart (running_of call) (state_of D.contents D.failures core.old)) }
         requires fits { MatchOption self.old ⊥ (λ call. RunningFits hart (state_of D.contents D.failures core.old) call) }
         requires none { replied.old ≡ None }
-        ensures steps { StepsAt D.contents D.failures D.Called hart self.old self.new (with_reply result replied.new) core.old core.new }
+        ensures steps { StepsAt D.contents D.failures D.Called hart self.old self.new (with_reply result replied.new) last.new core.old
+            core.new }
         ensures replied { IsReplied result replied.new }
     {
         match self.machine.step(hart, core) {
@@ -143,6 +144,7 @@ impl CallPlace {
             SteppedInPlace::Ran(kind) => SteppedInPlace::Ran(kind),
             SteppedInPlace::Done((), kind) => {
                 self.is_busy = false;
+                *last = self.machine.control.heard();
                 put(replied, self.machine.control.reply());
                 SteppedInPlace::Done((), kind)
             }
@@ -150,9 +152,10 @@ impl CallPlace {
         }
     }
 
-    /// What the call under way heard in its last step, where an operation over whole inodes ended there; also what the last one heard
-    /// last, once it has replied.
-    pub fn heard(&self) -> Option<Heard> {
+    /// What the call under way heard in its last step, where an operation over whole inodes ended there.
+    pub fn heard(&self) -> Option<Heard>
+        ensures { MatchOption self.now (Unit {0}) (λ call. result ≡ heard_of call) }
+    {
         self.machine.control.heard()
     }
 

@@ -1,4 +1,4 @@
-use Rattle.hart_core.proofs.Lemmas.{List, Option, ℕ, subst, sym, Event, HasMarks, RunLeavesABeginning, last_of, explained, leaves_a_beginning}
+use Rattle.hart_core.proofs.Lemmas.{List, Option, ℕ, subst, sym, Event, HasMarks, NotesRun, RunLeavesABeginning, last_of, explained, leaves_a_beginning}
 use Rattle.hart_core.proofs.runs.run_noted.Goals as goal
 
 pub returns-in-Ok-with_capacity-clause-history : goal.returns-in-Ok-with_capacity-clause-history
@@ -17,3 +17,8 @@ returns-in-Ok-with_capacity-clause-stops g c =
     subst (λ (cut : Option ℕ). RunLeavesABeginning g.D.Device.contents g.D.Device.failures c.args.world c.args.events.now r.outcomes.items r.world.harts cut c.doubt_of.result) (sym c.last_of.ensures)
     (subst (λ (doubt : Option ℕ). RunLeavesABeginning g.D.Device.contents g.D.Device.failures c.args.world c.args.events.now r.outcomes.items r.world.harts (last_of r.marks.cut) doubt) (sym c.doubt_of.ensures)
     (leaves_a_beginning g.D.Device.contents g.D.Device.failures c.args.world c.args.events.now r.outcomes.items r.world.harts r.marks h))
+
+pub returns-in-Ok-with_capacity-clause-notes : goal.returns-in-Ok-with_capacity-clause-notes
+returns-in-Ok-with_capacity-clause-notes g c =
+    let r = c.run_all-world.result in
+    subst (λ (es : List Event). NotesRun g.D.Device.contents g.D.Device.failures g.O.Observer.Took c.args.world.sizes c.args.world.harts c.args.observer.now es r.outcomes.items r.world.harts c.run_all-world.new.observer) c.in-Ok.ensures c.run_all-world.ensures.notes

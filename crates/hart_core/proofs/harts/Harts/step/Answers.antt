@@ -1,4 +1,4 @@
-use Rattle.hart_core.proofs.Lemmas.{◌≡◌, ◌∙◌, None, arith, refl, set, sym, subst, get_or, set-set, Step, WasIdle, plain_makes, PlainHonest, step_gives, honest_here, Passes, state_of, running_of, blocks, code, MayStep, HartsOf, said, outcome_of, outcome_with, programs_of, all_set, idle_past, honest_past, is_at}
+use Rattle.hart_core.proofs.Lemmas.{◌≡◌, ◌∙◌, None, arith, refl, set, sym, subst, get_or, set-set, Step, WasIdle, plain_makes, PlainHonest, step_gives, honest_here, Passes, state_of, running_of, blocks, code, MayStep, HartsOf, said, outcome_of, outcome_with, programs_of, SetsAt, TellsOutcome, heard_at, set-own, stays_same, all_set, idle_past, honest_past, is_at}
 use Rattle.hart_core.proofs.harts.Harts.step.Goals as goal
 
 pub step-requires-clause-may : goal.step-requires-clause-may
@@ -59,3 +59,19 @@ returns-then-hart-ge-HARTS-clause-honest g c =
     let past = c.if-hart-ge-HARTS.true in
     subst (λ (v : HartsOf _). PlainHonest blocks code (Step c.args.hart Passes) (programs_of g.D.Device.contents g.D.Device.failures v)) c.self.view_is
     (honest_past c.args.hart Passes (state_of g.D.Device.contents g.D.Device.failures w.core) w.stopped w.calls (omega (arith, long, past)))
+
+pub returns-clause-tells : goal.returns-clause-tells
+returns-clause-tells g c =
+    let h = c.args.hart in
+    let left = get_or c.step.new.self h None in
+    let s = state_of g.D.Device.contents g.D.Device.failures in
+    subst (λ (v : HartsOf _). TellsOutcome h (get_or v.calls h None) (outcome_with c.step.result c.step.new.replied) (heard_at c.step.new.last left) left (s v.core) (s c.step.new.core)) c.self.view_is c.step.ensures.tells
+
+pub returns-clause-others : goal.returns-clause-others
+returns-clause-others g c = subst (λ (v : HartsOf _). SetsAt c.args.hart v.calls c.step.new.self) c.self.view_is c.step.ensures.kept
+
+pub returns-then-hart-ge-HARTS-clause-tells : goal.returns-then-hart-ge-HARTS-clause-tells
+returns-then-hart-ge-HARTS-clause-tells g c = stays_same (get_or c.args.self.now.calls c.args.hart None)
+
+pub returns-then-hart-ge-HARTS-clause-others : goal.returns-then-hart-ge-HARTS-clause-others
+returns-then-hart-ge-HARTS-clause-others g c = set-own c.args.self.now.calls c.args.hart

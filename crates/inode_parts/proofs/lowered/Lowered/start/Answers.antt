@@ -1,5 +1,5 @@
-use Rattle.inode_parts.proofs.Lemmas.{ℕ, List, [], ◌++◌, sym, subst, ap, ◌∙◌, program, WholeFits, text_in, whole_of, whole_with, with_text, IsOnWay, carry_in, part_left, FillsAs, having, IsPart, new_is, begins_now, first_runs, part_told, read_text, stands_now, told_now, way_now, fills_now, on_text, reads_now}
-use Rattle.path_walk.specs.Asks.{op_in}
+use Rattle.inode_parts.proofs.Lemmas.{◌≡◌, ℕ, List, [], Some, refl, nothing_in, Carry, ◌++◌, sym, subst, ap, ◌∙◌, program, WholeFits, text_in, whole_of, whole_with, with_text, IsOnWay, carry_in, part_left, FillsAs, having, IsPart, new_is, begins_now, first_runs, part_told, read_text, stands_now, told_now, way_now, fills_now, on_text, reads_now}
+use Rattle.path_walk.specs.Asks.{asks, op_in}
 use Rattle.inode_parts.proofs.lowered.Lowered.start.Goals as goal
 
 pub begin-requires : goal.begin-requires
@@ -32,6 +32,31 @@ returns-clause-program c =
     let same = on_text sizes [] w (part_left path m q g) (fills_now [] w a (part_left path m q g) (c.ask-ask.ensures.asks [] c.new.ensures.fits) fills) in
     let whole = new_is sizes path m h (whole_of [] w) (program c.args.call) (op_in path a) (part_left path m q g) c.requires.empty c.new.ensures.program (c.ask-ask.ensures.asks [] c.new.ensures.fits) is in
     ap (λ (ns : List ℕ). with_text sizes (part_left path m q g) (whole_with ns w)) c.clear.ensures ∙ sym same ∙ whole
+
+pub returns-clause-asks : goal.returns-clause-asks
+returns-clause-asks c =
+    let w = c.new.result in
+    let sizes = c.args.sizes.now in
+    let m = c.new-self.result in
+    let h = c.args.hand.now in
+    let a = c.ask-ask.result in
+    let q = c.begin.new.self in
+    let g = c.begin.new.hand in
+    let path = text_in w in
+    let read = read_text w c.text-path.result.now c.second-second.result.now c.text-path.ensures c.second-second.ensures in
+    let is = subst (λ (t : List ℕ). IsPart sizes (carry_in t m h) (op_in t a) (part_left t m q g)) read c.begin.ensures.part in
+    let fills = subst (λ (t : List ℕ). FillsAs a t (part_left t m q g)) read c.begin.ensures.fills in
+    let asked = c.ask-ask.ensures.asks [] c.new.ensures.fits in
+    let listed = sym c.clear.ensures in (
+      refl,
+      record {
+        left = sym c.new.ensures.program ∙ ap (λ (ns : List ℕ). whole_of ns w) listed;
+        op = op_in path a;
+        asked = subst (λ (ns : List ℕ). asks (whole_of ns w) ≡ Some (op_in path a)) listed asked;
+        part = subst (λ (k : Carry). IsPart sizes k (op_in path a) (part_left path m q g)) (nothing_in path m h c.requires.empty) is;
+        fills = fills_now [] w a (part_left path m q g) asked fills;
+      },
+    )
 
 pub returns-clause-ready : goal.returns-clause-ready
 returns-clause-ready c =

@@ -1,4 +1,4 @@
-use Rattle.inode_parts.proofs.Lemmas.{◌≡◌, ℕ, Bool, List, [], ◌++◌, Option, Some, sym, ap, subst, ◌∙◌, IfNone, IfSome, Ret, Reply, Goes, answer_in, answer_to, hears, reply_to, stepped, Heard, call_in, first_in, second_in, text_in, whole_of, HasRoomFor, whole_with, with_text, IsOnWay, carry_in, FillsFrom, Having, Leaves, part_asked, part_left, part_left_after, FillsAs, PartReady, PartTold, ReadsInto, having, heard_if, IsPart, GoesOrLeaves, UnderWay, asks_on, ends_on, goes_within, begins_now, next_ends, next_runs, part_told, read_text, stands_now, text_stays, told_now, way_now, fills_now, fits_with, its_own, on_text, part_reads, read_before, reads_now, reads_with, room_now, same_with, way_with}
+use Rattle.inode_parts.proofs.Lemmas.{◌≡◌, ℕ, Bool, List, [], ◌++◌, Option, Some, refl, sym, ap, subst, ◌∙◌, IfNone, IfSome, Ret, Reply, Goes, answer_in, answer_to, hears, reply_to, stepped, Heard, call_in, first_in, second_in, text_in, whole_of, HasRoomFor, whole_with, with_text, IsOnWay, carry_in, FillsFrom, Having, Leaves, part_asked, part_left, part_left_after, FillsAs, PartReady, PartTold, ReadsInto, having, heard_if, IsPart, GoesOrLeaves, UnderWay, asks_on, ends_on, goes_within, begins_now, next_ends, next_runs, part_told, read_text, stands_now, text_stays, told_now, way_now, fills_now, fits_with, its_own, same_hears, handed, on_text, part_reads, read_before, reads_now, reads_with, room_now, same_with, way_with}
 use Rattle.inode_machine.specs.Parts as programs
 use Rattle.inode_machine.specs.World as above
 use Rattle.path_walk.specs.Asks.{asks, op_in}
@@ -20,6 +20,20 @@ returns-else-part_next-clause-goes c before ready after =
     let went = subst (λ (o : Option Heard). Goes left answer (part_left_after (text_in u) m o q h)) (ap (λ (b : Bool). heard_if b x) c.if-part_next.false) (did.ensures.goes before ready.ready after) in
     subst (λ (p : List ℕ → programs.P Reply). Goes (with_text l.sizes left (whole_with l.list l.call)) answer (with_text l.sizes (part_left (text_in u) m q h) p)) (same_with l.list l.call u did.ensures.call)
     (goes_within l.sizes left (part_left (text_in u) m q h) (whole_with l.list l.call) answer went)
+
+pub returns-else-part_next-clause-tells : goal.returns-else-part_next-clause-tells
+returns-else-part_next-clause-tells c before ready after =
+    let l = c.args.self.now in
+    let did = c.part_next in
+    let u = did.new.call in
+    let q = did.new.part in
+    let m = did.new.notes in
+    let h = did.new.hand in
+    let x = did.new.heard in
+    let answer = answer_in (part_asked l.part) c.args.answer.now c.args.hand.now in
+    let left = part_left (text_in l.call) l.notes l.part before in
+    let went = subst (λ (o : Option Heard). Goes left answer (part_left_after (text_in u) m o q h)) (ap (λ (b : Bool). heard_if b x) c.if-part_next.false) (did.ensures.goes before ready.ready after) in
+    record { sizes = refl; goes = record { goes = went; call = sym (same_with l.list l.call u did.ensures.call) } }
 
 pub returns-else-part_next-clause-ready : goal.returns-else-part_next-clause-ready
 returns-else-part_next-clause-ready c =
@@ -159,6 +173,47 @@ returns-else-next-clause-goes c before ready after =
     subst (λ (t : List ℕ). Goes (with_text l.sizes left (whole_with l.list l.call)) answer (with_text l.sizes (part_left t m q g) (whole_with ms v))) (sym stays)
     (asks_on l.sizes path m h left (whole_with l.list l.call) x answer went (whole_of ms v) (op_in path a) (part_left path m q g) (whole_with ms v) (own ∙ on) (subst (λ (t : List ℕ). asks (whole_of ms v) ≡ Some (op_in t a)) stays asked) is same)
 
+pub returns-else-next-clause-tells : goal.returns-else-next-clause-tells
+returns-else-next-clause-tells c before ready after =
+    let l = c.args.self.now in
+    let did = c.part_next in
+    let u = did.new.call in
+    let m = did.new.notes in
+    let h = did.new.hand in
+    let x = did.new.heard in
+    let v = c.next.new.self in
+    let ms = c.next.new.list in
+    let filled = did.ensures.call in
+    let path = text_in u in
+    let answer = answer_in (part_asked l.part) c.args.answer.now c.args.hand.now in
+    let left = part_left (text_in l.call) l.notes l.part before in
+    let went = subst (λ (o : Option Heard). Goes left answer (part_left_after path m o did.new.part h)) (ap (λ (b : Bool). heard_if b x) c.if-part_next.true) (did.ensures.goes before ready.ready after) in
+    let own : hears path (whole_with l.list l.call path) x ≡ hears path (whole_of l.list u) x = (λ i. hears path (same_with l.list l.call u filled i path) x) ∙ (λ i. hears path (its_own l.list u i) x) in
+    let on : hears path (whole_of l.list u) x ≡ whole_of ms v = (c.next.ensures.goes ∙ ap (λ (ended : Bool). stepped (whole_of ms v) (call_in v) c.next.new.says ended) c.if-next.false) in
+    let a = c.ask-ask.result in
+    let q = c.begin.new.self in
+    let g = c.begin.new.hand in
+    let stays = text_stays u v c.next.ensures.call in
+    let read = read_text v c.text-path.result.now c.second-second.result.now c.text-path.ensures c.second-second.ensures in
+    let is = subst (λ (t : List ℕ). IsPart l.sizes (carry_in t m h) (op_in t a) (part_left t m q g)) (read ∙ stays) c.begin.ensures.part in
+    let fills = subst (λ (t : List ℕ). FillsAs a t (part_left t m q g)) read c.begin.ensures.fills in
+    let asked = c.ask-ask.ensures.asks ms (c.next.ensures.fits c.if-next.false) in
+    record {
+      sizes = refl;
+      goes = record {
+        ends = handed path m x h;
+        goes = went;
+        heard = refl;
+        call = record {
+          left = sym (same_hears l.sizes path (whole_with l.list l.call path) x) ∙ own ∙ on;
+          op = op_in path a;
+          asked = subst (λ (t : List ℕ). asks (whole_of ms v) ≡ Some (op_in t a)) stays asked;
+          part = subst (λ (t : List ℕ). IsPart l.sizes (carry_in path m h) (op_in path a) (part_left t m q g)) (sym stays) is;
+          fills = fills_now ms v a (part_left (text_in v) m q g) asked fills;
+        };
+      };
+    }
+
 pub returns-else-next-clause-ready : goal.returns-else-next-clause-ready
 returns-else-next-clause-ready c =
     let l = c.args.self.now in
@@ -226,3 +281,30 @@ returns-then-next-clause-ends c =
     let leaves : (op : above.Op) (start : Having) → UnderWay (text_in l.call) op start l.part (having came.0 l.notes) → Leaves (text_in l.call) op (answer_to [] op x) start s = λ op start under. subst (λ (o : Option Heard). GoesOrLeaves (text_in l.call) op start o did.new.part s) some (did.ensures.under op start came.0 under ready.ready came.2) in
     next_ends l.call u v l.list ms l.part (having came.0 l.notes) s x did.ensures.call ready.way leaves (reply_to (call_in v) c.next.new.says)
     (c.next.ensures.goes ∙ ap (λ (ended : Bool). stepped (whole_of ms v) (call_in v) c.next.new.says ended) c.if-next.true)
+
+pub returns-then-next-clause-tells : goal.returns-then-next-clause-tells
+returns-then-next-clause-tells c before ready after =
+    let l = c.args.self.now in
+    let did = c.part_next in
+    let u = did.new.call in
+    let m = did.new.notes in
+    let h = did.new.hand in
+    let x = did.new.heard in
+    let v = c.next.new.self in
+    let ms = c.next.new.list in
+    let filled = did.ensures.call in
+    let path = text_in u in
+    let answer = answer_in (part_asked l.part) c.args.answer.now c.args.hand.now in
+    let left = part_left (text_in l.call) l.notes l.part before in
+    let went = subst (λ (o : Option Heard). Goes left answer (part_left_after path m o did.new.part h)) (ap (λ (b : Bool). heard_if b x) c.if-part_next.true) (did.ensures.goes before ready.ready after) in
+    let own : hears path (whole_with l.list l.call path) x ≡ hears path (whole_of l.list u) x = (λ i. hears path (same_with l.list l.call u filled i path) x) ∙ (λ i. hears path (its_own l.list u i) x) in
+    let on : hears path (whole_of l.list u) x ≡ Ret (reply_to (call_in v) c.next.new.says) = (c.next.ensures.goes ∙ ap (λ (ended : Bool). stepped (whole_of ms v) (call_in v) c.next.new.says ended) c.if-next.true) in
+    record {
+      sizes = refl;
+      goes = record {
+        ends = handed path m x h;
+        goes = went;
+        heard = refl;
+        call = sym (same_hears l.sizes path (whole_with l.list l.call path) x) ∙ own ∙ on;
+      };
+    }

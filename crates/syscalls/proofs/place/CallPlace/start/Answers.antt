@@ -11,4 +11,5 @@ returns c =
     let empty : IsEmpty c.deref_mut.result.now.hand = subst (λ (m : Running). IsEmpty m.hand) (sym c.deref_mut.ensures.value) (c.self.invariant (idle_is w.is_busy w.machine.value c.args.self.now c.self.view_is c.requires.idle)) in (
       c.start.ensures.program,
       λ hart s. record { ready = c.start.ensures.ready; fits = bare-fits hart s c.deref_mut.result.now.hand c.start.new.hand c.start.ensures.hand (nothing_fits hart s c.deref_mut.result.now.hand empty) },
+      c.start.ensures.asks,
     )

@@ -1,4 +1,4 @@
-use Rattle.syscalls.proofs.Lemmas.{◌≡◌, Bool, Option, Some, None, refl, sym, ap, ◌∙◌, subst, MatchOption, Reply, Waits, Ran, Done, Stopped, MayNext, state_of, reply_to, call_in, Running, running_of, call_at, with_reply, StepsAt, busy_is, busy_on}
+use Rattle.syscalls.proofs.Lemmas.{◌≡◌, Bool, Option, Some, None, refl, sym, ap, ◌∙◌, subst, MatchOption, Reply, Waits, Ran, Done, Stopped, MayNext, state_of, reply_to, call_in, Running, running_of, call_at, heard_of, with_reply, StepsAt, busy_is, busy_on}
 use Rattle.syscalls.proofs.place.CallPlace.step.Goals as goal
 
 pub step-requires-clause-may : goal.step-requires-clause-may
@@ -15,10 +15,10 @@ returns-in-Waits-clause-steps g c =
     let at : c.args.self.now ≡ Some c.deref_mut.result.now = busy_is w.is_busy w.machine.value c.args.self.now c.self.view_is c.requires.busy ∙ ap (λ (m : Running). Some m) (sym c.deref_mut.ensures.value) in
     let left = c.step.new.self in
     let did = c.in-Waits.ensures in
-    subst (λ (o : Option Running). StepsAt g.D.Device.contents g.D.Device.failures g.D.Device.Called c.args.hart o (call_at w.is_busy left) (Waits) c.args.core.now c.step.new.core) (sym at) (
+    subst (λ (o : Option Running). StepsAt g.D.Device.contents g.D.Device.failures g.D.Device.Called c.args.hart o (call_at w.is_busy left) (Waits) c.args.last.now c.args.core.now c.step.new.core) (sym at) (
       left,
       ap (λ (b : Bool). call_at b left) (busy_on w.is_busy w.machine.value c.args.self.now c.self.view_is c.requires.busy),
-      record { moves = did.steps.moves; honest = did.steps.honest; still = did.steps.still; fits = record { ready = did.steps.fits; fits = did.fits }; others = did.steps.others; called = did.steps.called },
+      record { moves = did.steps.moves; honest = did.steps.honest; still = did.steps.still; fits = record { ready = did.steps.fits; fits = did.fits }; others = did.steps.others; called = did.steps.called; tells = did.tells },
     )
 
 pub returns-in-Ran-clause-steps : goal.returns-in-Ran-clause-steps
@@ -28,10 +28,10 @@ returns-in-Ran-clause-steps g c =
     let at : c.args.self.now ≡ Some c.deref_mut.result.now = busy_is w.is_busy w.machine.value c.args.self.now c.self.view_is c.requires.busy ∙ ap (λ (m : Running). Some m) (sym c.deref_mut.ensures.value) in
     let left = c.step.new.self in
     let did = c.in-Ran.ensures in
-    subst (λ (o : Option Running). StepsAt g.D.Device.contents g.D.Device.failures g.D.Device.Called c.args.hart o (call_at w.is_busy left) (Ran c.in-Ran.kind) c.args.core.now c.step.new.core) (sym at) (
+    subst (λ (o : Option Running). StepsAt g.D.Device.contents g.D.Device.failures g.D.Device.Called c.args.hart o (call_at w.is_busy left) (Ran c.in-Ran.kind) c.args.last.now c.args.core.now c.step.new.core) (sym at) (
       left,
       ap (λ (b : Bool). call_at b left) (busy_on w.is_busy w.machine.value c.args.self.now c.self.view_is c.requires.busy),
-      record { moves = did.steps.moves; honest = did.steps.honest; still = did.steps.still; fits = record { ready = did.steps.fits; fits = did.fits }; others = did.steps.others; called = did.steps.called },
+      record { moves = did.steps.moves; honest = did.steps.honest; still = did.steps.still; fits = record { ready = did.steps.fits; fits = did.fits }; others = did.steps.others; called = did.steps.called; tells = did.tells },
     )
 
 pub returns-in-Done-clause-steps : goal.returns-in-Done-clause-steps
@@ -41,11 +41,11 @@ returns-in-Done-clause-steps g c =
     let at : c.args.self.now ≡ Some c.deref_mut.result.now = busy_is w.is_busy w.machine.value c.args.self.now c.self.view_is c.requires.busy ∙ ap (λ (m : Running). Some m) (sym c.deref_mut.ensures.value) in
     let did = c.in-Done.ensures in
     let told : c.put.new.place ≡ Some c.reply.result = c.put.ensures in
-    subst (λ (o : Option Running). StepsAt g.D.Device.contents g.D.Device.failures g.D.Device.Called c.args.hart o None (with_reply (Done c.in-Done.field-0 c.in-Done.kind) c.put.new.place) c.args.core.now c.step.new.core) (sym at)
-    (subst (λ (o : Option Reply). StepsAt g.D.Device.contents g.D.Device.failures g.D.Device.Called c.args.hart (Some c.deref_mut.result.now) None (with_reply (Done c.in-Done.field-0 c.in-Done.kind) o) c.args.core.now c.step.new.core) (sym (told ∙ ap (λ (r : Reply). Some r) (c.reply.ensures ∙ ap (λ (m : Running). reply_to (call_in m.control.call) m.control.says) c.deref_mut-in-Done.ensures.value))) (
+    subst (λ (o : Option Running). StepsAt g.D.Device.contents g.D.Device.failures g.D.Device.Called c.args.hart o None (with_reply (Done c.in-Done.field-0 c.in-Done.kind) c.put.new.place) c.heard.result c.args.core.now c.step.new.core) (sym at)
+    (subst (λ (o : Option Reply). StepsAt g.D.Device.contents g.D.Device.failures g.D.Device.Called c.args.hart (Some c.deref_mut.result.now) None (with_reply (Done c.in-Done.field-0 c.in-Done.kind) o) c.heard.result c.args.core.now c.step.new.core) (sym (told ∙ ap (λ (r : Reply). Some r) (c.reply.ensures ∙ ap (λ (m : Running). reply_to (call_in m.control.call) m.control.says) c.deref_mut-in-Done.ensures.value))) (
       c.step.new.self,
       refl,
-      record { moves = did.steps.moves; honest = did.steps.honest; still = did.steps.still; fits = tt; others = did.steps.others; called = did.steps.called },
+      record { moves = did.steps.moves; honest = did.steps.honest; still = did.steps.still; fits = tt; others = did.steps.others; called = did.steps.called; tells = (did.tells, c.heard.ensures ∙ ap heard_of c.deref.ensures) },
     ))
 
 pub returns-in-Stopped-clause-steps : goal.returns-in-Stopped-clause-steps
@@ -55,8 +55,8 @@ returns-in-Stopped-clause-steps g c =
     let at : c.args.self.now ≡ Some c.deref_mut.result.now = busy_is w.is_busy w.machine.value c.args.self.now c.self.view_is c.requires.busy ∙ ap (λ (m : Running). Some m) (sym c.deref_mut.ensures.value) in
     let left = c.step.new.self in
     let did = c.in-Stopped.ensures in
-    subst (λ (o : Option Running). StepsAt g.D.Device.contents g.D.Device.failures g.D.Device.Called c.args.hart o (call_at w.is_busy left) (Stopped) c.args.core.now c.step.new.core) (sym at) (
+    subst (λ (o : Option Running). StepsAt g.D.Device.contents g.D.Device.failures g.D.Device.Called c.args.hart o (call_at w.is_busy left) (Stopped) c.args.last.now c.args.core.now c.step.new.core) (sym at) (
       left,
       ap (λ (b : Bool). call_at b left) (busy_on w.is_busy w.machine.value c.args.self.now c.self.view_is c.requires.busy),
-      record { moves = did.steps.moves; honest = did.steps.honest; still = did.steps.still; fits = record { ready = did.steps.fits; fits = did.fits }; others = did.steps.others; called = did.steps.called },
+      record { moves = did.steps.moves; honest = did.steps.honest; still = did.steps.still; fits = record { ready = did.steps.fits; fits = did.fits }; others = did.steps.others; called = did.steps.called; tells = did.tells },
     )
