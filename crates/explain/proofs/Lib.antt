@@ -1,4 +1,5 @@
 pub mod Lemmas
 pub mod Vocabulary
 pub mod Mounting
+pub mod Noting
 pub mod Running

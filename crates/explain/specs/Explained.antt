@@ -1,6 +1,7 @@
 -- What a run of events on an image is explained by, and why it isn't.
 use Rattle.std.specs.Prelude.{◌≡◌, ◌⊎◌, ℕ, true, false, List, MatchResult, Result, Vec}
-use Rattle.explain.specs.Vocabulary.{Global, blocks_of, Call, Placed, Trace, Explains, TreeData, MountFault, IsFirstDamage, IsWellFormed, tree_in, EventOf, Outside, Came, Event, HartsOf, FoundRoom, HasHistory, IsHistory, IsMounted, trace_in, WorldOf, any_climbs, any_full}
+use Rattle.explain.specs.Vocabulary.{Global, KeptTree, nothing_kept, blocks_of, Call, Placed, Trace, Explains, TreeData, MountFault, IsFirstDamage, IsWellFormed, tree_in, EventOf, Outside, Came, Event, HartsOf, FoundRoom, HasHistory, IsHistory, IsMounted, trace_in, WorldOf, any_climbs, any_full}
+use Rattle.explain.specs.Keeps.{KeepsRun}
 use Rattle.image_tree.specs.declared.fault.MountFault.TheVariants as faults
 use Rattle.explain.specs.declared.refused.ExplainRefused.{ExplainRefused}
 use Rattle.explain.specs.declared.refused.ExplainRefused.TheVariants as refused
@@ -27,6 +28,15 @@ pub record RunOn (image : List ℕ) (events : List Event) : Type 0 where
 pub record ExplainsRun (image : List ℕ) (events : List Event) (list : List Placed) : Type 0 where
   pub run : RunOn image events
   pub explains : Explains (tree_in (blocks_of image)) (trace_in events run.outcomes) list
+
+-- .. and a keeper was told of each event of the run, from that tree on: where what it kept explains the same, it is that list.
+pub record KeepsTheRun (image : List ℕ) (events : List Event) (list : List Placed) : Type 0 where
+  pub run : RunOn image events
+  pub explains : Explains (tree_in (blocks_of image)) (trace_in events run.outcomes) list
+  pub kept : KeptTree
+  pub keeps : KeepsRun blocks_of never run.world.sizes run.world.harts (nothing_kept (tree_in (blocks_of image))) events run.outcomes
+      run.new kept
+  pub handed : Explains (tree_in (blocks_of image)) (trace_in events run.outcomes) kept.list → list ≡ kept.list
 
 -- in each history of the run some step found no room
 abbrev pub NeverFoundRoom : (image : List ℕ) (events : List Event) → RunOn image events → Type 0

@@ -1,4 +1,6 @@
 pub mod Vocabulary
+pub mod Keeps
 pub mod Explained
 pub mod Numbers
 pub mod Played
+pub mod Telling

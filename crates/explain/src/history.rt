@@ -1,15 +1,36 @@
 // The history of a run.
-ghost use Rattle.std.specs.Prelude.{◌≡◌, MatchResult};
-ghost use Rattle.explain.specs.Vocabulary.{trace_in};
-ghost use Rattle.explain.specs.Explained.{ExplainsRun, IsFoundFor, IsRefusedSo};
+ghost use Rattle.std.specs.Prelude.{◌≡◌, IfOk, MatchResult};
+ghost use Rattle.std.specs.Option.{MatchOption};
+ghost use Rattle.explain.specs.Vocabulary.{trace_in, Explains};
+ghost use Rattle.explain.specs.Explained.{ExplainsRun, IsFoundFor, IsRefusedSo, KeepsTheRun};
+ghost use Rattle.explain.specs.Keeps.{HandsOut};
+ghost use Rattle.explain.specs.Played.{IsFound};
 
 use crate::keep::Keeper;
 use crate::play::{Played, play};
 use crate::refused::ExplainRefused;
 use hart_core::{Came, Event, trace};
-use plain_tree::{NoMemory, Placed, Tree};
+use plain_tree::{NoMemory, Placed, Trace, Tree, check};
 use std::alloc::Global;
-use tree_histories::{any_climbs, any_full, find_history};
+use tree_histories::{any_climbs, any_full, find_history, hints_of, replays};
+
+// The list that was kept, where it explains the trace; else one that is sought, by its steps first. To make these once more takes less
+// time than `check`, which goes through the list for each call.
+fn kept_or_found(
+    alloc: Global,
+    base: &Tree,
+    trace: &Trace,
+    kept: Vec<Placed>,
+) -> Result<Option<Vec<Placed>>, NoMemory>
+    ensures found { IsFound base.now trace.now result }
+    ensures kept { Explains base.now trace.now kept.items → IfOk result (λ o. MatchOption o ⊥ (λ v. v.items ≡ kept.items)) }
+{
+    if replays(alloc, base, trace, &kept)? || check(alloc, base, trace, &kept)? {
+        return Ok(Some(kept));
+    }
+    let hints = hints_of(alloc, &kept)?;
+    find_history(alloc, base, trace, &hints)
+}
 
 /// Mounts a copy of the image in memory, runs these events, and hands out a list of tree steps that explains what they
 /// showed of calls: event number, call, step and answer each. Without events the list is empty.
@@ -19,12 +40,13 @@ use tree_histories::{any_climbs, any_full, find_history};
 /// where the path of a call that was started has the element ".."; by 33 where memory was refused.
 ///
 /// The events run beside a tree, on which each operation makes its move as it acts: the list is the one that comes about so, each step
-/// at the event at which it acted, and the failing steps of walks at the event of the unlink that removed their directory. That takes as
-/// long as the run and the steps on the tree, twice. Where this list doesn't explain the run, which should not come about where
-/// each step found room, another one is sought, and the time may grow with the power of the number of calls; so replies without room
-/// and paths that climb are asked for first.
+/// with its answer at the event at which it acted, and the failing steps of walks at the event of the unlink that removed their directory.
+/// So it is the run's own, of which the disk holds a beginning wherever the run is stopped. That takes as long as the run and the steps on
+/// the tree, twice. Only where a step of a call that hasn't replied found no room this list may not explain the run: another one is
+/// sought then, and the time may grow with the power of the number of calls.
 pub fn explain(alloc: Global, image: &[u8], events: &[Event]) -> Result<Vec<Placed>, ExplainRefused>
-    ensures { MatchResult result (λ v. ExplainsRun image.now events.now v.items) (λ e. IsRefusedSo image.now events.now e) }
+    ensures found { MatchResult result (λ v. ExplainsRun image.now events.now v.items) (λ e. IsRefusedSo image.now events.now e) }
+    ensures kept { IfOk result (λ v. KeepsTheRun image.now events.now v.items) }
 {
     let Played {
         base,
@@ -37,8 +59,8 @@ pub fn explain(alloc: Global, image: &[u8], events: &[Event]) -> Result<Vec<Plac
 /// The same of events that were noted as they were made of a mounted world, with what each came to; the world isn't run again. `base`
 /// is the tree of the image that was mounted, and the keeper was told of each event.
 ///
-/// Whatever is passed, a list that is handed out explains these events and outcomes from this tree. The keeper only says where the list
-/// is sought first: with another one it may take long.
+/// Whatever is passed, a list that is handed out explains these events and outcomes from this tree: it is the keeper's, where that does.
+/// With another keeper it may take long.
 pub fn explain_noted(
     alloc: Global,
     base: &Tree,
@@ -46,9 +68,10 @@ pub fn explain_noted(
     outcomes: &[Came],
     keeper: Keeper,
 ) -> Result<Vec<Placed>, ExplainRefused>
-    ensures { IsFoundFor base.now (trace_in events.now outcomes.now) result }
+    ensures found { IsFoundFor base.now (trace_in events.now outcomes.now) result }
+    ensures kept { IfOk result (λ v. HandsOut keeper base.now (trace_in events.now outcomes.now) v.items) }
 {
-    let Ok(hints) = keeper.into_hints() else {
+    let Ok(kept) = keeper.into_list() else {
         return Err(ExplainRefused::NoMemory);
     };
     let Ok(trace) = trace(alloc, events, outcomes) else {
@@ -60,7 +83,7 @@ pub fn explain_noted(
     if any_climbs(trace.calls.as_slice()) {
         return Err(ExplainRefused::Climbs);
     }
-    match find_history(alloc, base, &trace, &hints) {
+    match kept_or_found(alloc, base, &trace, kept) {
         Ok(Some(list)) => Ok(list),
         Ok(None) => Err(ExplainRefused::FullSeen),
         Err(NoMemory) => Err(ExplainRefused::NoMemory),

@@ -1,14 +1,18 @@
-// The tree kept beside a run, for the order in which its steps acted.
-ghost use Rattle.std.specs.Prelude.{◌≡◌, IfOk};
+// The tree kept beside a run.
+ghost use Rattle.std.specs.Prelude.{◌≡◌, IfOk, None, Some};
+ghost use Rattle.explain.specs.Keeps.{HasNoted, IsListOf, KeepsEvent, KeepsOutcome, Starts};
+ghost use Rattle.explain.specs.Telling.{TellsKeeper};
+ghost use Rattle.explain.specs.Vocabulary.{fault_of, nothing_kept};
 
 use hart_core::{Came, Event, Observer, Outcome, find_fault};
 use path_walk::Heard;
-use plain_tree::{Call, NoMemory, Tree};
+use plain_tree::{Call, NoMemory, Placed, Tree};
 use std::alloc::{AllocError, Global};
-use tree_histories::{Hint, Kept};
+use std::marker::Model;
+use tree_histories::Kept;
 
-/// Is told of a run's events as they are made, and keeps a tree beside it, and the steps of the tree in the order in which the run makes
-/// them. A list that explains the run is sought by them first, and nothing else rests on them: so no clause says what they are.
+/// Is told of a run's events as they are made, and keeps a tree beside it, with the list of the tree steps that the run makes. A contract
+/// sees what is kept, or nothing where memory was refused once.
 #[derive(Drop)]
 pub struct Keeper {
     alloc: Global,
@@ -17,9 +21,21 @@ pub struct Keeper {
     is_short: bool,
 }
 
+impl Model for Keeper {
+    ghost use Rattle.std.specs.Prelude.{Option};
+    ghost use Rattle.explain.specs.Keeps.{kept_unless};
+    ghost use Rattle.tree_histories.specs.Keeping.{KeptTree};
+
+    ghost Value = { Option KeptTree };
+
+    ghost view = { λ k. kept_unless k.is_short k.kept };
+}
+
 impl Keeper {
     /// Beside a run that begins with this tree.
-    pub fn new(alloc: Global, base: &Tree) -> Result<Keeper, NoMemory> {
+    pub fn new(alloc: Global, base: &Tree) -> Result<Keeper, NoMemory>
+        ensures { IfOk result (λ k. k ≡ Some (nothing_kept base.now)) }
+    {
         Ok(Keeper {
             alloc,
             kept: Kept::new(alloc, base.try_clone(alloc)?),
@@ -28,53 +44,83 @@ impl Keeper {
     }
 
     /// The run's next event came to this. `heard` is what its hart's call has heard then (`World::heard`).
-    pub fn note(&mut self, event: &Event, came: &Came, heard: Option<Heard>) {
-        if !self.is_short && self.keep(event, came, heard).is_err() {
+    pub fn note(&mut self, event: &Event, came: &Came, heard: Option<Heard>)
+        ensures { HasNoted self.old event.now came.now heard self.new }
+    {
+        if self.is_short {
+            return;
+        }
+        if keep_event(&mut self.kept, self.alloc, event, came, heard).is_err() {
             self.is_short = true;
         }
     }
 
-    // The steps so far, each with the number of the node that it made. An error is that memory was refused once.
-    pub(crate) fn into_hints(self) -> Result<Vec<Hint>, NoMemory> {
+    // The steps so far. An error is that memory was refused once.
+    pub(crate) fn into_list(self) -> Result<Vec<Placed>, NoMemory>
+        ensures { IfOk result (λ v. IsListOf self v.items) }
+    {
         if self.is_short {
             return Err(NoMemory);
         }
-        Ok(self.kept.into_hints())
+        Ok(self.kept.into_list())
     }
+}
 
-    fn start(&mut self, hart: u8, call: &Call) -> Result<(), NoMemory> {
-        match find_fault(call) {
-            None => self.kept.starts(self.alloc, hart, copied(call)?),
-            Some(_) => {
-                self.kept.passes();
-                Ok(())
-            }
+// The event started this call.
+fn keep_start(kept: &mut Kept, alloc: Global, hart: u8, call: &Call) -> Result<(), NoMemory>
+    ensures { IfOk result (λ _. fault_of call.now ≡ None → Starts kept.old hart call.now kept.new) }
+{
+    match find_fault(call) {
+        None => kept.starts(alloc, hart, copied(call)?),
+        Some(_) => {
+            kept.passes();
+            Ok(())
         }
     }
+}
 
-    fn step(&mut self, hart: u8, outcome: &Outcome, heard: Option<Heard>) -> Result<(), NoMemory> {
-        match outcome {
-            Outcome::Ran(_) => {
-                self.kept.runs(self.alloc, hart, heard)?;
-                self.kept.passes();
-            }
-            Outcome::Done(_) => {
-                self.kept.runs(self.alloc, hart, heard)?;
-                self.kept.replies(hart);
-            }
-            _ => self.kept.passes(),
+// The hart's step came to this.
+fn keep_step(
+    kept: &mut Kept,
+    alloc: Global,
+    hart: u8,
+    outcome: &Outcome,
+    heard: Option<Heard>,
+) -> Result<(), NoMemory>
+    ensures { IfOk result (λ _. KeepsOutcome kept.old hart outcome.now heard kept.new) }
+{
+    match outcome {
+        Outcome::Ran(_) => {
+            kept.runs(alloc, hart, heard)?;
+            kept.passes();
         }
-        Ok(())
+        Outcome::Done(_) => {
+            kept.runs(alloc, hart, heard)?;
+            kept.replies(hart);
+        }
+        _ => kept.passes(),
     }
+    Ok(())
+}
 
-    fn keep(&mut self, event: &Event, came: &Came, heard: Option<Heard>) -> Result<(), NoMemory> {
-        match (event, came) {
-            (Event::Start { hart, call }, Came::Started) => self.start(*hart, call),
-            (Event::Step { hart }, Came::Stepped(outcome)) => self.step(*hart, outcome, heard),
-            _ => {
-                self.kept.passes();
-                Ok(())
-            }
+// The event came to this.
+fn keep_event(
+    kept: &mut Kept,
+    alloc: Global,
+    event: &Event,
+    came: &Came,
+    heard: Option<Heard>,
+) -> Result<(), NoMemory>
+    ensures { IfOk result (λ _. KeepsEvent kept.old event.now came.now heard kept.new) }
+{
+    match (event, came) {
+        (Event::Start { hart, call }, Came::Started) => keep_start(kept, alloc, *hart, call),
+        (Event::Step { hart }, Came::Stepped(outcome)) => {
+            keep_step(kept, alloc, *hart, outcome, heard)
+        }
+        _ => {
+            kept.passes();
+            Ok(())
         }
     }
 }
@@ -95,6 +141,8 @@ pub(crate) struct Telling<'a> {
 }
 
 impl Observer for Telling<'_> {
+    ghost Took = { TellsKeeper };
+
     fn noted(&mut self, came: &Came, heard: Option<Heard>) {
         let events = self.events;
         if let Some(event) = events.get(self.place) {

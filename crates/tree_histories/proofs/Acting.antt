@@ -1,7 +1,6 @@
 -- A step that acted on the tree, as the move of a walk makes it.
-use Rattle.tree_histories.proofs.Vocabulary.{◌≡◌, ℕ, Bool, true, false, nat_lt, Option, Some, None, refl, sym, ◌∙◌, ap, subst, option_map, Cause, Call, Action, StepAnswer, TreeStep, IsAppliedAt, IsBadChoice, Outcome, applied, in_place, IsInPlace, IsLeastUnused, IsNewNode, makes_node, opens_one, path_of, place_of, refusal, refused, Name, Tree, parent, resolve, settle, hart_count, and_true, Made, act_all, act_answer, act_entered, acts, own_made, Deed, ActedOn, ActsSo, new_in, step_for}
+use Rattle.tree_histories.proofs.Vocabulary.{◌≡◌, ℕ, Bool, true, false, nat_lt, Option, Some, None, refl, sym, ◌∙◌, ap, subst, Cause, Call, Action, StepAnswer, TreeStep, IsAppliedAt, IsBadChoice, Outcome, applied, in_place, IsInPlace, IsLeastUnused, IsNewNode, makes_node, opens_one, path_of, place_of, refusal, refused, Name, Tree, parent, resolve, settle, hart_count, and_true, Made, act_all, act_answer, act_entered, acts, own_made, Act, Deed, ActedOn, ActsSo, step_for}
 use Rattle.plain_tree.specs.declared.call.Call.TheVariants as calls
-use Rattle.tree_laws.specs.Moves as moves
 use Rattle.inode_machine.proofs.MadeMoves.{own_opened, refused_settles}
 
 -- a step that isn't a raise changes nothing where it is refused
@@ -25,13 +24,13 @@ applied_place t s id place =
     let both : (nat_lt s.hart hart_count ≡ true) × (place_of t s.hart s.action ≡ true) = and_true (nat_lt s.hart hart_count) (place_of t s.hart s.action) place in
     rw (both.0, both.1) refl
 
--- the tree after a step and the number that is told are those of what a move makes, by the id of a new open file, the least that is unused;
--- and its walk is over
+-- the tree after a step and what is told are those of what a move makes, by the id of a new open file, the least that is unused; and its
+-- walk is over
 pub record EndsAs (t : Tree) (x : ℕ → Made) (d : Option Deed) (t' : Tree) : Type 0 where
   pub id : ℕ
   pub least : (x id).opened ≡ Some id → IsLeastUnused t id
   pub tree : t' ≡ settle (x id).all
-  pub told : d ≡ option_map new_in (x id).told
+  pub told : d ≡ (x id).told
   pub walk : (x id).walk ≡ None
 
 module _ (t : Tree) (h : ℕ) (s : Action) (new : ℕ) (t' : Tree) (settled : settle t ≡ t) where
@@ -55,8 +54,22 @@ module _ (t : Tree) (h : ℕ) (s : Action) (new : ℕ) (t' : Tree) (settled : se
   tree_after : (id : ℕ) (a : StepAnswer) → IsInPlace t h s → IsAppliedAt t st id a t' → t' ≡ (in_place t st (refusal t h s) id).tree
   tree_after id a place is = sym (ap (λ (z : Outcome). z.tree) is.is) ∙ ap (λ (z : Outcome). z.tree) (applied_place t st id place)
 
-  told_so : (d : Deed) → d.new ≡ new → (n : moves.Deed) → n.new ≡ new → ◌≡◌ {A = Option Deed} (Some d) (Some (new_in n))
-  told_so d is n so = ap (λ (i : ℕ). let x : Deed = record { new = i } in Some x) (is ∙ sym so)
+  answer_in : (id : ℕ) (o : Option Cause) → (in_place t st o id).answer ≡ act_answer o t h s R Q id
+  answer_in id None = refl
+  answer_in id (Some k) = refl
+
+  answer_of : (id : ℕ) (a : StepAnswer) → IsInPlace t h s → IsAppliedAt t st id a t' → a ≡ act_answer (refusal t h s) t h s R Q id
+  answer_of id a place is =
+      sym (ap (λ (z : Outcome). z.answer) is.is) ∙ (ap (λ (z : Outcome). z.answer) (applied_place t st id place) ∙ answer_in id (refusal t h s))
+
+  abbrev deed : Action → StepAnswer → ℕ → Deed
+  deed b a n = record { act = record { step = b; answer = a }; new = n }
+
+  told_so : (d : Deed) → IsInPlace t h s → (x : ActedOn t st (Some d) t') → ◌≡◌ {A = Option Deed} (Some d) (Some (deed s (act_answer (refusal t h s) t h s R Q x.2.id) new))
+  told_so d place x =
+      ap (λ (b : Action). Some (deed b d.act.answer d.new)) x.0
+      ∙ (ap (λ (a : StepAnswer). Some (deed s a d.new)) (answer_of x.2.id d.act.answer place x.2.made)
+      ∙ ap (λ (n : ℕ). Some (deed s (act_answer (refusal t h s) t h s R Q x.2.id) n)) x.1)
 
   never_bad : {A : Type 0} → IsBadChoice t st → (refusal t h s ≡ None → makes_node t s Q ≡ true → IsNewNode t new) → A
   never_bad bad node = absurd (bad.bad (node bad.not_refused bad.makes))
@@ -70,10 +83,10 @@ module _ (t : Tree) (h : ℕ) (s : Action) (new : ℕ) (t' : Tree) (settled : se
       → EndsAs t (λ id. acts t h s R Q new id) d t'
   ends_here None same place node x = never_bad x.0 node
   ends_here (Some d) same place node x = record {
-    id = x.1.1.id;
-    least = λ e. x.1.1.least (opens (opens_one t h s) (refusal t h s) x.1.1.id e);
-    tree = tree_after x.1.1.id x.1.0 place x.1.1.made ∙ act_tree same x.1.1.id (refusal t h s);
-    told = told_so d x.0 (record { act = record { step = s; answer = act_answer (refusal t h s) t h s R Q x.1.1.id }; new = new }) refl;
+    id = x.2.id;
+    least = λ e. x.2.least (opens (opens_one t h s) (refusal t h s) x.2.id e);
+    tree = tree_after x.2.id d.act.answer place x.2.made ∙ act_tree same x.2.id (refusal t h s);
+    told = told_so d place x;
     walk = refl;
   }
 
@@ -85,7 +98,7 @@ module _ (t : Tree) (h : ℕ) (s : Action) (new : ℕ) (t' : Tree) (settled : se
       (subst (λ (p : Option (ℕ × Name)). EndsAs t (λ id. acts t h s R p new id) d t') so.behind
       (ends_here d same so.place (λ none makes. so.node none (ap (makes_node t s) (sym so.behind) ∙ makes)) x))
 
-  own_told : (o : Option Cause) (m : Made) → option_map new_in (own_made o t h s m).told ≡ option_map new_in m.told
+  own_told : (o : Option Cause) (m : Made) → (own_made o t h s m).told ≡ m.told
   own_told None m = refl
   own_told (Some k) m = refl
 
@@ -97,10 +110,9 @@ module _ (t : Tree) (h : ℕ) (s : Action) (new : ℕ) (t' : Tree) (settled : se
   pub ends_own : (d : Option Deed) → ActsSo t h s R Q new → ActedOn t st d t' → EndsAs t (λ id. own_made (refusal t h s) t h s (acts t h s R Q new id)) d t'
   ends_own None so x = never_bad x.0 so.node
   ends_own (Some d) so x = record {
-    id = x.1.1.id;
-    least = λ e. x.1.1.least (opens (opens_one t h s) (refusal t h s) x.1.1.id (sym (own_opened t h s (acts t h s R Q new x.1.1.id) (refusal t h s)) ∙ e));
-    tree = tree_after x.1.1.id x.1.0 so.place x.1.1.made ∙ own_tree x.1.1.id (refusal t h s) refl;
-    told = told_so d x.0 (record { act = record { step = s; answer = act_answer (refusal t h s) t h s R Q x.1.1.id }; new = new }) refl
-        ∙ sym (own_told (refusal t h s) (acts t h s R Q new x.1.1.id));
-    walk = own_walk (refusal t h s) (acts t h s R Q new x.1.1.id);
+    id = x.2.id;
+    least = λ e. x.2.least (opens (opens_one t h s) (refusal t h s) x.2.id (sym (own_opened t h s (acts t h s R Q new x.2.id) (refusal t h s)) ∙ e));
+    tree = tree_after x.2.id d.act.answer so.place x.2.made ∙ own_tree x.2.id (refusal t h s) refl;
+    told = told_so d so.place x ∙ sym (own_told (refusal t h s) (acts t h s R Q new x.2.id));
+    walk = own_walk (refusal t h s) (acts t h s R Q new x.2.id);
   }

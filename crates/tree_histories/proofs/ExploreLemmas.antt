@@ -1,5 +1,5 @@
 -- What a search finds, and what it rules out.
-use Rattle.tree_histories.proofs.Vocabulary.{◌≡◌, ◌≢◌, ℕ, ◌<◌, ◌≤◌, Bool, true, false, List, [], ◌∷◌, ◌++◌, length, get_or, refl, sym, ◌∙◌, ap, subst, inl, inr, arith, Some, None, slice_get, get_or_past, slice_get_cases, Placed, Trace, TreeData, Tree, tree_of, Chain, Explains, IsWritten, acts_of, chain_one, Tried, Due, Placing, Position, start, IsDue, CallIsExplored, CanEnd, HasFound, IsExplored, IsPlaced, IsTried, IsAt, IsDead, IsDeadWith, IsEarliest, IsHopeless, IsKept, IsMade, IsOfCall, IsSteppedOn, IsUndone, NeedsNumber, last_event, left, steps_left}
+use Rattle.tree_histories.proofs.Vocabulary.{◌≡◌, ◌≢◌, ℕ, ◌<◌, ◌≤◌, Bool, true, false, List, [], ◌∷◌, ◌++◌, length, get_or, refl, sym, ◌∙◌, ap, subst, inl, inr, arith, Some, None, slice_get, take, take_all, get_or_past, slice_get_cases, Placed, Trace, TreeData, Tree, tree_of, Chain, Explains, IsWritten, acts_of, chain_one, Tried, Due, Placing, Position, start, IsDue, CallIsExplored, CanEnd, HasFound, IsExplored, IsPlaced, IsTried, IsAt, IsDead, IsDeadWith, IsEarliest, IsHopeless, IsKept, IsMade, IsOfCall, IsSteppedOn, IsUndone, NeedsNumber, last_event, left, steps_left}
 use Rattle.tree_histories.specs.declared.explore.Tried.TheVariants as tried
 use Rattle.tree_histories.specs.declared.position.Placing.TheVariants as placing
 use Rattle.tree_histories.proofs.StandLemmas.{acts_none}
@@ -99,6 +99,11 @@ found_explains base t p found = record {
       );
   belongs = found.at.belongs;
 }
+
+-- the steps of a whole list were placed
+pub list_explains : (base : TreeData) (t : Trace) (p : Position) (list : List Placed) (n : ℕ) → HasFound base t p → p.list.items ≡ take n list → length list ≤ n
+    → Explains base t list
+list_explains base t p list n found same le = subst (λ (es : List Placed). Explains base t es) (same ∙ take_all n list le) (found_explains base t p found)
 
 none_last : last_event [] ≡ 0
 unfolding last_event

@@ -1,8 +1,7 @@
 -- The walks that a move loses fail, and what is kept is what the theory keeps.
-use Rattle.tree_histories.proofs.Vocabulary.{◌≡◌, ℕ, ◌+◌, ◌⊎◌, inl, inr, ◌<◌, Bool, true, false, ◌&&◌, not, List, length, get_or, Option, Some, None, Result, Ok, Err, IfOk, refl, sym, ◌∙◌, ap, subst, arith, add-one, if◌then◌else◌, option_map, length-set, cases_eq, Action, is_nothing, Tree, live_directory, hart_count, Placed, History, HartStanding, tells_any, writes_any, Free, Busy, Move, Stage, fail, all_fall, falls, lost, lost_of, unless, Makes, stage_by, told_by_move, mark_in, Mark, action_in, Deed, IsBook, StandsAs, KeptTree, Under, hart_in, is_lost, stage_of, walk_under, walking, written, HaveFallen, IsMoved, MayMake, MovesBy, NoneFalls, OnlyMoves, StaysFor, Tells, TellsOf, WereLost, makes_none, new_in, told_in}
+use Rattle.tree_histories.proofs.Vocabulary.{◌≡◌, ℕ, ◌+◌, ◌⊎◌, inl, inr, ◌<◌, Bool, true, false, ◌&&◌, not, List, length, get_or, Option, Some, None, Result, Ok, Err, IfOk, refl, sym, ◌∙◌, ap, subst, arith, add-one, if◌then◌else◌, option_map, length-set, cases_eq, Action, is_nothing, live_directory, hart_count, History, HartStanding, tells_any, writes_any, Free, Busy, Move, Stage, fail, all_fall, falls, lost, lost_of, unless, Makes, stage_by, told_by_move, mark_in, Mark, action_in, call_in, Walk, Deed, IsBook, StandsAs, KeptTree, Under, hart_in, is_lost, stage_of, walk_under, walking, written, HaveFallen, IsMoved, MayMake, MovesBy, NoneFalls, OnlyMoves, StaysFor, Tells, TellsOf, WereLost, makes_none, told_in, walk_of}
 use Rattle.std.proofs.Common.{get_or-set_other, get_or-set_same}
 use Rattle.std.proofs.Math.ListN.{set}
-use Rattle.tree_laws.specs.Moves as moves
 use Rattle.tree_histories.proofs.Booked.{book_tells, book_written}
 use Rattle.tree_histories.proofs.Harts.{stage_written}
 
@@ -15,15 +14,6 @@ is_some (Some x) h = (x, refl)
 is_none : {A : Type 0} (o : Option A) → not (is_nothing o) ≡ false → o ≡ None
 is_none None h = refl
 is_none (Some x) h = absurd cc
-
-unless_live : (b : Bool) (s : Action) (d : moves.Deed) → ◌≡◌ {A = Option moves.Deed} (if b then None else Some (fail s)) (Some d) → d.new ≡ 0
-unless_live true s d h = absurd cc
-unless_live false s d h = let q : Some (fail s) ≡ Some d = h in let same : fail s ≡ d = cc in ap (λ (x : moves.Deed). x.new) (sym same)
-
--- it makes no node
-lost_new : (t : Tree) (w : Option moves.Walk) (d : moves.Deed) → lost t w ≡ Some d → d.new ≡ 0
-lost_new t None d h = absurd cc
-lost_new t (Some w) d h = unless_live (live_directory (t.nodes w.at)) w.step d h
 
 pub lost_nobody : (k : KeptTree) (h : ℕ) → hart_in k h ≡ None → false ≡ is_lost (stage_of k) h
 lost_nobody k h is = sym (ap (λ (o : Option Under). not (is_nothing (lost (stage_of k).tree (walk_under o)))) is)
@@ -38,15 +28,15 @@ has_call k h is = go (hart_in k h) refl
 
 -- ---- the walks that fall
 
-unless_lost : (a b : Option moves.Deed) → not (is_nothing a) ≡ true → unless a b ≡ None
+unless_lost : (a b : Option Deed) → not (is_nothing a) ≡ true → unless a b ≡ None
 unless_lost None b h = absurd cc
 unless_lost (Some x) b h = refl
 
-unless_none : (a : Option moves.Deed) → unless a None ≡ None
+unless_none : (a : Option Deed) → unless a None ≡ None
 unless_none None = refl
 unless_none (Some x) = refl
 
-unless_new : (a b : Option moves.Deed) → not (is_nothing a) ≡ false → unless a b ≡ b
+unless_new : (a b : Option Deed) → not (is_nothing a) ≡ false → unless a b ≡ b
 unless_new None b h = refl
 unless_new (Some x) b h = absurd cc
 
@@ -76,7 +66,7 @@ module _ (before : List Bool) (k0 k1 : KeptTree) (n : ℕ) (lt : n < hart_count)
   stays : (m : Stage) (b : History) → WereLost before m → IsBook k0 b → falls m (stage_of k0) n ≡ None → IsBook k1 (all_fall m (stage_of k0) (n + 1) b)
   stays m b were B none =
       subst (λ (x : History). IsBook k1 x) (sym (all_more m (stage_of k0) n b))
-      (subst (λ (o : Option moves.Deed). IsBook k1 (writes_any o n (all_fall m (stage_of k0) n b))) (sym none) (so_far.book m b were B))
+      (subst (λ (o : Option Deed). IsBook k1 (writes_any o n (all_fall m (stage_of k0) n b))) (sym none) (so_far.book m b were B))
 
   none_of : (get_or before n false ≡ true) ⊎ (is_lost (stage_of k1) n ≡ false) → (m : Stage) → WereLost before m → falls m (stage_of k0) n ≡ None
   none_of (inl is) m were = unless_lost (lost_of m n) (lost_of (stage_of k0) n) (sym (were n lt) ∙ is)
@@ -88,26 +78,49 @@ module _ (before : List Bool) (k0 k1 : KeptTree) (n : ℕ) (lt : n < hart_count)
       let why = one_false (get_or before n false) (is_lost (stage_of k1) n) (sym tests ∙ is) in
       record { stage = so_far.stage; book = λ m b were B. stays m b were B (none_of why m were); none = so_far.none }
 
-  falls_now : (k2 : KeptTree) → get_or before n false ≡ false → is_lost (stage_of k1) n ≡ true → k2 ≡ written k1 n 0
-      → (m : Stage) (b : History) → WereLost before m → IsBook k0 b → IsBook k2 (all_fall m (stage_of k0) (n + 1) b)
-  falls_now k2 not_yet is kept m b were B =
-      let d : (x : moves.Deed) × (lost_of (stage_of k0) n ≡ Some x) = is_some (lost_of (stage_of k0) n) (sym now ∙ is) in
-      let u : (x : Under) × (hart_in k1 n ≡ Some x) = has_call k1 n is in
-      let fell : falls m (stage_of k0) n ≡ Some d.0 = unless_new (lost_of m n) (lost_of (stage_of k0) n) (sym (were n lt) ∙ not_yet) ∙ d.1 in
-      let zero_new : d.0.new ≡ 0 = lost_new (stage_of k0).tree ((stage_of k0).walk n) d.0 d.1 in
-      subst (λ (x : KeptTree). IsBook x (all_fall m (stage_of k0) (n + 1) b)) (sym kept)
-      (subst (λ (x : History). IsBook (written k1 n 0) x) (sym (all_more m (stage_of k0) n b))
-      (subst (λ (o : Option moves.Deed). IsBook (written k1 n 0) (writes_any o n (all_fall m (stage_of k0) n b))) (sym fell)
-      (book_written k1 (all_fall m (stage_of k0) n b) n 0 d.0 u.0 lt zero_new u.1 (so_far.book m b were B))))
+  module _ (k2 : KeptTree) (not_yet : get_or before n false ≡ false) (is : is_lost (stage_of k1) n ≡ true) (d : Deed) (fails : lost_of (stage_of k1) n ≡ Some d) (kept : k2 ≡ written k1 n d) where
+    fell : (m : Stage) → WereLost before m → falls m (stage_of k0) n ≡ Some d
+    fell m were =
+        unless_new (lost_of m n) (lost_of (stage_of k0) n) (sym (were n lt) ∙ not_yet) ∙ (sym (ap (λ (x : Stage). lost_of x n) so_far.stage) ∙ fails)
 
-  pub fallen_now : (k2 : KeptTree) (r : Bool) → r ≡ (not (get_or before n false) && is_lost (stage_of k1) n) → r ≡ true → k2 ≡ written k1 n 0 → Fallen before k0 k2 (n + 1)
+    book_now : (m : Stage) (b : History) → WereLost before m → IsBook k0 b → IsBook k2 (all_fall m (stage_of k0) (n + 1) b)
+    book_now m b were B =
+        let u : (x : Under) × (hart_in k1 n ≡ Some x) = has_call k1 n is in
+        subst (λ (x : KeptTree). IsBook x (all_fall m (stage_of k0) (n + 1) b)) (sym kept)
+        (subst (λ (x : History). IsBook (written k1 n d) x) (sym (all_more m (stage_of k0) n b))
+        (subst (λ (o : Option Deed). IsBook (written k1 n d) (writes_any o n (all_fall m (stage_of k0) n b))) (sym (fell m were))
+        (book_written k1 (all_fall m (stage_of k0) n b) n d u.0 lt u.1 (so_far.book m b were B))))
+
+    falls_now : Fallen before k0 k2 (n + 1)
+    falls_now = record {
+      stage = ap stage_of kept ∙ (stage_written k1 n d ∙ so_far.stage);
+      book = book_now;
+      none = λ were. absurd (let z : false ≡ true = sym not_yet ∙ (were n lt ∙ (sym now ∙ is)) in cc);
+    }
+
+  pub fallen_now : (k2 : KeptTree) (r : Bool) → r ≡ (not (get_or before n false) && is_lost (stage_of k1) n) → r ≡ true
+      → ((d : Deed) → lost_of (stage_of k1) n ≡ Some d → k2 ≡ written k1 n d) → Fallen before k0 k2 (n + 1)
   fallen_now k2 r tests is kept =
       let both : (get_or before n false ≡ false) × (is_lost (stage_of k1) n ≡ true) = two_true (get_or before n false) (is_lost (stage_of k1) n) (sym tests ∙ is) in
-      record {
-        stage = ap stage_of kept ∙ (stage_written k1 n 0 ∙ so_far.stage);
-        book = falls_now k2 both.0 both.1 kept;
-        none = λ were. absurd (let z : false ≡ true = sym both.0 ∙ (were n lt ∙ (sym now ∙ both.1)) in cc);
-      }
+      let d : (x : Deed) × (lost_of (stage_of k1) n ≡ Some x) = is_some (lost_of (stage_of k1) n) both.1 in
+      falls_now k2 both.0 both.1 d.0 d.1 (kept d.0 d.1)
+
+-- the failing step of a lost walk is the walk's own
+lost_is : (k : KeptTree) (h : ℕ) (u : Under) (w : Walk) (d : Deed) → hart_in k h ≡ Some u → u.walk ≡ Some w → lost_of (stage_of k) h ≡ Some d
+    → fail (walk_of (call_in u.whole) w).step ≡ d
+lost_is k h u w d there on fails =
+    by_live (live_directory ((stage_of k).tree.nodes w.directory))
+    (sym (ap (λ (o : Option Under). lost (stage_of k).tree (walk_under o)) there ∙ ap (λ (o : Option Walk). lost (stage_of k).tree (option_map (walk_of (call_in u.whole)) o)) on) ∙ fails)
+  where
+    by_live : (b : Bool) → ◌≡◌ {A = Option Deed} (if b then None else Some (fail (walk_of (call_in u.whole) w).step)) (Some d) → fail (walk_of (call_in u.whole) w).step ≡ d
+    by_live true q = absurd cc
+    by_live false q = cc
+
+pub walk_fails : {E : Type 0} (r : Result (Unit {0}) E) (k k' : KeptTree) (h : ℕ) (u : Under) (w : Walk) (a : Action) (x : Deed) → hart_in k h ≡ Some u → u.walk ≡ Some w
+    → a ≡ (walk_of (call_in u.whole) w).step → x ≡ fail a → IfOk r (λ _. k' ≡ written k h x) → (d : Deed) → lost_of (stage_of k) h ≡ Some d → IfOk r (λ _. k' ≡ written k h d)
+walk_fails (Err e) k k' h u w a x there on is failed kept d fails = tt
+walk_fails (Ok v) k k' h u w a x there on is failed kept d fails =
+    kept ∙ ap (λ (y : Deed). written k h y) (failed ∙ (ap fail is ∙ lost_is k h u w d there on fails))
 
 pub fallen_first : (before : List Bool) (k : KeptTree) → Fallen before k k 0
 unfolding all_fall
@@ -126,23 +139,18 @@ lost_more m xs n i b at lt is so_far = (length-set xs i b ∙ so_far.0, each)
 
 -- ---- a move
 
-same_call : (u v : Under) → walking None u ≡ walking None v → (u.id ≡ v.id) × (u.made ≡ v.made)
-same_call u v h = (ap (λ (x : Under). x.id) h, ap (λ (x : Under). x.made) h)
+stands_same : (o p : Option Under) (s : HartStanding) → option_map (walking None) o ≡ option_map (walking None) p → StandsAs p s → StandsAs o s
+stands_same None p s h x = tt
+stands_same (Some u) None s h x = absurd cc
+stands_same (Some u) (Some v) Free h x = x
+stands_same (Some u) (Some v) (Busy id c told) h x =
+    let same : walking None u ≡ walking None v = (let q : Some (walking None u) ≡ Some (walking None v) = h in cc) in
+    ap (λ (y : Under). y.id) same ∙ x
 
-stands_same : (list : List Placed) (o p : Option Under) (s : HartStanding) → option_map (walking None) o ≡ option_map (walking None) p → StandsAs list p s
-    → StandsAs list o s
-stands_same list None p s h x = tt
-stands_same list (Some u) None s h x = absurd cc
-stands_same list (Some u) (Some v) Free h x = x
-stands_same list (Some u) (Some v) (Busy id c told) h x =
-    let same = same_call u v (let q : Some (walking None u) ≡ Some (walking None v) = h in cc) in
-    (same.0 ∙ x.0, same.1 ∙ x.1)
-
-there_before : (o p : Option Under) (u : Under) → option_map (walking None) o ≡ option_map (walking None) p → o ≡ Some u → (v : Under) × (p ≡ Some v) × (v.id ≡ u.id)
+there_before : (o p : Option Under) (u : Under) → option_map (walking None) o ≡ option_map (walking None) p → o ≡ Some u → (v : Under) × (p ≡ Some v)
 there_before None p u h q = absurd cc
 there_before (Some x) None u h q = absurd cc
-there_before (Some x) (Some v) u h q =
-    (v, refl, sym ((same_call x v (let e : Some (walking None x) ≡ Some (walking None v) = h in cc)).0) ∙ (let e : x ≡ u = cc in ap (λ (y : Under). y.id) e))
+there_before (Some x) (Some v) u h q = (v, refl)
 
 book_only : (k0 k1 : KeptTree) (b : History) → OnlyMoves k0 k1 → IsBook k0 b → IsBook k1 b
 book_only k0 k1 b only B = record {
@@ -150,32 +158,28 @@ book_only k0 k1 b only B = record {
   list = only.list ∙ B.list;
   events = only.events ∙ B.events;
   calls = only.calls ∙ B.calls;
-  stands = λ g gt. stands_same b.list (hart_in k1 g) (hart_in k0 g) (b.calls g) (only.harts g) (B.stands g gt);
-  apart = λ g j gt jt ne a z p q. (λ e. let x = there_before (hart_in k1 g) (hart_in k0 g) a (only.harts g) p in
-      let y = there_before (hart_in k1 j) (hart_in k0 j) z (only.harts j) q in B.apart g j gt jt ne x.0 y.0 x.1 y.1 (x.2 ∙ (e ∙ sym y.2)));
-  begun = λ g gt a p. (let x = there_before (hart_in k1 g) (hart_in k0 g) a (only.harts g) p in let y = B.begun g gt x.0 x.1 in let z = x.2 in let n = only.calls in omega arith);
-  to_come = λ i le. B.to_come i (let n = only.calls in omega arith);
+  stands = λ g gt. stands_same (hart_in k1 g) (hart_in k0 g) (b.calls g) (only.harts g) (B.stands g gt);
 }
 
 module _ (k0 k1 : KeptTree) (h : ℕ) (lt : h < hart_count) (u : Under) (is : hart_in k0 h ≡ Some u) (only : OnlyMoves k0 k1) (b : History) (B : IsBook k0 b) where
-  told_book : (told : Option moves.Deed) (d : Option Deed) (was : Bool) → d ≡ option_map new_in told → was ≡ is_lost (stage_of k0) h
+  told_book : (told : Option Deed) (d : Option Deed) (was : Bool) → d ≡ told → was ≡ is_lost (stage_of k0) h
       → IsBook (told_in k1 h d was) (writes_any (unless (lost_of (stage_of k0) h) told) h b)
   told_book None d was is_told is_was =
       subst (λ (o : Option Deed). IsBook (told_in k1 h o was) (writes_any (unless (lost_of (stage_of k0) h) None) h b)) (sym is_told)
-      (subst (λ (o : Option moves.Deed). IsBook k1 (writes_any o h b)) (sym (unless_none (lost_of (stage_of k0) h))) (book_only k0 k1 b only B))
+      (subst (λ (o : Option Deed). IsBook k1 (writes_any o h b)) (sym (unless_none (lost_of (stage_of k0) h))) (book_only k0 k1 b only B))
   told_book (Some x) d true is_told is_was =
       subst (λ (o : Option Deed). IsBook (told_in k1 h o true) (writes_any (unless (lost_of (stage_of k0) h) (Some x)) h b)) (sym is_told)
-      (subst (λ (o : Option moves.Deed). IsBook k1 (writes_any o h b)) (sym (unless_lost (lost_of (stage_of k0) h) (Some x) (sym is_was))) (book_only k0 k1 b only B))
+      (subst (λ (o : Option Deed). IsBook k1 (writes_any o h b)) (sym (unless_lost (lost_of (stage_of k0) h) (Some x) (sym is_was))) (book_only k0 k1 b only B))
   told_book (Some x) d false is_told is_was =
       let there = there_before (hart_in k0 h) (hart_in k1 h) u (sym (only.harts h)) is in
       subst (λ (o : Option Deed). IsBook (told_in k1 h o false) (writes_any (unless (lost_of (stage_of k0) h) (Some x)) h b)) (sym is_told)
-      (subst (λ (o : Option moves.Deed). IsBook (written k1 h x.new) (writes_any o h b)) (sym (unless_new (lost_of (stage_of k0) h) (Some x) (sym is_was)))
-      (book_written k1 b h x.new x there.0 lt refl there.1 (book_only k0 k1 b only B)))
+      (subst (λ (o : Option Deed). IsBook (written k1 h x) (writes_any o h b)) (sym (unless_new (lost_of (stage_of k0) h) (Some x) (sym is_was)))
+      (book_written k1 b h x there.0 lt there.1 (book_only k0 k1 b only B)))
 
 told_stage : (k : KeptTree) (h : ℕ) (d : Option Deed) (was : Bool) → stage_of (told_in k h d was) ≡ stage_of k
 told_stage k h None was = refl
 told_stage k h (Some d) true = refl
-told_stage k h (Some d) false = stage_written k h d.new
+told_stage k h (Some d) false = stage_written k h d
 
 -- k0: before the move; k1: the tree has made it; k2: what it tells is written; k3: the walks that it loses have failed
 module _ (k0 k1 k2 k3 : KeptTree) (h : ℕ) (m : Mark) (d : Option Deed) (was : Bool) (before : List Bool) (were : WereLost before (stage_of k0)) (kept : k2 ≡ told_in k1 h d was) where
@@ -189,7 +193,7 @@ module _ (k0 k1 k2 k3 : KeptTree) (h : ℕ) (m : Mark) (d : Option Deed) (was : 
         least = t.least;
         stage = same ∙ stage2;
         book = λ b B.
-            let told : Option moves.Deed = told_by_move (stage_of k0) h t.id v in
+            let told : Option Deed = told_by_move (stage_of k0) h t.id v in
             let book2 : IsBook k2 (writes_any (unless (lost_of (stage_of k0) h) told) h b) =
             subst (λ (x : KeptTree). IsBook x (writes_any (unless (lost_of (stage_of k0) h) told) h b)) (sym kept) (told_book k0 k1 h may.hart u is only b B told d was t.told is_was) in
             subst (λ (n : Stage). IsBook k3 (all_fall (stage_of k0) n hart_count (tells_any told h (writes_any (unless (lost_of (stage_of k0) h) told) h b)))) stage2

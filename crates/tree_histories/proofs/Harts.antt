@@ -1,5 +1,5 @@
 -- One hart's call in what is kept is put, and what is then seen of all.
-use Rattle.tree_histories.proofs.Vocabulary.{◌≡◌, ◌≢◌, inl, inr, ℕ, ◌<◌, List, [], ◌∷◌, length, get_or, Option, Some, None, refl, sym, ◌∙◌, ap, option_map, get_or-eq_default, cases_lt, put, tree_of, TreeData, put_back, set_put, Stage, call_in, Walk, KeptTree, Under, hart_in, more_made, stage_of, walk_under, walking, with_hart, with_walk, written, written_by, walk_of}
+use Rattle.tree_histories.proofs.Vocabulary.{◌≡◌, ◌≢◌, inl, inr, ℕ, ◌<◌, List, length, get_or, Option, Some, None, refl, sym, ◌∙◌, ap, option_map, get_or-eq_default, cases_lt, put, tree_of, TreeData, put_back, set_put, Deed, Stage, call_in, Walk, KeptTree, Under, hart_in, stage_of, walk_under, walking, with_hart, with_walk, written, written_by, walk_of}
 use Rattle.std.proofs.Common.{get_or-set_other, get_or-set_same}
 use Rattle.std.proofs.Math.ListN.{set}
 use Rattle.tree_laws.specs.Moves as moves
@@ -47,11 +47,9 @@ pub walk_same : (k : KeptTree) (h : ℕ) (w : Option moves.Walk) → w ≡ (stag
 walk_same k h w is = put_back (stage_of k).walk h w is
 
 -- an entry more leaves the stage
-pub stage_written : (k : KeptTree) (h new : ℕ) → stage_of (written k h new) ≡ stage_of k
-stage_written k h new = go (hart_in k h) refl
+pub stage_written : (k : KeptTree) (h : ℕ) (d : Deed) → stage_of (written k h d) ≡ stage_of k
+stage_written k h d = go (hart_in k h)
   where
-    go : (o : Option Under) → hart_in k h ≡ o → stage_of (written_by k h new o) ≡ stage_of k
-    go None is = refl
-    go (Some u) is =
-        stage_put k h (Some (more_made u)) (is_hart k h u is)
-        ∙ ap (λ (f : ℕ → Option moves.Walk). let m : Stage = record { tree = tree_of k.tree; walk = f } in m) (walk_same k h (walk_under (Some (more_made u))) (ap walk_under (sym is)))
+    go : (o : Option Under) → stage_of (written_by k h d o) ≡ stage_of k
+    go None = refl
+    go (Some u) = refl

@@ -15,6 +15,7 @@ pub mod Climbing
 pub mod Falling
 pub mod Harts
 pub mod Hearing
+pub mod Hinting
 pub mod Seeing
 pub mod Steps
 pub mod Telling

@@ -1,5 +1,5 @@
 -- What is told where a call's mark is met: what the move tells.
-use Rattle.tree_histories.proofs.Vocabulary.{◌≡◌, ℕ, ◌<◌, ◌^◌, List, [], ◌∷◌, Option, Some, None, Result, Ok, Err, IfOk, if◌then◌else◌, refl, sym, ◌∙◌, ap, subst, option_map, Action, path_of, refused, Name, Tree, elements, is_absolute, look, put, settle, start_of, tree_of, root, NoMemory, Move, Stage, Begin, Look, GiveUpWalk, Own, Made, begun, looked, look_made, made_by, Makes, mark_in, Mark, action_in, call_in, Deed, Walk, KeptTree, Under, hart_in, stage_of, walk_under, with_walk, ActedOn, IsActed, MayBegin, MayLook, MayLookOn, MayMake, Tells, TellsOf, new_in, IsNextWalk, IsWalk, is_on_new, step_in, walk_of, walk_on}
+use Rattle.tree_histories.proofs.Vocabulary.{◌≡◌, ℕ, ◌<◌, ◌^◌, List, [], ◌∷◌, Option, Some, None, Result, Ok, Err, IfOk, if◌then◌else◌, refl, sym, ◌∙◌, ap, subst, option_map, Action, path_of, refused, Name, Tree, elements, is_absolute, look, put, settle, start_of, tree_of, root, NoMemory, Move, Stage, Begin, Look, GiveUpWalk, Own, fail, Made, begun, looked, look_made, made_by, Makes, mark_in, Mark, action_in, call_in, Deed, Walk, KeptTree, Under, hart_in, stage_of, walk_under, with_walk, ActedOn, IsActed, MayBegin, MayLook, MayLookOn, MayMake, Tells, TellsOf, IsNextWalk, IsWalk, is_on_new, step_in, walk_of, walk_on}
 use Rattle.tree_laws.specs.Moves as moves
 use Rattle.path_walk.specs.declared.asks.Mark.TheVariants as mark
 use Rattle.tree_histories.proofs.Acting.{EndsAs, ends_own, ends_so, refused_same}
@@ -27,7 +27,7 @@ module _ (k : KeptTree) (h : ℕ) (u : Under) (is : hart_in k h ≡ Some u) wher
 
   -- a walk goes on, or is over, and the tree stays
   tells_walk : (v : Move) (w : Option Walk) (x : Made) → settle (tree_of k.tree) ≡ tree_of k.tree → made_by (tree_of k.tree) h 0 ((stage_of k).walk h) v ≡ x
-      → x.all ≡ tree_of k.tree → x.walk ≡ option_map (walk_of (call_in u.whole)) w → x.opened ≡ None → (d : Option Deed) → d ≡ option_map new_in x.told
+      → x.all ≡ tree_of k.tree → x.walk ≡ option_map (walk_of (call_in u.whole)) w → x.opened ≡ None → (d : Option Deed) → d ≡ x.told
       → (k' : KeptTree) → k' ≡ with_walk k h w → Tells k h v d k'
   tells_walk v w x settled made all walk none d told k' kept = record {
     id = 0;
@@ -36,7 +36,7 @@ module _ (k : KeptTree) (h : ℕ) (u : Under) (is : hart_in k h ≡ Some u) wher
         ∙ (ap (λ (t : Tree). let n : Stage = record { tree = t; walk = put (stage_of k).walk h (option_map (walk_of (call_in u.whole)) w) } in n) (sym settled ∙ ap settle (sym all))
         ∙ (ap (λ (y : Option moves.Walk). let n : Stage = record { tree = settle x.all; walk = put (stage_of k).walk h y } in n) (sym walk)
         ∙ ap (λ (y : Made). let n : Stage = record { tree = settle y.all; walk = put (stage_of k).walk h y.walk } in n) (sym made))));
-    told = told ∙ ap (λ (y : Made). option_map new_in y.told) (sym made);
+    told = told ∙ ap (λ (y : Made). y.told) (sym made);
   }
 
   -- ---- a walk begins
@@ -63,7 +63,7 @@ module _ (k : KeptTree) (h : ℕ) (u : Under) (is : hart_in k h ≡ Some u) wher
       → ((begun (tree_of k.tree) h s es 0 0).all ≡ tree_of k.tree)
       × ((begun (tree_of k.tree) h s es 0 0).walk ≡ Some (walk_of (call_in u.whole) w))
       × ((begun (tree_of k.tree) h s es 0 0).opened ≡ None)
-      × (None ≡ option_map new_in (begun (tree_of k.tree) h s es 0 0).told)
+      × (None ≡ (begun (tree_of k.tree) h s es 0 0).told)
   begins_on s w start [] at q = absurd cc
   begins_on s w start (e ∷ es) at q = (refl, sym (q ∙ ap (λ (n : ℕ). Some (walk_on s n (e ∷ es))) at), refl, refl)
 
@@ -104,7 +104,7 @@ module _ (k : KeptTree) (h : ℕ) (u : Under) (is : hart_in k h ≡ Some u) wher
         → ((looked (tree_of k.tree) h W es found new 0).all ≡ tree_of k.tree)
         × ((looked (tree_of k.tree) h W es found new 0).walk ≡ Some (walk_of (call_in u.whole) w2))
         × ((looked (tree_of k.tree) h W es found new 0).opened ≡ None)
-        × (None ≡ option_map new_in (looked (tree_of k.tree) h W es found new 0).told)
+        × (None ≡ (looked (tree_of k.tree) h W es found new 0).told)
     looks_on w2 [] None next = absurd cc
     looks_on w2 [] (Some n) next = absurd cc
     looks_on w2 (e ∷ es) None next = absurd cc
@@ -129,12 +129,12 @@ module _ (k : KeptTree) (h : ℕ) (u : Under) (is : hart_in k h ≡ Some u) wher
             ∙ (ap (λ (f : ℕ → Option moves.Walk). let n : Stage = record { tree = tree_of k.tree; walk = f } in n) (sym (walk_same k h None nowhere))
             ∙ (ap (λ (t : Tree). let n : Stage = record { tree = t; walk = put (stage_of k).walk h None } in n) (sym settled)
             ∙ ap (λ (y : Made). let n : Stage = record { tree = settle y.all; walk = put (stage_of k).walk h y.walk } in n) (sym made)));
-        told = ap (λ (y : Made). option_map new_in y.told) (sym made);
+        told = ap (λ (y : Made). y.told) (sym made);
       }
 
   -- ---- a walk is given up; a step acts
 
-  pub tells_quit : (s : Action) → settle (tree_of k.tree) ≡ tree_of k.tree → (d : Option Deed) → d ≡ Some (record { new = 0 })
+  pub tells_quit : (s : Action) → settle (tree_of k.tree) ≡ tree_of k.tree → (d : Option Deed) → d ≡ Some (fail s)
       → (k' : KeptTree) → k' ≡ with_walk k h None → Tells k h (GiveUpWalk s) d k'
   tells_quit s settled d told k' kept =
       tells_walk (GiveUpWalk s) None (made_by (tree_of k.tree) h 0 ((stage_of k).walk h) (GiveUpWalk s)) settled refl refl refl refl d told k' kept
@@ -195,10 +195,11 @@ pub told_nowhere : (k k' : KeptTree) (h : ℕ) (s : Under) (new : ℕ) → hart_
 told_nowhere k k' h s new there none kept =
     told_by k h s (mark.Look new) (Look new) None k' there refl (λ may. tells_nowhere k h s there none new may.settled k' kept)
 
-pub told_quit : (k k' : KeptTree) (h : ℕ) (d : Deed) → d ≡ record { new = 0 } → k' ≡ with_walk k h None → TellsOf k h mark.GiveUpWalk (Some d) k'
-told_quit k k' h d is kept u v there mk may =
-    told_by k h u mark.GiveUpWalk (GiveUpWalk (action_in u.whole)) (Some d) k' there refl
-    (λ may'. tells_quit k h u there (action_in u.whole) may'.settled (Some d) (ap (λ (x : Deed). Some x) is) k' kept) u v there mk may
+pub told_quit : (k k' : KeptTree) (h : ℕ) (s : Under) (a : Action) (d : Deed) → hart_in k h ≡ Some s → a ≡ action_in s.whole → d ≡ fail a → k' ≡ with_walk k h None
+    → TellsOf k h mark.GiveUpWalk (Some d) k'
+told_quit k k' h s a d there is fails kept =
+    told_by k h s mark.GiveUpWalk (GiveUpWalk (action_in s.whole)) (Some d) k' there refl
+    (λ may. tells_quit k h s there (action_in s.whole) may.settled (Some d) (ap (λ (x : Deed). Some x) (fails ∙ ap fail is)) k' kept)
 
 pub told_alone : (k k' : KeptTree) (h : ℕ) (m : Mark) (r : Result (Option Deed) NoMemory) → ((s : Action) → mark_in s m ≡ Makes (Own (step_in s m) 0))
     → IfOk r (λ d. (u : Under) → hart_in k h ≡ Some u → IsActed k (record { hart = h; new = 0; action = step_in (action_in u.whole) m }) d k') → IfOk r (λ d. TellsOf k h m d k')

@@ -1,17 +1,15 @@
 -- What is kept beside a run: a tree, the calls under way with their walks in it, and the list of the steps so far.
 use Rattle.std.specs.Prelude.{◌≡◌, ◌<◌, ◌⊎◌, ℕ, ◌+◌, ◌-◌, ◌^◌, min, Bool, true, false, not, List, [], ◌∷◌, ◌++◌, length, Option, Some, None, replicate, slice_index_or, slice_set}
-use Rattle.tree_histories.specs.Vocabulary.{option_map, Answer, Call, is_nothing, tree_of, TreeData, hart_count, lost_of, program, Ret, count_in, hears, reply_to, Heard, call_in, text_in, whole_of, Whole}
-use Rattle.tree_histories.specs.declared.explore.Hint.{Hint}
+use Rattle.tree_histories.specs.Vocabulary.{option_map, Answer, Call, is_nothing, tree_of, TreeData, hart_count, Placed, entry_of, Deed, lost_of, program, Ret, count_in, hears, reply_to, Heard, call_in, text_in, whole_of, Whole}
 use Rattle.tree_laws.specs.Moves as moves
 use Rattle.whole_calls.specs.declared.whole.Whole.TheVariants as calling
 use Rattle.tree_histories.specs.declared.standing.Walk.{Walk}
 use Rattle.tree_histories.specs.Walks.{walk_of}
 
--- A call under way: its place in the trace, how many steps it has made, how far it has come, the inodes that it has listed, its walk, if
--- it is on one, and whether a step of its present operation has run.
+-- A call under way: its place in the trace, how far it has come, the inodes that it has listed, its walk, if it is on one, and whether a
+-- step of its present operation has run.
 pub record Under : Type 0 where
   pub id : ℕ
-  pub made : ℕ
   pub whole : Whole
   pub listed : List ℕ
   pub walk : Option Walk
@@ -20,7 +18,7 @@ pub record Under : Type 0 where
 -- a call that begins, the one at this place of the trace
 abbrev pub IsNewCall : ℕ → Call → Under → Type 0
 IsNewCall id call u =
-    (u.id ≡ id) × (u.made ≡ 0) × (u.walk ≡ None) × (u.has_begun ≡ false) × (call_in u.whole ≡ call) × (whole_of u.listed u.whole ≡ program call)
+    (u.id ≡ id) × (u.walk ≡ None) × (u.has_begun ≡ false) × (call_in u.whole ≡ call) × (whole_of u.listed u.whole ≡ program call)
 
 -- more was heard to be read than the call's buffer has
 abbrev pub ReadsTooMuch : Heard → Whole → Type 0
@@ -29,7 +27,7 @@ ReadsTooMuch x w = ⊥
 
 -- the same call, on the same walk, at the operation that comes after this answer
 pub record GoesOn (u : Under) (x : Heard) (v : Under) : Type 0 where
-  pub same : (v.id ≡ u.id) × (v.made ≡ u.made) × (v.walk ≡ u.walk) × (v.has_begun ≡ false) × (call_in v.whole ≡ call_in u.whole)
+  pub same : (v.id ≡ u.id) × (v.walk ≡ u.walk) × (v.has_begun ≡ false) × (call_in v.whole ≡ call_in u.whole)
   pub program : hears (text_in u.whole) (whole_of u.listed u.whole) x ≡ whole_of v.listed v.whole
 
 -- .. or it has ended, with a reply
@@ -45,13 +43,10 @@ capped n = min n (2 ^ 64 - 1)
 abbrev pub counted : ℕ → ℕ
 counted n = capped (n + 1)
 
-abbrev pub more_made : Under → Under
-more_made u = record u { made = counted u.made }
-
 -- harts: by hart, its call under way
 pub record KeptTree : Type 0 where
   pub tree : TreeData
-  pub list : List Hint
+  pub list : List Placed
   pub events : ℕ
   pub calls : ℕ
   pub harts : List (Option Under)
@@ -87,16 +82,13 @@ stage_of k = record { tree = tree_of k.tree; walk = λ h. walk_under (hart_in k 
 abbrev pub is_lost : moves.Stage → ℕ → Bool
 is_lost m h = not (is_nothing (lost_of m h))
 
--- an entry of a hart's call at the present event
-abbrev pub hint_by : KeptTree → Under → ℕ → Hint
-hint_by k u new = record { call = u.id; step = u.made; new = new; event = k.events }
+-- a deed of a hart's call is an entry at the present event
+abbrev pub written_by : KeptTree → ℕ → Deed → Option Under → KeptTree
+written_by k h d None = k
+written_by k h d (Some u) = record k { list = k.list ++ entry_of k.events u.id h d ∷ [] }
 
-abbrev pub written_by : KeptTree → ℕ → ℕ → Option Under → KeptTree
-written_by k h new None = k
-written_by k h new (Some u) = record (with_hart k h (Some (more_made u))) { list = k.list ++ hint_by k u new ∷ [] }
-
-abbrev pub written : KeptTree → ℕ → ℕ → KeptTree
-written k h new = written_by k h new (hart_in k h)
+abbrev pub written : KeptTree → ℕ → Deed → KeptTree
+written k h d = written_by k h d (hart_in k h)
 
 -- the hart's call after a step, which heard this, or nothing yet
 abbrev pub HeardBy : Option Under → Option Heard → Option Under → Type 0

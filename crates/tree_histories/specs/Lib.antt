@@ -3,6 +3,7 @@ pub mod Stands
 pub mod Searching
 pub mod Ordered
 pub mod Books
+pub mod Hints
 pub mod Keeping
 pub mod Moving
 pub mod Sights

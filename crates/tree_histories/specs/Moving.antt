@@ -1,9 +1,8 @@
 -- What is kept where a call makes a move.
 use Rattle.std.specs.Prelude.{◌≡◌, ℕ, ◌<◌, Bool, true, false, List, length, Option, Some, None, slice_index_or}
-use Rattle.tree_histories.specs.Vocabulary.{option_map, Action, TreeStep, StepAnswer, IsApplied, IsBadChoice, Tree, tree_of, hart_count, History, Move, Stage, all_fall, moves_on, Makes, MayMake, OpensLeast, stage_by, told_by_move, mark_in, Heard, Mark, action_in}
+use Rattle.tree_histories.specs.Vocabulary.{option_map, Action, TreeStep, Deed, IsApplied, IsBadChoice, Tree, tree_of, hart_count, History, Move, Stage, all_fall, moves_on, Makes, MayMake, OpensLeast, stage_by, told_by_move, mark_in, Heard, Mark, action_in}
 use Rattle.tree_laws.specs.Moves as moves
 use Rattle.path_walk.specs.declared.asks.Mark.TheVariants as mark
-use Rattle.tree_histories.specs.declared.kept.Deed.{Deed}
 use Rattle.tree_histories.specs.Books.{IsBook}
 use Rattle.tree_histories.specs.Sights.{MarksBy}
 use Rattle.tree_histories.specs.Keeping.{HasHeard, KeptTree, Under, hart_in, is_lost, stage_of, walking, with_walk, written}
@@ -23,7 +22,7 @@ tree_step h new s = record { hart = h; new = new; action = s }
 -- the step acted on the tree; or it makes a node, and can't take the number that it says
 abbrev pub ActedOn : Tree → TreeStep → Option Deed → Tree → Type 0
 ActedOn t s None t' = IsBadChoice t s × (t' ≡ t)
-ActedOn t s (Some d) t' = (d.new ≡ s.new) × ((a : StepAnswer) × IsApplied t s a t')
+ActedOn t s (Some d) t' = (d.act.step ≡ s.action) × (d.new ≡ s.new) × IsApplied t s d.act.answer t'
 
 -- the step acted, if it may, and its hart's walk is over
 pub record IsActed (k : KeptTree) (s : TreeStep) (d : Option Deed) (k' : KeptTree) : Type 0 where
@@ -38,16 +37,12 @@ pub record OnlyMoves (k k' : KeptTree) : Type 0 where
   pub calls : k'.calls ≡ k.calls
   pub harts : (h : ℕ) → option_map (walking None) (hart_in k' h) ≡ option_map (walking None) (hart_in k h)
 
--- the new node's number in what is told
-abbrev pub new_in : moves.Deed → Deed
-new_in d = record { new = d.new }
-
 -- the stage is that of the move, where a file that it opens has the least id that is unused, and what is told is what the move tells
 pub record Tells (k : KeptTree) (h : ℕ) (v : Move) (d : Option Deed) (k' : KeptTree) : Type 0 where
   pub id : ℕ
   pub least : OpensLeast (stage_of k) h id v
   pub stage : stage_of k' ≡ stage_by (stage_of k) h id v
-  pub told : d ≡ option_map new_in (told_by_move (stage_of k) h id v)
+  pub told : d ≡ told_by_move (stage_of k) h id v
 
 -- where the mark of the hart's call makes a move, that is told
 abbrev pub TellsOf : KeptTree → ℕ → Mark → Option Deed → KeptTree → Type 0
@@ -62,7 +57,7 @@ StaysFor k m d k' = makes_none m ≡ true → (d ≡ None) × (k' ≡ k)
 abbrev pub told_in : KeptTree → ℕ → Option Deed → Bool → KeptTree
 told_in k h None was_lost = k
 told_in k h (Some d) true = k
-told_in k h (Some d) false = written k h d.new
+told_in k h (Some d) false = written k h d
 
 -- these harts' walks are lost
 abbrev pub WereLost : List Bool → Stage → Type 0
@@ -76,8 +71,8 @@ HaveFallen before k k' = (m : Stage) (b : History) → WereLost before m → IsB
 abbrev pub NoneFalls : List Bool → KeptTree → KeptTree → Type 0
 NoneFalls before k k' = WereLost before (stage_of k) → k' ≡ k
 
--- Kept is what the theory keeps: the stage of the move, where a file that it opens has the least id that is unused, and the history with what
--- it tells and with the walks that it loses.
+-- Kept is what the theory keeps: the stage of the move, where a file that it opens has the least id that is unused, and the history with
+-- what it tells and with the walks that it loses.
 pub record IsMoved (k : KeptTree) (h : ℕ) (v : Move) (k' : KeptTree) : Type 0 where
   pub id : ℕ
   pub least : OpensLeast (stage_of k) h id v

@@ -22,7 +22,7 @@ pub use Rattle.plain_tree.specs.Checked.{Leads, is_full}
 pub use Rattle.plain_tree.specs.TreeData.{TreeData}
 pub use Rattle.plain_tree.specs.declared.call.Call.TheVariants.{Chdir, Close, Dup, Fstat, Inherit, Link, Mkdir, Open, Read, Unlink, Write}
 pub use Rattle.plain_tree.specs.declared.trace.TracedCall.{TracedCall}
-pub use Rattle.tree_laws.specs.History.{HartStanding, History}
+pub use Rattle.tree_laws.specs.History.{HartStanding, History, entry_of}
 pub use Rattle.whole_calls.specs.Wholes.{WholeFits, action_in, call_in, text_in, whole_of}
 pub use Rattle.whole_calls.specs.declared.whole.Whole.{Whole}
 pub use Rattle.atomic_programs.specs.Prog.{Ret}
@@ -51,7 +51,7 @@ pub use Rattle.plain_tree.specs.declared.trace.Trace.{Trace}
 pub use Rattle.std.specs.List.{list_any}
 pub use Rattle.std.specs.List.Sorted.{IsNonDecreasingBy}
 pub use Rattle.tree_laws.specs.History.HartStanding.{Busy, Free}
-pub use Rattle.tree_laws.specs.Moves.{Move, Stage}
+pub use Rattle.tree_laws.specs.Moves.{Deed, Move, Stage}
 pub use Rattle.tree_laws.specs.Moves.Move.{Begin, Look, Own, GiveUpWalk}
 pub use Rattle.tree_laws.specs.Runs.{lost_of, moves_on}
 unfoldable pub use Rattle.tree_laws.specs.Runs.{all_fall}

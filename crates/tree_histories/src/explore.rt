@@ -1,12 +1,13 @@
 //! The search: from the list so far every next step is tried in turn.
 ghost use Rattle.std.specs.Prelude.{◌≡◌, ◌<◌, ◌++◌, ◌∷◌, [], List, IfOk, MatchOption};
 ghost use Rattle.tree_histories.specs.Vocabulary.{Explains, Placed};
+ghost use Rattle.tree_histories.specs.Hints.{hints_of};
 ghost use Rattle.tree_histories.specs.Ordered.{IsDue};
 ghost use Rattle.tree_histories.specs.Searching.{CallIsExplored, IsAt, IsExplored, IsTried, NeedsNumber};
 
 use crate::ends::Due;
 use crate::next::Attempt;
-use crate::position::{Placing, Position};
+use crate::position::{Placing, Position, stand_in};
 use plain_tree::{NoMemory, Placed, Trace, Tree};
 use std::alloc::Global;
 
@@ -18,6 +19,22 @@ pub struct Hint {
     pub step: usize,
     pub new: u16,
     pub event: u64,
+}
+
+/// The steps of this list, as what a search is to try.
+pub fn hints_of(alloc: Global, list: &[Placed]) -> Result<Vec<Hint>, NoMemory>
+    ensures { IfOk result (λ v. v.items ≡ hints_of list.now) }
+{
+    let mut hints = Vec::new(alloc);
+    for (place, placed) in list.iter().enumerate() {
+        hints.push(Hint {
+            call: placed.call,
+            step: stand_in(placed.call, &list[..place]).count,
+            new: placed.step.new,
+            event: placed.event,
+        })?;
+    }
+    Ok(hints)
 }
 
 /// What came of a step that was tried.

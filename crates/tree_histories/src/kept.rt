@@ -1,38 +1,48 @@
 //! The tree kept beside a run, and the list of the tree steps so far. Each event appends to it; no entry is changed.
 ghost use Rattle.std.specs.Prelude.{◌≡◌, ◌-◌, ◌<◌, ◌^◌, ◌&&◌, ℕ, false, not, List, None, Some, IfOk, MatchOption, slice_index_or};
-ghost use Rattle.std.specs.Option.{option_map};
 ghost use Rattle.plain_tree.specs.Tree.{look, tree_of};
 ghost use Rattle.plain_tree.specs.Widths.{hart_count};
 ghost use Rattle.plain_tree.specs.declared.answer.Reply.{Reply};
 ghost use Rattle.tree_laws.specs.History.{History, passes, replies, starts};
+ghost use Rattle.tree_laws.specs.Moves as moves;
+ghost use Rattle.tree_laws.specs.Moves.{fail};
+ghost use Rattle.tree_laws.specs.Runs.{lost_of};
 ghost use Rattle.inode_machine.specs.Kept.{nothing_yet};
 ghost use Rattle.path_walk.specs.Asks.{asks, op_in};
 ghost use Rattle.whole_calls.specs.Wholes.{IsCall, WholeFits, action_in, call_in, whole_of};
 ghost use Rattle.tree_histories.specs.Books.{IsBook};
-ghost use Rattle.tree_histories.specs.Keeping.{HasHeard, HasStarted, Under, counted, hart_in, is_lost, more_made, nothing_kept, passed, stage_of, with_hart, with_walk, written};
+ghost use Rattle.tree_histories.specs.Keeping.{HasHeard, HasStarted, Under, counted, hart_in, is_lost, nothing_kept, passed, stage_of, with_hart, with_walk, written};
 ghost use Rattle.tree_histories.specs.Moving.{HasRun, HaveFallen, IsActed, MovesBy, NoneFalls, OnlyMoves, StaysFor, TellsOf, WereLost, told_in, tree_step};
 ghost use Rattle.tree_histories.specs.Sights.{MarksBy, SeenFor, acts_first};
 ghost use Rattle.tree_histories.specs.Walks.{IsNextWalk, step_in, walk_of};
 
-use crate::Hint;
 use crate::sees::sight;
 use crate::standing::{Standing, Walk};
 use path_walk::{Ask, Heard, Locked, Mark};
-use plain_tree::{Action, ApplyRefused, Call, HARTS, NoMemory, Tree, TreeStep};
+use plain_tree::{
+    Action, ApplyRefused, Call, Cause, HARTS, NoMemory, Placed, StepAnswer, Tree, TreeStep,
+};
 use std::alloc::Global;
 use std::marker::Model;
 use std::mem;
 
-// A tree step that acts, by the number that a new node gets by it; 0 where it makes none.
-#[derive(Clone, Copy)]
+// A step with its answer, and the number that it may give a new node.
+#[derive(Drop)]
 pub(crate) struct Deed {
+    action: Action,
+    answer: StepAnswer,
     new: u16,
 }
 
-// The step of a walk that fails.
-const FAILED_WALK: Deed = Deed { new: 0 };
+impl Model for Deed {
+    ghost use Rattle.tree_laws.specs.Moves as moves;
 
-/// The tree, the calls under way with their walks in it, and the list of steps, of each its call, its place there and its event.
+    ghost Value = { moves.Deed };
+
+    ghost view = { λ d. record { act = record { step = d.action; answer = d.answer }; new = d.new } };
+}
+
+/// The tree, the calls under way with their walks in it, and the list of steps, each with its answer, its call and its event.
 ///
 /// It is told of each event of a run: a start, what a call heard in a step that ran, a reply, or that the event shows nothing. A step
 /// of the tree is appended at the event at which the operation acts that makes it, and behind it, in order of hart, the failing steps
@@ -44,7 +54,7 @@ const FAILED_WALK: Deed = Deed { new: 0 };
 #[derive(Drop)]
 pub struct Kept {
     tree: Tree,
-    list: Vec<Hint>,
+    list: Vec<Placed>,
     events: u64,
     calls: usize,
     harts: [Option<Standing>; HARTS as usize],
@@ -93,6 +103,19 @@ fn node_number(new: u32) -> u16
     match u16::try_from(new) {
         Ok(number) => number,
         Err(_) => 0,
+    }
+}
+
+// The step of a walk, which finds no live directory to look in.
+fn failed(action: Action) -> Deed
+    ensures { result ≡ fail action }
+{
+    Deed {
+        action,
+        answer: StepAnswer::Failed {
+            cause: Cause::NoEntry,
+        },
+        new: 0,
     }
 }
 
@@ -155,8 +178,8 @@ impl Kept {
         self.passes();
     }
 
-    /// The list so far, as what a search for a list is to try.
-    pub fn into_hints(self) -> Vec<Hint>
+    /// The list so far.
+    pub fn into_list(self) -> Vec<Placed>
         ensures { result.items ≡ self.list }
     {
         self.list
@@ -319,7 +342,7 @@ impl Kept {
     {
         for hart in 0..HARTS {
             if self.falls(before, hart) {
-                self.write(hart, FAILED_WALK)?;
+                self.fails(hart)?;
             }
         }
         Ok(())
@@ -334,7 +357,7 @@ impl Kept {
         match mark {
             Mark::Begin => self.begins(alloc, hart),
             Mark::Look(new) => self.looks(alloc, hart, new),
-            Mark::GiveUpWalk => Ok(Some(self.quits(hart))),
+            Mark::GiveUpWalk => self.quits(alloc, hart),
             Mark::Own => self.acts_alone(alloc, hart, Mark::Own),
             Mark::Truncate(fd) => self.acts_alone(alloc, hart, Mark::Truncate(fd)),
             Mark::Bump => self.acts_alone(alloc, hart, Mark::Bump),
@@ -361,7 +384,14 @@ impl Kept {
         self.set_walk(hart, None);
         let step = TreeStep { hart, new, action };
         match self.tree.apply(alloc, &step) {
-            Ok(_) => Ok(Some(Deed { new })),
+            Ok(answer) => {
+                let TreeStep { action, .. } = step;
+                Ok(Some(Deed {
+                    action,
+                    answer,
+                    new,
+                }))
+            }
             Err(ApplyRefused::BadChoice) => Ok(None),
             Err(ApplyRefused::NoMemory) => Err(NoMemory),
         }
@@ -433,12 +463,16 @@ impl Kept {
     }
 
     // The walk is given up: its step fails.
-    fn quits(&mut self, hart: u8) -> Deed
-        ensures kept { self.new ≡ with_walk self.old hart None }
-        ensures deed { result ≡ FAILED_WALK }
+    fn quits(&mut self, alloc: Global, hart: u8) -> Result<Option<Deed>, NoMemory>
+        ensures only { IfOk result (λ _. OnlyMoves self.old self.new) }
+        ensures tells { IfOk result (λ d. TellsOf self.old hart Mark.GiveUpWalk d self.new) }
     {
+        let Some(standing) = self.standing(hart) else {
+            return Ok(None);
+        };
+        let action = standing.action(alloc, Mark::GiveUpWalk)?;
         self.set_walk(hart, None);
-        FAILED_WALK
+        Ok(Some(failed(action)))
     }
 
     fn set_walk(&mut self, hart: u8, walk: Option<Walk>)
@@ -452,33 +486,40 @@ impl Kept {
         self.put(hart, Some(standing));
     }
 
-    // The hart's call has made a step more.
-    fn count(&mut self, hart: u8)
-        ensures { self.new ≡ with_hart self.old hart (option_map more_made (hart_in self.old hart)) }
-    {
-        let Some(standing) = self.take(hart) else {
-            return;
-        };
-        let mut standing = standing;
-        standing.count();
-        self.put(hart, Some(standing));
-    }
-
-    // An entry at this event.
+    // An entry of the hart's call at this event.
     fn write(&mut self, hart: u8, deed: Deed) -> Result<(), NoMemory>
-        ensures { IfOk result (λ _. self.new ≡ written self.old hart deed.new) }
+        ensures { IfOk result (λ _. self.new ≡ written self.old hart deed) }
     {
         let Some(standing) = self.standing(hart) else {
             return Ok(());
         };
-        let hint = Hint {
-            call: standing.id(),
-            step: standing.made(),
-            new: deed.new,
+        let call = standing.id();
+        let Deed {
+            action,
+            answer,
+            new,
+        } = deed;
+        self.list.push(Placed {
             event: self.events,
-        };
-        self.list.push(hint)?;
-        self.count(hart);
+            call,
+            step: TreeStep { hart, new, action },
+            answer,
+        })?;
         Ok(())
+    }
+
+    // The step of the hart's walk fails.
+    fn fails(&mut self, hart: u8) -> Result<(), NoMemory>
+        ensures { (d : moves.Deed) → lost_of (stage_of self.old) hart ≡ Some d
+            → IfOk result (λ _. self.new ≡ written self.old hart d) }
+    {
+        let Some(standing) = self.standing(hart) else {
+            return Ok(());
+        };
+        let Some(walk) = standing.walk() else {
+            return Ok(());
+        };
+        let action = standing.step(walk)?;
+        self.write(hart, failed(action))
     }
 }

@@ -57,7 +57,7 @@ fn note_end(ends: &mut Ends, id: usize, traced: &TracedCall, stand: Stand)
 }
 
 /// How far the list has the call at place `id`.
-fn stand_in(id: usize, list: &[Placed]) -> Stand
+pub(crate) fn stand_in(id: usize, list: &[Placed]) -> Stand
     ensures { result ≡ stand_of (acts_of id list.now) }
 {
     let mut stand = START;

@@ -7,7 +7,7 @@ ghost use Rattle.plain_tree.specs.Widths.{root};
 ghost use Rattle.plain_tree.specs.declared.call.Call.TheVariants as calls;
 ghost use Rattle.path_walk.specs.Asks.{asks, mark_at, marked_as, op_in, piece_of};
 ghost use Rattle.whole_calls.specs.Wholes.{HasRoomFor, IsCall, WholeAsks, WholeFits, action_in, call_in, first_in, second_in, text_in, whole_of};
-ghost use Rattle.tree_histories.specs.Keeping.{HearsSo, IsNewCall, ReadsTooMuch, more_made, walking};
+ghost use Rattle.tree_histories.specs.Keeping.{HearsSo, IsNewCall, ReadsTooMuch, walking};
 ghost use Rattle.tree_histories.specs.Walks.{IsWalk, is_on_new, is_past_old, left_to, step_for, step_in, walk_of};
 
 use crate::paths::rest_of;
@@ -32,11 +32,10 @@ pub(crate) struct Walk {
     is_new: bool,
 }
 
-/// A call under way: its place in the trace, how many steps it has made, its control over whole inodes, and its walk, if it is on one.
+/// A call under way: its place in the trace, its control over whole inodes, and its walk, if it is on one.
 #[derive(Drop)]
 pub(crate) struct Standing {
     id: usize,
-    made: usize,
     whole: Whole,
     list: Numbers,
     walk: Option<Walk>,
@@ -50,7 +49,7 @@ impl Model for Standing {
 
     ghost Value = { Under };
 
-    ghost view = { λ s. record { id = s.id; made = s.made; whole = s.whole; listed = s.list; walk = s.walk; has_begun = s.has_begun } };
+    ghost view = { λ s. record { id = s.id; whole = s.whole; listed = s.list; walk = s.walk; has_begun = s.has_begun } };
 
     ghost invariant = { λ s. WholeFits s.list s.whole };
 }
@@ -187,7 +186,6 @@ impl Standing {
         let whole = Whole::new(call);
         Ok(Standing {
             id,
-            made: 0,
             whole,
             list,
             walk: None,
@@ -199,20 +197,6 @@ impl Standing {
         ensures { result ≡ self.now.id }
     {
         self.id
-    }
-
-    /// How many steps it has made.
-    pub(crate) fn made(&self) -> usize
-        ensures { result ≡ self.now.made }
-    {
-        self.made
-    }
-
-    /// It has made a step more.
-    pub(crate) fn count(&mut self)
-        ensures { self.new ≡ more_made self.old }
-    {
-        self.made = self.made.saturating_add(1);
     }
 
     pub(crate) fn walk(&self) -> Option<Walk>
@@ -270,7 +254,6 @@ impl Standing {
     {
         let Standing {
             id,
-            made,
             whole,
             list,
             walk,
@@ -287,7 +270,6 @@ impl Standing {
         }
         Some(Standing {
             id,
-            made,
             whole,
             list,
             walk,

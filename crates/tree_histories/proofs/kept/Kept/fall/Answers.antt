@@ -1,6 +1,6 @@
 use Rattle.tree_histories.proofs.Lemmas.{◌≡◌, ℕ, ◌+◌, sym, subst, arith, hart_count, all_fall, IsBook, KeptTree, stage_of, Fallen, fallen_first, fallen_not, fallen_now}
 use Rattle.tree_histories.proofs.kept.Kept.fall.Goals as goal
-use Rattle.tree_histories.proofs.kept.Kept.fall.Goals.{then-falls+in_ok-write, else-falls}
+use Rattle.tree_histories.proofs.kept.Kept.fall.Goals.{then-falls+in_ok-fails, else-falls}
 
 pub loop-hart-init : goal.loop-hart-init
 loop-hart-init c = fallen_first c.args.before.now c.args.self.now
@@ -12,8 +12,8 @@ loop-hart-preserved c =
     let k1 = c.loop-hart.self in
     let n = c.loop-hart.hart in
     elim c.if-falls.branch [
-      | then-falls+in_ok-write w ↦ subst (λ (k : KeptTree). Fallen before k0 k (n + 1)) (sym w.self-is)
-          (fallen_now before k0 k1 n c.loop-hart-test.true c.loop-hart.invariant w.write.new.self c.falls.result c.falls.ensures w.if-falls.true w.in_ok-write.ensures)
+      | then-falls+in_ok-fails w ↦ subst (λ (k : KeptTree). Fallen before k0 k (n + 1)) (sym w.self-is)
+          (fallen_now before k0 k1 n c.loop-hart-test.true c.loop-hart.invariant w.fails.new.self c.falls.result c.falls.ensures w.if-falls.true w.in_ok-fails.ensures)
       | else-falls w ↦ subst (λ (k : KeptTree). Fallen before k0 k (n + 1)) (sym w.self-is)
           (fallen_not before k0 k1 n c.loop-hart-test.true c.loop-hart.invariant c.falls.result c.falls.ensures w.if-falls.false)
     ]

@@ -1,4 +1,4 @@
-use Rattle.tree_histories.proofs.Lemmas.{Some, refl, sym, subst, IfOk, Mark, TellsOf, told_alone, told_quit}
+use Rattle.tree_histories.proofs.Lemmas.{refl, sym, subst, IfOk, Mark, TellsOf, told_alone}
 use Rattle.path_walk.specs.declared.asks.Mark.TheVariants as mark
 use Rattle.tree_histories.proofs.kept.Kept.told.Goals as goal
 
@@ -6,9 +6,7 @@ pub returns-in-Look-clause-tells : goal.returns-in-Look-clause-tells
 returns-in-Look-clause-tells c = subst (λ (m : Mark). IfOk c.looks.result (λ d. TellsOf c.args.self.now c.args.hart m d c.looks.new.self)) (sym c.in-Look.is) c.looks.ensures.tells
 
 pub returns-in-GiveUpWalk-clause-tells : goal.returns-in-GiveUpWalk-clause-tells
-returns-in-GiveUpWalk-clause-tells c =
-    subst (λ (m : Mark). TellsOf c.args.self.now c.args.hart m (Some c.quits.result) c.quits.new.self) (sym c.in-GiveUpWalk.is)
-    (told_quit c.args.self.now c.quits.new.self c.args.hart c.quits.result c.quits.ensures.deed c.quits.ensures.kept)
+returns-in-GiveUpWalk-clause-tells c = subst (λ (m : Mark). IfOk c.quits.result (λ d. TellsOf c.args.self.now c.args.hart m d c.quits.new.self)) (sym c.in-GiveUpWalk.is) c.quits.ensures.tells
 
 pub returns-in-Own-clause-tells : goal.returns-in-Own-clause-tells
 returns-in-Own-clause-tells c =

@@ -1,0 +1,6 @@
+use Rattle.tree_histories.proofs.Lemmas.{list_explains}
+use Rattle.tree_histories.proofs.replay.replays.Goals as goal
+
+pub returns : goal.returns
+returns c ok =
+    list_explains c.args.base.now c.args.trace.now c.loop-entry.position c.args.list.now c.loop-entry.entry-index (record { at = c.loop-entry.invariant.at; through = c.in-None.ensures }) c.loop-entry.invariant.list c.loop-entry-test.false
