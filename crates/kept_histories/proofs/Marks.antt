@@ -1,0 +1,77 @@
+-- The kept tree's marks are the theory's: what a step places is one move, and then the kept tree's mark makes that; or both make none.
+use Rattle.std.specs.Prelude.{◌≡◌, ◌⊎◌, ℕ, true, List, [], ◌∷◌, Option, Some, None}
+use Rattle.calls_on_blocks.proofs.Vocabulary.{refl, sym, ap, subst, inl, inr}
+use Rattle.inode_machine.specs.Marks.{places}
+use Rattle.inode_machine.specs.World as above
+use Rattle.inode_machine.specs.World.Mark.{Makes, Frees, Orphans, Fills, Mends, Spoils}
+use Rattle.path_walk.specs.Asks.{mark_in, marked_as}
+use Rattle.path_walk.specs.declared.asks.Mark.{Mark}
+use Rattle.path_walk.specs.declared.asks.Mark.TheVariants as mark
+use Rattle.plain_tree.specs.declared.step.Action.{Action}
+use Rattle.inode_machine.specs.Making.{MayMake}
+use Rattle.tree_histories.specs.Keeping.{KeptTree, Under, hart_in, stage_of}
+use Rattle.tree_histories.specs.Moving.{IsMoved, MovesByAny, makes_none}
+use Rattle.tree_laws.specs.Moves.{Deed, Move}
+use Rattle.inode_machine.specs.Vocabulary.{MoveStep}
+use Rattle.whole_calls.specs.Wholes.{action_in}
+use Rattle.kept_histories.proofs.Heads.{MakesNone}
+
+-- A step placed these; this mark, of the same step for this action, makes a move just where one was placed.
+abbrev pub PlacesNone : List (ℕ × MoveStep) → Action → Option Mark → Type 0
+PlacesNone ps s o = (ps ≡ []) × MakesNone (marked_as s o)
+
+abbrev pub PlacesOne : ℕ → List (ℕ × MoveStep) → Action → Option Mark → Type 0
+PlacesOne h ps s o = (v : Move) × (d : Option Deed) × (ps ≡ (h, record { move = v; told = d }) ∷ []) × (marked_as s o ≡ Some (Makes v))
+
+abbrev pub PlacesAlike : ℕ → List (ℕ × MoveStep) → Action → Option Mark → Type 0
+PlacesAlike h ps s o = PlacesNone ps s o ⊎ PlacesOne h ps s o
+
+-- what is placed by the same mark
+pub alike : (h : ℕ) (op : above.Op) (a : above.Answer op) (w : above.World) (ps : List (ℕ × MoveStep)) (s : Action) (o : Option Mark)
+    (m : Option above.Mark) → ps ≡ places h op a m w → marked_as s o ≡ m → PlacesAlike h ps s o
+alike h op a w ps s o None is same = inl (is, subst MakesNone (sym same) tt)
+alike h op a w ps s o (Some (Makes v)) is same = inr (v, _, is, same)
+alike h op a w ps s o (Some (Frees n)) is same = inl (is, subst MakesNone (sym same) tt)
+alike h op a w ps s o (Some (Orphans n)) is same = inl (is, subst MakesNone (sym same) tt)
+alike h op a w ps s o (Some Fills) is same = inl (is, subst MakesNone (sym same) tt)
+alike h op a w ps s o (Some Mends) is same = inl (is, subst MakesNone (sym same) tt)
+alike h op a w ps s o (Some (Spoils t)) is same = inl (is, subst MakesNone (sym same) tt)
+
+pub none_placed : (h : ℕ) (op : above.Op) (a : above.Answer op) (w : above.World) (m : Option above.Mark) → MakesNone m → places h op a m w ≡ []
+none_placed h op a w None none = refl
+none_placed h op a w (Some (Makes v)) none = absurd none
+none_placed h op a w (Some (Frees n)) none = refl
+none_placed h op a w (Some (Orphans n)) none = refl
+none_placed h op a w (Some Fills) none = refl
+none_placed h op a w (Some Mends) none = refl
+none_placed h op a w (Some (Spoils t)) none = refl
+
+-- ---- what the kept tree makes of it
+
+makes_none_is : (s : Action) (m : Mark) → MakesNone (Some (mark_in s m)) → makes_none m ≡ true
+makes_none_is s mark.Begin none = absurd none
+makes_none_is s (mark.Look new) none = absurd none
+makes_none_is s mark.GiveUpWalk none = absurd none
+makes_none_is s mark.Own none = absurd none
+makes_none_is s (mark.Truncate fd) none = absurd none
+makes_none_is s mark.Bump none = absurd none
+makes_none_is s mark.Unbump none = absurd none
+makes_none_is s (mark.Piece i) none = absurd none
+makes_none_is s (mark.PartOfPiece i k) none = refl
+makes_none_is s (mark.Frees n) none = refl
+makes_none_is s (mark.Orphans n) none = refl
+makes_none_is s mark.Mends none = refl
+makes_none_is s mark.Fills none = refl
+
+pub stays : (k : KeptTree) (h : ℕ) (s : Action) (o : Option Mark) (k' : KeptTree) → MakesNone (marked_as s o) → MovesByAny k h o k' → k' ≡ k
+stays k h s None k' none moves = moves
+stays k h s (Some m) k' none moves = moves.still (makes_none_is s m none)
+
+abbrev mark_of : above.Mark → Option above.Mark → above.Mark
+mark_of m None = m
+mark_of m (Some n) = n
+
+pub moves : (k : KeptTree) (h : ℕ) (u : Under) (v : Move) (o : Option Mark) (k' : KeptTree) → hart_in k h ≡ Some u → marked_as (action_in u.whole) o ≡ Some (Makes v)
+    → MayMake (stage_of k) h v → MovesByAny k h o k' → IsMoved k h v k'
+moves k h u v None k' is same may by = absurd cc
+moves k h u v (Some m) k' is same may by = by.makes u v is (ap (mark_of (Makes v)) same) may

@@ -1,0 +1,233 @@
+-- The mark that the kept tree has for a step is that at which the step placed a move.
+use Rattle.std.specs.Prelude.{◌≡◌, ◌⊎◌, ℕ, Bool, true, false, not, List, [], Option, Some, None}
+use Rattle.calls_on_blocks.proofs.Vocabulary.{refl, sym, ◌∙◌, ap, subst, inl, inr}
+use Rattle.atomic_programs.proofs.Explains.{Some-inj}
+use Rattle.atomic_programs.specs.Calls.{Made, State, Step}
+use Rattle.atomic_programs.specs.Joined.{Handover}
+use Rattle.atomic_programs.specs.Prog.{Ret, Do, asks}
+use Rattle.calls_on_blocks.specs.History.{block_moves}
+use Rattle.calls_on_blocks.specs.Theory.{block_calls}
+use Rattle.fs_layout.specs.declared.superblock.Super.{Super}
+use Rattle.inode_machine.specs.Kept.{placed}
+use Rattle.inode_machine.specs.Marks.{places}
+use Rattle.inode_machine.specs.Parts as programs
+use Rattle.inode_machine.specs.Vocabulary.{MoveStep}
+use Rattle.inode_machine.specs.World as above
+use Rattle.inode_machine.specs.World.Op.{Claim, Leave, LockFile, LockOpen, ReadFile, StatFile, Take}
+use Rattle.inode_parts.specs.Calls.{IsReading}
+use Rattle.inodes_on_blocks.specs.Handlers.{P}
+use Rattle.inodes_on_blocks.specs.Lowering.{Carry}
+use Rattle.path_walk.specs.Asks.{answer_to, mark_at, marked_as}
+use Rattle.path_walk.specs.declared.asks.Heard.{Heard}
+use Rattle.path_walk.specs.declared.asks.Heard.TheVariants as heard
+use Rattle.path_walk.specs.declared.asks.Mark.{Mark}
+use Rattle.plain_tree.specs.Tree.{Tree}
+use Rattle.plain_tree.specs.declared.answer.Reply.{Reply}
+use Rattle.run_laws.specs.UnderWay.{EndsAsActed, InFirst, InLast, PlacesAt, RunsAStep, SeesTruly, StepsPlaceInTime, UnderWay, none_ran, placed_by, time_of}
+use Rattle.run_laws.specs.Vocabulary.{Outside, or_else}
+use Rattle.tree_histories.specs.Keeping.{Under}
+use Rattle.tree_histories.specs.Sights.{MarksAt, MarksBy, MarksIn, SeenFor, acts_first}
+use Rattle.whole_calls.specs.Wholes.{WholeFits, action_in, whole_of}
+use Rattle.whole_calls.specs.declared.reading.Read.TheVariants as reading
+use Rattle.whole_calls.specs.declared.whole.Whole.{Whole}
+use Rattle.whole_calls.specs.declared.whole.Whole.TheVariants as whole
+use Rattle.kept_histories.proofs.Heads.{IsFine, IsFineOp, MakesNone, reads_or_fine}
+use Rattle.kept_histories.proofs.KeptCalls.{KeptAs, same_heard}
+use Rattle.kept_histories.proofs.Marks.{PlacesAlike, alike, none_placed}
+use Rattle.kept_histories.specs.Fitting.{at_end}
+
+-- ---- the mark of a program's operation
+
+-- at this answer, in a call with this text
+abbrev pub mark_with : List ℕ → programs.P Reply → Heard → Option above.Mark
+mark_with text (Ret r) x = None
+mark_with text (Do op m k) x = m (answer_to text op x)
+
+fine_marks : (text other : List ℕ) (x : Heard) (p : programs.P Reply) → IsFine p → mark_with text p x ≡ mark_with other p x
+fine_marks text other x (Ret r) fine = refl
+fine_marks text other x (Do op m k) fine = ap m (same_heard op m fine text other x)
+
+is_read : above.Op → Bool
+is_read (ReadFile fd n offset count) = true
+is_read op = false
+
+asks_read : Option above.Op → Bool
+asks_read None = false
+asks_read (Some op) = is_read op
+
+-- a read that is under way
+reads_marks : (text other : List ℕ) (x : Heard) (ns : List ℕ) (w : Whole) → IsReading w → (mark_with text (whole_of ns w) x ≡ mark_with other (whole_of ns w) x) × (asks_read (asks (whole_of ns w)) ≡ true)
+unfolding asks_read is_read
+reads_marks text other x ns (whole.Read fd buf (reading.Part n offset)) t = (refl, refl)
+reads_marks text other x ns (whole.Read fd buf reading.Lock) t = absurd t
+reads_marks text other x ns (whole.Read fd buf (reading.Says count)) t = absurd t
+reads_marks text other x ns (whole.Open path flags c) t = absurd t
+reads_marks text other x ns (whole.Write fd bytes c) t = absurd t
+reads_marks text other x ns (whole.Link old new c) t = absurd t
+reads_marks text other x ns (whole.Unlink path c) t = absurd t
+reads_marks text other x ns (whole.Mkdir path c) t = absurd t
+reads_marks text other x ns (whole.Chdir path c) t = absurd t
+reads_marks text other x ns (whole.Dup fd c) t = absurd t
+reads_marks text other x ns (whole.Fstat fd c) t = absurd t
+reads_marks text other x ns (whole.Close fd c) t = absurd t
+reads_marks text other x ns (whole.Inherit child c) t = absurd t
+
+module _ (p : programs.P Reply) (v : Under) (kept : KeptAs p v) where
+  same_marks : (x : Heard) → mark_with [] p x ≡ mark_at (whole_of v.listed v.whole) x
+  same_marks x = elim kept [
+    | inl e ↦ ap (λ (z : programs.P Reply). mark_with [] z x) e ∙ by (whole_of v.listed v.whole)
+    | inr s ↦ ap (λ (z : programs.P Reply). mark_with [] z x) s.2 ∙ sym (ap (λ (z : programs.P Reply). mark_at z x) s.3)
+  ]
+    where
+      by : (z : programs.P Reply) → mark_with [] z x ≡ mark_at z x
+      by (Ret r) = refl
+      by (Do op m k) = refl
+
+  text_marks : (text other : List ℕ) (x : Heard) → mark_with text p x ≡ mark_with other p x
+  text_marks text other x = elim kept [
+    | inl e ↦ ap (λ (z : programs.P Reply). mark_with text z x) e ∙ by e (reads_or_fine v.listed v.whole) ∙ sym (ap (λ (z : programs.P Reply). mark_with other z x) e)
+    | inr s ↦ ap (λ (z : programs.P Reply). mark_with text z x) s.2 ∙ sym (ap (λ (z : programs.P Reply). mark_with other z x) s.2)
+  ]
+    where
+      by : p ≡ whole_of v.listed v.whole → IsReading v.whole ⊎ IsFine (whole_of v.listed v.whole) → mark_with text (whole_of v.listed v.whole) x ≡ mark_with other (whole_of v.listed v.whole) x
+      by e (inl reads) = (reads_marks text other x v.listed v.whole reads).0
+      by e (inr fine) = fine_marks text other x (whole_of v.listed v.whole) fine
+
+  fine_unless : asks_read (asks p) ≡ false → IsFine p
+  fine_unless unread = elim kept [
+    | inl e ↦ by e (reads_or_fine v.listed v.whole)
+    | inr s ↦ subst IsFine (sym s.2) tt
+  ]
+    where
+      by : p ≡ whole_of v.listed v.whole → IsReading v.whole ⊎ IsFine (whole_of v.listed v.whole) → IsFine p
+      by e (inl reads) =
+          absurd (let q : true ≡ false = sym (reads_marks [] [] heard.WasDone v.listed v.whole reads).1 ∙ sym (ap (λ (z : programs.P Reply). asks_read (asks z)) e) ∙ unread in cc)
+      by e (inr fine) = subst IsFine (sym e) fine
+
+  same_asked : (op : above.Op) → asks p ≡ Some op → asks (whole_of v.listed v.whole) ≡ Some op
+  same_asked op is = elim kept [
+    | inl e ↦ sym (ap asks e) ∙ is
+    | inr s ↦ ap asks s.3 ∙ sym (ap asks s.2) ∙ is
+  ]
+
+-- ---- when the operation acts
+
+-- it takes a lock, in its first step; or it acts last; or no mark of it makes a move
+abbrev Sort : above.Op → Type 0
+Sort op =
+    ((time_of op ≡ InFirst) × (acts_first op ≡ true)) ⊎ (((time_of op ≡ InLast) × (acts_first op ≡ false))
+    ⊎ ((acts_first op ≡ false) × (is_read op ≡ false) × ((m : above.Answer op → Option above.Mark) → IsFineOp op m → (a : above.Answer op) → MakesNone (m a))))
+
+sort : (op : above.Op) → Sort op
+unfolding is_read
+sort (Take n looking) = inl (refl, refl)
+sort (StatFile fd) = inl (refl, refl)
+sort (LockFile fd) = inl (refl, refl)
+sort (LockOpen fd n) = inl (refl, refl)
+sort Leave = inr (inr (refl, refl, λ m fine a. fine a))
+sort (Claim inode_type) = inr (inr (refl, refl, λ m fine a. fine a))
+sort op = inr (inl (refl, refl))
+
+-- what was heard in the step: nothing, and the operation isn't at its end, or what it is answered
+abbrev pub HeardAt : (u : UnderWay) → P (Handover (above.Answer u.op) Carry) → Option Heard → Type 0
+HeardAt u left None = at_end left ≡ false
+HeardAt u left (Some x) = (z : Handover (above.Answer u.op) Carry) × (left ≡ Ret z) × (text : List ℕ) × (z.answer ≡ answer_to text u.op x)
+
+module _ (sizes : Super) (h : ℕ) (x : Outside) (s : State (block_calls sizes)) (made : Made (block_calls sizes)) (was now : ℕ → Option UnderWay)
+    (r : RunsAStep sizes h x s made was now) (v : Under) (kept : KeptAs (Do r.under.op r.under.mark r.under.rest) v) (t : Tree) (came : Option Heard) (o : Option Mark)
+    (heard_at : HeardAt r.under (r.rest r.answer) came) where
+  abbrev u : UnderWay
+  u = r.under
+
+  abbrev left : P (Handover (above.Answer u.op) Carry)
+  left = r.rest r.answer
+
+  abbrev Placed : List (ℕ × MoveStep) → Type 0
+  Placed ps = placed (block_moves sizes) (Step h x) s ≡ ps
+
+  abbrev Alike : Type 0
+  Alike = PlacesAlike h (placed (block_moves sizes) (Step h x) s) (action_in v.whole) o
+
+  -- the same mark, at an answer of the operation
+  marked_at : (y : Heard) (text : List ℕ) → MarksAt v y o → marked_as (action_in v.whole) o ≡ u.mark (answer_to text u.op y)
+  marked_at y text m =
+      sym (m v.listed) ∙ sym (same_marks (Do u.op u.mark u.rest) v kept y) ∙ text_marks (Do u.op u.mark u.rest) v kept [] text y
+
+  none_marked : Placed [] → o ≡ None → Alike
+  none_marked is none = inl (is, subst (λ (z : Option Mark). MakesNone (marked_as (action_in v.whole) z)) (sym none) tt)
+
+  -- no mark of it makes a move
+  quiet : (begun : Bool) (y : Option Heard) → ((m : above.Answer u.op → Option above.Mark) → IsFineOp u.op m → (a : above.Answer u.op) → MakesNone (m a)) → IsFineOp u.op u.mark
+      → MarksIn t v (Some u.op) false begun y o → Alike
+  quiet begun y none fine m = inl (r.places ∙ by r.acts, marks begun y m)
+    where
+      by : (acts : Option (above.Answer u.op)) → placed_by h u acts s.world.seen ≡ []
+      by None = refl
+      by (Some a) = none_placed h u.op a s.world.seen (u.mark a) (none u.mark fine a)
+
+      marks : (begun : Bool) (y : Option Heard) → MarksIn t v (Some u.op) false begun y o → MakesNone (marked_as (action_in v.whole) o)
+      marks true None m = subst (λ (z : Option Mark). MakesNone (marked_as (action_in v.whole) z)) (sym m) tt
+      marks false None m = subst (λ (z : Option Mark). MakesNone (marked_as (action_in v.whole) z)) (sym m) tt
+      marks true (Some y) m = subst MakesNone (sym (marked_at y [] m)) (none u.mark fine (answer_to [] u.op y))
+      marks false (Some y) m = subst MakesNone (sym (marked_at y [] m)) (none u.mark fine (answer_to [] u.op y))
+
+  -- it acts in its last step
+  last : (begun : Bool) (y : Option Heard) → HeardAt u left y → PlacesAt sizes h x s made was now InLast (none_ran u.ran) r left → MarksIn t v (Some u.op) false begun y o → Alike
+  last begun (Some y) at places_ m = by begun m
+    where
+      is : Placed (places h u.op at.0.answer (u.mark at.0.answer) s.world.seen)
+      is = subst (λ (z : P (Handover (above.Answer u.op) Carry)). PlacesAt sizes h x s made was now InLast (none_ran u.ran) r z) at.1 places_
+
+      here : MarksAt v y o → Alike
+      here m = alike h u.op at.0.answer s.world.seen (placed (block_moves sizes) (Step h x) s) (action_in v.whole) o (u.mark at.0.answer) is (marked_at y at.2 m ∙ sym (ap u.mark at.3))
+
+      by : (begun : Bool) → MarksIn t v (Some u.op) false begun (Some y) o → Alike
+      by true m = here m
+      by false m = here m
+  last begun None at places_ m = none_marked (by left at places_) (marks begun m)
+    where
+      by : (z : P (Handover (above.Answer u.op) Carry)) → at_end z ≡ false → PlacesAt sizes h x s made was now InLast (none_ran u.ran) r z → Placed []
+      by (Ret z) e p = absurd (let q : true ≡ false = e in cc)
+      by (Do op m k) e p = p
+
+      marks : (begun : Bool) → MarksIn t v (Some u.op) false begun None o → o ≡ None
+      marks true m = m
+      marks false m = m
+
+  -- it acts in its first step, where what is seen of the inode is the same in the kept tree
+  abbrev pub SeesAlike : Type 0
+  SeesAlike = (y : Heard) (a : above.Answer u.op) → at_end left ≡ false → SeenFor t (Some u.op) y → SeesTruly u.op a s.world.seen → or_else r.acts u.acted ≡ Some a
+      → u.mark a ≡ u.mark (answer_to [] u.op y)
+
+  first : SeesAlike → (b : Bool) (y : Option Heard) → HeardAt u left y → PlacesAt sizes h x s made was now InFirst b r left
+      → MarksIn t v (Some u.op) true (not b) y o → Alike
+  first sees true (Some y) at p m =
+      let ends : or_else r.acts u.acted ≡ Some at.0.answer = subst (EndsAsActed u (or_else r.acts u.acted)) at.1 r.ends in
+      let same : p.0 ≡ at.0.answer = Some-inj p.0 at.0.answer (sym p.3 ∙ ends) in
+      alike h u.op p.0 s.world.seen (placed (block_moves sizes) (Step h x) s) (action_in v.whole) o (u.mark p.0) p.1
+      (marked_at y at.2 m ∙ sym (ap u.mark at.3) ∙ ap u.mark (sym same))
+  first sees true None at p m =
+      alike h u.op p.0 s.world.seen (placed (block_moves sizes) (Step h x) s) (action_in v.whole) o (u.mark p.0) p.1
+      (marked_at m.0 [] m.2 ∙ sym (sees m.0 p.0 at m.1 p.2 p.3))
+  first sees false y at p m = none_marked p.0 m
+
+  pub step_alike : StepsPlaceInTime → WholeFits v.listed v.whole → v.has_begun ≡ not (none_ran u.ran) → MarksBy t (Some v) came o → SeesAlike → Alike
+  unfolding asks_read is_read
+  step_alike in_time fits begun marks sees = by (sort u.op)
+    where
+      here : MarksIn t v (Some u.op) (acts_first u.op) v.has_begun came o
+      here = marks v.listed u.op fits (same_asked (Do u.op u.mark u.rest) v kept u.op refl)
+
+      by : Sort u.op → Alike
+      by (inl f) =
+          first sees (none_ran u.ran) came heard_at
+          (subst (λ z. PlacesAt sizes h x s made was now z (none_ran u.ran) r left) f.0 (in_time sizes h x s made was now r))
+          (subst (λ (b : Bool). MarksIn t v (Some u.op) b (not (none_ran u.ran)) came o) f.1
+          (subst (λ (b : Bool). MarksIn t v (Some u.op) (acts_first u.op) b came o) begun here))
+      by (inr (inl f)) =
+          last v.has_begun came heard_at
+          (subst (λ z. PlacesAt sizes h x s made was now z (none_ran u.ran) r left) f.0 (in_time sizes h x s made was now r))
+          (subst (λ (b : Bool). MarksIn t v (Some u.op) b v.has_begun came o) f.1 here)
+      by (inr (inr f)) =
+          quiet v.has_begun came f.2 (fine_unless (Do u.op u.mark u.rest) v kept f.1)
+          (subst (λ (b : Bool). MarksIn t v (Some u.op) b v.has_begun came o) f.0 here)
