@@ -1,5 +1,0 @@
-use Rattle.explain.proofs.Lemmas.{sym, subst, ◌∙◌, Call, IsCall, right_call}
-use Rattle.explain.proofs.keep.Keeper.start.Goals as goal
-
-pub starts-requires : goal.starts-requires
-starts-requires c = subst (λ (call : Call). IsCall call) (sym c.in_ok-copied-in-None.ensures) (right_call c.args.call.now (sym c.find_fault.ensures.fault ∙ c.in-None.is))
