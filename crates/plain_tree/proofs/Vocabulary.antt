@@ -25,7 +25,7 @@ pub use Rattle.plain_tree.specs.HartRow.{Key, key_at, key_is, key_names, key_of,
 pub use Rattle.plain_tree.specs.declared.node.NodeKind.TheVariants.{Device, Directory, File}
 pub use Rattle.plain_tree.specs.declared.node.Slot.{Slot}
 pub use Rattle.std.proofs.Math.ListN.{get_or-eq_default, length-set, set}
-pub use Rattle.plain_tree.specs.Applied.{IsApplied, IsAppliedAt, IsBadChoice, Outcome, applied, in_place, out_of_place}
+pub use Rattle.plain_tree.specs.Applied.{IsApplied, IsAppliedAt, IsAppliedAtWith, IsBadChoice, Outcome, applied, in_place, out_of_place}
 pub use Rattle.plain_tree.specs.Calls.{Act, cause_of, if_done, if_failed, next_link, next_open, next_piece, once, piece, piece_count, to_truncate}
 unfoldable pub use Rattle.plain_tree.specs.Calls.{Follows, first_cause, had_room, last_cause, next_of}
 pub use Rattle.plain_tree.specs.Code.{Advances, EndsWithin, HasFiles, IsEntryOf, IsOrphan, is_lost, lost_of, read_count, settled_below, with_element}

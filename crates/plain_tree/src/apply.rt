@@ -1,31 +1,17 @@
 //! One step of the tree.
 ghost use Rattle.std.specs.Prelude.{◌≡◌, ◌<◌, IfSome, MatchResult, true};
-ghost use Rattle.plain_tree.specs.Applied.{IsApplied, IsAppliedAt, IsRefused, out_of_place};
-ghost use Rattle.plain_tree.specs.Code.{is_open};
-ghost use Rattle.plain_tree.specs.Steps.{path_of, refused};
-ghost use Rattle.plain_tree.specs.Tree.{tree_of};
+ghost use Rattle.plain_tree.specs.Applied.{IsApplied, IsAppliedAtWith, IsAppliedWith, IsRefused, IsRefusedWith, out_of_place};
+ghost use Rattle.plain_tree.specs.Code.{is_open, with_name};
+ghost use Rattle.plain_tree.specs.Steps.{refused};
+ghost use Rattle.plain_tree.specs.Tree.{live_directory, tree_of};
 
 use crate::answer::{Cause, Full};
+use crate::look::Found;
 use crate::refused::{ApplyRefused, NoMemory};
 use crate::step::{Action, StepAnswer, TreeStep};
 use crate::tree::Tree;
 use crate::widths::HARTS;
 use std::alloc::Global;
-
-/// The path that the action follows; empty where it follows none.
-fn path_of(action: &Action) -> &[u8]
-    ensures { result.now ≡ path_of action.now }
-{
-    match action {
-        Action::Open { path, .. } => path.as_slice(),
-        Action::Find { old } => old.as_slice(),
-        Action::Enter { new } => new.as_slice(),
-        Action::Unlink { path } => path.as_slice(),
-        Action::Mkdir { path } => path.as_slice(),
-        Action::Chdir { path } => path.as_slice(),
-        _ => &[],
-    }
-}
 
 fn is_open(action: &Action) -> bool
     ensures { result ≡ is_open action.now }
@@ -67,11 +53,28 @@ impl Tree {
         ensures { MatchResult result (λ a. IsApplied (tree_of self.old) step.now a (tree_of self.new))
             (λ e. IsRefused self.old step.now e self.new) }
     {
+        let found = self.found(step.hart, step.action.path());
+        self.apply_found(alloc, step, &found)
+    }
+
+    /// The same where a walk has found what the step's path leads to, element by element as calls do (xv6: `namex`), whatever was removed
+    /// or made meanwhile. `found` is taken as it is; its parent, if it has one, is a live directory.
+    pub fn apply_found(
+        &mut self,
+        alloc: Global,
+        step: &TreeStep,
+        found: &Found,
+    ) -> Result<StepAnswer, ApplyRefused>
+        requires { IfSome found.now.parent (λ d. live_directory ((tree_of self.old).nodes d) ≡ true) }
+        ensures { let parent = with_name found.now.parent found.now.name.now in
+            MatchResult result (λ a. IsAppliedWith (tree_of self.old) step.now found.now.node parent a (tree_of self.new))
+            (λ e. IsRefusedWith self.old step.now found.now.node parent e self.new) }
+    {
         let mut id = 0;
         if is_open(&step.action) {
             id = self.least_unused();
         }
-        self.apply_at(alloc, step, id)
+        self.apply_at(alloc, step, found, id)
     }
 
     /// The same with the unused id that a new open file takes.
@@ -79,11 +82,14 @@ impl Tree {
         &mut self,
         alloc: Global,
         step: &TreeStep,
+        found: &Found,
         id: usize,
     ) -> Result<StepAnswer, ApplyRefused>
-        requires { is_open step.now.action ≡ true → (tree_of self.old).files id ≡ None }
-        ensures { MatchResult result (λ a. IsAppliedAt (tree_of self.old) step.now id a (tree_of self.new))
-            (λ e. IsRefused self.old step.now e self.new) }
+        requires live { IfSome found.now.parent (λ d. live_directory ((tree_of self.old).nodes d) ≡ true) }
+        requires unused { is_open step.now.action ≡ true → (tree_of self.old).files id ≡ None }
+        ensures { let parent = with_name found.now.parent found.now.name.now in
+            MatchResult result (λ a. IsAppliedAtWith (tree_of self.old) step.now found.now.node parent id a (tree_of self.new))
+            (λ e. IsRefusedWith self.old step.now found.now.node parent e self.new) }
     {
         let hart = step.hart;
         let action = &step.action;
@@ -95,7 +101,6 @@ impl Tree {
         if !self.has_place(hart, action) {
             return Ok(out_of_place(action));
         }
-        let found = &self.found(hart, path_of(action));
         if let Some(cause) = self.refusal(hart, action, found) {
             self.refuse(hart, action);
             return Ok(StepAnswer::Failed { cause });

@@ -38,6 +38,7 @@ pub use crate::answer::{Answer, Cause, Full, NodeType, Reply, Stat};
 pub use crate::bytes::Bytes;
 pub use crate::call::Call;
 pub use crate::explains::check;
+pub use crate::look::Found;
 pub use crate::node::{Node, NodeKind, Slot, Slots};
 pub use crate::one_end::{chains_to_one, steps_to_one};
 pub use crate::refused::{ApplyRefused, NoMemory};

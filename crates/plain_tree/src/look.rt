@@ -8,12 +8,13 @@ use crate::paths::{begins_at_root, next_element, same};
 use crate::tree::Tree;
 use crate::widths::ROOT;
 
-/// What an action's path leads to: the node, and the live directory before the last element, with that element.
+/// What an action's path leads to, or what a walk along it has found: the node, and the live directory before the last element, with that
+/// element.
 #[derive(Drop)]
-pub(crate) struct Found<'a> {
-    pub(crate) node: Option<u16>,
-    pub(crate) parent: Option<u16>,
-    pub(crate) name: &'a [u8],
+pub struct Found<'a> {
+    pub node: Option<u16>,
+    pub parent: Option<u16>,
+    pub name: &'a [u8],
 }
 
 /// The number in the first slot of that name.

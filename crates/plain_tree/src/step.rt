@@ -1,4 +1,7 @@
 //! The steps of a tree, each of which happens at one moment.
+ghost use Rattle.std.specs.Prelude.{◌≡◌};
+ghost use Rattle.plain_tree.specs.Steps.{path_of};
+
 use crate::answer::{Cause, Full, Stat};
 use crate::bytes::Bytes;
 
@@ -26,6 +29,23 @@ pub enum Action {
     Close { fd: u32 },
     Fstat { fd: u32 },
     Inherit { child: u8 },
+}
+
+impl Action {
+    /// The path that it follows; empty where it follows none.
+    pub fn path(&self) -> &[u8]
+        ensures { result.now ≡ path_of self.now }
+    {
+        match self {
+            Action::Open { path, .. } => path.as_slice(),
+            Action::Find { old } => old.as_slice(),
+            Action::Enter { new } => new.as_slice(),
+            Action::Unlink { path } => path.as_slice(),
+            Action::Mkdir { path } => path.as_slice(),
+            Action::Chdir { path } => path.as_slice(),
+            _ => &[],
+        }
+    }
 }
 
 /// A step of a hart. `new` is the number of the node that the step makes; where it makes none, it says nothing.
