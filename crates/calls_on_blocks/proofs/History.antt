@@ -64,8 +64,8 @@ pub one_hart : OneHartHasOneHistory
 one_hart disk failures h events r alone = moves_alone (block_moves (sizes_of disk)) (moving (sizes_of disk)) (tree_in disk) (first disk failures) h events (runs_from disk failures events r) alone
 
 pub makes_moves : MountsMakeMoves
-makes_moves disk failures before later e r calm =
-    run_moves (block_moves (sizes_of disk)) (moving (sizes_of disk)) (tree_in disk) (first disk failures) before later e (runs_from disk failures (before ++ e ∷ later) r) calm
+makes_moves disk failures before later e r =
+    run_moves (block_moves (sizes_of disk)) (moving (sizes_of disk)) (tree_in disk) (first disk failures) before later e (runs_from disk failures (before ++ e ∷ later) r)
     (let size = shows.shows.size in let many = shows.shows.blocks.seen.good.many_inodes in omega (arith, size, many))
   where
     shows : ShowsItsTree disk failures

@@ -58,10 +58,10 @@ OneHartHasOneHistory =
     (disk : List (List ℕ)) (failures h : ℕ) (events : List (Event Call Outside)) → RunsOn disk failures events → Alone h events
     → HasOneHistory (block_moves (sizes_of disk)) (tree_in disk) (first disk failures) events
 
--- Each of their events makes the moves that it places as code makes them, where no path climbs.
+-- Each of their events makes the moves that it places as code makes them, for any paths.
 abbrev pub MountsMakeMoves : Type 0
 MountsMakeMoves =
     (disk : List (List ℕ)) (failures : ℕ) (before later : List (Event Call Outside)) (e : Event Call Outside)
-    → RunsOn disk failures (before ++ e ∷ later) → NoneClimbs (before ++ e ∷ later)
+    → RunsOn disk failures (before ++ e ∷ later)
     → MakesItsMoves (block_moves (sizes_of disk)) e
     (run (block_calls (sizes_of disk)) before (fresh (block_calls (sizes_of disk)) (first disk failures)))

@@ -34,8 +34,8 @@ pub fn one_hart_has_one_history()
     ensures { OneHartHasOneHistory }
 {}
 
-/// Each event of a run whose calls have that one history makes what it places of the moves behind it as code makes them on a tree
-/// that is kept beside the run, and where it places nothing tree and walks stay.
+/// Each event of a run on a mounted disk, whatever its paths, makes the move that it places as code makes it on a tree that is kept
+/// beside the run, and where it places none tree and walks stay; as long as no step found no room.
 pub fn mounts_make_moves()
     ensures { MountsMakeMoves }
 {}

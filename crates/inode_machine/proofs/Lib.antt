@@ -78,6 +78,7 @@ pub mod Budgets
 pub mod MadeMoves
 pub mod MayMoves
 pub mod Ranges
+pub mod Follows
 pub mod Kept
 pub mod RunMoves
 pub mod Moving

@@ -1,49 +1,37 @@
 -- Each event of a run makes what it places as code makes it.
-use Rattle.inode_machine.proofs.Vocabulary.{◌≡◌, ℕ, ◌<◌, ◌≤◌, ◌^◌, List, [], ◌∷◌, ◌++◌, Option, Some, None, sym, subst, Call, TreeData, Tree, tree_of, hart_count, settle, Busy, Walk, Stage, Step as MoveStep, opened, Theory, Event, State, AllHonest, fresh, next, run, run_ok, opened_ok, starts_calm, apart_calm, NeverClimbs, MoveMachine, IsMoving, TakesMove, RunsFrom, NoneClimbs, theory_of, nothing_yet, placed, sound_fresh, sound_keeps, sound_run, Sound}
-use Rattle.tree_laws.specs.History.{HartStanding}
-use Rattle.tree_laws.specs.History.HartStanding.{Free}
-use Rattle.tree_laws.proofs.History as histories
+use Rattle.inode_machine.proofs.Vocabulary.{◌≡◌, ℕ, ◌<◌, ◌≤◌, ◌^◌, List, [], ◌∷◌, ◌++◌, sym, subst, Call, TreeData, tree_of, hart_count, settle, Stage, Step as MoveStep, opened, Theory, Event, State, AllHonest, fresh, next, run, MoveMachine, IsMoving, TakesMove, RunsFrom, theory_of, nothing_yet, placed, sound_fresh, sound_keeps, sound_run, Sound}
+use Rattle.inode_machine.proofs.Follows.{AllFollow, opened_follows}
 use Rattle.inode_machine.proofs.Kept.{Places, Turned, Turns, clean_before, event_turns, turned}
 use Rattle.inode_machine.proofs.MadeMoves.{plays_so}
-use Rattle.inode_machine.proofs.MayMoves.{HasId, IsOfCall, plays_id, plays_may}
+use Rattle.inode_machine.proofs.MayMoves.{HasId, plays_id, plays_may}
 use Rattle.inode_machine.proofs.Ranges.{run_range}
 use Rattle.inode_machine.specs.Making.{IsMade, MakesPlaced, RunsMakeMoves, hart_of}
 use Rattle.atomic_programs.proofs.Reached.{run-append}
 use Rattle.atomic_programs.specs.Calls.{makes}
-
-none_climb : {Outside : Type 0} (es later : List (Event Call Outside)) → NoneClimbs (es ++ later) → NoneClimbs es
-none_climb [] later c = tt
-none_climb (e ∷ es) later c = (c.0, none_climb es later c.1)
 
 honest_before : (L : Theory) (es later : List (Event L.Call L.M.Outside)) (s : State L) → AllHonest L (es ++ later) s → AllHonest L es s × AllHonest L later (run L es s)
 honest_before L [] later s h = (tt, h)
 honest_before L (e ∷ es) later s h = let x = honest_before L es later (next L e s) h.1 in ((h.0, x.0), x.1)
 
 -- a move that is taken
-made : (m m' : Stage) (h : ℕ) (e : MoveStep) → h < hart_count → settle m.tree ≡ m.tree → ((w : Walk) → m.walk h ≡ Some w → IsOfCall m.tree h w) → m.tree.ninodes ≤ 2 ^ 16 → TakesMove m h e m' → IsMade m h e m'
-made m m' h e hart settled on few takes =
+made : (m m' : Stage) (h : ℕ) (e : MoveStep) → h < hart_count → settle m.tree ≡ m.tree → AllFollow m → m.tree.ninodes ≤ 2 ^ 16 → TakesMove m h e m' → IsMade m h e m'
+made m m' h e hart settled follow few takes =
     let x : HasId m h e.move = plays_id m m' h e.told e.move takes.0 in
     record {
-      may = record { hart = hart; settled = settled; move = plays_may m m' h e.told e.move on few takes.1 takes.0 };
+      may = record { hart = hart; settled = settled; move = plays_may m m' h e.told e.move few takes.1 takes.0 };
       id = x.id;
       least = x.least;
-      stage = λ id least. (plays_so m h settled e.move id e.told m' (λ w is. (on w is).1.1.follows) takes.0 least).stage;
-      told = λ id least. (plays_so m h settled e.move id e.told m' (λ w is. (on w is).1.1.follows) takes.0 least).tells;
+      stage = λ id least. (plays_so m h settled e.move id e.told m' (follow h) takes.0 least).stage;
+      told = λ id least. (plays_so m h settled e.move id e.told m' (follow h) takes.0 least).tells;
     }
-
--- a walk is that of a call under way
-of_call : (Ok : ℕ → Call → Type 0) (t : Tree) (h : ℕ) (s : HartStanding) (o : Option Walk) (w : Walk) → histories.OwnOk Ok t h s o → o ≡ Some w → IsOfCall t h w
-of_call Ok t h Free o w own is = absurd (let none : o ≡ None = own in cc (none, is))
-of_call Ok t h (Busy id c x) None w own is = absurd cc
-of_call Ok t h (Busy id c x) (Some v) w own is = let same : v ≡ w = (let q : Some v ≡ Some w = is in cc) in subst (λ (y : Walk). IsOfCall t h y) same (c, (x, own.1))
 
 module _ (N : MoveMachine) (moving : IsMoving N) where
   abbrev L : Theory
   L = theory_of N
 
-  places_made : (h : ℕ) (m m' : Stage) (ps : List (ℕ × MoveStep)) → settle m.tree ≡ m.tree → ((w : Walk) → h < hart_count → m.walk h ≡ Some w → IsOfCall m.tree h w) → m.tree.ninodes ≤ 2 ^ 16 → Places N moving h m ps m' → MakesPlaced h m ps m'
-  places_made h m m' [] settled on few x = x
-  places_made h m m' (p ∷ ps) settled on few x = (x.0, x.1, made m m' h p.1 x.2 settled (λ w is. on w x.2 is) few x.3)
+  places_made : (h : ℕ) (m m' : Stage) (ps : List (ℕ × MoveStep)) → settle m.tree ≡ m.tree → AllFollow m → m.tree.ninodes ≤ 2 ^ 16 → Places N moving h m ps m' → MakesPlaced h m ps m'
+  places_made h m m' [] settled follow few x = x
+  places_made h m m' (p ∷ ps) settled follow few x = (x.0, x.1, made m m' h p.1 x.2 settled follow few x.3)
 
   first : (base : TreeData) (w : N.World) (es later : List (Event Call N.Outside)) → RunsFrom N base w (es ++ later) → RunsFrom N base w es
   first base w es later r =
@@ -59,11 +47,11 @@ module _ (N : MoveMachine) (moving : IsMoving N) where
       }
 
   pub run_moves : RunsMakeMoves N
-  run_moves base w before later e r calm few =
+  run_moves base w before later e r few =
       subst (λ (m : Stage). MakesPlaced (hart_of e) m (placed N e s) (N.tree (next L e s).world)) x.beside.stage
       (places_made (hart_of e) x.end.stage (N.tree (next L e s).world) (placed N e s)
       (subst (λ (m : Stage). settle m.tree ≡ m.tree) (sym x.beside.stage) (moving.settled s.world))
-      (λ v hart is. of_call NeverClimbs x.end.stage.tree (hart_of e) (x.end.history.calls (hart_of e)) (x.end.stage.walk (hart_of e)) v (held.harts (hart_of e) hart) is)
+      (opened_follows (tree_of base) x.end x.more x.runs)
       (subst (λ (n : ℕ). n ≤ 2 ^ 16) (sym (run_range (opened (tree_of base)) x.end x.more x.runs)) few)
       turn.places)
     where
@@ -72,9 +60,6 @@ module _ (N : MoveMachine) (moving : IsMoving N) where
 
       x : Turned N moving (tree_of base) before (fresh L w) nothing_yet []
       x = turned N moving base w before (first base w before (e ∷ later) r)
-
-      held : histories.Inv NeverClimbs (tree_of base) x.end
-      held = run_ok NeverClimbs (tree_of base) (opened (tree_of base)) x.end x.more apart_calm (starts_calm x.more (x.calm (none_climb before (e ∷ later) calm))) (opened_ok NeverClimbs (tree_of base) r.well) x.runs
 
       sound : Sound L s
       sound = sound_run L before (fresh L w) (sound_fresh L w r.holds r.idle) (honest_before L before (e ∷ later) (fresh L w) r.honest).0

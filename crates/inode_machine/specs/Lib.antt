@@ -20,3 +20,4 @@ pub mod Stories
 pub mod Shortages
 pub mod Kept
 pub mod Making
+pub mod Rooms

@@ -1,17 +1,16 @@
 -- Each move of a run is made as code makes it: what it asks of a tree that has settled, and what it leads to.
 use Rattle.std.specs.Prelude.{◌≡◌, ℕ, ◌<◌, ◌≤◌, ◌^◌, true, List, [], ◌∷◌, ◌++◌, Option, Some, None}
-use Rattle.inode_machine.specs.Vocabulary.{Call, TreeData, Action, Name, Tree, elements, look, parent, path_of, resolve, settle, start_of, refusal, makes_node, IsInPlace, IsLeastUnused, IsNewNode, hart_count, Event, Start, Step, State, fresh, next, run, Walk, Stage, Move, MoveStep, Begin, Look, Own, GiveUpWalk}
+use Rattle.inode_machine.specs.Vocabulary.{Call, TreeData, Action, Name, Tree, elements, look, parent, path_of, resolve, settle, start_of, refusal_with, makes_node, IsInPlace, IsLeastUnused, IsNewNode, hart_count, Event, Start, Step, State, fresh, next, run, Walk, Stage, Move, MoveStep, Begin, Look, Own, GiveUpWalk}
+use Rattle.tree_laws.specs.Vocabulary.{live_directory}
 use Rattle.inode_machine.specs.Marks.{made_by}
 use Rattle.inode_machine.specs.Kept.{placed, stage_by, told_by_move}
-use Rattle.inode_machine.specs.Basics.{MoveMachine, NoneClimbs, RunsFrom, theory_of}
+use Rattle.inode_machine.specs.Basics.{MoveMachine, RunsFrom, theory_of}
 
--- The tree makes the step as the move does: the step has its place, its path leads to what was found for the move, and a node that it makes
--- takes a number that is free.
+-- The step may act by what was found for its path, its node (res) and its directory with its last element (par): it has its place, and
+-- where these don't have it refused a node that it makes takes a number that is free.
 pub record ActsSo (t : Tree) (h : ℕ) (s : Action) (res : Option ℕ) (par : Option (ℕ × Name)) (new : ℕ) : Type 0 where
   pub place : IsInPlace t h s
-  pub found : resolve t h (path_of s) ≡ res
-  pub behind : parent t h (path_of s) ≡ par
-  pub node : refusal t h s ≡ None → makes_node t s par ≡ true → IsNewNode t new
+  pub node : refusal_with t h s res par ≡ None → makes_node t s par ≡ true → IsNewNode t new
 
 abbrev pub MayBegin : Tree → ℕ → Action → List Name → ℕ → Type 0
 MayBegin t h s [] new = ActsSo t h s (Some (start_of t h (path_of s))) None new
@@ -22,9 +21,10 @@ MayLook t h w [] found new = ActsSo t h w.step found (Some (w.at, w.next)) new
 MayLook t h w (e ∷ es) None new = ActsSo t h w.step None None new
 MayLook t h w (e ∷ es) (Some n) new = Unit {0}
 
+-- a lookup is made in a live directory
 abbrev pub MayLookOn : Tree → ℕ → Option Walk → ℕ → Type 0
 MayLookOn t h None new = Unit {0}
-MayLookOn t h (Some w) new = MayLook t h w w.rest (look t.nodes w.at w.next) new
+MayLookOn t h (Some w) new = (live_directory (t.nodes w.at) ≡ true) × MayLook t h w w.rest (look t.nodes w.at w.next) new
 
 abbrev pub MayMove : Stage → ℕ → Move → Type 0
 MayMove m h (Begin s new) = MayBegin m.tree h s (elements (path_of s)) new
@@ -32,7 +32,7 @@ MayMove m h (Look new) = MayLookOn m.tree h (m.walk h) new × (new < 2 ^ 16)
 MayMove m h (GiveUpWalk s) = Unit {0}
 MayMove m h (Own s new) = ActsSo m.tree h s (resolve m.tree h (path_of s)) (parent m.tree h (path_of s)) new
 
--- The hart makes this move in a settled tree, and where its step acts the tree makes that as well.
+-- The hart may make this move, in a settled tree.
 pub record MayMake (m : Stage) (h : ℕ) (v : Move) : Type 0 where
   pub hart : h < hart_count
   pub settled : settle m.tree ≡ m.tree
@@ -64,8 +64,8 @@ module _ (m : MoveMachine) where
   abbrev pub MakesItsMoves : Event Call m.Outside → State (theory_of m) → Type 0
   MakesItsMoves e s = MakesPlaced (hart_of e) (m.tree s.world) (placed m e s) (m.tree (next (theory_of m) e s).world)
 
-  -- Each event of a run on a tree whose numbers fit into 16 bits, where no path climbs.
+  -- Each event of a run on a tree whose numbers fit into 16 bits.
   abbrev pub RunsMakeMoves : Type 0
   RunsMakeMoves = (base : TreeData) (w : m.World) (before later : List (Event Call m.Outside)) (e : Event Call m.Outside)
-      → RunsFrom m base w (before ++ e ∷ later) → NoneClimbs (before ++ e ∷ later) → base.ninodes ≤ 2 ^ 16
+      → RunsFrom m base w (before ++ e ∷ later) → base.ninodes ≤ 2 ^ 16
       → MakesItsMoves e (run (theory_of m) before (fresh (theory_of m) w))

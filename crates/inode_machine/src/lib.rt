@@ -120,8 +120,8 @@ pub fn runs_have_the_history()
     ensures { RunsHaveTheHistory covered }
 {}
 
-/// Each event of such a run makes what it places of that list's moves as code makes it (`MayMake`, `stage_by`, `told_by_move`), and
-/// where it places nothing the tree and all walks stay.
+/// Each event of a run, whatever its paths, makes the move that it places as code makes it (`MayMake`, `stage_by`, `told_by_move`),
+/// and where it places none the tree and all walks stay; as long as no step found no room.
 pub fn runs_make_moves()
     ensures { RunsMakeMoves covered }
 {}

@@ -41,7 +41,8 @@ pub use Rattle.inode_machine.proofs.Kept.{Beside, clean_before, event_turns, his
 pub use Rattle.inodes_on_blocks.proofs.ReadParts.{many_between, none_there}
 pub use Rattle.inodes_on_blocks.proofs.SpentRoom.{record_spent}
 pub use Rattle.inodes_on_blocks.specs.Naming.{slot_of}
-pub use Rattle.run_laws.specs.Rooms.{RoomIsToldByAnswers, finds_no_room, is_no_descriptor, is_no_entry, is_no_inode, is_short, says_no_room}
+pub use Rattle.inode_machine.specs.Rooms.{is_no_descriptor, is_no_entry, is_no_inode, is_short, says_no_room}
+pub use Rattle.run_laws.specs.Rooms.{RoomIsToldByAnswers, finds_no_room}
 pub use Rattle.run_laws.specs.Seen.{AreItsOwn, CallsLookEverywhere, IsInUse, IsReferredTo, MadeStep, SeesNoBlock, SeesNoInode, answered, if_ran, step_of_call, step_of_event, step_of_program, steps_made}
 pub use Rattle.run_laws.specs.StepBounds.{AreFew, CallsTakeFewSteps, RunsTakeFewSteps, most_steps}
 pub use Rattle.run_laws.specs.Steps.{OfBegun, OfEachCall, steps_ran, with_outcome}

@@ -1,45 +1,11 @@
 -- Where a run found no room: what the answers of its operations say.
-use Rattle.std.specs.Prelude.{◌≡◌, ◌↔◌, ℕ, Bool, true, false, not, ◌||◌, List, Option, Some, None}
-use Rattle.run_laws.specs.Vocabulary.{sizes_of, Call, Theory, EventOf, PlacedStep, fresh, run, In, Outside, is_nothing, roomy, Answer, ClaimResult, EntryResult, InPlace, New, NoBlock, NoInode, NoPlace, NoSlot, Op, Refused, Short, Whole, Wrote, Claim, Double, Enter, Fill, Install, Slot, Up, UpStart, WriteFile, first, Came, Event, HartsOf, FoundRoom, IsHistory, IsMounted, WorldOf}
+use Rattle.std.specs.Prelude.{◌≡◌, ◌↔◌, ℕ, Bool, false, not, ◌||◌, List}
+use Rattle.run_laws.specs.Vocabulary.{sizes_of, Call, Theory, EventOf, PlacedStep, fresh, run, In, Outside, roomy, says_no_room, first, Came, Event, HartsOf, FoundRoom, IsHistory, IsMounted, WorldOf}
 use Rattle.run_laws.specs.Laws.{operations_made}
 use Rattle.run_laws.specs.WholeInodes.{Operation, lowered_inode_calls}
 
-abbrev pub is_no_inode : ClaimResult → Bool
-is_no_inode (New n) = false
-is_no_inode NoInode = true
-is_no_inode NoPlace = true
-
-abbrev pub is_no_entry : EntryResult → Bool
-is_no_entry InPlace = false
-is_no_entry NoBlock = true
-is_no_entry NoSlot = true
-
-abbrev pub is_short : Wrote → Bool
-is_short Whole = false
-is_short (Refused why) = false
-is_short (Short k) = true
-
-abbrev pub is_no_descriptor : Option (Option ℕ) → Bool
-is_no_descriptor None = false
-is_no_descriptor (Some None) = true
-is_no_descriptor (Some (Some fd)) = false
-
--- The operation's answer says that there is no room: no place in memory for an inode, no inode free, no block, no slot of a directory,
--- no place for an open file, no descriptor, or a piece written in part.
-abbrev pub says_no_room : (op : Op) → Answer op → Bool
-says_no_room (UpStart absolute) start = is_nothing start
-says_no_room (Up n) there = not there
-says_no_room (Claim inode_type) made = is_no_inode made
-says_no_room (Fill n d) there = not there
-says_no_room (Enter d e n) made = is_no_entry made
-says_no_room Slot there = not there
-says_no_room (Install f inode_type) fd = is_nothing fd
-says_no_room (WriteFile fd n offset bytes) wrote = is_short wrote
-says_no_room (Double fd) made = is_no_descriptor made
-says_no_room op answer = false
-
--- Its answer says so, or the answer of its call's step on the tree, where that acts there: an open whose hart has no descriptor left is
--- answered so at its last lookup.
+-- The operation's answer says so, or the answer of its call's step on the tree, where that acts there: an open whose hart has no
+-- descriptor left is answered so at its last lookup.
 abbrev pub finds_no_room : Operation → Bool
 finds_no_room e = says_no_room e.op e.answer || not (roomy e.told)
 

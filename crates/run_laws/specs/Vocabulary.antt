@@ -30,12 +30,13 @@ pub use Rattle.group_log.specs.Group.{with_block}
 pub use Rattle.group_log.specs.declared.limits.TheConstants.{BLOCKS_OF_A_TRANSACTION}
 pub use Rattle.hart_core.specs.Promised.{ShowsImage}
 pub use Rattle.hart_core.specs.Stops.{after_first, marks_of}
-pub use Rattle.inode_machine.specs.Exec.{entry_moved, is_nothing, place_count, referenced, slot_limit, with_bytes}
+pub use Rattle.inode_machine.specs.Exec.{entry_moved, place_count, referenced, slot_limit, with_bytes}
 pub use Rattle.inode_machine.specs.Inodes.{face_or, seen_in}
 pub use Rattle.inode_machine.specs.Kept.{history_of, placed}
 pub use Rattle.inode_machine.specs.Marks.{made_by, new_id, roomy, places}
 pub use Rattle.inode_machine.specs.Parts.{P as Above}
 pub use Rattle.inode_machine.specs.Programs.{limit}
+pub use Rattle.inode_machine.specs.Rooms.{says_no_room}
 pub use Rattle.inode_machine.specs.Rules.{Honest, May, reference_limit, machine}
 pub use Rattle.inodes_on_blocks.specs.Making.{HasInodes}
 pub use Rattle.inodes_on_blocks.specs.ShownTables.{Shows, loaded}
