@@ -16,7 +16,7 @@ pub use Rattle.file_table.specs.declared.lock_file.FileLocked.{FileLocked}
 pub use Rattle.inode_parts.proofs.Begins.{alone, is_part, is_ready, other_fills, short_begins, short_fills, short_so, told_for}
 pub use Rattle.inode_parts.proofs.Seeing.{comes_between, comes_on_search, counted_face, sees_entries, sees_name, sees_nothing, take_leaves}
 pub use Rattle.inode_parts.proofs.StepLeaves.{step_leaves, under_way}
-pub use Rattle.inode_parts.proofs.Texts.{fills_now, fits_with, its_own, on_text, part_reads, read_before, reads_now, reads_with, room_now, same_with, way_with}
+pub use Rattle.inode_parts.proofs.Texts.{fills_now, fits_with, its_own, on_text, reads_now, reads_with, room_before, room_then, same_with, way_with}
 pub use Rattle.inode_parts.specs.FileWrites.{WriteFileTold, write_file_asked}
 pub use Rattle.inode_parts.specs.Takes.{TakeTold, take_asked, take_seat}
 pub use Rattle.fs_machine.proofs.Goings.{second-kept}

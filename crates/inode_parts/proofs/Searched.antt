@@ -1,8 +1,5 @@
 -- A directory searched, without marks.
-use Rattle.inode_parts.proofs.Vocabulary.{◌≡◌, ℕ, ◌+◌, Bool, true, false, if◌then◌else◌, List, None, refl, Dinode, Ret, plain, Entry, Named, block_count, is_directory, is_live_directory, lookup, search, search_from, entries, Acts, search_entries}
-use Rattle.fs_machine.specs.Machines as code
-use Rattle.fs_machine.specs.Steps as steps
-use Rattle.inodes_on_blocks.specs.Handlers.{P}
+use Rattle.inode_parts.proofs.Vocabulary.{◌≡◌, ℕ, Bool, true, false, if◌then◌else◌, List, None, refl, Dinode, Ret, plain, Entry, Named, block_count, is_directory, is_live_directory, lookup, search, entries, Acts, search_entries}
 pub use Rattle.inode_parts.proofs.PlainContents.{plain_search_from}
 
 pub plain_lookup : (name : List ℕ) (d : Dinode) → plain (lookup {M = Acts} name d) ≡ lookup name d

@@ -1,5 +1,5 @@
 -- The text of a call, into which a read's part comes.
-use Rattle.inode_parts.proofs.Vocabulary.{◌≡◌, ℕ, List, ◌++◌, length, take, drop, Some, refl, sym, ap, subst, ◌∙◌, inl, inr, ◌<◌, ◌^◌, drop-append_seam, take-append_seam, Super, read_on, read_reply, say, LocksIt, asks, hears, op_in, read_of, HasRoomFor, WholeAsks, WholeFits, text_in, whole_of, Ask, Heard, Whole, whole_with, with_text, FillsOrStays, IsFilled, IsOnWay, IsReading, BeginsWith, FillsFrom, Having, Runs, FillsAs, ReadsInto, hears_in, lowered, with_part, Part, UnderWay, InodePart}
+use Rattle.inode_parts.proofs.Vocabulary.{◌≡◌, ℕ, List, ◌++◌, length, take, drop, IfSome, Option, Some, refl, sym, ap, subst, ◌∙◌, inl, inr, ◌<◌, ◌≤◌, ◌^◌, drop-append_seam, take-append_seam, Super, count_in, read_on, read_reply, say, LocksIt, asks, hears, op_in, read_of, HasRoomFor, WholeAsks, WholeFits, text_in, whole_of, Ask, Heard, Whole, whole_with, with_text, FillsOrStays, IsFilled, IsOnWay, IsReading, BeginsWith, FillsFrom, Having, Runs, FillsAs, ReadsInto, hears_in, lowered, with_part, Part, UnderWay, InodePart}
 use Rattle.plain_tree.specs.declared.call.Call.TheVariants as calls
 use Rattle.inode_machine.specs.World as above
 use Rattle.path_walk.specs.declared.asks.Ask.TheVariants as ask
@@ -56,7 +56,7 @@ reads_so : (path : List ℕ) (fd n offset count : ℕ) (s t : Having) (q : Inode
 reads_so path fd n offset count s t (part.ReadFile p) under = tt
 reads_so path fd n offset count s t q under = absurd under.0
 
-pub part_reads : (ns : List ℕ) (w : Whole) (q : InodePart) (t : Having) → IsOnWay (text_in w) (whole_of ns w) q t → IsReading w → ReadsInto q
+part_reads : (ns : List ℕ) (w : Whole) (q : InodePart) (t : Having) → IsOnWay (text_in w) (whole_of ns w) q t → IsReading w → ReadsInto q
 part_reads ns (whole.Read fd buf (reading.Part n offset)) q t way is =
     let e : above.ReadFile fd n offset (length buf.items) ≡ way.op = let asked = way.asked in cc in
     reads_so buf.items fd n offset (length buf.items) way.start t q (subst (λ (op : above.Op). UnderWay buf.items op way.start q t) (sym e) way.under)
@@ -79,6 +79,10 @@ filled_reads w v filled = absurd filled
 was_reading : (w v : Whole) → IsFilled w v → IsReading w
 was_reading (whole.Read fd buf (reading.Part n offset)) v filled = tt
 was_reading w v filled = absurd filled
+
+filled_room : (w v : Whole) (x : Heard) → IsFilled w v → HasRoomFor x v → HasRoomFor x w
+filled_room (whole.Read fd buf (reading.Part n offset)) (whole.Read gd new (reading.Part k at)) x filled room = subst (λ (size : ℕ). count_in x ≤ size) filled.3 room
+filled_room w v x filled room = absurd filled
 
 filled_runs : (ns : List ℕ) (w v : Whole) (x : Heard) (t : Having) → IsFilled w v → Runs (text_in w) (BeginsWith (text_in w)) (hears (text_in v) (whole_of ns w) x) t → Runs (text_in v) (BeginsWith (text_in v)) (hears (text_in v) (whole_of ns v) x) t
 unfolding Runs
@@ -130,9 +134,14 @@ module _ (ns : List ℕ) (w u : Whole) where
   reads_with (inl e) is = subst IsReading (sym e) is
   reads_with (inr filled) is = filled_reads w u filled
 
-  pub read_before : FillsOrStays w u → IsReading u → IsReading w
+  read_before : FillsOrStays w u → IsReading u → IsReading w
   read_before (inl e) is = subst IsReading e is
   read_before (inr filled) is = was_reading w u filled
+
+  -- as much has room before as after
+  pub room_before : (x : Heard) → FillsOrStays w u → HasRoomFor x u → HasRoomFor x w
+  room_before x (inl e) room = subst (HasRoomFor x) e room
+  room_before x (inr filled) room = filled_room w u x filled room
 
   pub way_with : (q : InodePart) (t : Having) → FillsOrStays w u → IsOnWay (text_in w) (whole_of ns w) q t → IsOnWay (text_in u) (whole_of ns u) q t
   way_with q t (inl e) way = subst (λ (w : Whole). IsOnWay (text_in w) (whole_of ns w) q t) (sym e) way
@@ -144,6 +153,10 @@ module _ (ns : List ℕ) (w u : Whole) where
   heard_runs x t (inr filled) runs = filled_runs ns w u x t filled runs
 
 -- there is room for what it read
-pub room_now : (w : Whole) (x : Heard) → (IsReading w → HasRoomFor x w) → HasRoomFor x w
+room_now : (w : Whole) (x : Heard) → (IsReading w → HasRoomFor x w) → HasRoomFor x w
 room_now (whole.Read fd buf (reading.Part n offset)) x room = room tt
 room_now w x room = tt
+
+-- .. as its part ends
+pub room_then : (ns : List ℕ) (w u : Whole) (q : InodePart) (t : Having) (x : Heard) (heard : Option Heard) → heard ≡ Some x → FillsOrStays w u → IsOnWay (text_in w) (whole_of ns w) q t → (ReadsInto q → IfSome heard (λ x. HasRoomFor x u)) → HasRoomFor x u
+room_then ns w u q t x heard some filled way room = room_now u x (λ is. subst (λ (o : Option Heard). IfSome o (λ x. HasRoomFor x u)) some (room (part_reads ns w q t way (read_before ns w u filled is))))

@@ -1,6 +1,6 @@
 -- What a step of a call tells: how the part of its operation goes on, and what the call hears at its end.
-use Rattle.std.specs.Prelude.{◌≡◌, ℕ, List, Bool, true, false, Option, Some, None}
-use Rattle.inode_parts.specs.Vocabulary.{Reply, reply_to, call_in, Ret, Goes, Handover, Hand, Super, Carry, text_in, whole_of, Heard, Whole}
+use Rattle.std.specs.Prelude.{◌≡◌, Bool, true, false, Option, Some, None}
+use Rattle.inode_parts.specs.Vocabulary.{Reply, reply_to, call_in, Ret, Goes, Handover, Hand, Super, Carry, HasRoomFor, text_in, whole_of, Heard}
 use Rattle.fs_machine.specs.Steps as steps
 use Rattle.inode_machine.specs.Parts as programs
 use Rattle.inode_machine.specs.World as above
@@ -29,18 +29,20 @@ abbrev pub AsksOrEnds : Super → Carry → programs.P Reply → Option (Unit {0
 AsksOrEnds sizes c p None l h = AsksNext sizes c p l h
 AsksOrEnds sizes c p (Some end) l h = p ≡ Ret (reply_to (call_in l.call) l.says)
 
--- the part goes on by this answer
+-- The part goes on by this answer. What has room in the call's buffer after the step has room there before it.
 pub record PartGoesOn (l : Lowered) (h : Hand) (answer : (o : steps.Op) → steps.Answer o) (k : Lowered) (g : Hand) : Type 0 where
   pub goes : Goes (part_of l h) answer (part_of k g)
   pub call : whole_with k.list k.call ≡ whole_with l.list l.call
+  pub room : (x : Heard) → HasRoomFor x k.call → HasRoomFor x l.call
 
--- the part ends by this answer, and the call goes on by what it hears
+-- The part ends by this answer, and the call goes on by what it hears, which has room in the call's buffer.
 pub record PartEnds (l : Lowered) (h : Hand) (answer : (o : steps.Op) → steps.Answer o) (out : Option (Unit {0})) (k : Lowered) (g : Hand)
     : Type 0 where
   pub ends : Handover Message Carry
   pub goes : Goes (part_of l h) answer (Ret ends)
   pub heard : ends.answer.1 ≡ k.heard
   pub call : AsksOrEnds l.sizes ends.carry (hears_in l.sizes (whole_with l.list l.call ends.answer.0) ends.answer) out k g
+  pub room : HasRoomFor k.heard l.call
 
 abbrev pub GoesOrEnds : Lowered → Hand → ((o : steps.Op) → steps.Answer o) → Option (Unit {0}) → Bool → Lowered → Hand → Type 0
 GoesOrEnds l h answer None false k g = PartGoesOn l h answer k g

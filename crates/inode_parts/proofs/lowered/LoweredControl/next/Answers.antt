@@ -1,4 +1,4 @@
-use Rattle.inode_parts.proofs.Lemmas.{◌≡◌, ℕ, Bool, List, [], ◌++◌, Option, Some, refl, sym, ap, subst, ◌∙◌, IfNone, IfSome, Ret, Reply, Goes, answer_in, answer_to, hears, reply_to, stepped, Heard, call_in, first_in, second_in, text_in, whole_of, HasRoomFor, whole_with, with_text, IsOnWay, carry_in, FillsFrom, Having, Leaves, part_asked, part_left, part_left_after, FillsAs, PartReady, PartTold, ReadsInto, having, heard_if, IsPart, GoesOrLeaves, UnderWay, asks_on, ends_on, goes_within, begins_now, next_ends, next_runs, part_told, read_text, stands_now, text_stays, told_now, way_now, fills_now, fits_with, its_own, same_hears, handed, on_text, part_reads, read_before, reads_now, reads_with, room_now, same_with, way_with}
+use Rattle.inode_parts.proofs.Lemmas.{◌≡◌, ℕ, Bool, List, [], ◌++◌, Option, Some, refl, sym, ap, subst, ◌∙◌, IfNone, Ret, Reply, Goes, answer_in, answer_to, hears, reply_to, stepped, Heard, call_in, first_in, second_in, text_in, whole_of, whole_with, with_text, IsOnWay, carry_in, FillsFrom, Having, Leaves, part_asked, part_left, part_left_after, FillsAs, PartReady, PartTold, ReadsInto, having, heard_if, IsPart, GoesOrLeaves, UnderWay, asks_on, ends_on, goes_within, begins_now, next_ends, next_runs, part_told, read_text, stands_now, text_stays, told_now, way_now, fills_now, fits_with, its_own, same_hears, handed, on_text, reads_now, reads_with, room_before, room_then, same_with, way_with}
 use Rattle.inode_machine.specs.Parts as programs
 use Rattle.inode_machine.specs.World as above
 use Rattle.path_walk.specs.Asks.{asks, op_in}
@@ -33,7 +33,14 @@ returns-else-part_next-clause-tells c before ready after =
     let answer = answer_in (part_asked l.part) c.args.answer.now c.args.hand.now in
     let left = part_left (text_in l.call) l.notes l.part before in
     let went = subst (λ (o : Option Heard). Goes left answer (part_left_after (text_in u) m o q h)) (ap (λ (b : Bool). heard_if b x) c.if-part_next.false) (did.ensures.goes before ready.ready after) in
-    record { sizes = refl; goes = record { goes = went; call = sym (same_with l.list l.call u did.ensures.call) } }
+    record {
+      sizes = refl;
+      goes = record {
+        goes = went;
+        call = sym (same_with l.list l.call u did.ensures.call);
+        room = λ x room. room_before l.list l.call u x did.ensures.call room;
+      };
+    }
 
 pub returns-else-part_next-clause-ready : goal.returns-else-part_next-clause-ready
 returns-else-part_next-clause-ready c =
@@ -69,10 +76,9 @@ next-requires-clause-count c =
     let l = c.args.self.now in
     let did = c.part_next in
     let ready = c.requires.came.1 in
-    let some = ap (λ (b : Bool). heard_if b did.new.heard) c.if-part_next.true in
-    room_now did.new.call did.new.heard (λ is.
-    let reads = part_reads l.list l.call l.part (having c.requires.came.0 l.notes) ready.way (read_before l.list l.call did.new.call did.ensures.call is) in
-    subst (λ (o : Option Heard). IfSome o (λ x. HasRoomFor x did.new.call)) some (did.ensures.room reads))
+    let x = did.new.heard in
+    let some = ap (λ (b : Bool). heard_if b x) c.if-part_next.true in
+    room_then l.list l.call did.new.call l.part (having c.requires.came.0 l.notes) x (heard_if did.result x) some did.ensures.call ready.way did.ensures.room
 
 pub begin-requires-clause-begins : goal.begin-requires-clause-begins
 begin-requires-clause-begins c =
@@ -211,6 +217,7 @@ returns-else-next-clause-tells c before ready after =
           part = subst (λ (t : List ℕ). IsPart l.sizes (carry_in path m h) (op_in path a) (part_left t m q g)) (sym stays) is;
           fills = fills_now ms v a (part_left (text_in v) m q g) asked fills;
         };
+        room = room_before l.list l.call u x filled (room_then l.list l.call u l.part (having before l.notes) x (heard_if did.result x) (ap (λ (b : Bool). heard_if b x) c.if-part_next.true) filled ready.way did.ensures.room);
       };
     }
 
@@ -306,5 +313,6 @@ returns-then-next-clause-tells c before ready after =
         goes = went;
         heard = refl;
         call = sym (same_hears l.sizes path (whole_with l.list l.call path) x) ∙ own ∙ on;
+        room = room_before l.list l.call u x filled (room_then l.list l.call u l.part (having before l.notes) x (heard_if did.result x) (ap (λ (b : Bool). heard_if b x) c.if-part_next.true) filled ready.way did.ensures.room);
       };
     }
