@@ -1,5 +1,5 @@
 -- What a step tells of the call of its hart.
-use Rattle.hart_core.proofs.Vocabulary.{◌≡◌, ℕ, zero, suc, List, [], ◌∷◌, ◌++◌, Super, HartsOf, Option, Some, None, refl, sym, ◌∙◌, ap, subst, get_or, set, slice_get, Reply, Kind, Core, Heard, Bool, true, false, is_some, length, ◌≤◌, get_or_past, MatchOption, state_of, Running, StepsAt, heard_of}
+use Rattle.hart_core.proofs.Vocabulary.{◌≡◌, ℕ, zero, suc, List, [], ◌∷◌, ◌++◌, Super, HartsOf, Option, Some, None, refl, sym, ◌∙◌, ap, subst, get_or, set, slice_get, Reply, Kind, Core, Heard, state_of, Running, StepsAt}
 use Rattle.atomic_programs.specs.declared.machines.SteppedInPlace.TheVariants.{Waits, Ran, Done, Stopped}
 use Rattle.fs_machine.specs.Steps.{State}
 use Rattle.hart_core.specs.Harts.{outcome_with}
@@ -52,20 +52,6 @@ module _ {D : Type 0} (contents : D → List (List ℕ)) (failures : D → ℕ) 
   done_tells kind None o p is steps = absurd (cc is)
   done_tells kind (Some reply) None p is steps = absurd steps
   done_tells kind (Some reply) (Some m) p is steps = (steps.0, steps.2.tells.0, ap (heard_at last) steps.1 ∙ steps.2.tells.1, steps.1)
-
--- ---- what is heard
-
-pub heard_here : (last : Option Heard) (o : Option Running) (x : Option Heard) → MatchOption o (Unit {0}) (λ m. x ≡ heard_of m) → is_some o ≡ true → x ≡ heard_at last o
-heard_here last None x tells is = absurd (cc is)
-heard_here last (Some m) x tells is = tells
-
-pub heard_idle : (last : Option Heard) (o : Option Running) → is_some o ≡ false → last ≡ heard_at last o
-heard_idle last None is = refl
-heard_idle last (Some m) is = absurd (cc is)
-
--- past the last hart nobody has a call
-pub heard_past : (last x : Option Heard) (calls : List (Option Running)) (h : ℕ) → length calls ≤ h → is_some (get_or calls h None) ≡ true → x ≡ heard_at last (get_or calls h None)
-heard_past last x calls h past is = absurd (let none = get_or_past calls h None past in let is : false ≡ true = ap is_some (sym none) ∙ is in cc is)
 
 -- ---- of a run
 

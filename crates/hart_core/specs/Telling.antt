@@ -1,6 +1,6 @@
 -- What an event tells of the call of its hart: where it stands, and what it hears.
 use Rattle.std.specs.Prelude.{◌≡◌, ℕ, List, [], ◌∷◌, Option, Some, None, get_or, slice_set}
-use Rattle.hart_core.specs.Vocabulary.{Super, Call, EventOf, Heard, HasBegun, Outside, Running, State, TellsOf, heard_of}
+use Rattle.hart_core.specs.Vocabulary.{Super, Call, Heard, HasBegun, Running, State, TellsOf, heard_of}
 use Rattle.hart_core.specs.declared.events.Event.{Event}
 use Rattle.hart_core.specs.declared.events.Event.TheVariants as event
 use Rattle.hart_core.specs.declared.events.Came.{Came}
@@ -8,7 +8,7 @@ use Rattle.hart_core.specs.declared.events.Came.TheVariants as came
 use Rattle.hart_core.specs.declared.outcome.Outcome.{Outcome}
 use Rattle.hart_core.specs.declared.outcome.Outcome.TheVariants as outcome
 use Rattle.hart_core.specs.Events.{came_of, event_of, said_of}
-use Rattle.hart_core.specs.Harts.{HartsOf, shared_of}
+use Rattle.hart_core.specs.Harts.{AreHarts, HartsOf, shared_of}
 use Rattle.hart_core.specs.Starts.{fault_of}
 use Rattle.hart_core.specs.Worlds.{Answers, Makes, WorldOf}
 use Rattle.hart_core.specs.Vocabulary.{with_answer}
@@ -100,6 +100,7 @@ module _ {D : Type 0} (contents : D → List (List ℕ)) (failures : D → ℕ) 
       pub answers : Answers contents failures sizes (with_answer (event_of e) (said_of c (shared_of contents failures new))) old
       pub heard : Option Heard
       pub tells : TellsEvent sizes e old c heard new
+      pub fits : AreHarts (shared_of contents failures new) new.calls
       pub took : Took before c (heard_in c heard) after
 
     -- These events, one after the other, came to these outcomes, and the observer was told of each.

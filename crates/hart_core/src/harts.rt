@@ -1,5 +1,5 @@
 // Eight harts' machines over all that they share.
-ghost use Rattle.std.specs.Prelude.{◌≡◌, ◌<◌, ◌&&◌, true, false, Option, Some, None, get_or, is_some, length, replicate, slice_get, slice_set};
+ghost use Rattle.std.specs.Prelude.{◌≡◌, ◌<◌, ◌&&◌, false, Some, None, get_or, is_some, length, replicate, slice_get, slice_set};
 ghost use Rattle.atomic_programs.specs.Calls.{Start as StartOf, Step as StepOf, Started};
 ghost use Rattle.atomic_programs.specs.Plain.{plain_makes, PlainHonest};
 ghost use Rattle.group_log.specs.Phases.{is_point};
@@ -7,11 +7,10 @@ ghost use Rattle.fs_machine.specs.Machines.{CallsOnce};
 ghost use Rattle.hart_core.specs.Blocks.{blocks, code, MayStep};
 ghost use Rattle.inode_machine.specs.Exec.{is_at};
 ghost use Rattle.calls_on_blocks.specs.Theory.{block_calls, has_file, reserved};
-ghost use Rattle.hart_core.specs.Harts.{outcome_of, outcome_with, said, IsTold, shared_of, programs_of, busy_in, children_in, AreIdle};
+ghost use Rattle.hart_core.specs.Harts.{outcome_of, outcome_with, said, IsTold, shared_of, programs_of, busy_in, children_in, AreHarts, AreIdle};
 ghost use Rattle.hart_core.specs.Starts.{fault_of};
 ghost use Rattle.hart_core.specs.Telling.{SetsAt, TellsOutcome, heard_at};
 ghost use Rattle.inode_parts.specs.Sizes.{IsSized};
-ghost use Rattle.path_walk.specs.declared.asks.Heard.{Heard as HeardState};
 ghost use Rattle.syscalls.specs.Places.{HasBegun};
 ghost use Rattle.atomic_programs.specs.Prog.{plain};
 
@@ -169,15 +168,14 @@ impl<D: Device> Harts<D> {
             .step(replied, last, hart, &mut self.core, &mut self.stopped)
     }
 
-    /// What the call under way of a hart heard in its last step, where an operation over whole inodes ended there.
-    pub fn heard(&self, hart: u8) -> Option<Heard>
-        ensures { (last : Option HeardState) → is_some (get_or self.now.calls hart None) ≡ true
-            → result ≡ heard_at last (get_or self.now.calls hart None) }
+    /// What the hart's call heard in its last step, where an operation over whole inodes ended there; of a hart without a call, `last`.
+    /// What each call has in hand goes with the core.
+    pub fn heard(&self, hart: u8, last: Option<Heard>) -> Option<Heard>
+        ensures heard { result ≡ heard_at last (get_or self.now.calls hart None) }
+        ensures fits { AreHarts (shared_of D.contents D.failures self.now) self.now.calls }
     {
-        // What holds of the harts is needed in both cases.
-        let _ = &self.calls;
-        if hart >= HARTS {
-            return None;
+        if hart >= HARTS || !self.calls.is_busy(hart) {
+            return last;
         }
         self.calls.heard(hart)
     }

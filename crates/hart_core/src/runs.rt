@@ -1,6 +1,7 @@
 // Lists of events.
 ghost use Rattle.std.specs.Prelude.{◌≡◌, ◌≤◌, ℕ, IfOk, IfErr, Option, length, []};
 ghost use Rattle.hart_core.specs.Vocabulary.{vec_capacity};
+ghost use Rattle.hart_core.specs.Harts.{shared_of, AreHarts};
 ghost use Rattle.hart_core.specs.Runs.{HasHistory, OneHistory};
 ghost use Rattle.hart_core.specs.Stops.{HasMarks, RunLeavesABeginning};
 ghost use Rattle.hart_core.specs.Telling.{NotesRun, hart_of, heard_by, heard_in};
@@ -62,10 +63,12 @@ fn hart_of(event: &Event) -> u8
 
 // What the hart's call heard in an event that came to this.
 fn heard_in<D: Device>(world: &World<D>, hart: u8, came: &Came) -> Option<Heard>
-    ensures { result ≡ heard_in came.now (heard_by world.now hart) }
+    ensures heard { result ≡ heard_in came.now (heard_by world.now hart) }
+    ensures fits { AreHarts (shared_of D.contents D.failures world.now.harts) world.now.harts.calls }
 {
+    let heard = world.heard(hart);
     match came {
-        Came::Stepped(Outcome::Ran(_) | Outcome::Done(_)) => world.heard(hart),
+        Came::Stepped(Outcome::Ran(_) | Outcome::Done(_)) => heard,
         _ => None,
     }
 }

@@ -6,7 +6,7 @@ ghost use Rattle.group_log.specs.Phases.{is_point};
 ghost use Rattle.fs_machine.specs.Machines.{CallsOnce};
 ghost use Rattle.fs_layout.specs.Recovered.{sizes_of};
 ghost use Rattle.image_tree.specs.Damage.{IsWellFormed};
-ghost use Rattle.hart_core.specs.Harts.{outcome_of, said, shared_of};
+ghost use Rattle.hart_core.specs.Harts.{outcome_of, said, shared_of, AreHarts};
 ghost use Rattle.hart_core.specs.Mounting.{HandsBack, Rests};
 ghost use Rattle.hart_core.specs.Promised.{IdleHartsHaveNothing, QuietBlocksAreAnImage, WaitsByTheRule};
 ghost use Rattle.hart_core.specs.Starts.{child_refusal, fault_of, others_refusal, refusal_of, start_outcome, IsOfBytes};
@@ -168,15 +168,12 @@ impl<D: Device> World<D> {
 
     /// What a hart's call heard in its last step that ran, where one of its operations over whole inodes ended in that step; of a call that
     /// has replied, until another one does. A reader who keeps the tree beside a world (the crate explain) goes on by it: `step` says what
-    /// it is after each step.
+    /// it is after each step. What each call has in hand goes with what the harts share.
     pub fn heard(&self, hart: u8) -> Option<Heard>
-        ensures { result ≡ heard_by self.now hart }
+        ensures heard { result ≡ heard_by self.now hart }
+        ensures fits { AreHarts (shared_of D.contents D.failures self.now.harts) self.now.harts.calls }
     {
-        if self.harts.is_busy(hart) {
-            self.harts.heard(hart)
-        } else {
-            self.last
-        }
+        self.harts.heard(hart, self.last)
     }
 
     /// Where the log's commit is: none is under way, or so many of its blocks were copied.

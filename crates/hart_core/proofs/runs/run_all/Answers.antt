@@ -40,7 +40,8 @@ loop-event-preserved g c =
             answers = subst (λ (s : Super). Answers g.D.Device.contents g.D.Device.failures s (with_answer (event_of e) x) at.world.harts) at.invariant.sizes c.event-came.ensures.honest;
             heard = heard_by c.event-came.new.self (hart_of e);
             tells = subst (λ (s : Super). TellsEvent g.D.Device.contents g.D.Device.failures s e at.world.harts c.event-came.result (heard_by c.event-came.new.self (hart_of e)) c.event-came.new.self.harts) at.invariant.sizes c.event-came.ensures.tells;
-            took = subst (λ (o : Option Heard). g.O.Observer.Took at.observer c.event-came.result o c.noted.new.self) (c.heard_in.ensures ∙ ap (λ (h : ℕ). heard_in c.event-came.result (heard_by c.event-came.new.self h)) c.hart_of-hart.ensures) c.noted.ensures;
+            fits = c.heard_in.ensures.fits;
+            took = subst (λ (o : Option Heard). g.O.Observer.Took at.observer c.event-came.result o c.noted.new.self) (c.heard_in.ensures.heard ∙ ap (λ (h : ℕ). heard_in c.event-came.result (heard_by c.event-came.new.self h)) c.hart_of-hart.ensures) c.noted.ensures;
           }));
       sizes = c.event-came.ensures.sizes ∙ at.invariant.sizes;
       rest = (let gone = c.in-Some.ensures.steps.1 in let short = ap length steps in let was_rest = at.invariant.rest in omega (arith, was_rest, gone, short));
