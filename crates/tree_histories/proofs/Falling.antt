@@ -1,5 +1,6 @@
 -- The walks that a move loses fail, and what is kept is what the theory keeps.
-use Rattle.tree_histories.proofs.Vocabulary.{◌≡◌, ℕ, ◌+◌, ◌⊎◌, inl, inr, ◌<◌, Bool, true, false, ◌&&◌, not, List, length, get_or, Option, Some, None, Result, Ok, Err, IfOk, refl, sym, ◌∙◌, ap, subst, arith, add-one, if◌then◌else◌, option_map, length-set, cases_eq, Action, is_nothing, live_directory, hart_count, History, HartStanding, tells_any, writes_any, Free, Busy, Move, Stage, fail, all_fall, falls, lost, lost_of, unless, Makes, stage_by, told_by_move, mark_in, Mark, action_in, call_in, Walk, Deed, IsBook, StandsAs, KeptTree, Under, hart_in, is_lost, stage_of, walk_under, walking, written, HaveFallen, IsMoved, MayMake, MovesBy, NoneFalls, OnlyMoves, StaysFor, Tells, TellsOf, WereLost, makes_none, told_in, walk_of}
+use Rattle.tree_histories.proofs.Vocabulary.{◌≡◌, ℕ, ◌+◌, ◌⊎◌, inl, inr, ◌<◌, Bool, true, false, ◌&&◌, ◌||◌, not, List, length, get_or, Option, Some, None, Result, Ok, Err, IfOk, refl, sym, ◌∙◌, ap, subst, arith, add-one, if◌then◌else◌, option_map, length-set, cases_eq, Action, is_nothing, live_directory, hart_count, History, HartStanding, tells_any, writes_any, Free, Busy, Move, Stage, fail, all_fall, falls, lost, lost_of, unless, Makes, stage_by, told_by_move, mark_in, Mark, action_in, call_in, Walk, Deed, IsBook, StandsAs, KeptTree, Under, hart_in, is_lost, stage_of, walk_under, walking, written, HaveFallen, IsMoved, MayMake, MovesBy, NoneFalls, OnlyMoves, StaysFor, Tells, TellsOf, WereLost, makes_none, told_in, walk_of, roomy, spoils, KeepsRest, SameCalls, written_by, written_unless}
+use Rattle.path_walk.specs.declared.asks.Mark.TheVariants as mark
 use Rattle.std.proofs.Common.{get_or-set_other, get_or-set_same}
 use Rattle.std.proofs.Math.ListN.{set}
 use Rattle.tree_histories.proofs.Booked.{book_tells, book_written}
@@ -53,11 +54,25 @@ one_false : (a b : Bool) → (not a && b) ≡ false → (a ≡ true) ⊎ (b ≡ 
 one_false true b h = inl refl
 one_false false b h = inr h
 
+-- an entry changes the list alone
+written_by_rest : (k : KeptTree) (h : ℕ) (d : Deed) (o : Option Under) → KeepsRest k (written_by k h d o)
+written_by_rest k h d None = (refl, refl)
+written_by_rest k h d (Some u) = (refl, refl)
+
+written_rest : (k : KeptTree) (h : ℕ) (d : Deed) → KeepsRest k (written k h d)
+written_rest k h d = written_by_rest k h d (hart_in k h)
+
+unless_rest : (k : KeptTree) (h : ℕ) (o : Option Deed) (was : Bool) → KeepsRest k (written_unless k h o was)
+unless_rest k h None was = (refl, refl)
+unless_rest k h (Some d) true = (refl, refl)
+unless_rest k h (Some d) false = written_rest k h d
+
 -- k0: as the walks begin to fail; k1: with those of the harts below n
 pub record Fallen (before : List Bool) (k0 k1 : KeptTree) (n : ℕ) : Type 0 where
   pub stage : stage_of k1 ≡ stage_of k0
   pub book : (m : Stage) (b : History) → WereLost before m → IsBook k0 b → IsBook k1 (all_fall m (stage_of k0) n b)
   pub none : WereLost before (stage_of k0) → k1 ≡ k0
+  pub rest : KeepsRest k0 k1
 
 module _ (before : List Bool) (k0 k1 : KeptTree) (n : ℕ) (lt : n < hart_count) (so_far : Fallen before k0 k1 n) where
   now : is_lost (stage_of k1) n ≡ is_lost (stage_of k0) n
@@ -76,7 +91,7 @@ module _ (before : List Bool) (k0 k1 : KeptTree) (n : ℕ) (lt : n < hart_count)
   pub fallen_not : (r : Bool) → r ≡ (not (get_or before n false) && is_lost (stage_of k1) n) → r ≡ false → Fallen before k0 k1 (n + 1)
   fallen_not r tests is =
       let why = one_false (get_or before n false) (is_lost (stage_of k1) n) (sym tests ∙ is) in
-      record { stage = so_far.stage; book = λ m b were B. stays m b were B (none_of why m were); none = so_far.none }
+      record { stage = so_far.stage; book = λ m b were B. stays m b were B (none_of why m were); none = so_far.none; rest = so_far.rest }
 
   module _ (k2 : KeptTree) (not_yet : get_or before n false ≡ false) (is : is_lost (stage_of k1) n ≡ true) (d : Deed) (fails : lost_of (stage_of k1) n ≡ Some d) (kept : k2 ≡ written k1 n d) where
     fell : (m : Stage) → WereLost before m → falls m (stage_of k0) n ≡ Some d
@@ -96,6 +111,7 @@ module _ (before : List Bool) (k0 k1 : KeptTree) (n : ℕ) (lt : n < hart_count)
       stage = ap stage_of kept ∙ (stage_written k1 n d ∙ so_far.stage);
       book = book_now;
       none = λ were. absurd (let z : false ≡ true = sym not_yet ∙ (were n lt ∙ (sym now ∙ is)) in cc);
+      rest = let w = written_rest k1 n d in (ap (λ (x : KeptTree). x.harts) kept ∙ (w.0 ∙ so_far.rest.0), ap (λ (x : KeptTree). x.full) kept ∙ (w.1 ∙ so_far.rest.1));
     }
 
   pub fallen_now : (k2 : KeptTree) (r : Bool) → r ≡ (not (get_or before n false) && is_lost (stage_of k1) n) → r ≡ true
@@ -124,7 +140,7 @@ walk_fails (Ok v) k k' h u w a x there on is failed kept d fails =
 
 pub fallen_first : (before : List Bool) (k : KeptTree) → Fallen before k k 0
 unfolding all_fall
-fallen_first before k = record { stage = refl; book = λ m b were B. B; none = λ were. refl }
+fallen_first before k = record { stage = refl; book = λ m b were B. B; none = λ were. refl; rest = (refl, refl) }
 
 -- the walks that are lost, as far as they were looked at
 pub lost_more : (m : Stage) (xs : List Bool) (n i : ℕ) (b : Bool) → i ≡ n → n < 8 → b ≡ is_lost m n → (length xs ≡ 8) × ((h : ℕ) → h < n → get_or xs h false ≡ is_lost m h)
@@ -163,60 +179,95 @@ book_only k0 k1 b only B = record {
 
 module _ (k0 k1 : KeptTree) (h : ℕ) (lt : h < hart_count) (u : Under) (is : hart_in k0 h ≡ Some u) (only : OnlyMoves k0 k1) (b : History) (B : IsBook k0 b) where
   told_book : (told : Option Deed) (d : Option Deed) (was : Bool) → d ≡ told → was ≡ is_lost (stage_of k0) h
-      → IsBook (told_in k1 h d was) (writes_any (unless (lost_of (stage_of k0) h) told) h b)
+      → IsBook (written_unless k1 h d was) (writes_any (unless (lost_of (stage_of k0) h) told) h b)
   told_book None d was is_told is_was =
-      subst (λ (o : Option Deed). IsBook (told_in k1 h o was) (writes_any (unless (lost_of (stage_of k0) h) None) h b)) (sym is_told)
+      subst (λ (o : Option Deed). IsBook (written_unless k1 h o was) (writes_any (unless (lost_of (stage_of k0) h) None) h b)) (sym is_told)
       (subst (λ (o : Option Deed). IsBook k1 (writes_any o h b)) (sym (unless_none (lost_of (stage_of k0) h))) (book_only k0 k1 b only B))
   told_book (Some x) d true is_told is_was =
-      subst (λ (o : Option Deed). IsBook (told_in k1 h o true) (writes_any (unless (lost_of (stage_of k0) h) (Some x)) h b)) (sym is_told)
+      subst (λ (o : Option Deed). IsBook (written_unless k1 h o true) (writes_any (unless (lost_of (stage_of k0) h) (Some x)) h b)) (sym is_told)
       (subst (λ (o : Option Deed). IsBook k1 (writes_any o h b)) (sym (unless_lost (lost_of (stage_of k0) h) (Some x) (sym is_was))) (book_only k0 k1 b only B))
   told_book (Some x) d false is_told is_was =
       let there = there_before (hart_in k0 h) (hart_in k1 h) u (sym (only.harts h)) is in
-      subst (λ (o : Option Deed). IsBook (told_in k1 h o false) (writes_any (unless (lost_of (stage_of k0) h) (Some x)) h b)) (sym is_told)
+      subst (λ (o : Option Deed). IsBook (written_unless k1 h o false) (writes_any (unless (lost_of (stage_of k0) h) (Some x)) h b)) (sym is_told)
       (subst (λ (o : Option Deed). IsBook (written k1 h x) (writes_any o h b)) (sym (unless_new (lost_of (stage_of k0) h) (Some x) (sym is_was)))
       (book_written k1 b h x there.0 lt there.1 (book_only k0 k1 b only B)))
 
-told_stage : (k : KeptTree) (h : ℕ) (d : Option Deed) (was : Bool) → stage_of (told_in k h d was) ≡ stage_of k
-told_stage k h None was = refl
-told_stage k h (Some d) true = refl
-told_stage k h (Some d) false = stage_written k h d
+told_stage : (k : KeptTree) (h : ℕ) (m : Mark) (d : Option Deed) (was : Bool) → stage_of (told_in k h m d was) ≡ stage_of k
+told_stage k h m None was = refl
+told_stage k h m (Some d) true = refl
+told_stage k h m (Some d) false = stage_written k h d
+
+-- whether there was no room is in no book
+book_full : (k : KeptTree) (b : History) (full : Bool) → IsBook k b → IsBook (record k { full = full }) b
+book_full k b full B = record { harts = B.harts; list = B.list; events = B.events; calls = B.calls; stands = B.stands }
+
+-- a move's mark says nothing of room
+makes_room : (s : Action) (m : Mark) (v : Move) → mark_in s m ≡ Makes v → spoils m ≡ false
+makes_room s mark.Begin v e = refl
+makes_room s (mark.Look new) v e = refl
+makes_room s mark.GiveUpWalk v e = refl
+makes_room s mark.Own v e = refl
+makes_room s (mark.Truncate fd) v e = refl
+makes_room s mark.Bump v e = refl
+makes_room s mark.Unbump v e = refl
+makes_room s (mark.Piece i) v e = refl
+makes_room s (mark.PartOfPiece i n) v e = absurd cc
+makes_room s (mark.Frees n) v e = refl
+makes_room s (mark.Orphans n) v e = refl
+makes_room s mark.Mends v e = absurd cc
+makes_room s mark.Fills v e = absurd cc
+
+or_false : (b : Bool) → (b || false) ≡ b
+or_false true = refl
+or_false false = refl
 
 -- k0: before the move; k1: the tree has made it; k2: what it tells is written; k3: the walks that it loses have failed
-module _ (k0 k1 k2 k3 : KeptTree) (h : ℕ) (m : Mark) (d : Option Deed) (was : Bool) (before : List Bool) (were : WereLost before (stage_of k0)) (kept : k2 ≡ told_in k1 h d was) where
-  makes_so : OnlyMoves k0 k1 → TellsOf k0 h m d k1 → was ≡ is_lost (stage_of k0) h → stage_of k3 ≡ stage_of k2 → HaveFallen before k2 k3
+module _ (k0 k1 k2 k3 : KeptTree) (h : ℕ) (m : Mark) (d : Option Deed) (was : Bool) (before : List Bool) (were : WereLost before (stage_of k0)) (kept : k2 ≡ told_in k1 h m d was) where
+  makes_so : OnlyMoves k0 k1 → TellsOf k0 h m d k1 → was ≡ is_lost (stage_of k0) h → stage_of k3 ≡ stage_of k2 → HaveFallen before k2 k3 → KeepsRest k2 k3
       → (u : Under) (v : Move) → hart_in k0 h ≡ Some u → mark_in (action_in u.whole) m ≡ Makes v → MayMake (stage_of k0) h v → IsMoved k0 h v k3
-  makes_so only tells is_was same fallen u v is made may =
+  makes_so only tells is_was same fallen rest u v is made may =
       let t : Tells k0 h v d k1 = tells u v is made may in
-      let stage2 : stage_of k2 ≡ stage_by (stage_of k0) h t.id v = ap stage_of kept ∙ (told_stage k1 h d was ∙ t.stage) in
+      let stage2 : stage_of k2 ≡ stage_by (stage_of k0) h t.id v = ap stage_of kept ∙ (told_stage k1 h m d was ∙ t.stage) in
       record {
         id = t.id;
         least = t.least;
         stage = same ∙ stage2;
+        full = rest.1 ∙ (ap (λ (x : KeptTree). x.full) kept
+            ∙ (λ i. only.full i || (makes_room (action_in u.whole) m v made i || not (roomy (t.told i)))));
         book = λ b B.
             let told : Option Deed = told_by_move (stage_of k0) h t.id v in
             let book2 : IsBook k2 (writes_any (unless (lost_of (stage_of k0) h) told) h b) =
-            subst (λ (x : KeptTree). IsBook x (writes_any (unless (lost_of (stage_of k0) h) told) h b)) (sym kept) (told_book k0 k1 h may.hart u is only b B told d was t.told is_was) in
+            subst (λ (x : KeptTree). IsBook x (writes_any (unless (lost_of (stage_of k0) h) told) h b)) (sym kept)
+            (book_full (written_unless k1 h d was) _ (k1.full || (spoils m || not (roomy d))) (told_book k0 k1 h may.hart u is only b B told d was t.told is_was)) in
             subst (λ (n : Stage). IsBook k3 (all_fall (stage_of k0) n hart_count (tells_any told h (writes_any (unless (lost_of (stage_of k0) h) told) h b)))) stage2
             (fallen (stage_of k0) (tells_any told h (writes_any (unless (lost_of (stage_of k0) h) told) h b)) were
             (book_tells k2 (writes_any (unless (lost_of (stage_of k0) h) told) h b) h told may.hart book2));
       }
 
-  still_so : StaysFor k0 m d k1 → NoneFalls before k2 k3 → makes_none m ≡ true → k3 ≡ k0
+  still_so : StaysFor k0 m d k1 → NoneFalls before k2 k3 → makes_none m ≡ true → k3 ≡ record k0 { full = k0.full || spoils m }
   still_so stays none makes =
       let x = stays makes in
-      let same : k2 ≡ k0 = kept ∙ (ap (λ (o : Option Deed). told_in k1 h o was) x.0 ∙ x.1) in
+      let same : k2 ≡ record k0 { full = k0.full || spoils m } =
+      kept ∙ (ap (λ (o : Option Deed). told_in k1 h m o was) x.0
+      ∙ (ap (λ (k : KeptTree). told_in k h m None was) x.1 ∙ ap (λ (b : Bool). record k0 { full = k0.full || b }) (or_false (spoils m)))) in
       none (λ g lt. were g lt ∙ ap (λ (k : KeptTree). is_lost (stage_of k) g) (sym same)) ∙ same
 
+  calls_so : OnlyMoves k0 k1 → KeepsRest k2 k3 → SameCalls k0 k3
+  calls_so only rest g =
+      ap (λ (x : List (Option Under)). option_map (walking None) (get_or x g None)) (rest.0 ∙ (ap (λ (x : KeptTree). x.harts) kept ∙ (unless_rest k1 h d was).0))
+      ∙ only.harts g
+
   pub moved_so : OnlyMoves k0 k1 → TellsOf k0 h m d k1 → StaysFor k0 m d k1 → was ≡ is_lost (stage_of k0) h → stage_of k3 ≡ stage_of k2 → HaveFallen before k2 k3
-      → NoneFalls before k2 k3 → MovesBy k0 h m k3
-  moved_so only tells stays is_was same fallen none = record {
-    makes = makes_so only tells is_was same fallen;
+      → NoneFalls before k2 k3 → KeepsRest k2 k3 → MovesBy k0 h m k3
+  moved_so only tells stays is_was same fallen none rest = record {
+    makes = makes_so only tells is_was same fallen rest;
     still = still_so stays none;
+    calls = calls_so only rest;
   }
 
-pub moves_on_so : {E : Type 0} (r : Result (Unit {0}) E) (k0 k1 k2 k3 : KeptTree) (h : ℕ) (m : Mark) (d : Option Deed) (was : Bool) (before : List Bool) → WereLost before (stage_of k0) → k2 ≡ told_in k1 h d was
+pub moves_on_so : {E : Type 0} (r : Result (Unit {0}) E) (k0 k1 k2 k3 : KeptTree) (h : ℕ) (m : Mark) (d : Option Deed) (was : Bool) (before : List Bool) → WereLost before (stage_of k0) → k2 ≡ told_in k1 h m d was
     → OnlyMoves k0 k1 → TellsOf k0 h m d k1 → StaysFor k0 m d k1 → was ≡ is_lost (stage_of k0) h → IfOk r (λ _. stage_of k3 ≡ stage_of k2) → IfOk r (λ _. HaveFallen before k2 k3) → IfOk r (λ _. NoneFalls before k2 k3)
-    → IfOk r (λ _. MovesBy k0 h m k3)
-moves_on_so (Err e) k0 k1 k2 k3 h m d was before were kept only tells stays is_was same fallen none = tt
-moves_on_so (Ok x) k0 k1 k2 k3 h m d was before were kept only tells stays is_was same fallen none =
-    moved_so k0 k1 k2 k3 h m d was before were kept only tells stays is_was same fallen none
+    → IfOk r (λ _. KeepsRest k2 k3) → IfOk r (λ _. MovesBy k0 h m k3)
+moves_on_so (Err e) k0 k1 k2 k3 h m d was before were kept only tells stays is_was same fallen none rest = tt
+moves_on_so (Ok x) k0 k1 k2 k3 h m d was before were kept only tells stays is_was same fallen none rest =
+    moved_so k0 k1 k2 k3 h m d was before were kept only tells stays is_was same fallen none rest

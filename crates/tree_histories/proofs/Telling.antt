@@ -1,5 +1,5 @@
 -- What is told where a call's mark is met: what the move tells.
-use Rattle.tree_histories.proofs.Vocabulary.{◌≡◌, ℕ, ◌<◌, ◌^◌, List, [], ◌∷◌, Option, Some, None, Result, Ok, Err, IfOk, if◌then◌else◌, refl, sym, ◌∙◌, ap, subst, option_map, Action, path_of, refused, Name, Tree, elements, is_absolute, look, put, settle, start_of, tree_of, root, NoMemory, Move, Stage, Begin, Look, GiveUpWalk, Own, fail, Made, begun, looked, look_made, made_by, Makes, mark_in, Mark, action_in, call_in, Deed, Walk, KeptTree, Under, hart_in, stage_of, walk_under, with_walk, ActedOn, IsActed, MayBegin, MayLook, MayLookOn, MayMake, Tells, TellsOf, IsNextWalk, IsWalk, is_on_new, step_in, walk_of, walk_on}
+use Rattle.tree_histories.proofs.Vocabulary.{◌≡◌, ℕ, ◌<◌, ◌^◌, List, [], ◌∷◌, Option, Some, None, Result, Ok, Err, IfOk, if◌then◌else◌, refl, sym, ◌∙◌, ap, subst, option_map, Action, path_of, refused, Name, Tree, elements, is_absolute, look, put, settle, start_of, tree_of, root, NoMemory, Move, Stage, Begin, Look, GiveUpWalk, Own, fail, Made, begun, looked, look_made, made_by, Makes, mark_in, Mark, action_in, call_in, Deed, Walk, KeptTree, Under, hart_in, stage_of, walk_under, with_walk, ActedOn, IsActed, MayBegin, MayLook, MayLookOn, MayMake, Tells, TellsOf, IsNextWalk, IsWalk, is_on_new, step_in, walk_of, walk_on, IsActedAlone, Lead, LeadsBy, live_directory, name_from, parent, resolve, true, false, with_name}
 use Rattle.tree_laws.specs.Moves as moves
 use Rattle.path_walk.specs.declared.asks.Mark.TheVariants as mark
 use Rattle.tree_histories.proofs.Acting.{EndsAs, ends_own, ends_so, refused_same}
@@ -42,14 +42,14 @@ module _ (k : KeptTree) (h : ℕ) (u : Under) (is : hart_in k h ≡ Some u) wher
   -- ---- a walk begins
 
   begins_end : (s : Action) (es : List Name) → es ≡ [] → MayBegin (tree_of k.tree) h s es 0 → settle (tree_of k.tree) ≡ tree_of k.tree → refused (tree_of k.tree) h s ≡ tree_of k.tree
-      → (d : Option Deed) (t' : Tree) → ActedOn (tree_of k.tree) (record { hart = h; new = 0; action = s }) d t' → EndsAs (tree_of k.tree) (λ id. begun (tree_of k.tree) h s es 0 id) d t'
+      → (d : Option Deed) (t' : Tree) → ActedOn (record { hart = h; new = 0; action = s }) (Some (start_of (tree_of k.tree) h (path_of s))) None (tree_of k.tree) d t' → EndsAs (tree_of k.tree) (λ id. begun (tree_of k.tree) h s es 0 id) d t'
   begins_end s [] cut may settled same d t' x =
-      let e = ends_so (tree_of k.tree) h s 0 t' settled d (Some (start_of (tree_of k.tree) h (path_of s))) None same may x in
+      let e = ends_so (tree_of k.tree) h s 0 t' settled (Some (start_of (tree_of k.tree) h (path_of s))) None d same may x in
       record { id = e.id; least = e.least; tree = e.tree; told = e.told; walk = e.walk }
   begins_end s (e ∷ es) cut may settled same d t' x = absurd cc
 
   pub tells_begun : (d : Option Deed) (k' : KeptTree) (start : ℕ) → IsWalk (call_in u.whole) None (action_in u.whole) start (elements (path_of (action_in u.whole)))
-      → IsActed k (record { hart = h; new = 0; action = action_in u.whole }) d k' → MayMake (stage_of k) h (Begin (action_in u.whole) 0) → Tells k h (Begin (action_in u.whole) 0) d k'
+      → IsActed (record { hart = h; new = 0; action = action_in u.whole }) (Some (start_of (tree_of k.tree) h (path_of (action_in u.whole)))) None k d k' → MayMake (stage_of k) h (Begin (action_in u.whole) 0) → Tells k h (Begin (action_in u.whole) 0) d k'
   tells_begun d k' start none x may =
       tells_end (Begin (action_in u.whole) 0) d k' x.kept
       (begins_end (action_in u.whole) (elements (path_of (action_in u.whole))) (no_elements (elements (path_of (action_in u.whole))) none) may.move may.settled
@@ -85,17 +85,29 @@ module _ (k : KeptTree) (h : ℕ) (u : Under) (is : hart_in k h ≡ Some u) wher
 
     looks_end : (es : List Name) (found : Option ℕ) → IsNextWalk (call_in u.whole) None (record W { rest = es }) found → MayLook (tree_of k.tree) h W es found new
         → settle (tree_of k.tree) ≡ tree_of k.tree
-        → (d : Option Deed) (t' : Tree) → ActedOn (tree_of k.tree) (record { hart = h; new = new; action = W.step }) d t' → EndsAs (tree_of k.tree) (λ id. looked (tree_of k.tree) h W es found new id) d t'
-    looks_end [] found next may settled d t' x = ends_so (tree_of k.tree) h W.step new t' settled d found (Some (W.at, W.next)) (refused_same (tree_of k.tree) h (call_in u.whole) w.is_new) may x
-    looks_end (e ∷ es) None next may settled d t' x = ends_so (tree_of k.tree) h W.step new t' settled d None None (refused_same (tree_of k.tree) h (call_in u.whole) w.is_new) may x
-    looks_end (e ∷ es) (Some n) next may settled d t' x = absurd (let q : None ≡ Some (walk_on W.step n (e ∷ es)) = next in cc)
+        → (d : Option Deed) (t' : Tree) (lead : Lead) → LeadsBy lead w es found
+        → ActedOn (record { hart = h; new = new; action = W.step }) lead.node (with_name lead.parent (name_from lead.from (path_of W.step))) (tree_of k.tree) d t'
+        → EndsAs (tree_of k.tree) (λ id. looked (tree_of k.tree) h W es found new id) d t'
+    looks_end [] found next may settled d t' lead leads x =
+        ends_so (tree_of k.tree) h W.step new t' settled found (Some (W.at, W.next)) d (refused_same (tree_of k.tree) h (call_in u.whole) w.is_new) may
+        (subst (λ (r : Option ℕ). ActedOn (record { hart = h; new = new; action = W.step }) r (Some (W.at, W.next)) (tree_of k.tree) d t') leads.0
+        (subst (λ (q : Option (ℕ × Name)). ActedOn (record { hart = h; new = new; action = W.step }) lead.node q (tree_of k.tree) d t')
+        (λ i. with_name (leads.1 i) (name_from (leads.2 i) (path_of W.step))) x))
+    looks_end (e ∷ es) None next may settled d t' lead leads x =
+        ends_so (tree_of k.tree) h W.step new t' settled None None d (refused_same (tree_of k.tree) h (call_in u.whole) w.is_new) may
+        (subst (λ (r : Option ℕ). ActedOn (record { hart = h; new = new; action = W.step }) r None (tree_of k.tree) d t') leads.0
+        (subst (λ (q : Option (ℕ × Name)). ActedOn (record { hart = h; new = new; action = W.step }) lead.node q (tree_of k.tree) d t')
+        (λ i. with_name (leads.1 i) (name_from lead.from (path_of W.step))) x))
+    looks_end (e ∷ es) (Some n) next may settled d t' lead leads x = absurd (let q : None ≡ Some (walk_on W.step n (e ∷ es)) = next in cc)
 
     pub tells_looked : (d : Option Deed) (k' : KeptTree) → IsNextWalk (call_in u.whole) None W (look (tree_of k.tree).nodes W.at W.next)
-        → IsActed k (record { hart = h; new = new; action = W.step }) d k' → MayMake (stage_of k) h (Look new) → Tells k h (Look new) d k'
-    tells_looked d k' next x may =
+        → (lead : Lead) → LeadsBy lead w W.rest (look (tree_of k.tree).nodes W.at W.next)
+        → IsActed (record { hart = h; new = new; action = W.step }) lead.node (with_name lead.parent (name_from lead.from (path_of W.step))) k d k'
+        → MayMake (stage_of k) h (Look new) → Tells k h (Look new) d k'
+    tells_looked d k' next lead leads x may =
         tells_end (Look new) d k' x.kept
         (subst (λ (o : Option moves.Walk). EndsAs (tree_of k.tree) (λ id. look_made (tree_of k.tree) h o new id) d (tree_of k'.tree)) walk_there
-        (looks_end W.rest (look (tree_of k.tree).nodes W.at W.next) next (may_look (sym walk_there) may.move.0) may.settled d (tree_of k'.tree) x.acted))
+        (looks_end W.rest (look (tree_of k.tree).nodes W.at W.next) next (may_look (sym walk_there) may.move.0).1 may.settled d (tree_of k'.tree) lead leads x.acted))
       where
         may_look : (stage_of k).walk h ≡ Some W → MayLookOn (tree_of k.tree) h ((stage_of k).walk h) new → MayLookOn (tree_of k.tree) h (Some W) new
         may_look q z = subst (λ (o : Option moves.Walk). MayLookOn (tree_of k.tree) h o new) q z
@@ -116,6 +128,13 @@ module _ (k : KeptTree) (h : ℕ) (u : Under) (is : hart_in k h ≡ Some u) wher
         let b = looks_on w2 W.rest (look (tree_of k.tree).nodes W.at W.next) next in
         tells_walk (Look new) (Some w2) (looked (tree_of k.tree) h W W.rest (look (tree_of k.tree).nodes W.at W.next) new 0) settled
         (ap (λ (o : Option moves.Walk). look_made (tree_of k.tree) h o new 0) (sym walk_there)) b.0 b.1 b.2 None b.3 k' kept
+
+    -- where it may look, its directory is live
+    pub looks_live : MayMake (stage_of k) h (Look new) → live_directory ((tree_of k.tree).nodes w.directory) ≡ true
+    looks_live may = live (sym walk_there) may.move.0
+      where
+        live : (stage_of k).walk h ≡ Some W → MayLookOn (tree_of k.tree) h ((stage_of k).walk h) new → live_directory ((tree_of k.tree).nodes w.directory) ≡ true
+        live q z = (subst (λ (o : Option moves.Walk). MayLookOn (tree_of k.tree) h o new) q z).0
 
   -- without a walk nothing is looked up
   pub tells_nowhere : u.walk ≡ None → (new : ℕ) → settle (tree_of k.tree) ≡ tree_of k.tree → (k' : KeptTree) → k' ≡ k → Tells k h (Look new) None k'
@@ -139,10 +158,11 @@ module _ (k : KeptTree) (h : ℕ) (u : Under) (is : hart_in k h ≡ Some u) wher
   tells_quit s settled d told k' kept =
       tells_walk (GiveUpWalk s) None (made_by (tree_of k.tree) h 0 ((stage_of k).walk h) (GiveUpWalk s)) settled refl refl refl refl d told k' kept
 
-  pub tells_own : (s : Action) (d : Option Deed) (k' : KeptTree) → IsActed k (record { hart = h; new = 0; action = s }) d k' → MayMake (stage_of k) h (Own s 0)
+  pub tells_own : (s : Action) (d : Option Deed) (k' : KeptTree) → IsActedAlone k (record { hart = h; new = 0; action = s }) d k' → MayMake (stage_of k) h (Own s 0)
       → Tells k h (Own s 0) d k'
   tells_own s d k' x may =
-      tells_end (Own s 0) d k' x.kept (ends_own (tree_of k.tree) h s 0 (tree_of k'.tree) may.settled d may.move x.acted)
+      tells_end (Own s 0) d k' x.kept
+      (ends_own (tree_of k.tree) h s 0 (tree_of k'.tree) may.settled (resolve (tree_of k.tree) h (path_of s)) (parent (tree_of k.tree) h (path_of s)) d may.move x.acted)
 
 -- ---- as the code meets it
 
@@ -165,13 +185,17 @@ told_start k k' h s w dir there at walk kept =
     told_by k h s mark.Begin (Begin (action_in s.whole) 0) None k' there refl
     (λ may. tells_start k h s there w (if is_absolute (path_of (action_in s.whole)) then root else dir) (ap (λ (x : ℕ). if is_absolute (path_of (action_in s.whole)) then root else x) at) walk may.settled k' kept)
 
-pub told_begun : (k k' : KeptTree) (h : ℕ) (s : Under) (a : Action) (start : ℕ) (r : Result (Option Deed) NoMemory) → hart_in k h ≡ Some s → a ≡ action_in s.whole
-    → IsWalk (call_in s.whole) None (action_in s.whole) start (elements (path_of (action_in s.whole)))
-    → IfOk r (λ d. IsActed k (record { hart = h; new = 0; action = a }) d k') → IfOk r (λ d. TellsOf k h mark.Begin d k')
-told_begun k k' h s a start r there is none acted =
-    ok_map r (λ d. IsActed k (record { hart = h; new = 0; action = a }) d k') (λ d. TellsOf k h mark.Begin d k')
+pub told_begun : (k k' : KeptTree) (h : ℕ) (s : Under) (a : Action) (start dir : ℕ) (r : Result (Option Deed) NoMemory) → hart_in k h ≡ Some s → a ≡ action_in s.whole
+    → IsWalk (call_in s.whole) None (action_in s.whole) start (elements (path_of (action_in s.whole))) → dir ≡ (tree_of k.tree).cwd h
+    → (number : ℕ) → number ≡ (if is_absolute (path_of (action_in s.whole)) then root else dir)
+    → IfOk r (λ d. IsActed (record { hart = h; new = 0; action = a }) (Some number) None k d k') → IfOk r (λ d. TellsOf k h mark.Begin d k')
+told_begun k k' h s a start dir r there is none at number starts acted =
+    ok_map r (λ d. IsActed (record { hart = h; new = 0; action = a }) (Some number) None k d k') (λ d. TellsOf k h mark.Begin d k')
     (λ d x. told_by k h s mark.Begin (Begin (action_in s.whole) 0) d k' there refl
-    (tells_begun k h s there d k' start none (subst (λ (y : Action). IsActed k (record { hart = h; new = 0; action = y }) d k') is x))) acted
+    (tells_begun k h s there d k' start none
+    (subst (λ (n : ℕ). IsActed (record { hart = h; new = 0; action = action_in s.whole }) (Some n) None k d k')
+    (starts ∙ ap (λ (x : ℕ). if is_absolute (path_of (action_in s.whole)) then root else x) at)
+    (subst (λ (y : Action). IsActed (record { hart = h; new = 0; action = y }) (Some number) None k d k') is x)))) acted
 
 pub told_next : (k k' : KeptTree) (h : ℕ) (s : Under) (w w2 : Walk) (new : ℕ) → hart_in k h ≡ Some s → s.walk ≡ Some w
     → IsNextWalk (call_in s.whole) (Some w2) (walk_of (call_in s.whole) w) (look (tree_of k.tree).nodes w.directory (walk_of (call_in s.whole) w).next)
@@ -183,13 +207,22 @@ told_next k k' h s w w2 new there has next kept =
 pub told_looked : (k k' : KeptTree) (h : ℕ) (s : Under) (w : Walk) (new given : ℕ) (a : Action) (r : Result (Option Deed) NoMemory) → hart_in k h ≡ Some s → s.walk ≡ Some w
     → (new < 2 ^ 16 → given ≡ new) → a ≡ (walk_of (call_in s.whole) w).step
     → IsNextWalk (call_in s.whole) None (walk_of (call_in s.whole) w) (look (tree_of k.tree).nodes w.directory (walk_of (call_in s.whole) w).next)
-    → IfOk r (λ d. IsActed k (record { hart = h; new = given; action = a }) d k') → IfOk r (λ d. TellsOf k h (mark.Look new) d k')
-told_looked k k' h s w new given a r there has fits is next acted =
-    ok_map r (λ d. IsActed k (record { hart = h; new = given; action = a }) d k') (λ d. TellsOf k h (mark.Look new) d k')
+    → (lead : Lead) → LeadsBy lead w (walk_of (call_in s.whole) w).rest (look (tree_of k.tree).nodes w.directory (walk_of (call_in s.whole) w).next)
+    → IfOk r (λ d. IsActed (record { hart = h; new = given; action = a }) lead.node (with_name lead.parent (name_from lead.from (path_of a))) k d k')
+    → IfOk r (λ d. TellsOf k h (mark.Look new) d k')
+told_looked k k' h s w new given a r there has fits is next lead leads acted =
+    ok_map r (λ d. IsActed (record { hart = h; new = given; action = a }) lead.node (with_name lead.parent (name_from lead.from (path_of a))) k d k') (λ d. TellsOf k h (mark.Look new) d k')
     (λ d x. told_by k h s (mark.Look new) (Look new) d k' there refl
-    (λ may. tells_looked k h s there w has new d k' next
-    (subst (λ (n : ℕ). IsActed k (record { hart = h; new = n; action = (walk_of (call_in s.whole) w).step }) d k') (fits may.move.1)
-    (subst (λ (y : Action). IsActed k (record { hart = h; new = given; action = y }) d k') is x)) may)) acted
+    (λ may. tells_looked k h s there w has new d k' next lead leads
+    (subst (λ (n : ℕ). let b : Action = (walk_of (call_in s.whole) w).step in IsActed (record { hart = h; new = n; action = b }) lead.node (with_name lead.parent (name_from lead.from (path_of b))) k d k') (fits may.move.1)
+    (subst (λ (y : Action). IsActed (record { hart = h; new = given; action = y }) lead.node (with_name lead.parent (name_from lead.from (path_of y))) k d k') is x)) may)) acted
+
+-- a lost walk looks nothing up
+pub told_lost : (k k' : KeptTree) (h : ℕ) (s : Under) (w : Walk) (new : ℕ) → hart_in k h ≡ Some s → s.walk ≡ Some w → live_directory ((tree_of k.tree).nodes w.directory) ≡ false
+    → TellsOf k h (mark.Look new) None k'
+told_lost k k' h s w new there has dead =
+    told_by k h s (mark.Look new) (Look new) None k' there refl
+    (λ may. absurd (let live : live_directory ((tree_of k.tree).nodes w.directory) ≡ true = looks_live k h s there w has new may in cc (live, dead)))
 
 pub told_nowhere : (k k' : KeptTree) (h : ℕ) (s : Under) (new : ℕ) → hart_in k h ≡ Some s → s.walk ≡ None → k' ≡ k → TellsOf k h (mark.Look new) None k'
 told_nowhere k k' h s new there none kept =
@@ -202,8 +235,8 @@ told_quit k k' h s a d there is fails kept =
     (λ may. tells_quit k h s there (action_in s.whole) may.settled (Some d) (ap (λ (x : Deed). Some x) (fails ∙ ap fail is)) k' kept)
 
 pub told_alone : (k k' : KeptTree) (h : ℕ) (m : Mark) (r : Result (Option Deed) NoMemory) → ((s : Action) → mark_in s m ≡ Makes (Own (step_in s m) 0))
-    → IfOk r (λ d. (u : Under) → hart_in k h ≡ Some u → IsActed k (record { hart = h; new = 0; action = step_in (action_in u.whole) m }) d k') → IfOk r (λ d. TellsOf k h m d k')
+    → IfOk r (λ d. (u : Under) → hart_in k h ≡ Some u → IsActedAlone k (record { hart = h; new = 0; action = step_in (action_in u.whole) m }) d k') → IfOk r (λ d. TellsOf k h m d k')
 told_alone k k' h m r own acted =
-    ok_map r (λ d. (u : Under) → hart_in k h ≡ Some u → IsActed k (record { hart = h; new = 0; action = step_in (action_in u.whole) m }) d k') (λ d. TellsOf k h m d k')
+    ok_map r (λ d. (u : Under) → hart_in k h ≡ Some u → IsActedAlone k (record { hart = h; new = 0; action = step_in (action_in u.whole) m }) d k') (λ d. TellsOf k h m d k')
     (λ d f u v there mk may. told_by k h u m (Own (step_in (action_in u.whole) m) 0) d k' there (own (action_in u.whole))
     (tells_own k h u there (step_in (action_in u.whole) m) d k' (f u there)) u v there mk may) acted

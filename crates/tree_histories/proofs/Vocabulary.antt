@@ -13,11 +13,11 @@ unfoldable pub use Rattle.tree_histories.specs.Stands.{stand_from}
 pub use Rattle.std.proofs.lemmas.List.{append-nil, get_or-set_other, get_or-set_same, get_or_past, map_push}
 pub use Rattle.plain_tree.specs.Explains.{IsInTime, ends_at}
 pub use Rattle.std.proofs.Common.{IfOk, map, max, set, ◌/◌}
-pub use Rattle.tree_histories.specs.Moving.{ActedOn, HaveFallen, IsActed, IsMoved, MovesBy, NoneFalls, OnlyMoves, StaysFor, Tells, TellsOf, WereLost, makes_none, told_in}
+pub use Rattle.tree_histories.specs.Moving.{ActedOn, HaveFallen, IsActed, IsActedAlone, IsDeedOf, IsMoved, KeepsRest, MovesBy, NoneFalls, OnlyMoves, SameCalls, StaysFor, Tells, TellsOf, WereLost, makes_none, spoils, told_in, written_unless}
 pub use Rattle.tree_histories.specs.Ordered.{IsDue, IsOrdered, StandsFrom}
 pub use Rattle.tree_histories.specs.declared.ends.Due.{Due}
 pub use Rattle.tree_histories.specs.declared.position.Position.{Position}
-pub use Rattle.inode_machine.specs.Marks.{Made, act_all, act_answer, act_entered, acts, begun, look_made, looked, made_by, own_made}
+pub use Rattle.inode_machine.specs.Marks.{Made, act_all, act_answer, act_entered, acts, begun, look_made, looked, made_by, own_made, roomy}
 pub use Rattle.plain_tree.proofs.LeadLemmas.{step_placed}
 pub use Rattle.plain_tree.proofs.StepLaws.{applied_step, chain_one, step_one}
 pub use Rattle.std.proofs.Math.ListN.{get_or-append}
@@ -26,7 +26,7 @@ pub use Rattle.std.proofs.lemmas.Option.{get_or_from_slice_get, slice_get-get_or
 pub use Rattle.tree_histories.specs.Books.{IsBook, StandsAs, capped_entry}
 pub use Rattle.tree_histories.specs.Hints.{hint_of, hints_of}
 unfoldable pub use Rattle.tree_histories.specs.Hints.{hints_after}
-pub use Rattle.tree_histories.specs.Walks.{IsNextWalk, IsWalk, is_on_new, is_past_old, step_for, step_in, walk_of, walk_on}
+pub use Rattle.tree_histories.specs.Walks.{IsNextWalk, IsWalk, LeadsBy, are_none, is_on_new, is_past_old, name_from, step_for, step_in, walk_of, walk_on}
 pub use Rattle.tree_histories.specs.declared.standing.Walk.{Walk}
 pub use Rattle.tree_laws.specs.History.{replies, starts, tells, tells_any, writes, writes_any}
 pub use Rattle.tree_laws.specs.Moves.{fail}
@@ -54,3 +54,7 @@ pub use Rattle.tree_laws.specs.Runs.{falls, lost, unless}
 pub use Rattle.whole_calls.specs.Links.{link_action}
 pub use Rattle.whole_calls.specs.Wholes.{WholeAsks, first_in, second_in}
 pub use Rattle.plain_tree.specs.declared.step.StepAnswer.TheVariants.{Bytes, Fd as NewFd, Full as NoRoom, Stat as Status}
+pub use Rattle.plain_tree.specs.Applied.{IsAppliedAtWith, applied_with, in_place_with, IsAppliedWith, IsBadChoiceWith, IsRefusedWith}
+pub use Rattle.plain_tree.specs.Code.{with_name}
+pub use Rattle.plain_tree.specs.Steps.{refusal_with}
+pub use Rattle.tree_histories.specs.declared.kept.Lead.{Lead}

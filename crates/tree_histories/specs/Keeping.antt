@@ -1,7 +1,8 @@
 -- What is kept beside a run: a tree, the calls under way with their walks in it, and the list of the steps so far.
 use Rattle.std.specs.Prelude.{◌≡◌, ◌<◌, ◌⊎◌, ℕ, ◌+◌, ◌-◌, ◌^◌, min, Bool, true, false, not, List, [], ◌∷◌, ◌++◌, length, Option, Some, None, replicate, slice_index_or, slice_set}
-use Rattle.tree_histories.specs.Vocabulary.{option_map, Answer, Call, is_nothing, tree_of, TreeData, hart_count, Placed, entry_of, Deed, lost_of, program, Ret, count_in, hears, reply_to, Heard, call_in, text_in, whole_of, Whole}
+use Rattle.tree_histories.specs.Vocabulary.{option_map, Answer, Call, is_nothing, tree_of, TreeData, hart_count, Placed, entry_of, Deed, lost_of, program, Ret, count_in, hears, reply_to, Heard, WholeFits, call_in, text_in, whole_of, Whole}
 use Rattle.tree_laws.specs.Moves as moves
+use Rattle.whole_calls.specs.declared.reading.Read.TheVariants as reading
 use Rattle.whole_calls.specs.declared.whole.Whole.TheVariants as calling
 use Rattle.tree_histories.specs.declared.standing.Walk.{Walk}
 use Rattle.tree_histories.specs.Walks.{walk_of}
@@ -15,20 +16,22 @@ pub record Under : Type 0 where
   pub walk : Option Walk
   pub has_begun : Bool
 
--- a call that begins, the one at this place of the trace
+-- a call that begins, the one at this place of the trace; the inodes that are listed are those of its walk
 abbrev pub IsNewCall : ℕ → Call → Under → Type 0
 IsNewCall id call u =
     (u.id ≡ id) × (u.walk ≡ None) × (u.has_begun ≡ false) × (call_in u.whole ≡ call) × (whole_of u.listed u.whole ≡ program call)
+    × WholeFits u.listed u.whole
 
 -- more was heard to be read than the call's buffer has
 abbrev pub ReadsTooMuch : Heard → Whole → Type 0
-ReadsTooMuch x (calling.Read fd buf c) = length buf.items < count_in x
+ReadsTooMuch x (calling.Read fd buf (reading.Part n offset)) = length buf.items < count_in x
 ReadsTooMuch x w = ⊥
 
--- the same call, on the same walk, at the operation that comes after this answer
+-- the same call, on the same walk, at the operation that comes after this answer, with the inodes of its walk listed
 pub record GoesOn (u : Under) (x : Heard) (v : Under) : Type 0 where
   pub same : (v.id ≡ u.id) × (v.walk ≡ u.walk) × (v.has_begun ≡ false) × (call_in v.whole ≡ call_in u.whole)
   pub program : hears (text_in u.whole) (whole_of u.listed u.whole) x ≡ whole_of v.listed v.whole
+  pub fits : WholeFits v.listed v.whole
 
 -- .. or it has ended, with a reply
 abbrev pub HearsSo : Under → Heard → Option Under → Type 0
@@ -43,16 +46,17 @@ capped n = min n (2 ^ 64 - 1)
 abbrev pub counted : ℕ → ℕ
 counted n = capped (n + 1)
 
--- harts: by hart, its call under way
+-- harts: by hart, its call under way; full: a step of a call found no room
 pub record KeptTree : Type 0 where
   pub tree : TreeData
   pub list : List Placed
   pub events : ℕ
   pub calls : ℕ
   pub harts : List (Option Under)
+  pub full : Bool
 
 abbrev pub nothing_kept : TreeData → KeptTree
-nothing_kept t = record { tree = t; list = []; events = 0; calls = 0; harts = replicate hart_count None }
+nothing_kept t = record { tree = t; list = []; events = 0; calls = 0; harts = replicate hart_count None; full = false }
 
 abbrev pub hart_in : KeptTree → ℕ → Option Under
 hart_in k h = slice_index_or k.harts h None

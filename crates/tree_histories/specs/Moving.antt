@@ -1,7 +1,8 @@
 -- What is kept where a call makes a move.
-use Rattle.std.specs.Prelude.{◌≡◌, ℕ, ◌<◌, Bool, true, false, List, length, Option, Some, None, slice_index_or}
-use Rattle.tree_histories.specs.Vocabulary.{option_map, Action, TreeStep, Deed, IsApplied, IsBadChoice, Tree, tree_of, hart_count, History, Move, Stage, all_fall, moves_on, Makes, MayMake, OpensLeast, stage_by, told_by_move, mark_in, Heard, Mark, action_in}
-use Rattle.tree_laws.specs.Moves as moves
+use Rattle.std.specs.Prelude.{◌≡◌, ℕ, ◌<◌, Bool, true, false, not, ◌||◌, List, length, Option, Some, None, Result, Ok, Err, slice_index_or}
+use Rattle.plain_tree.specs.declared.refused.ApplyRefused.{ApplyRefused}
+use Rattle.plain_tree.specs.declared.refused.ApplyRefused.TheVariants.{BadChoice}
+use Rattle.tree_histories.specs.Vocabulary.{option_map, Action, StepAnswer, TreeStep, Deed, IsAppliedWith, IsBadChoiceWith, Name, Tree, tree_of, parent, path_of, resolve, hart_count, History, Move, Stage, all_fall, moves_on, Makes, MayMake, OpensLeast, roomy, stage_by, told_by_move, mark_in, Heard, Mark, action_in}
 use Rattle.path_walk.specs.declared.asks.Mark.TheVariants as mark
 use Rattle.tree_histories.specs.Books.{IsBook}
 use Rattle.tree_histories.specs.Sights.{MarksBy}
@@ -16,18 +17,41 @@ makes_none mark.Mends = true
 makes_none mark.Fills = true
 makes_none m = false
 
+-- .. since there was no room: nothing was taken, or what was taken is given back, or a piece is written in part
+abbrev pub spoils : Mark → Bool
+spoils (mark.PartOfPiece i n) = true
+spoils mark.Mends = true
+spoils mark.Fills = true
+spoils m = false
+
 abbrev pub tree_step : ℕ → ℕ → Action → TreeStep
 tree_step h new s = record { hart = h; new = new; action = s }
 
--- the step acted on the tree; or it makes a node, and can't take the number that it says
-abbrev pub ActedOn : Tree → TreeStep → Option Deed → Tree → Type 0
-ActedOn t s None t' = IsBadChoice t s × (t' ≡ t)
-ActedOn t s (Some d) t' = (d.act.step ≡ s.action) × (d.new ≡ s.new) × IsApplied t s d.act.answer t'
+-- what is told of a step that the tree answered so, or refused
+abbrev pub IsDeedOf : TreeStep → Result StepAnswer ApplyRefused → Option Deed → Type 0
+IsDeedOf s (Ok a) d = d ≡ Some (record { act = record { step = s.action; answer = a }; new = s.new })
+IsDeedOf s (Err why) d = (d ≡ None) × (why ≡ BadChoice)
 
--- the step acted, if it may, and its hart's walk is over
-pub record IsActed (k : KeptTree) (s : TreeStep) (d : Option Deed) (k' : KeptTree) : Type 0 where
-  pub kept : k' ≡ record (with_walk k s.hart None) { tree = k'.tree }
-  pub acted : ActedOn (tree_of k.tree) s d (tree_of k'.tree)
+-- res, par: what was found for the step's path, and the directory of its last element, with that
+module _ (s : TreeStep) (res : Option ℕ) (par : Option (ℕ × Name)) where
+  -- the step acted on the tree; or it makes a node, and can't take the number that it says
+  abbrev pub ActedOn : Tree → Option Deed → Tree → Type 0
+  ActedOn t None t' = IsBadChoiceWith t s res par × (t' ≡ t)
+  ActedOn t (Some d) t' = (d.act.step ≡ s.action) × (d.new ≡ s.new) × IsAppliedWith t s res par d.act.answer t'
+
+  -- the step acted, if it may, and its hart's walk is over
+  pub record IsActed (k : KeptTree) (d : Option Deed) (k' : KeptTree) : Type 0 where
+    pub kept : k' ≡ record (with_walk k s.hart None) { tree = k'.tree }
+    pub acted : ActedOn (tree_of k.tree) d (tree_of k'.tree)
+
+-- .. by what the path leads to in the tree itself
+abbrev pub IsActedAlone : KeptTree → TreeStep → Option Deed → KeptTree → Type 0
+IsActedAlone k s d k' =
+    IsActed s (resolve (tree_of k.tree) s.hart (path_of s.action)) (parent (tree_of k.tree) s.hart (path_of s.action)) k d k'
+
+-- each hart's call is the same, but for its walk
+abbrev pub SameCalls : KeptTree → KeptTree → Type 0
+SameCalls k k' = (h : ℕ) → option_map (walking None) (hart_in k' h) ≡ option_map (walking None) (hart_in k h)
 
 -- nothing but the tree and walks has changed
 pub record OnlyMoves (k k' : KeptTree) : Type 0 where
@@ -35,7 +59,8 @@ pub record OnlyMoves (k k' : KeptTree) : Type 0 where
   pub list : k'.list ≡ k.list
   pub events : k'.events ≡ k.events
   pub calls : k'.calls ≡ k.calls
-  pub harts : (h : ℕ) → option_map (walking None) (hart_in k' h) ≡ option_map (walking None) (hart_in k h)
+  pub full : k'.full ≡ k.full
+  pub harts : SameCalls k k'
 
 -- the stage is that of the move, where a file that it opens has the least id that is unused, and what is told is what the move tells
 pub record Tells (k : KeptTree) (h : ℕ) (v : Move) (d : Option Deed) (k' : KeptTree) : Type 0 where
@@ -49,15 +74,19 @@ abbrev pub TellsOf : KeptTree → ℕ → Mark → Option Deed → KeptTree → 
 TellsOf k h m d k' = (u : Under) (v : Move) → hart_in k h ≡ Some u → mark_in (action_in u.whole) m ≡ Makes v → MayMake (stage_of k) h v
     → Tells k h v d k'
 
--- a mark that makes no move changes nothing
+-- a mark that makes no move changes nothing of the tree, the calls and the list
 abbrev pub StaysFor : KeptTree → Mark → Option Deed → KeptTree → Type 0
 StaysFor k m d k' = makes_none m ≡ true → (d ≡ None) × (k' ≡ k)
 
 -- what is told is written, unless that was done as the hart's walk was lost
-abbrev pub told_in : KeptTree → ℕ → Option Deed → Bool → KeptTree
-told_in k h None was_lost = k
-told_in k h (Some d) true = k
-told_in k h (Some d) false = written k h d
+abbrev pub written_unless : KeptTree → ℕ → Option Deed → Bool → KeptTree
+written_unless k h None was_lost = k
+written_unless k h (Some d) true = k
+written_unless k h (Some d) false = written k h d
+
+-- .. and where the mark or what is told says that there was no room, that is kept
+abbrev pub told_in : KeptTree → ℕ → Mark → Option Deed → Bool → KeptTree
+told_in k h m told was_lost = record (written_unless k h told was_lost) { full = k.full || (spoils m || not (roomy told)) }
 
 -- these harts' walks are lost
 abbrev pub WereLost : List Bool → Stage → Type 0
@@ -66,6 +95,10 @@ WereLost before m = (h : ℕ) → h < hart_count → slice_index_or before h fal
 -- the walks that are lost by now, and weren't before, have failed
 abbrev pub HaveFallen : List Bool → KeptTree → KeptTree → Type 0
 HaveFallen before k k' = (m : Stage) (b : History) → WereLost before m → IsBook k b → IsBook k' (all_fall m (stage_of k) hart_count b)
+
+-- the calls under way are the same, and what is known of room
+abbrev pub KeepsRest : KeptTree → KeptTree → Type 0
+KeepsRest k k' = (k'.harts ≡ k.harts) × (k'.full ≡ k.full)
 
 -- where none is lost that wasn't, nothing has changed
 abbrev pub NoneFalls : List Bool → KeptTree → KeptTree → Type 0
@@ -77,6 +110,7 @@ pub record IsMoved (k : KeptTree) (h : ℕ) (v : Move) (k' : KeptTree) : Type 0 
   pub id : ℕ
   pub least : OpensLeast (stage_of k) h id v
   pub stage : stage_of k' ≡ stage_by (stage_of k) h id v
+  pub full : k'.full ≡ (k.full || not (roomy (told_by_move (stage_of k) h id v)))
   pub book : (b : History) → IsBook k b
       → IsBook k' (moves_on (stage_of k) (stage_by (stage_of k) h id v) h (told_by_move (stage_of k) h id v) b)
 
@@ -84,7 +118,9 @@ pub record IsMoved (k : KeptTree) (h : ℕ) (v : Move) (k' : KeptTree) : Type 0 
 pub record MovesBy (k : KeptTree) (h : ℕ) (m : Mark) (k' : KeptTree) : Type 0 where
   pub makes : (u : Under) (v : Move) → hart_in k h ≡ Some u → mark_in (action_in u.whole) m ≡ Makes v → MayMake (stage_of k) h v
       → IsMoved k h v k'
-  pub still : makes_none m ≡ true → k' ≡ k
+  pub still : makes_none m ≡ true → k' ≡ record k { full = k.full || spoils m }
+  -- no call under way has changed, but for its walk
+  pub calls : SameCalls k k'
 
 -- without a mark nothing changes
 abbrev pub MovesByAny : KeptTree → ℕ → Option Mark → KeptTree → Type 0

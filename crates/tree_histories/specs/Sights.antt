@@ -1,6 +1,8 @@
 -- What the kept tree shows of an inode whose lock is taken, and the mark of an operation where it acts.
 use Rattle.std.specs.Prelude.{◌≡◌, ℕ, ◌*◌, ◌<◌, ◌^◌, Bool, true, false, List, ◌++◌, length, Option, Some, None}
 use Rattle.tree_histories.specs.Vocabulary.{NodeKind, Directory, File, Device, Node, Tree, seen_in, Op, Take, StatFile, LockFile, LockOpen, asks, mark_at, marked_as, query_in, sight_in, sight_of, IsSought, IsSoughtInOne, Heard, Mark, Query, Sight, WholeFits, action_in, whole_of}
+use Rattle.path_walk.specs.declared.asks.Heard.TheVariants as heard
+use Rattle.path_walk.specs.declared.asks.Locked.TheVariants as locked
 use Rattle.tree_histories.specs.Keeping.{Under}
 
 -- the bytes of a directory's slots are counted by a u64
@@ -18,9 +20,10 @@ abbrev pub ShowsSo : Tree → ℕ → Query → List ℕ → List ℕ → Sight 
 ShowsSo t n looking path second s = n < 2 ^ 16 → FewSlotsIn (t.nodes n) → IsSought (path ++ second) looking → IsSoughtInOne path looking
     → sight_of s ≡ seen_in n (query_in (path ++ second) looking) (t.nodes n)
 
--- the answer of this operation, where it takes an inode's lock
+-- the answer of this operation, where it takes an inode's lock: what is seen of the inode, or that it is locked
 abbrev pub SeenFor : Tree → Option Op → Heard → Type 0
 SeenFor t (Some (Take n looking)) x = n < 2 ^ 16 → FewSlotsIn (t.nodes n) → sight_in x ≡ seen_in n looking (t.nodes n)
+SeenFor t (Some (LockFile fd)) x = x ≡ heard.Locked (locked.Locks 0 0)
 SeenFor t o x = Unit {0}
 
 -- the operation acts where it takes a lock, in its first step; the others act in their last one

@@ -29,6 +29,7 @@ pub use Rattle.atomic_programs.specs.Prog.{Ret}
 pub use Rattle.inode_machine.specs.Inodes.{empty_in, face_of as face_seen, found_in, is_empty_kind, seen_in, type_of_kind}
 pub use Rattle.inode_machine.specs.Kept.{stage_by, told_by_move}
 pub use Rattle.inode_machine.specs.Making.{MayMake, OpensLeast}
+pub use Rattle.inode_machine.specs.Marks.{roomy}
 pub use Rattle.inode_machine.specs.Programs.{program}
 pub use Rattle.inode_machine.specs.World.{Op}
 pub use Rattle.inode_machine.specs.World.Mark.{Makes}
@@ -36,7 +37,7 @@ pub use Rattle.inode_machine.specs.World.Op.{LockFile, LockOpen, StatFile, Take}
 pub use Rattle.path_walk.specs.Elements.{IsElement, IsInOne, name_in}
 pub use Rattle.path_walk.specs.declared.asks.Query.{Query}
 pub use Rattle.path_walk.specs.declared.asks.Sight.{Sight}
-pub use Rattle.plain_tree.specs.Applied.{IsApplied, IsBadChoice}
+pub use Rattle.plain_tree.specs.Applied.{IsApplied, IsAppliedWith, IsBadChoice, IsBadChoiceWith}
 pub use Rattle.plain_tree.specs.Code.{with_element}
 pub use Rattle.plain_tree.specs.Progress.{next_where}
 pub use Rattle.plain_tree.specs.declared.answer.Answer.TheVariants.{Full as WasFull}

@@ -8,6 +8,7 @@ use Rattle.path_walk.specs.declared.asks.Mark.TheVariants as mark
 use Rattle.whole_calls.specs.declared.link.Link.{Link}
 use Rattle.whole_calls.specs.declared.link.Link.TheVariants as linking
 use Rattle.whole_calls.specs.declared.whole.Whole.TheVariants as calling
+use Rattle.tree_histories.specs.declared.kept.Lead.{Lead}
 use Rattle.tree_histories.specs.declared.standing.Walk.{Walk}
 
 -- The tree step that a call's next mark is for; of a link the one along its old path, or the one along the new.
@@ -64,6 +65,20 @@ left_to call w = elements (drop w.from (path_of (step_for call w.is_new)))
 -- what a walk in code stands for
 abbrev pub walk_of : Call → Walk → moves.Walk
 walk_of call w = walk_on (step_for call w.is_new) w.directory (left_to call w)
+
+-- the next element of a path from this place on
+abbrev pub name_from : ℕ → List ℕ → Name
+name_from from path = first_of_them (elements (drop from path))
+
+-- no elements are left
+abbrev pub are_none : List Name → Bool
+are_none [] = true
+are_none (e ∷ es) = false
+
+-- what a walk's step acts by where it doesn't go on: with no elements left what was found, else nothing
+abbrev pub LeadsBy : Lead → Walk → List Name → Option ℕ → Type 0
+LeadsBy lead w [] found = (lead.node ≡ found) × (lead.parent ≡ Some w.directory) × (lead.from ≡ w.from)
+LeadsBy lead w (e ∷ es) found = (lead.node ≡ None) × (lead.parent ≡ None)
 
 -- a walk of the call, for this step, in this directory, with these elements left; without elements there is none
 abbrev pub IsWalk : Call → Option Walk → Action → ℕ → List Name → Type 0

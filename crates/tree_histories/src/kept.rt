@@ -1,6 +1,8 @@
 //! The tree kept beside a run, and the list of the tree steps so far. Each event appends to it; no entry is changed.
-ghost use Rattle.std.specs.Prelude.{◌≡◌, ◌-◌, ◌<◌, ◌^◌, ◌&&◌, ℕ, false, not, List, None, Some, IfOk, MatchOption, slice_index_or};
-ghost use Rattle.plain_tree.specs.Tree.{look, tree_of};
+ghost use Rattle.std.specs.Prelude.{◌≡◌, ◌-◌, ◌<◌, ◌^◌, ◌&&◌, ℕ, false, not, true, List, None, Some, IfOk, IfSome, MatchOption, slice_index_or};
+ghost use Rattle.plain_tree.specs.Code.{with_name};
+ghost use Rattle.plain_tree.specs.Steps.{path_of};
+ghost use Rattle.plain_tree.specs.Tree.{live_directory, look, tree_of};
 ghost use Rattle.plain_tree.specs.Widths.{hart_count};
 ghost use Rattle.plain_tree.specs.declared.answer.Reply.{Reply};
 ghost use Rattle.tree_laws.specs.History.{History, passes, replies, starts};
@@ -8,19 +10,22 @@ ghost use Rattle.tree_laws.specs.Moves as moves;
 ghost use Rattle.tree_laws.specs.Moves.{fail};
 ghost use Rattle.tree_laws.specs.Runs.{lost_of};
 ghost use Rattle.inode_machine.specs.Kept.{nothing_yet};
+ghost use Rattle.inode_machine.specs.Marks.{roomy};
 ghost use Rattle.path_walk.specs.Asks.{asks, op_in};
 ghost use Rattle.whole_calls.specs.Wholes.{IsCall, WholeFits, action_in, call_in, whole_of};
 ghost use Rattle.tree_histories.specs.Books.{IsBook};
 ghost use Rattle.tree_histories.specs.Keeping.{HasHeard, HasStarted, Under, counted, hart_in, is_lost, nothing_kept, passed, stage_of, with_hart, with_walk, written};
-ghost use Rattle.tree_histories.specs.Moving.{HasRun, HaveFallen, IsActed, MovesBy, NoneFalls, OnlyMoves, StaysFor, TellsOf, WereLost, told_in, tree_step};
+ghost use Rattle.tree_histories.specs.Moving.{HasRun, HaveFallen, IsActed, IsActedAlone, IsDeedOf, KeepsRest, MovesBy, NoneFalls, OnlyMoves, StaysFor, TellsOf, WereLost, spoils, told_in, tree_step};
 ghost use Rattle.tree_histories.specs.Sights.{MarksBy, SeenFor, acts_first};
-ghost use Rattle.tree_histories.specs.Walks.{IsNextWalk, step_in, walk_of};
+ghost use Rattle.tree_histories.specs.Walks.{IsNextWalk, LeadsBy, name_from, step_in, walk_of};
 
+use crate::paths::rest_of;
 use crate::sees::sight;
 use crate::standing::{Standing, Walk};
 use path_walk::{Ask, Heard, Locked, Mark};
+use plain_tree::paths::next_element;
 use plain_tree::{
-    Action, ApplyRefused, Call, Cause, HARTS, NoMemory, Placed, StepAnswer, Tree, TreeStep,
+    Action, ApplyRefused, Call, Cause, Found, HARTS, NoMemory, Placed, StepAnswer, Tree, TreeStep,
 };
 use std::alloc::Global;
 use std::marker::Model;
@@ -49,8 +54,7 @@ impl Model for Deed {
 /// of the walks that it loses, whose directory it removes. So a list is that of the events before, with what is appended.
 ///
 /// A contract sees the tree with the walks in it as the theory's stage, and the list as that of the theory's history (`IsBook`): a start, a
-/// move, a reply and an event that shows nothing take both on as they take the theory's, where the tree makes the move's step as the
-/// theory has it (`MayMake`).
+/// move, a reply and an event that shows nothing take both on as they take the theory's, where the hart may make the move (`MayMake`).
 #[derive(Drop)]
 pub struct Kept {
     tree: Tree,
@@ -58,6 +62,8 @@ pub struct Kept {
     events: u64,
     calls: usize,
     harts: [Option<Standing>; HARTS as usize],
+    /// A step of a call found no room.
+    full: bool,
 }
 
 impl Model for Kept {
@@ -66,7 +72,7 @@ impl Model for Kept {
 
     ghost Value = { KeptTree };
 
-    ghost view = { λ k. record { tree = k.tree; list = k.list.items; events = k.events; calls = k.calls; harts = k.harts } };
+    ghost view = { λ k. record { tree = k.tree; list = k.list.items; events = k.events; calls = k.calls; harts = k.harts; full = k.full } };
 
     ghost invariant = { λ k. length k.harts ≡ 8 };
 }
@@ -106,6 +112,60 @@ fn node_number(new: u32) -> u16
     }
 }
 
+// The mark says that there was no room.
+fn spoils(mark: Mark) -> bool
+    ensures { result ≡ spoils mark }
+{
+    matches!(mark, Mark::PartOfPiece(_, _) | Mark::Mends | Mark::Fills)
+}
+
+// The step answered that there was no room.
+fn is_full(told: &Option<Deed>) -> bool
+    ensures { result ≡ not (roomy told.now) }
+{
+    match told {
+        Some(deed) => matches!(&deed.answer, StepAnswer::Full { .. }),
+        None => false,
+    }
+}
+
+// What a walk has found for its step: the node; and the directory that has the last element, with the place of that in the path.
+#[derive(Clone, Copy)]
+pub(crate) struct Lead {
+    node: Option<u16>,
+    parent: Option<u16>,
+    from: usize,
+}
+
+// The next element from here on.
+fn name_from(path: &[u8], from: usize) -> &[u8]
+    ensures { result.now ≡ name_from from path.now }
+{
+    match next_element(rest_of(path, from)) {
+        Some((name, _)) => name,
+        None => &[],
+    }
+}
+
+// The step with its answer, unless the tree refuses it.
+fn deed_of(
+    step: TreeStep,
+    answer: Result<StepAnswer, ApplyRefused>,
+) -> Result<Option<Deed>, NoMemory>
+    ensures { IfOk result (λ d. IsDeedOf step answer d) }
+{
+    let TreeStep { action, new, .. } = step;
+    match answer {
+        Ok(answer) => Ok(Some(Deed {
+            action,
+            answer,
+            new,
+        })),
+        Err(ApplyRefused::BadChoice) => Ok(None),
+        Err(ApplyRefused::NoMemory) => Err(NoMemory),
+    }
+}
+
 // The step of a walk, which finds no live directory to look in.
 fn failed(action: Action) -> Deed
     ensures { result ≡ fail action }
@@ -131,6 +191,7 @@ impl Kept {
             events: 0,
             calls: 0,
             harts: [None, None, None, None, None, None, None, None],
+            full: false,
         }
     }
 
@@ -176,6 +237,14 @@ impl Kept {
     {
         self.put(hart, None);
         self.passes();
+    }
+
+    /// Whether a step of a call found no room: an operation was answered so, or a step of the tree. From then on no list of steps need
+    /// explain the run.
+    pub fn is_full(&self) -> bool
+        ensures { result ≡ self.now.full }
+    {
+        self.full
     }
 
     /// The list so far.
@@ -306,14 +375,21 @@ impl Kept {
         let before = self.lost();
         let was_lost = self.is_lost(hart);
         let told = self.told(alloc, hart, mark)?;
-        self.tell(hart, told, was_lost)?;
+        self.tell(hart, mark, told, was_lost)?;
         self.fall(&before)
     }
 
-    // What is told is written, unless the walk was lost before.
-    fn tell(&mut self, hart: u8, told: Option<Deed>, was_lost: bool) -> Result<(), NoMemory>
-        ensures { IfOk result (λ _. self.new ≡ told_in self.old hart told was_lost) }
+    // What is told is written, unless the walk was lost before; and whether there was no room.
+    fn tell(
+        &mut self,
+        hart: u8,
+        mark: Mark,
+        told: Option<Deed>,
+        was_lost: bool,
+    ) -> Result<(), NoMemory>
+        ensures { IfOk result (λ _. self.new ≡ told_in self.old hart mark told was_lost) }
     {
+        self.full = self.full || spoils(mark) || is_full(&told);
         match told {
             Some(deed) => {
                 if was_lost {
@@ -339,6 +415,7 @@ impl Kept {
         ensures stage { IfOk result (λ _. stage_of self.new ≡ stage_of self.old) }
         ensures book { IfOk result (λ _. HaveFallen before.now self.old self.new) }
         ensures none { IfOk result (λ _. NoneFalls before.now self.old self.new) }
+        ensures rest { IfOk result (λ _. KeepsRest self.old self.new) }
     {
         for hart in 0..HARTS {
             if self.falls(before, hart) {
@@ -371,43 +448,40 @@ impl Kept {
         }
     }
 
-    // The step acts on the tree, and the hart's walk is over. One that the tree refuses is left out.
-    fn acts(
-        &mut self,
-        alloc: Global,
-        hart: u8,
-        action: Action,
-        new: u16,
-    ) -> Result<Option<Deed>, NoMemory>
-        ensures { IfOk result (λ d. IsActed self.old (tree_step hart new action) d self.new) }
+    // The step of a walk acts on the tree, by what that has found, and the walk is over. One that the tree refuses is left out.
+    fn acts(&mut self, alloc: Global, step: TreeStep, lead: Lead) -> Result<Option<Deed>, NoMemory>
+        requires { IfSome lead.parent (λ d. live_directory ((tree_of self.old.tree).nodes d) ≡ true) }
+        ensures { IfOk result (λ d. IsActed step lead.node (with_name lead.parent (name_from lead.from (path_of step.action))) self.old d
+            self.new) }
     {
-        self.set_walk(hart, None);
-        let step = TreeStep { hart, new, action };
-        match self.tree.apply(alloc, &step) {
-            Ok(answer) => {
-                let TreeStep { action, .. } = step;
-                Ok(Some(Deed {
-                    action,
-                    answer,
-                    new,
-                }))
-            }
-            Err(ApplyRefused::BadChoice) => Ok(None),
-            Err(ApplyRefused::NoMemory) => Err(NoMemory),
-        }
+        self.set_walk(step.hart, None);
+        let found = Found {
+            node: lead.node,
+            parent: lead.parent,
+            name: name_from(step.action.path(), lead.from),
+        };
+        let answer = self.tree.apply_found(alloc, &step, &found);
+        deed_of(step, answer)
     }
 
-    // The step that the mark is for acts.
+    // The step that the mark is for acts; it follows no path.
     fn acts_alone(&mut self, alloc: Global, hart: u8, mark: Mark) -> Result<Option<Deed>, NoMemory>
         ensures only { IfOk result (λ _. OnlyMoves self.old self.new) }
         ensures acts { IfOk result (λ d. (u : Under) → hart_in self.old hart ≡ Some u
-            → IsActed self.old (tree_step hart 0 (step_in (action_in u.whole) mark)) d self.new) }
+            → IsActedAlone self.old (tree_step hart 0 (step_in (action_in u.whole) mark)) d self.new) }
     {
         let Some(standing) = self.standing(hart) else {
             return Ok(None);
         };
         let action = standing.action(alloc, mark)?;
-        self.acts(alloc, hart, action, 0)
+        self.set_walk(hart, None);
+        let step = TreeStep {
+            hart,
+            new: 0,
+            action,
+        };
+        let answer = self.tree.apply(alloc, &step);
+        deed_of(step, answer)
     }
 
     // A walk stands at the start of its path; a path without elements is found there.
@@ -424,10 +498,27 @@ impl Kept {
                 Ok(None)
             }
             None => {
+                let lead = Lead {
+                    node: Some(standing.start_number(self.directory(hart))),
+                    parent: None,
+                    from: 0,
+                };
                 let action = standing.action(alloc, Mark::Begin)?;
-                self.acts(alloc, hart, action, 0)
+                let step = TreeStep {
+                    hart,
+                    new: 0,
+                    action,
+                };
+                self.acts(alloc, step, lead)
             }
         }
+    }
+
+    // The walk stands in a live directory.
+    fn is_live(&self, walk: Walk) -> bool
+        ensures { result ≡ live_directory ((tree_of self.now.tree).nodes walk.directory) }
+    {
+        self.tree.is_live_directory(walk.directory)
     }
 
     // Where the walk stands when it has looked up its next element, if it found that and goes on.
@@ -439,7 +530,27 @@ impl Kept {
         standing.after(walk, number)
     }
 
-    // The next element is looked up: the step acts at the last one, or where nothing is found. Without a walk nothing is.
+    // What the walk's step acts by where it doesn't go on: what its directory has under the last element, or nothing.
+    fn lead(&self, standing: &Standing, walk: Walk) -> Lead
+        ensures { let before = walk_of (call_in standing.now.whole) walk in
+            LeadsBy result walk before.rest (look (tree_of self.now.tree).nodes before.at before.next) }
+    {
+        if !standing.is_last(walk) {
+            return Lead {
+                node: None,
+                parent: None,
+                from: 0,
+            };
+        }
+        Lead {
+            node: self.tree.look(walk.directory, standing.name(walk)),
+            parent: Some(walk.directory),
+            from: walk.from,
+        }
+    }
+
+    // The next element is looked up: the step acts at the last one, or where nothing is found. Without a walk in a live directory nothing
+    // is looked up.
     fn looks(&mut self, alloc: Global, hart: u8, new: u32) -> Result<Option<Deed>, NoMemory>
         ensures only { IfOk result (λ _. OnlyMoves self.old self.new) }
         ensures tells { IfOk result (λ d. TellsOf self.old hart (Mark.Look new) d self.new) }
@@ -450,6 +561,9 @@ impl Kept {
         let Some(walk) = standing.walk() else {
             return Ok(None);
         };
+        if !self.is_live(walk) {
+            return Ok(None);
+        }
         match self.next_walk(standing, walk) {
             Some(next) => {
                 self.set_walk(hart, Some(next));
@@ -457,7 +571,13 @@ impl Kept {
             }
             None => {
                 let action = standing.step(walk)?;
-                self.acts(alloc, hart, action, node_number(new))
+                let lead = self.lead(standing, walk);
+                let step = TreeStep {
+                    hart,
+                    new: node_number(new),
+                    action,
+                };
+                self.acts(alloc, step, lead)
             }
         }
     }

@@ -8,7 +8,7 @@ ghost use Rattle.plain_tree.specs.declared.call.Call.TheVariants as calls;
 ghost use Rattle.path_walk.specs.Asks.{asks, mark_at, marked_as, op_in, piece_of};
 ghost use Rattle.whole_calls.specs.Wholes.{HasRoomFor, IsCall, WholeAsks, WholeFits, action_in, call_in, first_in, second_in, text_in, whole_of};
 ghost use Rattle.tree_histories.specs.Keeping.{HearsSo, IsNewCall, ReadsTooMuch, walking};
-ghost use Rattle.tree_histories.specs.Walks.{IsWalk, is_on_new, is_past_old, left_to, step_for, step_in, walk_of};
+ghost use Rattle.tree_histories.specs.Walks.{IsWalk, are_none, is_on_new, is_past_old, left_to, step_for, step_in, walk_of};
 
 use crate::paths::rest_of;
 use path_walk::{Ask, Heard, Mark, Numbers, is_absolute};
@@ -16,7 +16,7 @@ use plain_tree::paths::{first, next_element};
 use plain_tree::{Action, Answer, Bytes, Call, NoMemory};
 use std::alloc::Global;
 use std::marker::Model;
-use whole_calls::{Link, Whole};
+use whole_calls::{Link, Read, Whole};
 
 /// Bytes of a write's piece.
 const PIECE_LEN: usize = 3072;
@@ -28,7 +28,7 @@ const ROOT: u16 = 1;
 #[derive(Clone, Copy)]
 pub(crate) struct Walk {
     pub(crate) directory: u16,
-    from: usize,
+    pub(crate) from: usize,
     is_new: bool,
 }
 
@@ -60,7 +60,14 @@ fn has_room(whole: &Whole, heard: &Heard) -> bool
     ensures none { result ≡ false → ReadsTooMuch heard.now whole.now }
 {
     match (whole, heard) {
-        (Whole::Read { buf, .. }, Heard::Read(count)) => *count <= buf.len(),
+        (
+            Whole::Read {
+                buf,
+                at: Read::Part(_, _),
+                ..
+            },
+            Heard::Read(count),
+        ) => *count <= buf.len(),
         _ => true,
     }
 }
@@ -277,6 +284,13 @@ impl Standing {
         })
     }
 
+    /// Where its path starts; `current` is the hart's directory.
+    pub(crate) fn start_number(&self, current: u16) -> u16
+        ensures { result ≡ (if is_absolute (path_of (action_in self.now.whole)) then root else current) }
+    {
+        start_of(path(&self.whole, is_on_new(&self.whole)), current)
+    }
+
     /// The walk at the start of its path, where the path has elements; `current` is the hart's directory.
     pub(crate) fn start(&self, current: u16) -> Option<Walk>
         ensures { let path = path_of (action_in self.now.whole) in
@@ -299,6 +313,16 @@ impl Standing {
         match next_element(rest_of(path(&self.whole, walk.is_new), walk.from)) {
             Some((name, _)) => name,
             None => &[],
+        }
+    }
+
+    /// Whether the walk's next element is the last one.
+    pub(crate) fn is_last(&self, walk: Walk) -> bool
+        ensures { result ≡ are_none (walk_of (call_in self.now.whole) walk).rest }
+    {
+        match next_element(rest_of(path(&self.whole, walk.is_new), walk.from)) {
+            Some((_, rest)) => next_element(rest).is_none(),
+            None => true,
         }
     }
 

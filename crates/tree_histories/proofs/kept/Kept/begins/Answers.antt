@@ -7,4 +7,5 @@ returns-in-Some-start-clause-tells c =
 
 pub returns-in_ok-action-in-None-clause-tells : goal.returns-in_ok-action-in-None-clause-tells
 returns-in_ok-action-in-None-clause-tells c =
-    told_begun c.args.self.now c.acts.new.self c.args.hart c.in-Some.standing.now c.in_ok-action-in-None.action _ c.acts.result c.in-Some.ensures c.in_ok-action-in-None.ensures c.in-None.ensures c.acts.ensures
+    told_begun c.args.self.now c.acts.new.self c.args.hart c.in-Some.standing.now c.in_ok-action-in-None.action _ c.directory-in-None.result c.acts.result c.in-Some.ensures c.in_ok-action-in-None.ensures c.in-None.ensures c.directory-in-None.ensures
+    c.start_number.result c.start_number.ensures c.acts.ensures

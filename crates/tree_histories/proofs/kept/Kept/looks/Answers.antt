@@ -11,4 +11,4 @@ returns-in-Some-next_walk-clause-tells c =
 
 pub returns-in_ok-action-in-None-clause-tells : goal.returns-in_ok-action-in-None-clause-tells
 returns-in_ok-action-in-None-clause-tells c =
-    told_looked c.args.self.now c.acts.new.self c.args.hart c.in-Some.standing.now c.in-Some-walk.walk c.args.new c.node_number.result c.in_ok-action-in-None.action c.acts.result c.in-Some.ensures (sym c.walk.ensures ∙ c.in-Some-walk.is) c.node_number.ensures c.in_ok-action-in-None.ensures c.in-None.ensures c.acts.ensures
+    told_looked c.args.self.now c.acts.new.self c.args.hart c.in-Some.standing.now c.in-Some-walk.walk c.args.new c.node_number.result c.in_ok-action-in-None.action c.acts.result c.in-Some.ensures (sym c.walk.ensures ∙ c.in-Some-walk.is) c.node_number.ensures c.in_ok-action-in-None.ensures c.in-None.ensures c.lead-lead.result c.lead-lead.ensures c.acts.ensures
