@@ -2,7 +2,7 @@
 pub use Rattle.explain.proofs.Vocabulary.{ExplainRefused, Global, IsRefusedMount, Ok, Placed, Vec, any_climbs, inr, subst, ◌∙◌}
 pub use Rattle.hart_core.proofs.Vocabulary.{IsCall, Option, ap, refl, sym}
 pub use Rattle.explain.proofs.Mounting.{refused_mount}
-pub use Rattle.explain.proofs.Running.{found_played, kept_played, nowhere}
+pub use Rattle.explain.proofs.Running.{full_played, nowhere, own_played}
 pub use Rattle.explain.proofs.Noting.{keeps_from}
 pub use Rattle.explain.specs.Played.{IsFound}
 pub use Rattle.explain.specs.Vocabulary.{KeptTree}

@@ -2,4 +2,5 @@ pub mod Lemmas
 pub mod Vocabulary
 pub mod Mounting
 pub mod Noting
+pub mod Own
 pub mod Running

@@ -1,10 +1,11 @@
 -- A keeper that was told of each event of a run has kept it.
-use Rattle.explain.proofs.Vocabulary.{◌≡◌, ℕ, false, List, [], ◌∷◌, subst, ◌∙◌, Came, Event, Placed}
-use Rattle.std.specs.Prelude.{suc, ◌+◌, ◌-◌, ◌^◌, ◌<◌, ◌≤◌, min, Bool, true, nat_lt, ◌++◌, length, map, Option, Some, None, slice_get}
+use Rattle.explain.proofs.Vocabulary.{◌≡◌, ℕ, List, [], ◌∷◌, subst, ◌∙◌, Came, Event}
+use Rattle.std.specs.Prelude.{◌+◌, ◌-◌, ◌^◌, ◌<◌, ◌≤◌, min, ◌++◌, length, Option, Some, None, slice_get}
 use Rattle.std.proofs.Common.{refl, sym, ap, arith, append_assoc}
 use Rattle.hart_core.proofs.Vocabulary.{nat_tests}
 use Rattle.explain.specs.Vocabulary.{Super, Heard, heard_in, HartsOf, KeptTree, NotesEvent, TreeData, nothing_kept}
-use Rattle.explain.specs.Keeps.{HasNoted, KeepsEvent, KeepsRun}
+use Rattle.explain.specs.Keeps.{HasNoted}
+use Rattle.kept_histories.specs.Keeps.{KeepsEvent, KeepsRun}
 use Rattle.explain.specs.Telling.{TellsKeeper}
 use Rattle.hart_core.specs.Telling.{NotesRun}
 use Rattle.explain.specs.declared.keep.Telling.{Telling}
@@ -63,7 +64,7 @@ module _ {D : Type 0} (contents : D → List (List ℕ)) (failures : D → ℕ) 
       record {
         kept = was.kept;
         is = was.is;
-        run = (mid, rest.kept, record { makes = one.makes; answers = one.answers; heard = one.heard; tells = one.tells; took = was.keeps }, rest.run);
+        run = (mid, rest.kept, record { makes = one.makes; answers = one.answers; heard = one.heard; tells = one.tells; fits = one.fits; took = was.keeps }, rest.run);
       }
 
   -- a keeper that began with this tree

@@ -1,11 +1,16 @@
 -- What a list that explains a trace, or its want, says of the run that came to the trace.
-use Rattle.explain.proofs.Vocabulary.{◌≡◌, ℕ, false, List, [], ◌∷◌, Result, Ok, Err, subst, ◌∙◌, inl, inr, MatchResult, Vec, All, Global, or_parts, All-cons, All-nil, blocks_of, Placed, Trace, TracedCall, call_climbs, Explains, TreeData, tree_in, Came, Event, trace_in, explained, any_climbs, Played, ExplainRefused, ExplainsRun, IsFoundFor, IsRefusedFor, IsRefusedMount, IsRefusedSo, RunOn, never, IsPlayed}
+use Rattle.explain.proofs.Vocabulary.{◌≡◌, ℕ, false, List, [], ◌∷◌, Result, Ok, Err, subst, ◌∙◌, inl, inr, MatchResult, Vec, All, Global, or_parts, All-cons, All-nil, blocks_of, Placed, Trace, TracedCall, call_climbs, Explains, TreeData, tree_in, Came, Event, trace_in, explained, any_climbs, Played, ExplainRefused, IsFoundFor, IsRefusedFor, IsRefusedMount, IsRefusedSo, RunOn, never, IsPlayed}
 use Rattle.explain.specs.declared.refused.ExplainRefused.TheVariants as refused
-use Rattle.std.specs.Prelude.{IfOk, Option, Some, None}
-use Rattle.std.proofs.Common.{refl}
-use Rattle.explain.specs.Vocabulary.{KeptTree, nothing_kept}
-use Rattle.explain.specs.Explained.{KeepsTheRun}
-use Rattle.explain.specs.Keeps.{HandsOut, KeepsRun}
+use Rattle.std.specs.Prelude.{◌<◌, ◌≤◌, ◌^◌, length, IfOk, Option, Some, None}
+use Rattle.std.proofs.Common.{refl, sym}
+use Rattle.run_laws.proofs.OneList.{runs_have_one_list}
+use Rattle.run_laws.specs.OneList.{AgreesWithTheList, list_of}
+use Rattle.explain.proofs.Own.{list_explains}
+use Rattle.explain.specs.Vocabulary.{Call, EventOf, FoundRoom, IsHistory, KeptTree, Outside, nothing_kept}
+use Rattle.kept_histories.proofs.KeptRuns.{kept_lists_are}
+use Rattle.explain.specs.Explained.{FindsNoRoom, NeverFoundRoom, OwnsRun}
+use Rattle.explain.specs.Keeps.{HandsOut, SawNoRoom, SawRoom}
+use Rattle.kept_histories.specs.Keeps.{KeepsRun}
 
 pub refused_so : (image : List ℕ) (events : List Event) (e : ExplainRefused) → IsRefusedMount image e → IsRefusedSo image events e
 refused_so image events refused.NoMemory mount = tt
@@ -24,10 +29,10 @@ nowhere base t u same flat none = subst (λ (v : Trace). (any_climbs v.calls ≡
 
 -- A run of these events on the image came to the outcomes of the trace.
 module _ (image : List ℕ) (events : List Event) (run : RunOn image events) where
-  refused_run : (e : ExplainRefused) → IsRefusedFor (tree_in (blocks_of image)) (trace_in events run.outcomes) e → IsRefusedSo image events e
+  pub refused_run : (e : ExplainRefused) → IsRefusedFor (tree_in (blocks_of image)) (trace_in events run.outcomes) e → IsRefusedSo image events e
   refused_run refused.NoMemory is = tt
   refused_run (refused.Damaged d) is = absurd is
-  refused_run refused.Climbs is = record { run = run; climbs = is }
+  refused_run refused.Climbs is = record { run = run; told = is.0; climbs = is.1 }
   refused_run refused.FullSeen (inl full) = record { run = run; full = inl full }
   refused_run refused.FullSeen (inr none) = record {
     run = run;
@@ -36,38 +41,73 @@ module _ (image : List ℕ) (events : List Event) (run : RunOn image events) whe
         none.1 one.0 one.1);
   }
 
-  pub found_run : (found : Result (Vec Placed Global) ExplainRefused) → IsFoundFor (tree_in (blocks_of image)) (trace_in events run.outcomes) found
-      → MatchResult found (λ v. ExplainsRun image events v.items) (λ e. IsRefusedSo image events e)
-  found_run (Ok list) explains = record { run = run; explains = explains }
-  found_run (Err e) is = refused_run e is
-
-pub found_played : (image : List ℕ) (events : List Event) (p : Played) → IsPlayed image events p → (outcomes : List Came) → outcomes ≡ p.outcomes.items → (found : Result (Vec Placed Global) ExplainRefused) → IsFoundFor p.base (trace_in events outcomes) found
-    → MatchResult found (λ v. ExplainsRun image events v.items) (λ e. IsRefusedSo image events e)
-found_played image events p played outcomes same found is =
-    found_run image events played.run found
-    (subst (λ (base : TreeData). IsFoundFor base (trace_in events played.run.outcomes) found) played.base
-    (subst (λ (os : List Came). IsFoundFor p.base (trace_in events os) found) (same ∙ played.outcomes) is))
+-- what is found of the tree and the outcomes of a run is found of that run
+module _ (image : List ℕ) (events : List Event) (p : Played) (played : IsPlayed image events p) (outcomes : List Came) (same : outcomes ≡ p.outcomes.items) where
+  of_run : (P : TreeData → List Came → Type 0) → P p.base outcomes → P (tree_in (blocks_of image)) played.run.outcomes
+  of_run P x = subst (λ (base : TreeData). P base played.run.outcomes) played.base (subst (λ (os : List Came). P p.base os) (same ∙ played.outcomes) x)
 
 -- ---- what was kept of it
 
-kept_out : (image : List ℕ) (events : List Event) (run : RunOn image events) (list : List Placed) (o : Option KeptTree)
-    → ((k : KeptTree) → o ≡ Some k → KeepsRun blocks_of never run.world.sizes run.world.harts (nothing_kept (tree_in (blocks_of image))) events run.outcomes run.new k)
-    → Explains (tree_in (blocks_of image)) (trace_in events run.outcomes) list → HandsOut o (tree_in (blocks_of image)) (trace_in events run.outcomes) list → KeepsTheRun image events list
-kept_out image events run list None keeps explains hands = absurd hands
-kept_out image events run list (Some k) keeps explains hands = record { run = run; explains = explains; kept = k; keeps = keeps k refl; handed = hands }
+module _ (image : List ℕ) (events : List Event) (few : length events < 2 ^ 64) (run : RunOn image events) where
+  -- each history's list, where that found room, is this one
+  abbrev IsOwn : List Placed → Type 0
+  IsOwn list =
+      (history : List (EventOf Call Outside)) → IsHistory blocks_of never run.world.sizes run.world.harts events run.outcomes run.new history
+      → FoundRoom blocks_of never run.world history → list ≡ list_of blocks_of never run.world history
 
-kept_run : (image : List ℕ) (events : List Event) (run : RunOn image events) (o : Option KeptTree)
-    → ((k : KeptTree) → o ≡ Some k → KeepsRun blocks_of never run.world.sizes run.world.harts (nothing_kept (tree_in (blocks_of image))) events run.outcomes run.new k)
-    → (found : Result (Vec Placed Global) ExplainRefused) → IsFoundFor (tree_in (blocks_of image)) (trace_in events run.outcomes) found
-    → IfOk found (λ v. HandsOut o (tree_in (blocks_of image)) (trace_in events run.outcomes) v.items) → IfOk found (λ v. KeepsTheRun image events v.items)
-kept_run image events run o keeps (Ok list) is hands = kept_out image events run list.items o keeps is hands
-kept_run image events run o keeps (Err e) is hands = tt
+  -- what a keeper has of the run
+  abbrev pub HasKept : Option KeptTree → Type 0
+  HasKept o =
+      (k : KeptTree) → o ≡ Some k
+      → KeepsRun blocks_of never run.world.sizes run.world.harts (nothing_kept (tree_in (blocks_of image))) events run.outcomes run.new k
 
-pub kept_played : (image : List ℕ) (events : List Event) (p : Played) → IsPlayed image events p → (outcomes : List Came) → outcomes ≡ p.outcomes.items → (found : Result (Vec Placed Global) ExplainRefused)
-    → IsFoundFor p.base (trace_in events outcomes) found → IfOk found (λ v. HandsOut p.keeper p.base (trace_in events outcomes) v.items) → IfOk found (λ v. KeepsTheRun image events v.items)
-kept_played image events p played outcomes same found is hands =
-    let to = same ∙ played.outcomes in
-    kept_run image events played.run p.keeper played.keeps found
-    (subst (λ (base : TreeData). IsFoundFor base (trace_in events played.run.outcomes) found) played.base (subst (λ (os : List Came). IsFoundFor p.base (trace_in events os) found) to is))
-    (subst (λ (base : TreeData). IfOk found (λ v. HandsOut p.keeper base (trace_in events played.run.outcomes) v.items)) played.base
-    (subst (λ (os : List Came). IfOk found (λ v. HandsOut p.keeper p.base (trace_in events os) v.items)) to hands))
+  kept_own : (k : KeptTree) → HasKept (Some k) → any_climbs (trace_in events run.outcomes).calls ≡ false → (list : List Placed)
+      → HandsOut (Some k) (tree_in (blocks_of image)) (trace_in events run.outcomes) list → IsOwn list
+  kept_own k keeps flat list hands history is room =
+      let same : k.list ≡ list_of blocks_of never run.world history =
+      (kept_lists_are blocks_of never run.world image events run.outcomes run.new k history run.starts.mounted (keeps k refl) is room few).0 in
+      hands (subst (λ (l : List Placed). Explains (tree_in (blocks_of image)) (trace_in events run.outcomes) l) (sym same)
+      (list_explains blocks_of never run.world image events run.outcomes run.new history run.starts.mounted is room (inl (none_climbs (trace_in events run.outcomes).calls flat)))) ∙ same
+
+  -- each beginning of the run agrees with that list
+  all_stops : any_climbs (trace_in events run.outcomes).calls ≡ false → (history : List (EventOf Call Outside))
+      → IsHistory blocks_of never run.world.sizes run.world.harts events run.outcomes run.new history
+      → FoundRoom blocks_of never run.world history → (n : ℕ) → n ≤ length events
+      → AgreesWithTheList blocks_of never (tree_in (blocks_of image)) run.world events run.outcomes history n
+  all_stops flat history is room n le =
+      runs_have_one_list blocks_of never run.world image events run.outcomes run.new history run.starts.mounted is room (inl (none_climbs (trace_in events run.outcomes).calls flat)) n le
+
+  -- a list that explains the run is this run's own, as what was kept is
+  pub owned : (k : KeptTree) → HasKept (Some k) → (list : List Placed) → Explains (tree_in (blocks_of image)) (trace_in events run.outcomes) list → any_climbs (trace_in events run.outcomes).calls ≡ false
+      → HandsOut (Some k) (tree_in (blocks_of image)) (trace_in events run.outcomes) list → SawRoom (Some k) → (owns : OwnsRun image events list) × (owns.run ≡ run)
+  owned k keeps list is flat hands room =
+      (record { run = run; explains = is; own = kept_own k keeps flat list hands; stops = all_stops flat; kept = k; keeps = keeps k refl; room = room }, refl)
+
+  pub owns : (o : Option KeptTree) → HasKept o → (found : Result (Vec Placed Global) ExplainRefused) → IsFoundFor (tree_in (blocks_of image)) (trace_in events run.outcomes) found
+      → IfOk found (λ _. any_climbs (trace_in events run.outcomes).calls ≡ false)
+      → IfOk found (λ v. HandsOut o (tree_in (blocks_of image)) (trace_in events run.outcomes) v.items) → SawRoom o
+      → MatchResult found (λ v. OwnsRun image events v.items) (λ e. IsRefusedSo image events e)
+  owns None keeps (Ok list) is flat hands room = absurd hands
+  owns (Some k) keeps (Ok list) is flat hands room = (owned k keeps list.items is flat hands room).0
+  owns o keeps (Err e) is flat hands room = refused_run image events run e is
+
+  -- a keeper that saw a step without room
+  pub never_of : (o : Option KeptTree) → HasKept o → SawNoRoom o → NeverFoundRoom image events run
+  never_of None keeps saw history is room = saw
+  never_of (Some k) keeps saw history is room = absurd
+      (let none : k.full ≡ false = (kept_lists_are blocks_of never run.world image events run.outcomes run.new k history run.starts.mounted (keeps k refl) is room few).1 in cc (none, saw))
+
+  pub full_of : (o : Option KeptTree) → HasKept o → SawNoRoom o → FindsNoRoom image events
+  full_of o keeps saw = record { run = run; full = inr (never_of o keeps saw) }
+
+module _ (image : List ℕ) (events : List Event) (few : length events < 2 ^ 64) (p : Played) (played : IsPlayed image events p) where
+  pub own_played : (outcomes : List Came) → outcomes ≡ p.outcomes.items → (found : Result (Vec Placed Global) ExplainRefused) → IsFoundFor p.base (trace_in events outcomes) found
+      → IfOk found (λ _. any_climbs (trace_in events outcomes).calls ≡ false) → IfOk found (λ v. HandsOut p.keeper p.base (trace_in events outcomes) v.items)
+      → SawRoom p.keeper → MatchResult found (λ v. OwnsRun image events v.items) (λ e. IsRefusedSo image events e)
+  own_played outcomes same found is flat hands room =
+      owns image events few played.run p.keeper played.keeps found (of_run image events p played outcomes same (λ base os. IsFoundFor base (trace_in events os) found) is)
+      (of_run image events p played outcomes same (λ base os. IfOk found (λ _. any_climbs (trace_in events os).calls ≡ false)) flat)
+      (of_run image events p played outcomes same (λ base os. IfOk found (λ v. HandsOut p.keeper base (trace_in events os) v.items)) hands) room
+
+  pub full_played : SawNoRoom p.keeper → FindsNoRoom image events
+  full_played saw = full_of image events few played.run p.keeper played.keeps saw

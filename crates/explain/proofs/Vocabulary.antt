@@ -4,7 +4,7 @@ unfoldable pub use Rattle.hart_core.proofs.Vocabulary.{sizes_of}
 pub use Rattle.explain.specs.Vocabulary.{Global, any_climbs}
 unfoldable pub use Rattle.explain.specs.Vocabulary.{blocks_of}
 pub use Rattle.image_tree.proofs.Vocabulary.{Err, Ok, Result, Vec}
-pub use Rattle.explain.specs.Explained.{ExplainsRun, IsFoundFor, IsRefusedFor, IsRefusedMount, IsRefusedSo, RunOn, StartsOn, never, refused_by}
+pub use Rattle.explain.specs.Explained.{IsFoundFor, IsRefusedFor, IsRefusedMount, IsRefusedSo, RunOn, StartsOn, never, refused_by}
 pub use Rattle.explain.specs.Played.{IsPlayed}
 pub use Rattle.explain.specs.declared.play.Played.{Played}
 pub use Rattle.explain.specs.declared.refused.ExplainRefused.{ExplainRefused}

@@ -1,7 +1,8 @@
 -- What a run of events on an image is explained by, and why it isn't.
-use Rattle.std.specs.Prelude.{◌≡◌, ◌⊎◌, ℕ, true, false, List, MatchResult, Result, Vec}
+use Rattle.std.specs.Prelude.{◌≡◌, ◌⊎◌, ◌≤◌, ℕ, true, false, List, length, MatchResult, Result, Vec}
+use Rattle.run_laws.specs.OneList.{AgreesWithTheList, list_of}
+use Rattle.kept_histories.specs.Keeps.{KeepsRun}
 use Rattle.explain.specs.Vocabulary.{Global, KeptTree, nothing_kept, blocks_of, Call, Placed, Trace, Explains, TreeData, MountFault, IsFirstDamage, IsWellFormed, tree_in, EventOf, Outside, Came, Event, HartsOf, FoundRoom, HasHistory, IsHistory, IsMounted, trace_in, WorldOf, any_climbs, any_full}
-use Rattle.explain.specs.Keeps.{KeepsRun}
 use Rattle.image_tree.specs.declared.fault.MountFault.TheVariants as faults
 use Rattle.explain.specs.declared.refused.ExplainRefused.{ExplainRefused}
 use Rattle.explain.specs.declared.refused.ExplainRefused.TheVariants as refused
@@ -24,19 +25,23 @@ pub record RunOn (image : List ℕ) (events : List Event) : Type 0 where
   pub starts : StartsOn image world
   pub history : HasHistory blocks_of never world.sizes world.harts events outcomes new
 
--- The list explains what such a run shows of calls, from the image's tree.
-pub record ExplainsRun (image : List ℕ) (events : List Event) (list : List Placed) : Type 0 where
+-- The list explains what such a run shows of calls, from the image's tree, and is the run's own: that of each of its histories, where
+-- every step found room. Wherever such a run is stopped, the list so far is a beginning of it, and the disk's tree is what has names in the
+-- tree after a beginning of it. A keeper that was told of each event of the run saw no step without room.
+pub record OwnsRun (image : List ℕ) (events : List Event) (list : List Placed) : Type 0 where
   pub run : RunOn image events
   pub explains : Explains (tree_in (blocks_of image)) (trace_in events run.outcomes) list
-
--- .. and a keeper was told of each event of the run, from that tree on: where what it kept explains the same, it is that list.
-pub record KeepsTheRun (image : List ℕ) (events : List Event) (list : List Placed) : Type 0 where
-  pub run : RunOn image events
-  pub explains : Explains (tree_in (blocks_of image)) (trace_in events run.outcomes) list
+  pub own : (history : List (EventOf Call Outside))
+      → IsHistory blocks_of never run.world.sizes run.world.harts events run.outcomes run.new history
+      → FoundRoom blocks_of never run.world history → list ≡ list_of blocks_of never run.world history
+  pub stops : (history : List (EventOf Call Outside))
+      → IsHistory blocks_of never run.world.sizes run.world.harts events run.outcomes run.new history
+      → FoundRoom blocks_of never run.world history → (k : ℕ) → k ≤ length events
+      → AgreesWithTheList blocks_of never (tree_in (blocks_of image)) run.world events run.outcomes history k
   pub kept : KeptTree
   pub keeps : KeepsRun blocks_of never run.world.sizes run.world.harts (nothing_kept (tree_in (blocks_of image))) events run.outcomes
       run.new kept
-  pub handed : Explains (tree_in (blocks_of image)) (trace_in events run.outcomes) kept.list → list ≡ kept.list
+  pub room : kept.full ≡ false
 
 -- in each history of the run some step found no room
 abbrev pub NeverFoundRoom : (image : List ℕ) (events : List Event) → RunOn image events → Type 0
@@ -49,9 +54,10 @@ pub record FindsNoRoom (image : List ℕ) (events : List Event) : Type 0 where
   pub run : RunOn image events
   pub full : (any_full (trace_in events run.outcomes).calls ≡ true) ⊎ NeverFoundRoom image events run
 
--- The path of a call that such a run started has the element "..".
+-- The path of a call that such a run started has the element "..", and no reply says that there is no room.
 pub record HasClimbed (image : List ℕ) (events : List Event) : Type 0 where
   pub run : RunOn image events
+  pub told : any_full (trace_in events run.outcomes).calls ≡ false
   pub climbs : any_climbs (trace_in events run.outcomes).calls ≡ true
 
 -- no world was mounted: the image's first damage, or want of memory
@@ -75,7 +81,7 @@ IsRefusedFor base t refused.NoMemory = Unit {0}
 IsRefusedFor base t (refused.Damaged d) = ⊥
 IsRefusedFor base t refused.FullSeen =
     (any_full t.calls ≡ true) ⊎ ((any_climbs t.calls ≡ false) × ((list : List Placed) → Explains base t list → ⊥))
-IsRefusedFor base t refused.Climbs = any_climbs t.calls ≡ true
+IsRefusedFor base t refused.Climbs = (any_full t.calls ≡ false) × (any_climbs t.calls ≡ true)
 
 -- a list that explains the trace from the tree, or why there is none
 abbrev pub IsFoundFor : TreeData → Trace → Result (Vec Placed Global) ExplainRefused → Type 0

@@ -3,7 +3,7 @@ use Rattle.std.specs.Prelude.{◌≡◌, List, ℕ, IfOk, MatchOption, Option, S
 use Rattle.explain.specs.Vocabulary.{Global, blocks_of, NoMemory, Placed, Trace, Explains, TreeData, tree_in, Event, KeptTree, nothing_kept}
 use Rattle.explain.specs.declared.play.Played.{Played}
 use Rattle.explain.specs.Explained.{RunOn, never}
-use Rattle.explain.specs.Keeps.{KeepsRun}
+use Rattle.kept_histories.specs.Keeps.{KeepsRun}
 
 -- A run of the events on the image came to these outcomes, and the base is the image's tree.
 pub record IsPlayed (image : List ℕ) (events : List Event) (p : Played) : Type 0 where

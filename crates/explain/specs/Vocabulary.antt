@@ -16,13 +16,7 @@ pub use Rattle.plain_tree.specs.declared.call.Call.{Call}
 pub use Rattle.plain_tree.specs.declared.trace.Placed.{Placed}
 pub use Rattle.plain_tree.specs.declared.trace.Trace.{Trace}
 pub use Rattle.hart_core.specs.Telling.{NotesEvent, heard_in}
-pub use Rattle.hart_core.specs.declared.outcome.Outcome.{Outcome}
 pub use Rattle.fs_layout.specs.declared.superblock.Super.{Super}
 pub use Rattle.path_walk.specs.declared.asks.Heard.{Heard}
-pub use Rattle.plain_tree.specs.declared.answer.Reply.{Reply}
-pub use Rattle.tree_histories.specs.Books.{IsBook}
-pub use Rattle.tree_histories.specs.Keeping.{HasStarted, KeptTree, nothing_kept, passed, with_hart}
-pub use Rattle.tree_histories.specs.Moving.{HasRun}
-pub use Rattle.tree_laws.specs.History.{History, passes, replies, starts}
-pub use Rattle.tree_laws.specs.Vocabulary.{hart_count}
+pub use Rattle.tree_histories.specs.Keeping.{KeptTree, nothing_kept}
 pub use Rattle.hart_core.specs.Starts.{fault_of}

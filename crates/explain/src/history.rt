@@ -1,8 +1,8 @@
 // The history of a run.
-ghost use Rattle.std.specs.Prelude.{◌≡◌, IfOk, MatchResult};
+ghost use Rattle.std.specs.Prelude.{◌≡◌, false, IfOk, MatchResult};
 ghost use Rattle.std.specs.Option.{MatchOption};
-ghost use Rattle.explain.specs.Vocabulary.{trace_in, Explains};
-ghost use Rattle.explain.specs.Explained.{ExplainsRun, IsFoundFor, IsRefusedSo, KeepsTheRun};
+ghost use Rattle.explain.specs.Vocabulary.{any_climbs, trace_in, Explains};
+ghost use Rattle.explain.specs.Explained.{IsFoundFor, IsRefusedSo, OwnsRun};
 ghost use Rattle.explain.specs.Keeps.{HandsOut};
 ghost use Rattle.explain.specs.Played.{IsFound};
 
@@ -35,24 +35,26 @@ fn kept_or_found(
 /// Mounts a copy of the image in memory, runs these events, and hands out a list of tree steps that explains what they
 /// showed of calls: event number, call, step and answer each. Without events the list is empty.
 ///
-/// It is refused by the image's first damage; by 71 where a step found no room: where a reply says so, also where a path
-/// climbs as well, and where no list explains the run, as one does where every step found room and no path climbs; by 72
-/// where the path of a call that was started has the element ".."; by 33 where memory was refused.
+/// It is refused by the image's first damage; by 71 where a step found no room, also in a call that hasn't replied, and also where a path
+/// climbs as well; by 72 where the path of a call that was started has the element ".."; by 33 where memory was refused.
 ///
 /// The events run beside a tree, on which each operation makes its move as it acts: the list is the one that comes about so, each step
 /// with its answer at the event at which it acted, and the failing steps of walks at the event of the unlink that removed their directory.
-/// So it is the run's own, of which the disk holds a beginning wherever the run is stopped. That takes as long as the run and the steps on
-/// the tree, twice. Only where a step of a call that hasn't replied found no room this list may not explain the run: another one is
-/// sought then, and the time may grow with the power of the number of calls.
+/// It is the run's own, of which the disk holds a beginning wherever the run is stopped. That takes as long as the run and the steps on
+/// the tree, twice. Where an inode is being claimed for which there is no place in memory, and its call hasn't been told so yet as the
+/// events end, that want of room isn't seen: the kept list is handed out if it explains the run, and else one is sought, which may take
+/// long. That want of room is seen in all other cases is only tested.
 pub fn explain(alloc: Global, image: &[u8], events: &[Event]) -> Result<Vec<Placed>, ExplainRefused>
-    ensures found { MatchResult result (λ v. ExplainsRun image.now events.now v.items) (λ e. IsRefusedSo image.now events.now e) }
-    ensures kept { IfOk result (λ v. KeepsTheRun image.now events.now v.items) }
+    ensures { MatchResult result (λ v. OwnsRun image.now events.now v.items) (λ e. IsRefusedSo image.now events.now e) }
 {
     let Played {
         base,
         outcomes,
         keeper,
     } = play(alloc, image, events)?;
+    if keeper.is_full() {
+        return Err(ExplainRefused::FullSeen);
+    }
     explain_noted(alloc, &base, events, &outcomes, keeper)
 }
 
@@ -60,7 +62,7 @@ pub fn explain(alloc: Global, image: &[u8], events: &[Event]) -> Result<Vec<Plac
 /// is the tree of the image that was mounted, and the keeper was told of each event.
 ///
 /// Whatever is passed, a list that is handed out explains these events and outcomes from this tree: it is the keeper's, where that does.
-/// With another keeper it may take long.
+/// With another keeper it may take long. The keeper isn't asked here whether it saw a step without room (`Keeper::is_full`).
 pub fn explain_noted(
     alloc: Global,
     base: &Tree,
@@ -70,6 +72,7 @@ pub fn explain_noted(
 ) -> Result<Vec<Placed>, ExplainRefused>
     ensures found { IsFoundFor base.now (trace_in events.now outcomes.now) result }
     ensures kept { IfOk result (λ v. HandsOut keeper base.now (trace_in events.now outcomes.now) v.items) }
+    ensures flat { IfOk result (λ _. any_climbs (trace_in events.now outcomes.now).calls ≡ false) }
 {
     let Ok(kept) = keeper.into_list() else {
         return Err(ExplainRefused::NoMemory);

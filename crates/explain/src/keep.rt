@@ -1,6 +1,7 @@
 // The tree kept beside a run.
-ghost use Rattle.std.specs.Prelude.{◌≡◌, IfOk, None, Some};
-ghost use Rattle.explain.specs.Keeps.{HasNoted, IsListOf, KeepsEvent, KeepsOutcome, Starts};
+ghost use Rattle.std.specs.Prelude.{◌≡◌, false, IfOk, IsTrue, None, Some};
+ghost use Rattle.explain.specs.Keeps.{HasNoted, IsListOf, SawNoRoom, SawRoom};
+ghost use Rattle.kept_histories.specs.Keeps.{KeepsEvent, KeepsOutcome, Starts};
 ghost use Rattle.explain.specs.Telling.{TellsKeeper};
 ghost use Rattle.explain.specs.Vocabulary.{fault_of, nothing_kept};
 
@@ -53,6 +54,14 @@ impl Keeper {
         if keep_event(&mut self.kept, self.alloc, event, came, heard).is_err() {
             self.is_short = true;
         }
+    }
+
+    /// Whether it saw a step that found no room: an operation was answered so, also in a call that hasn't replied, or a step of the tree.
+    pub fn is_full(&self) -> bool
+        ensures full { IsTrue result → SawNoRoom self.now }
+        ensures room { result ≡ false → SawRoom self.now }
+    {
+        !self.is_short && self.kept.is_full()
     }
 
     // The steps so far. An error is that memory was refused once.

@@ -1,5 +1,5 @@
 -- Before and after each event: the theory's state, code's harts and the kept tree agree.
-use Rattle.std.specs.Prelude.{◌≡◌, ◌≢◌, ◌⊎◌, ◌<◌, ℕ, List, Option, Some, None, get_or}
+use Rattle.std.specs.Prelude.{◌≡◌, ◌≢◌, ◌⊎◌, ◌<◌, ℕ, false, List, Option, Some, None, get_or}
 use Rattle.std.specs.Option.{option_map}
 use Rattle.std.proofs.Common.{get_or-set_other, length-set}
 use Rattle.calls_on_blocks.proofs.Vocabulary.{refl, sym, ◌∙◌, ap, subst, inl, inr}
@@ -22,15 +22,18 @@ use Rattle.tree_histories.specs.Keeping.{HeardBy, KeptTree, Under, hart_in, stag
 use Rattle.tree_laws.specs.History.{HartStanding, History}
 use Rattle.tree_laws.specs.History.HartStanding.{Busy, Free}
 use Rattle.tree_laws.specs.Vocabulary.{hart_count}
+use Rattle.whole_calls.specs.Wholes.{WholeFits}
 use Rattle.kept_histories.proofs.KeptCalls.{KeptAs}
 use Rattle.kept_histories.proofs.Together.{HartAt, Together}
 
 module _ {D : Type 0} (contents : D → List (List ℕ)) (failures : D → ℕ) (sizes : Super) where
+  -- room: no step has found none
   pub record Agrees (s : State (block_calls sizes)) (b : History) (w : HartsOf D) (k : KeptTree) (under : ℕ → Option UnderWay) : Type 0 where
     pub code : erase (block_calls sizes) (block_code sizes) s ≡ calls_of contents failures sizes w
     pub harts : (h : ℕ) → HartAt sizes (under h) (get_or w.calls h None) (hart_in k h)
     pub stage : stage_of k ≡ (block_moves sizes).tree s.world
     pub book : IsBook k b
+    pub room : k.full ≡ false
 
 -- ---- harts
 
@@ -63,6 +66,7 @@ module _ (sizes : Super) where
         stands = at.stands;
         sized = at.sized;
         kept = subst (λ (z : Under). KeptAs (Do u.op u.mark u.rest) z) (sym same) at.kept;
+        fits = subst (λ (z : Under). WholeFits z.listed z.whole) (sym same) at.fits;
         begun = ap (λ (z : Under). z.has_begun) same ∙ at.begun;
       }
     where

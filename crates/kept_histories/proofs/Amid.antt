@@ -1,5 +1,5 @@
 -- The machines of harts that are in order are amid their parts.
-use Rattle.std.specs.Prelude.{◌≡◌, ℕ, List, false, Option}
+use Rattle.std.specs.Prelude.{◌≡◌, ℕ, List, false, Option, Some, None, get_or}
 use Rattle.calls_on_blocks.proofs.Vocabulary.{refl, subst}
 use Rattle.atomic_programs.specs.Prog.{Ret, Do}
 use Rattle.hart_core.specs.Harts.{AreHarts, HartFits, HartsOf, shared_of}
@@ -9,7 +9,11 @@ use Rattle.inode_parts.specs.Parts.{Part}
 use Rattle.inode_parts.specs.Telling.{part_of}
 use Rattle.syscalls.specs.Machines.{Running}
 use Rattle.whole_calls.specs.Wholes.{text_in}
-use Rattle.kept_histories.specs.Fitting.{AreAmid, at_end}
+use Rattle.kept_histories.proofs.Controls.{at_end}
+
+-- each machine's part asks for an operation
+abbrev pub AreAmid : {D : Type 0} → HartsOf D → Type 0
+AreAmid w = (h : ℕ) (m : Running) → get_or w.calls h None ≡ Some m → at_end (part_of m.control m.hand) ≡ false
 
 one_left : (q : Part) → HasOne q → at_end q ≡ false
 one_left (Ret r) one = absurd one

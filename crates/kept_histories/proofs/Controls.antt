@@ -1,10 +1,14 @@
 -- Programs on the blocks as code has them: how one goes on with these answers, and where it is at its end.
 use Rattle.std.specs.Prelude.{◌≡◌, Bool, true, false, Option}
-use Rattle.calls_on_blocks.proofs.Vocabulary.{refl, sym, ◌∙◌, ap}
+use Rattle.calls_on_blocks.proofs.Vocabulary.{sym, ◌∙◌, ap}
 use Rattle.atomic_programs.specs.Prog.{Prog, Ret, Do, bind, plain}
 use Rattle.fs_machine.specs.Steps as steps
 use Rattle.fs_machine.specs.Controls.{Goes}
-use Rattle.kept_histories.specs.Fitting.{at_end}
+
+-- a program is at its end
+abbrev pub at_end : {Op : Type 0} {Answer : Op → Type 0} {M A : Type 0} → Prog Op Answer M A → Bool
+at_end (Ret a) = true
+at_end (Do op m k) = false
 
 -- ---- a program and what it is answered
 
@@ -15,10 +19,6 @@ Answers = (o : steps.Op) → steps.Answer o
 abbrev pub after : {M A : Type 0} → Answers → Prog steps.Op steps.Answer M A → Prog steps.Op steps.Answer M A
 after answer (Ret a) = Ret a
 after answer (Do o m k) = k (answer o)
-
-after_plain : {M A : Type 0} (answer : Answers) (p : Prog steps.Op steps.Answer M A) → after answer (plain p) ≡ plain (after answer p)
-after_plain answer (Ret a) = refl
-after_plain answer (Do o m k) = refl
 
 after_bind : {A B : Type 0} (answer : Answers) (p q : Prog steps.Op steps.Answer ⊥ A) (f : A → Prog steps.Op steps.Answer ⊥ B) → Goes p answer q → after answer (bind p f) ≡ bind q f
 after_bind answer (Ret a) q f g = absurd g

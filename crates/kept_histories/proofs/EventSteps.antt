@@ -1,9 +1,9 @@
 -- One event: the theory's state, code's harts and the kept tree agree after it as before it.
-use Rattle.std.specs.Prelude.{◌≡◌, ℕ, List, [], Option}
+use Rattle.std.specs.Prelude.{◌≡◌, ℕ, Bool, true, false, List, [], Option, Some, None}
 use Rattle.calls_on_blocks.proofs.Vocabulary.{refl, sym, ◌∙◌, ap}
 use Rattle.calls_on_blocks.proofs.Lawful.{is_code}
 use Rattle.atomic_programs.proofs.Erased.{erase-makes, erased}
-use Rattle.atomic_programs.specs.Calls.{DidEnd, DidRun, DidStop, DidWait, Event, EventOutcome, Made, Outcome, Refused, Started, State, Step, Theory, WasIdle, WasStopped, makes}
+use Rattle.atomic_programs.specs.Calls.{DidEnd, DidRun, DidStop, DidWait, Event, EventOutcome, Made, Outcome, Refused, Run, Started, State, Step, Theory, WasIdle, WasStopped, makes, step_run, step_unless}
 use Rattle.atomic_programs.specs.Plain.{Code, PlainMade, by_kind, erase, plain_makes}
 use Rattle.calls_on_blocks.specs.History.{block_moves}
 use Rattle.calls_on_blocks.specs.Theory.{block_calls, block_code}
@@ -81,6 +81,27 @@ IsQuiet (DidRun did) = ⊥
 IsQuiet (DidEnd reply) = ⊥
 IsQuiet DidStop = Unit {0}
 IsQuiet WasStopped = Unit {0}
+
+-- a call ran
+abbrev pub HasRun : {A R F : Type 0} → Outcome A R F → Type 0
+HasRun Started = ⊥
+HasRun (Refused why) = ⊥
+HasRun WasIdle = ⊥
+HasRun DidWait = ⊥
+HasRun (DidRun did) = Unit {0}
+HasRun (DidEnd reply) = Unit {0}
+HasRun DidStop = ⊥
+HasRun WasStopped = ⊥
+
+module _ (sizes : Super) where
+  -- in a world that isn't stopped
+  unless_off : (h : ℕ) (x : Outside) (s : State (block_calls sizes)) (r : Run (block_calls sizes)) (stopped : Bool) → HasRun (step_unless (block_calls sizes) h x s stopped r).came → stopped ≡ false
+  unless_off h x s r true ran = absurd ran
+  unless_off h x s r false ran = refl
+
+  pub run_off : (h : ℕ) (x : Outside) (s : State (block_calls sizes)) (o : Option (Run (block_calls sizes))) → HasRun (step_run (block_calls sizes) h x s o).came → s.stopped ≡ false
+  run_off h x s None ran = absurd ran
+  run_off h x s (Some r) ran = unless_off h x s r s.stopped ran
 
 module _ (sizes : Super) where
   -- a step that didn't run is an event without a move, and shows nothing

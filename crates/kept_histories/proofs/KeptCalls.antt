@@ -23,6 +23,13 @@ use Rattle.kept_histories.proofs.Heads.{IsFine, IsFineOp, reads_or_fine}
 abbrev pub KeptAs : programs.P Reply → Under → Type 0
 KeptAs p v = (p ≡ whole_of v.listed v.whole) ⊎ ((r q : Reply) × (p ≡ programs.say r) × (whole_of v.listed v.whole ≡ programs.say q))
 
+-- so it asks for the same operation
+pub same_asked : (p : programs.P Reply) (v : Under) → KeptAs p v → (op : above.Op) → asks p ≡ Some op → asks (whole_of v.listed v.whole) ≡ Some op
+same_asked p v kept op is = elim kept [
+  | inl e ↦ sym (ap asks e) ∙ is
+  | inr s ↦ ap asks s.3 ∙ sym (ap asks s.2) ∙ is
+]
+
 no_end : {X : Type 0} (op : above.Op) (m : above.Answer op → Option above.Mark) (k : above.Answer op → programs.P Reply) (r : Reply)
     → ◌≡◌ {A = programs.P Reply} (Do op m k) (Ret r) → X
 no_end op m k r e = absurd (let q : Some op ≡ None = ap asks e in cc)

@@ -1,18 +1,21 @@
--- What is kept of a run from its mount on has the theory's history.
-use Rattle.std.specs.Prelude.{◌≡◌, ℕ, zero, suc, List, [], ◌∷◌, ◌++◌, Option, Some, None, length, get_or, replicate}
-use Rattle.calls_on_blocks.proofs.Vocabulary.{refl, sym, ◌∙◌, ap, subst, append_assoc}
+-- What is kept of a run of a mounted disk, in which no step found no room, agrees with the theory.
+use Rattle.std.specs.Prelude.{◌≡◌, ◌<◌, ◌^◌, ℕ, zero, suc, true, List, [], ◌∷◌, ◌++◌, Option, Some, None, length, get_or, replicate}
+use Rattle.calls_on_blocks.proofs.Vocabulary.{refl, sym, ◌∙◌, ap, subst, append_assoc, arith, RunsFrom}
+use Rattle.calls_on_blocks.proofs.History.{runs_from}
 use Rattle.atomic_programs.proofs.Reached.{run-append}
-use Rattle.atomic_programs.specs.Calls.{Event, Run, State, Theory, fresh, next, run}
+use Rattle.atomic_programs.specs.Calls.{Event, Run, State, Theory, fresh, makes, next}
 use Rattle.atomic_programs.specs.Plain.{erase}
-use Rattle.calls_on_blocks.specs.History.{block_moves}
+use Rattle.calls_on_blocks.specs.History.{RunsOn, block_moves, first}
 use Rattle.calls_on_blocks.specs.Theory.{block_calls, block_code}
+use Rattle.run_laws.specs.Vocabulary.{sizes_of}
 use Rattle.fs_layout.specs.declared.superblock.Super.{Super}
+use Rattle.fs_machine.specs.LogPart.{Passes}
 use Rattle.hart_core.specs.Harts.{AreIdle, HartsOf}
 use Rattle.hart_core.specs.Worlds.{calls_of}
 use Rattle.hart_core.specs.declared.events.Came.{Came}
 use Rattle.hart_core.specs.declared.events.Event.{Event as HartEvent}
+use Rattle.image_tree.specs.Trees.{tree_in}
 use Rattle.inode_machine.specs.Kept.{kept, nothing_yet}
-use Rattle.inode_machine.specs.Making.{MakesItsMoves}
 use Rattle.plain_tree.specs.Tree.{tree_of}
 use Rattle.plain_tree.specs.TreeData.{TreeData}
 use Rattle.plain_tree.specs.declared.call.Call.{Call}
@@ -20,53 +23,78 @@ use Rattle.run_laws.specs.UnderWay.{Fits, GoesOnAsItActs, StepsPlaceInTime, Unde
 use Rattle.run_laws.specs.Vocabulary.{Outside}
 use Rattle.syscalls.specs.Machines.{Running}
 use Rattle.tree_histories.proofs.Booked.{book_none}
-use Rattle.tree_histories.specs.Books.{IsBook}
 use Rattle.tree_histories.specs.Keeping.{KeptTree, Under, hart_in, nothing_kept, stage_of, walk_under}
 use Rattle.tree_laws.specs.Vocabulary.{hart_count}
-use Rattle.explain.specs.Keeps.{KeepsRun}
+use Rattle.kept_histories.specs.Keeps.{KeepsRun}
 use Rattle.kept_histories.proofs.Agreeing.{Agrees}
-use Rattle.kept_histories.proofs.AgreeingRuns.{AllDo, run_agrees}
+use Rattle.kept_histories.proofs.AgreeingRuns.{AgreesAt, run_agrees}
+use Rattle.kept_histories.proofs.Counted.{counted_first}
+use Rattle.kept_histories.proofs.EachEvent.{AllKnown, Known}
+use Rattle.kept_histories.proofs.Found.{AllFound, event_found}
+use Rattle.kept_histories.proofs.KeptHistory.{history_in}
+use Rattle.kept_histories.proofs.Prefixes.{clean_at, idle_at, moves_at, so_far}
+use Rattle.kept_histories.proofs.ShownFirst.{sees_rightly}
 use Rattle.kept_histories.proofs.Together.{HartAt}
-use Rattle.kept_histories.specs.Fitting.{AllFit, history_in}
 
 longer : {A : Type 0} (es : List A) (e : A) → length (es ++ e ∷ []) ≡ suc (length es)
 longer [] e = refl
 longer (x ∷ es) e = ap suc (longer es e)
 
-module _ (sizes : Super) (start : (block_calls sizes).M.World) (events : List (Event Call Outside)) (goes : GoesOnAsItActs sizes start events) where
+-- ---- each event
+
+module _ (disk : List (List ℕ)) (count : ℕ) (events : List (Event Call Outside)) (runs : RunsOn disk count events)
+    (goes : GoesOnAsItActs (sizes_of disk) (first disk count) events) where
+  abbrev sizes : Super
+  sizes = sizes_of disk
+
   abbrev L : Theory
   L = block_calls sizes
 
-  -- the run so far
-  abbrev pub so_far : List (Event Call Outside) → State (block_calls sizes)
-  so_far es = run L es (fresh L start)
+  abbrev at : List (Event Call Outside) → State L
+  at es = so_far disk count es
 
-  -- each move is made as code makes it; a hart that has no call doesn't walk
-  abbrev pub MovesAreMade : Type 0
-  MovesAreMade = (es : List (Event Call Outside)) (e : Event Call Outside) (rest : List (Event Call Outside)) → es ++ e ∷ rest ≡ events → MakesItsMoves (block_moves sizes) e (so_far es)
-
-  abbrev pub IdleDontWalk : Type 0
-  IdleDontWalk = (es rest : List (Event Call Outside)) → es ++ rest ≡ events → (g : ℕ) → (so_far es).running g ≡ None → ((block_moves sizes).tree (so_far es).world).walk g ≡ None
+  begins : RunsFrom (block_moves (sizes_of disk)) (tree_in disk) (first disk count) events
+  begins = runs_from disk count events runs
 
   free : (r : Option (Run L)) (u : Option UnderWay) → Fits sizes r u → u ≡ None → r ≡ None
   free None u fits e = refl
   free (Some r) None fits e = absurd fits
   free (Some r) (Some u) fits e = absurd cc
 
-  pub all_do : MovesAreMade → IdleDontWalk → (es fs : List (Event Call Outside)) → es ++ fs ≡ events → AllDo sizes goes.under (length es) fs (so_far es)
-  all_do moves rest es [] is = tt
-  all_do moves rest es (f ∷ fs) is =
+  known : (es : List (Event Call Outside)) (f : Event Call Outside) (fs : List (Event Call Outside)) → es ++ f ∷ fs ≡ events → AllFound (goes.under (length es))
+      → Known sizes f (at es) (goes.under (length es)) (goes.under (suc (length es)))
+  known es f fs is found =
       let more : List (Event Call Outside) = es ++ f ∷ [] in
       let whole : more ++ fs ≡ events = append_assoc es (f ∷ []) fs ∙ is in
-      let then_ : so_far more ≡ next L f (so_far es) = run-append L es (f ∷ []) (fresh L start) in (
-        goes.leads_on es f fs is,
-        moves es f fs is,
-        (λ g none.
+      let then_ : at more ≡ next L f (at es) = run-append L es (f ∷ []) (fresh L (first disk count)) in
+      record {
+        does = goes.leads_on es f fs is;
+        moves = moves_at disk count events runs es f fs is;
+        rests = λ g none.
             ap (λ (z : State L). ((block_moves sizes).tree z.world).walk g) (sym then_)
-            ∙ rest more fs whole g (free ((so_far more).running g) (goes.under (length more) g) (goes.fits more fs whole g) (ap (λ (n : ℕ). goes.under n g) (longer es f) ∙ none))),
-        subst (λ (z : State L). AllDo sizes goes.under (suc (length es)) fs z) then_
-            (subst (λ (n : ℕ). AllDo sizes goes.under n fs (so_far more)) (longer es f) (all_do moves rest more fs whole)),
+            ∙ idle_at disk count events runs more fs whole g
+            (free ((at more).running g) (goes.under (length more) g) (goes.fits more fs whole g) (ap (λ (n : ℕ). goes.under n g) (longer es f) ∙ none));
+        clean = subst (λ (z : State L). z.world.seen.clean ≡ true) then_ (clean_at disk count events runs more fs whole);
+        found = found;
+        sees = λ h made r off t same.
+            sees_rightly sizes (first disk count) events goes begins.holds begins.idle runs.honest es (f ∷ fs) is off t same h Passes made (goes.under (suc (length es))) r;
+      }
+
+  all_known : (es fs : List (Event Call Outside)) → es ++ fs ≡ events → AllFound (goes.under (length es)) → AllKnown sizes goes.under (length es) fs (at es)
+  all_known es [] is found = tt
+  all_known es (f ∷ fs) is found =
+      let more : List (Event Call Outside) = es ++ f ∷ [] in
+      let k : Known sizes f (at es) (goes.under (length es)) (goes.under (suc (length es))) = known es f fs is found in
+      let then_ : AllFound (goes.under (suc (length es))) =
+      event_found sizes (at es) (makes L f (at es)) (goes.under (length es)) (goes.under (suc (length es))) f k.does k.clean found in (
+        k,
+        subst (λ (z : State L). AllKnown sizes goes.under (suc (length es)) fs z) (run-append L es (f ∷ []) (fresh L (first disk count)))
+            (subst (λ (n : ℕ). AllKnown sizes goes.under n fs (at more)) (longer es f)
+            (all_known more fs (append_assoc es (f ∷ []) fs ∙ is) (subst (λ (n : ℕ). AllFound (goes.under n)) (sym (longer es f)) then_))),
       )
+
+  pub known_all : AllKnown (sizes_of disk) goes.under 0 events (fresh (block_calls (sizes_of disk)) (first disk count))
+  known_all = all_known [] events refl (λ h u is a acted. absurd (let q : None ≡ Some u = sym (goes.none_yet h) ∙ is in cc))
 
 -- ---- the beginning
 
@@ -87,6 +115,7 @@ module _ {D : Type 0} (contents : D → List (List ℕ)) (failures : D → ℕ) 
         (subst (λ (z : Option Under). HartAt sizes None None z) (sym (none_in hart_count h)) tt));
     stage = (λ i. record { tree = tree_of base; walk = λ h. stage_none i h }) ∙ sym opens;
     book = book_none base;
+    room = refl;
   }
     where
       stage_none : (stage_of (nothing_kept base)).walk ≡ (λ h. None)
@@ -94,18 +123,17 @@ module _ {D : Type 0} (contents : D → List (List ℕ)) (failures : D → ℕ) 
 
 -- ---- the run
 
-module _ {D : Type 0} (contents : D → List (List ℕ)) (failures : D → ℕ) (sizes : Super) (start : (block_calls sizes).M.World) (base : TreeData) (w : HartsOf D)
-    (es : List HartEvent) (cs : List Came) (new : HartsOf D) (k : KeptTree) (r : KeepsRun contents failures sizes w (nothing_kept base) es cs new k) where
+module _ {D : Type 0} (contents : D → List (List ℕ)) (failures : D → ℕ) (disk : List (List ℕ)) (count : ℕ) (base : TreeData) (w : HartsOf D)
+    (es : List HartEvent) (cs : List Came) (new : HartsOf D) (k : KeptTree) (r : KeepsRun contents failures (sizes_of disk) w (nothing_kept base) es cs new k) where
   abbrev pub history : List (Event Call Outside)
-  history = history_in contents failures sizes es cs w new (nothing_kept base) k r
+  history = history_in contents failures (sizes_of disk) es cs w new (nothing_kept base) k r
 
-  -- The book of what is kept is the history that the theory keeps of the run.
-  pub kept_book : (goes : GoesOnAsItActs sizes start history) → StepsPlaceInTime → MovesAreMade sizes start history goes → IdleDontWalk sizes start history goes
-      → erase (block_calls sizes) (block_code sizes) (fresh (block_calls sizes) start) ≡ calls_of contents failures sizes w → AreIdle w.calls
-      → (block_moves sizes).tree start ≡ record { tree = tree_of base; walk = λ h. None }
-      → AllFit contents failures sizes goes.under 0 (fresh (block_calls sizes) start) es cs w new (nothing_kept base) k r
-      → IsBook k (kept (block_moves sizes) history (fresh (block_calls sizes) start) nothing_yet)
-  kept_book goes in_time moves rest code idle opens fit =
-      (run_agrees contents failures sizes goes.under in_time es cs 0 (fresh (block_calls sizes) start) nothing_yet w new (nothing_kept base) k r
-      (agrees_first contents failures sizes start base w (goes.under 0) goes.none_yet code idle opens)
-      (all_do sizes start history goes moves rest [] history refl) fit).1.book
+  -- What is kept agrees with the theory at its end.
+  pub kept_agrees : (runs : RunsOn disk count history) (goes : GoesOnAsItActs (sizes_of disk) (first disk count) history) → StepsPlaceInTime
+      → erase (block_calls (sizes_of disk)) (block_code (sizes_of disk)) (fresh (block_calls (sizes_of disk)) (first disk count)) ≡ calls_of contents failures (sizes_of disk) w → AreIdle w.calls
+      → (block_moves (sizes_of disk)).tree (first disk count) ≡ record { tree = tree_of base; walk = λ h. None } → length es < 2 ^ 64
+      → (m : ℕ) × AgreesAt contents failures (sizes_of disk) goes.under m (so_far disk count history) (kept (block_moves (sizes_of disk)) history (fresh (block_calls (sizes_of disk)) (first disk count)) nothing_yet) new k
+  kept_agrees runs goes in_time code idle opens few =
+      run_agrees contents failures (sizes_of disk) goes.under in_time es cs 0 (fresh (block_calls (sizes_of disk)) (first disk count)) nothing_yet w new (nothing_kept base) k r
+      (record { agrees = agrees_first contents failures (sizes_of disk) (first disk count) base w (goes.under 0) goes.none_yet code idle opens; counted = counted_first })
+      (known_all disk count history runs goes) (omega (arith, few))

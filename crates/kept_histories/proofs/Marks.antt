@@ -1,6 +1,8 @@
--- The kept tree's marks are the theory's: what a step places is one move, and then the kept tree's mark makes that; or both make none.
-use Rattle.std.specs.Prelude.{◌≡◌, ◌⊎◌, ℕ, true, List, [], ◌∷◌, Option, Some, None}
-use Rattle.calls_on_blocks.proofs.Vocabulary.{refl, sym, ap, subst, inl, inr}
+-- The kept tree's marks are the theory's: what a step places is one move, and then the kept tree's mark makes that; or both make none, and
+-- then the mark doesn't say that there was no room.
+use Rattle.std.specs.Prelude.{◌≡◌, ◌⊎◌, ℕ, Bool, true, false, ◌||◌, List, [], ◌∷◌, Option, Some, None}
+use Rattle.std.specs.Option.{option_map}
+use Rattle.calls_on_blocks.proofs.Vocabulary.{refl, sym, ◌∙◌, ap, subst, inl, inr}
 use Rattle.inode_machine.specs.Marks.{places}
 use Rattle.inode_machine.specs.World as above
 use Rattle.inode_machine.specs.World.Mark.{Makes, Frees, Orphans, Fills, Mends, Spoils}
@@ -9,8 +11,9 @@ use Rattle.path_walk.specs.declared.asks.Mark.{Mark}
 use Rattle.path_walk.specs.declared.asks.Mark.TheVariants as mark
 use Rattle.plain_tree.specs.declared.step.Action.{Action}
 use Rattle.inode_machine.specs.Making.{MayMake}
-use Rattle.tree_histories.specs.Keeping.{KeptTree, Under, hart_in, stage_of}
-use Rattle.tree_histories.specs.Moving.{IsMoved, MovesByAny, makes_none}
+use Rattle.run_laws.proofs.Telling.{spoils}
+use Rattle.tree_histories.specs.Keeping.{KeptTree, Under, hart_in, stage_of, walking}
+use Rattle.tree_histories.specs.Moving.{IsMoved, MovesByAny, SameCalls, makes_none, spoils as kept_spoils}
 use Rattle.tree_laws.specs.Moves.{Deed, Move}
 use Rattle.inode_machine.specs.Vocabulary.{MoveStep}
 use Rattle.whole_calls.specs.Wholes.{action_in}
@@ -18,7 +21,7 @@ use Rattle.kept_histories.proofs.Heads.{MakesNone}
 
 -- A step placed these; this mark, of the same step for this action, makes a move just where one was placed.
 abbrev pub PlacesNone : List (ℕ × MoveStep) → Action → Option Mark → Type 0
-PlacesNone ps s o = (ps ≡ []) × MakesNone (marked_as s o)
+PlacesNone ps s o = (ps ≡ []) × MakesNone (marked_as s o) × (spoils (marked_as s o) ≡ false)
 
 abbrev pub PlacesOne : ℕ → List (ℕ × MoveStep) → Action → Option Mark → Type 0
 PlacesOne h ps s o = (v : Move) × (d : Option Deed) × (ps ≡ (h, record { move = v; told = d }) ∷ []) × (marked_as s o ≡ Some (Makes v))
@@ -26,16 +29,16 @@ PlacesOne h ps s o = (v : Move) × (d : Option Deed) × (ps ≡ (h, record { mov
 abbrev pub PlacesAlike : ℕ → List (ℕ × MoveStep) → Action → Option Mark → Type 0
 PlacesAlike h ps s o = PlacesNone ps s o ⊎ PlacesOne h ps s o
 
--- what is placed by the same mark
+-- what is placed by the same mark, where that found room
 pub alike : (h : ℕ) (op : above.Op) (a : above.Answer op) (w : above.World) (ps : List (ℕ × MoveStep)) (s : Action) (o : Option Mark)
-    (m : Option above.Mark) → ps ≡ places h op a m w → marked_as s o ≡ m → PlacesAlike h ps s o
-alike h op a w ps s o None is same = inl (is, subst MakesNone (sym same) tt)
-alike h op a w ps s o (Some (Makes v)) is same = inr (v, _, is, same)
-alike h op a w ps s o (Some (Frees n)) is same = inl (is, subst MakesNone (sym same) tt)
-alike h op a w ps s o (Some (Orphans n)) is same = inl (is, subst MakesNone (sym same) tt)
-alike h op a w ps s o (Some Fills) is same = inl (is, subst MakesNone (sym same) tt)
-alike h op a w ps s o (Some Mends) is same = inl (is, subst MakesNone (sym same) tt)
-alike h op a w ps s o (Some (Spoils t)) is same = inl (is, subst MakesNone (sym same) tt)
+    (m : Option above.Mark) → ps ≡ places h op a m w → marked_as s o ≡ m → spoils m ≡ false → PlacesAlike h ps s o
+alike h op a w ps s o None is same room = inl (is, subst MakesNone (sym same) tt, ap spoils same ∙ room)
+alike h op a w ps s o (Some (Makes v)) is same room = inr (v, _, is, same)
+alike h op a w ps s o (Some (Frees n)) is same room = inl (is, subst MakesNone (sym same) tt, ap spoils same ∙ room)
+alike h op a w ps s o (Some (Orphans n)) is same room = inl (is, subst MakesNone (sym same) tt, ap spoils same ∙ room)
+alike h op a w ps s o (Some Fills) is same room = inl (is, subst MakesNone (sym same) tt, ap spoils same ∙ room)
+alike h op a w ps s o (Some Mends) is same room = inl (is, subst MakesNone (sym same) tt, ap spoils same ∙ room)
+alike h op a w ps s o (Some (Spoils t)) is same room = inl (is, subst MakesNone (sym same) tt, ap spoils same ∙ room)
 
 pub none_placed : (h : ℕ) (op : above.Op) (a : above.Answer op) (w : above.World) (m : Option above.Mark) → MakesNone m → places h op a m w ≡ []
 none_placed h op a w None none = refl
@@ -63,9 +66,35 @@ makes_none_is s (mark.Orphans n) none = refl
 makes_none_is s mark.Mends none = refl
 makes_none_is s mark.Fills none = refl
 
-pub stays : (k : KeptTree) (h : ℕ) (s : Action) (o : Option Mark) (k' : KeptTree) → MakesNone (marked_as s o) → MovesByAny k h o k' → k' ≡ k
-stays k h s None k' none moves = moves
-stays k h s (Some m) k' none moves = moves.still (makes_none_is s m none)
+-- it says that there was no room just where the theory's mark does
+spoils_so : (s : Action) (m : Mark) → spoils (Some (mark_in s m)) ≡ kept_spoils m
+spoils_so s mark.Begin = refl
+spoils_so s (mark.Look new) = refl
+spoils_so s mark.GiveUpWalk = refl
+spoils_so s mark.Own = refl
+spoils_so s (mark.Truncate fd) = refl
+spoils_so s mark.Bump = refl
+spoils_so s mark.Unbump = refl
+spoils_so s (mark.Piece i) = refl
+spoils_so s (mark.PartOfPiece i k) = refl
+spoils_so s (mark.Frees n) = refl
+spoils_so s (mark.Orphans n) = refl
+spoils_so s mark.Mends = refl
+spoils_so s mark.Fills = refl
+
+pub or_false : (b : Bool) → (b || false) ≡ b
+or_false true = refl
+or_false false = refl
+
+pub stays : (k : KeptTree) (h : ℕ) (s : Action) (o : Option Mark) (k' : KeptTree) → MakesNone (marked_as s o) → spoils (marked_as s o) ≡ false → MovesByAny k h o k' → k' ≡ k
+stays k h s None k' none room moves = moves
+stays k h s (Some m) k' none room moves =
+    moves.still (makes_none_is s m none) ∙ ap (λ (b : Bool). record k { full = k.full || b }) (sym (spoils_so s m) ∙ room) ∙ ap (λ (b : Bool). record k { full = b }) (or_false k.full)
+
+-- no call changes, but for its walk
+pub calls_stay : (k : KeptTree) (h : ℕ) (o : Option Mark) (k' : KeptTree) → MovesByAny k h o k' → SameCalls k k'
+calls_stay k h None k' moves = λ j. ap (λ (z : KeptTree). option_map (walking None) (hart_in z j)) moves
+calls_stay k h (Some m) k' moves = moves.calls
 
 abbrev mark_of : above.Mark → Option above.Mark → above.Mark
 mark_of m None = m

@@ -1,20 +1,21 @@
--- The kept tree's stage and book go on by a step's move as the theory's stage and history do.
-use Rattle.std.specs.Prelude.{◌≡◌, ℕ, zero, suc, List, Option, Some, None}
+-- The kept tree's stage and book go on by a step's move as the theory's stage and history do, and no step finds no room.
+use Rattle.std.specs.Prelude.{◌≡◌, ℕ, zero, suc, Bool, true, not, ◌||◌, List, [], ◌∷◌, Option, Some, None}
 use Rattle.calls_on_blocks.proofs.Vocabulary.{refl, sym, ◌∙◌, ap, subst, inl, inr}
 use Rattle.inode_machine.specs.Kept.{stage_by, told_by_move, told_of}
 use Rattle.inode_machine.specs.Making.{IsMade, MakesPlaced, MayMake, OpensLeast}
 use Rattle.inode_machine.specs.MoveCalls.{MoveMachine}
+use Rattle.inode_machine.specs.Marks.{roomy}
 use Rattle.inode_machine.specs.Vocabulary.{MoveStep}
 use Rattle.path_walk.specs.declared.asks.Mark.{Mark}
 use Rattle.tree_histories.specs.Books.{IsBook}
 use Rattle.tree_histories.specs.Keeping.{KeptTree, Under, hart_in, stage_of}
 use Rattle.tree_histories.specs.Moving.{IsMoved, MovesByAny}
 use Rattle.tree_laws.specs.History.{History}
-use Rattle.tree_laws.specs.Moves.{Deed, Stage}
+use Rattle.tree_laws.specs.Moves.{Deed, Move, Stage}
 use Rattle.tree_laws.specs.Runs.{all_fall, lost_of, moves_on, unless}
 use Rattle.tree_laws.specs.Vocabulary.{hart_count}
 use Rattle.whole_calls.specs.Wholes.{action_in}
-use Rattle.kept_histories.proofs.Marks.{PlacesAlike, moves, stays}
+use Rattle.kept_histories.proofs.Marks.{PlacesAlike, moves, or_false, stays}
 
 -- ---- an event without a move
 
@@ -37,14 +38,16 @@ nothing_moves n h b = rw (unless_none (lost_of n h)) (all_stand n hart_count b)
 -- ---- a step
 
 module _ (N : MoveMachine) (h : ℕ) (k : KeptTree) (n n' : Stage) (ps : List (ℕ × MoveStep)) (stands : stage_of k ≡ n) (makes : MakesPlaced h n ps n')
-    (v : Under) (is : hart_in k h ≡ Some v) (o : Option Mark) (between : KeptTree) (by : MovesByAny k h o between) where
+    (v : Under) (is : hart_in k h ≡ Some v) (o : Option Mark) (between : KeptTree) (by : MovesByAny k h o between)
+    (roomy_told : (v : Move) (d : Option Deed) → ps ≡ (h, record { move = v; told = d }) ∷ [] → roomy d ≡ true) where
   pub record MovedOn : Type 0 where
     pub stage : stage_of between ≡ n'
     pub book : (b : History) → IsBook k b → IsBook between (moves_on n n' h (told_of N ps) b)
+    pub full : between.full ≡ k.full
 
   pub moved_on : PlacesAlike h ps (action_in v.whole) o → MovedOn
   moved_on (inl none) =
-      let same : between ≡ k = stays k h (action_in v.whole) o between none.1 by in
+      let same : between ≡ k = stays k h (action_in v.whole) o between none.1 none.2 by in
       let still : n' ≡ n = subst (λ (z : List (ℕ × MoveStep)). MakesPlaced h n z n') none.0 makes in
       record {
         stage = ap stage_of same ∙ stands ∙ sym still;
@@ -52,6 +55,7 @@ module _ (N : MoveMachine) (h : ℕ) (k : KeptTree) (n n' : Stage) (ps : List (�
             subst (λ (z : List (ℕ × MoveStep)). IsBook between (moves_on n n' h (told_of N z) b)) (sym none.0)
             (subst (λ (z : Stage). IsBook between (moves_on n z h None b)) (sym still)
             (subst (IsBook between) (sym (nothing_moves n h b)) (subst (λ (z : KeptTree). IsBook z b) (sym same) book)));
+        full = ap (λ (z : KeptTree). z.full) same;
       }
   moved_on (inr one) =
       let e : MoveStep = record { move = one.0; told = one.1 } in
@@ -67,4 +71,6 @@ module _ (N : MoveMachine) (h : ℕ) (k : KeptTree) (n n' : Stage) (ps : List (�
             (subst (λ (d : Option Deed). IsBook between (moves_on n n' h d b)) (sym told)
             (subst (λ (z : Stage). IsBook between (moves_on n z h (told_by_move n h went.id one.0) b)) (sym to)
             (subst (λ (z : Stage). IsBook between (moves_on z (stage_by z h went.id one.0) h (told_by_move z h went.id one.0) b)) stands (went.book b book))));
+        full = went.full ∙ ap (λ (z : Stage). k.full || not (roomy (told_by_move z h went.id one.0))) stands
+            ∙ ap (λ (d : Option Deed). k.full || not (roomy d)) (sym told) ∙ ap (λ (b : Bool). k.full || not b) (roomy_told one.0 one.1 one.2) ∙ or_false k.full;
       }

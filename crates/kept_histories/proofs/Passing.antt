@@ -28,7 +28,7 @@ use Rattle.std.specs.Option.{option_map}
 use Rattle.tree_laws.specs.History.{History, passes, starts}
 use Rattle.tree_laws.specs.Vocabulary.{hart_count}
 use Rattle.whole_calls.specs.Wholes.{call_in}
-use Rattle.explain.specs.Keeps.{Passes as JustPasses, Starts}
+use Rattle.kept_histories.specs.Keeps.{Passes as JustPasses, Starts}
 use Rattle.kept_histories.proofs.Agreeing.{Agrees, other_call}
 use Rattle.kept_histories.proofs.Standing.{Begins, StandsAt, begins}
 use Rattle.kept_histories.proofs.Together.{HartAt, Together}
@@ -45,6 +45,7 @@ module _ (sizes : Super) where
     stands = subst (λ (c : Lowered). StandsAt u c n.hand) (sym stays.0) (subst (λ (g : Hand). StandsAt u m.control g) (sym stays.1) at.stands);
     sized = ap (λ (c : Lowered). c.sizes) stays.0 ∙ at.sized;
     kept = at.kept;
+    fits = at.fits;
     begun = at.begun;
   }
 
@@ -75,6 +76,7 @@ module _ {D : Type 0} (contents : D → List (List ℕ)) (failures : D → ℕ) 
         (subst (λ (z : KeptTree). HartAt sizes (was j) (get_or new.calls j None) (hart_in z j)) (sym p.kept) (by j (same_or j h)));
     stage = ap stage_of p.kept ∙ agree.stage ∙ sym same;
     book = p.book b agree.book;
+    room = ap (λ (z : KeptTree). z.full) p.kept ∙ agree.room;
   }
     where
       by : (j : ℕ) → (j ≡ h) ⊎ (j ≢ h) → HartAt sizes (was j) (get_or new.calls j None) (hart_in k j)
@@ -109,6 +111,7 @@ module _ {D : Type 0} (contents : D → List (List ℕ)) (failures : D → ℕ) 
       stands = first.stands;
       sized = m.2.0;
       kept = inl (first.program ∙ sym p.kept.fresh.4);
+      fits = p.kept.fresh.5;
       begun = p.kept.fresh.2 ∙ sym (ap (λ r. not (none_ran r)) first.begun);
     }
 
@@ -140,6 +143,7 @@ module _ {D : Type 0} (contents : D → List (List ℕ)) (failures : D → ℕ) 
       harts = λ j. by j (same_or j h);
       stage = stage_still ∙ agree.stage ∙ sym same;
       book = p.book b is_hart few agree.book;
+      room = ap (λ (z : KeptTree). z.full) p.kept.kept ∙ agree.room;
     }
       where
         by : (j : ℕ) → (j ≡ h) ⊎ (j ≢ h) → HartAt sizes (now j) (get_or new.calls j None) (hart_in k' j)

@@ -1,5 +1,5 @@
 -- A step that ran: the theory's state, code's harts and the kept tree agree after it as before it.
-use Rattle.std.specs.Prelude.{◌≡◌, ◌≢◌, ◌⊎◌, ◌<◌, ℕ, Bool, true, false, List, Option, Some, None, get_or}
+use Rattle.std.specs.Prelude.{◌≡◌, ◌≢◌, ◌⊎◌, ◌<◌, ℕ, Bool, true, false, List, [], ◌∷◌, Option, Some, None, get_or}
 use Rattle.std.specs.Option.{option_map}
 use Rattle.calls_on_blocks.proofs.Vocabulary.{refl, sym, ◌∙◌, ap, subst, inl, inr}
 use Rattle.atomic_programs.proofs.Explains.{changed_other}
@@ -16,6 +16,7 @@ use Rattle.hart_core.specs.Telling.{RanAt, SetsAt, rest_of}
 use Rattle.hart_core.specs.Worlds.{calls_of}
 use Rattle.inode_machine.specs.Kept.{placed, told_of}
 use Rattle.inode_machine.specs.Making.{MakesPlaced}
+use Rattle.inode_machine.specs.Marks.{roomy}
 use Rattle.inode_machine.specs.MoveCalls.{MoveMachine}
 use Rattle.inode_parts.specs.Telling.{GoesOrEnds, part_of}
 use Rattle.path_walk.specs.declared.asks.Heard.{Heard}
@@ -26,22 +27,24 @@ use Rattle.run_laws.specs.Vocabulary.{or_else}
 use Rattle.syscalls.specs.Machines.{Running, TellsOf}
 use Rattle.tree_histories.proofs.Harts.{is_hart, other_hart, put_twice, same_hart}
 use Rattle.tree_histories.specs.Books.{IsBook}
-use Rattle.tree_histories.specs.Keeping.{HeardBy, KeptTree, ReadsTooMuch, Under, hart_in, passed, stage_of, walk_under, walking, with_hart}
-use Rattle.tree_histories.specs.Moving.{HasRun}
+use Rattle.tree_histories.specs.Keeping.{HeardBy, KeptTree, Under, hart_in, passed, stage_of, walk_under, walking, with_hart}
+use Rattle.tree_histories.specs.Moving.{HasRun, SameCalls}
 use Rattle.tree_histories.specs.Sights.{MarksBy}
 use Rattle.tree_laws.specs.History.{History, passes, replies}
-use Rattle.tree_laws.specs.Moves.{Stage}
+use Rattle.tree_laws.specs.Moves.{Deed, Move, Stage}
 use Rattle.tree_laws.specs.Runs.{moves_on}
 use Rattle.whole_calls.specs.Wholes.{WholeFits, action_in}
-use Rattle.explain.specs.Keeps.{Passes as JustPasses, Replies}
+use Rattle.kept_histories.specs.Keeps.{Passes as JustPasses, Replies}
 use Rattle.kept_histories.proofs.Agreeing.{Agrees, Has, book_put, has, hart_still, other_call, stands_still}
+use Rattle.kept_histories.proofs.Amid.{AreAmid}
+use Rattle.kept_histories.proofs.Controls.{at_end}
+use Rattle.kept_histories.proofs.Found.{AllFound, acted_room, placed_room}
 use Rattle.kept_histories.proofs.KeptCalls.{KeptAs}
-use Rattle.kept_histories.proofs.Marks.{PlacesAlike}
+use Rattle.kept_histories.proofs.Marks.{PlacesAlike, calls_stay}
 use Rattle.kept_histories.proofs.Moved.{MovedOn, moved_on}
 use Rattle.kept_histories.proofs.StepMarks.{HeardAt, SeesAlike, step_alike}
 use Rattle.kept_histories.proofs.Stepped.{Comes, comes_to}
 use Rattle.kept_histories.proofs.Together.{CallGoes, HartAt, StillCalled, call_goes, heard_so, stage_same, still_called}
-use Rattle.kept_histories.specs.Fitting.{AreAmid, AreInOrder, HasRoom, KeepsCalls, at_end}
 
 module _ {D : Type 0} (contents : D → List (List ℕ)) (failures : D → ℕ) (sizes : Super) (in_time : StepsPlaceInTime) (h : ℕ) (s : State (block_calls sizes))
     (made : Made (block_calls sizes)) (was now : ℕ → Option UnderWay) (r : RunsAStep sizes h Passes s made was now) (b : History) (old new : HartsOf D) (k : KeptTree)
@@ -50,9 +53,8 @@ module _ {D : Type 0} (contents : D → List (List ℕ)) (failures : D → ℕ) 
     (sets : SetsAt h old.calls new.calls) (amid : KeptTree) (kept : HasRun k h heard amid)
     (placed_so : MakesPlaced h ((block_moves sizes).tree s.world) (placed (block_moves sizes) (Step h Passes) s) ((block_moves sizes).tree made.after.world))
     (code : erase (block_calls sizes) (block_code sizes) made.after ≡ calls_of contents failures sizes new)
-    (fine : AreAmid new) (order : AreInOrder k) (room : HasRoom k h heard) (same_calls : KeepsCalls k kept.between)
-    (sees : (v : Under) (kept_as : KeptAs (Do r.under.op r.under.mark r.under.rest) v) (at : HeardAt r.under (r.rest r.answer) heard)
-    → SeesAlike sizes h Passes s made was now r v kept_as (tree_of k.tree) heard kept.marked at) where
+    (fine : AreAmid new) (found : AllFound was) (clean : made.after.world.seen.clean ≡ true)
+    (sees : SeesAlike r.under (tree_of k.tree) s.world.seen (r.rest r.answer) (or_else r.acts r.under.acted)) where
   abbrev N : MoveMachine
   N = block_moves sizes
 
@@ -89,21 +91,30 @@ module _ {D : Type 0} (contents : D → List (List ℕ)) (failures : D → ℕ) 
 
   alike : PlacesAlike h (placed N (Step h Passes) s) (action_in here.call.whole) kept.marked
   alike =
-      step_alike sizes h Passes s made was now r here.call here.together.kept (tree_of k.tree) heard kept.marked heard_at in_time
-      (order h here.call here.found) here.together.begun
+      step_alike sizes h Passes s made was now r here.call here.together.kept (tree_of k.tree) heard kept.marked heard_at
+      (acted_room sizes h Passes s made was now r clean found) in_time here.together.fits here.together.begun
       (subst (λ (z : Option Under). MarksBy (tree_of k.tree) z heard kept.marked) here.found kept.marks)
-      (sees here.call here.together.kept heard_at)
+      sees
 
-  moved : MovedOn N h k (N.tree s.world) (N.tree made.after.world) (placed N (Step h Passes) s) agree.stage placed_so here.call here.found kept.marked kept.between kept.moves
+  told_room : (v : Move) (d : Option Deed) → placed N (Step h Passes) s ≡ (h, record { move = v; told = d }) ∷ [] → roomy d ≡ true
+  told_room = placed_room sizes h Passes s made was now r clean
+
+  moved : MovedOn N h k (N.tree s.world) (N.tree made.after.world) (placed N (Step h Passes) s) agree.stage placed_so here.call here.found kept.marked kept.between kept.moves told_room
   moved =
       moved_on N h k (N.tree s.world) (N.tree made.after.world) (placed N (Step h Passes) s) agree.stage placed_so here.call here.found kept.marked kept.between
-      kept.moves alike
+      kept.moves told_room alike
+
+  same_calls : SameCalls k kept.between
+  same_calls = calls_stay k h kept.marked kept.between kept.moves
 
   still : StillCalled here.call (hart_in kept.between h)
   still = still_called here.call (hart_in kept.between h) (hart_in k h) here.found (same_calls h)
 
   kept_as : KeptAs (Do r.under.op r.under.mark r.under.rest) still.call
   kept_as = subst (λ (z : Under). KeptAs (Do r.under.op r.under.mark r.under.rest) z) (sym still.same) here.together.kept
+
+  fits : WholeFits still.call.listed still.call.whole
+  fits = subst (λ (z : Under). WholeFits z.listed z.whole) (sym still.same) here.together.fits
 
   sized : left.control.sizes ≡ sizes
   sized = tells.tells.sizes ∙ here.together.sized
@@ -143,13 +154,14 @@ module _ {D : Type 0} (contents : D → List (List ℕ)) (failures : D → ℕ) 
         (λ j ne. ap (λ (z : KeptTree). hart_in z j) p.kept ∙ goes.others j ne);
     stage = ap stage_of p.kept ∙ goes.stage ∙ moved.stage ∙ ap (λ (z : State (block_calls sizes)). N.tree z.world) (sym is);
     book = p.book then_ amid_book;
+    room = ap (λ (z : KeptTree). z.full) p.kept ∙ ap (λ (z : KeptTree). z.full) kept.hears.kept ∙ moved.full ∙ agree.room;
   }
     where
-      goes : CallGoes sizes r.under (r.rest r.answer) (now h) left h kept.between amid still.call still.is kept_as heard kept.hears sized
+      goes : CallGoes sizes r.under (r.rest r.answer) (now h) left h kept.between amid still.call still.is kept_as fits heard kept.hears sized
       goes =
-          call_goes sizes r.under (r.rest r.answer) (now h) left h kept.between amid still.call still.is kept_as heard kept.hears sized left.control.ended
+          call_goes sizes r.under (r.rest r.answer) (now h) left h kept.between amid still.call still.is kept_as fits heard kept.hears sized left.control.ended
           (subst (λ (o : Option (Unit {0})). Comes sizes r.under (r.rest r.answer) (now h) left.control left.hand o left.control.ended) e comes)
-          ran_here.2 (λ y said much. room here.call y here.found said (subst (λ (z : Under). ReadsTooMuch y z.whole) still.same much))
+          ran_here.2
 
   -- .. or it has ended, and so has its walk
   pub ran_out : (end : Unit {0}) → out ≡ Some end → (now h ≡ None → (N.tree made.after.world).walk h ≡ None) → (made_ : State (block_calls sizes)) → made_ ≡ made.after → (k' : KeptTree) → (reply : Reply) → Replies amid h k'
@@ -159,6 +171,7 @@ module _ {D : Type 0} (contents : D → List (List ℕ)) (failures : D → ℕ) 
     harts = all_at k' at_h (λ j ne. ap (λ (z : KeptTree). hart_in z j) kept_is ∙ other_hart kept.between h None j ne);
     stage = ap stage_of kept_is ∙ stage_same kept.between h still.call None still.is walk ∙ moved.stage ∙ ap (λ (z : State (block_calls sizes)). N.tree z.world) (sym is);
     book = p.book then_ reply (subst (λ (z : ℕ). h < z) agree.book.harts (is_hart k h here.call here.found)) amid_book;
+    room = ap (λ (z : KeptTree). z.full) kept_is ∙ moved.full ∙ agree.room;
   }
     where
       kept_is : k' ≡ passed (with_hart kept.between h None)

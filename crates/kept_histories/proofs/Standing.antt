@@ -18,24 +18,26 @@ use Rattle.inodes_on_blocks.specs.Handlers.{Acts, P}
 use Rattle.inodes_on_blocks.specs.Lowering.{Carry}
 use Rattle.inodes_on_blocks.specs.Programs.{handlers}
 use Rattle.path_walk.specs.Asks.{answer_to}
+use Rattle.path_walk.specs.declared.asks.Heard.{Heard}
 use Rattle.plain_tree.specs.declared.answer.Reply.{Reply}
 use Rattle.run_laws.specs.Searches.{AnsweredStep}
 use Rattle.run_laws.specs.UnderWay.{UnderWay, at_beginning}
-use Rattle.whole_calls.specs.Wholes.{text_in}
+use Rattle.whole_calls.specs.Wholes.{HasRoomFor, text_in}
 use Rattle.kept_histories.proofs.Buffers.{TextFits, hears_same, text_fits, text_goes, with_own_text}
-use Rattle.kept_histories.proofs.Controls.{Answers, goes_on_still, plain_end, plain_goes}
-use Rattle.kept_histories.specs.Fitting.{at_end}
+use Rattle.kept_histories.proofs.Controls.{Answers, at_end, goes_on_still, plain_end, plain_goes}
+use Rattle.kept_histories.proofs.ReadRooms.{RoomOf, room_asked}
 
 -- what a part's end is to the operation
 abbrev pub handed : (op : above.Op) → Handover Message Carry → Handover (above.Answer op) Carry
 handed op r = record { answer = answer_by op r.answer; carry = r.carry }
 
--- text: of a read whose part is under way, its buffer as that began
+-- text: of a read whose part is under way, its buffer as that began; room: no more is heard to be read than the operation asks for
 pub record StandsAt (u : UnderWay) (l : Lowered) (h : Hand) : Type 0 where
   pub text : List ℕ
   pub program : ◌≡◌ {A = programs.P Reply} (Do u.op u.mark u.rest) (whole_with l.list l.call text)
   pub part : plain u.left ≡ bind (part_of l h) (λ r. Ret (handed u.op r))
   pub fits : TextFits (whole_with l.list l.call) text (part_of l h)
+  pub room : (x : Heard) → HasRoomFor x l.call → RoomOf u.op x
 
 none_some : {X A : Type 0} (a : A) → ◌≡◌ {A = Option A} None (Some a) → X
 none_some a e = absurd cc
@@ -69,6 +71,7 @@ begins sizes c (Do op m k) l h next =
         program = next.left ∙ sym (with_own_text l.list l.call);
         part = subst (λ (o : above.Op). IsPart sizes c o (part_of l h)) (sym same) next.part m;
         fits = text_fits l.list l.call (part_of l h) next.fills;
+        room = room_asked l.list l.call op (ap asks (sym next.left));
       };
     }
 
@@ -85,6 +88,7 @@ module _ (sizes : Super) (u : UnderWay) (left : P (Handover (above.Answer u.op) 
     pub is : left ≡ Ret end
     pub text : List ℕ
     pub answer : end.answer ≡ answer_to text u.op k.heard
+    pub room : RoomOf u.op k.heard
     pub next : AsksOrEnds sizes end.carry (u.rest end.answer) out k g
 
   abbrev pub Went : Option (Unit {0}) → Bool → Lowered → Hand → Type 0
@@ -106,6 +110,7 @@ module _ (sizes : Super) (u : UnderWay) (l : Lowered) (h : Hand) (stands : Stand
           part = is;
           fits = subst (λ (z : List ℕ → programs.P Reply). TextFits z stands.text (part_of k g)) (sym p.call)
               (text_goes (whole_with l.list l.call) stands.text (part_of l h) (part_of k g) answer stands.fits p.goes);
+          room = λ x fits. stands.room x (p.room x fits);
         };
       }
     where
@@ -125,6 +130,7 @@ module _ (sizes : Super) (u : UnderWay) (l : Lowered) (h : Hand) (stands : Stand
         is = plain_end (rest (answer op)) (handed u.op p.ends) is;
         text = p.ends.answer.0;
         answer = ap (answer_to (p.ends.answer.0) u.op) p.heard;
+        room = stands.room k.heard p.room;
         next = subst (λ (s : Super). AsksOrEnds s p.ends.carry (u.rest (answer_by u.op p.ends.answer)) out k g) sized
             (subst (λ (z : programs.P Reply). AsksOrEnds l.sizes p.ends.carry z out k g) same p.call);
       }

@@ -1,4 +1,5 @@
--- The mark that the kept tree has for a step is that at which the step placed a move.
+-- The mark that the kept tree has for a step is that at which the step placed a move; and where the step found room, it doesn't say that
+-- there was none.
 use Rattle.std.specs.Prelude.{◌≡◌, ◌⊎◌, ℕ, Bool, true, false, not, List, [], Option, Some, None}
 use Rattle.calls_on_blocks.proofs.Vocabulary.{refl, sym, ◌∙◌, ap, subst, inl, inr}
 use Rattle.atomic_programs.proofs.Explains.{Some-inj}
@@ -23,6 +24,7 @@ use Rattle.path_walk.specs.declared.asks.Heard.TheVariants as heard
 use Rattle.path_walk.specs.declared.asks.Mark.{Mark}
 use Rattle.plain_tree.specs.Tree.{Tree}
 use Rattle.plain_tree.specs.declared.answer.Reply.{Reply}
+use Rattle.run_laws.proofs.Telling.{spoils}
 use Rattle.run_laws.specs.UnderWay.{EndsAsActed, InFirst, InLast, PlacesAt, RunsAStep, SeesTruly, StepsPlaceInTime, UnderWay, none_ran, placed_by, time_of}
 use Rattle.run_laws.specs.Vocabulary.{Outside, or_else}
 use Rattle.tree_histories.specs.Keeping.{Under}
@@ -32,9 +34,10 @@ use Rattle.whole_calls.specs.declared.reading.Read.TheVariants as reading
 use Rattle.whole_calls.specs.declared.whole.Whole.{Whole}
 use Rattle.whole_calls.specs.declared.whole.Whole.TheVariants as whole
 use Rattle.kept_histories.proofs.Heads.{IsFine, IsFineOp, MakesNone, reads_or_fine}
-use Rattle.kept_histories.proofs.KeptCalls.{KeptAs, same_heard}
+use Rattle.kept_histories.proofs.KeptCalls.{KeptAs, same_asked, same_heard}
 use Rattle.kept_histories.proofs.Marks.{PlacesAlike, alike, none_placed}
-use Rattle.kept_histories.specs.Fitting.{at_end}
+use Rattle.kept_histories.proofs.ReadRooms.{asks_read, is_read}
+use Rattle.kept_histories.proofs.Controls.{at_end}
 
 -- ---- the mark of a program's operation
 
@@ -47,17 +50,8 @@ fine_marks : (text other : List ℕ) (x : Heard) (p : programs.P Reply) → IsFi
 fine_marks text other x (Ret r) fine = refl
 fine_marks text other x (Do op m k) fine = ap m (same_heard op m fine text other x)
 
-is_read : above.Op → Bool
-is_read (ReadFile fd n offset count) = true
-is_read op = false
-
-asks_read : Option above.Op → Bool
-asks_read None = false
-asks_read (Some op) = is_read op
-
 -- a read that is under way
 reads_marks : (text other : List ℕ) (x : Heard) (ns : List ℕ) (w : Whole) → IsReading w → (mark_with text (whole_of ns w) x ≡ mark_with other (whole_of ns w) x) × (asks_read (asks (whole_of ns w)) ≡ true)
-unfolding asks_read is_read
 reads_marks text other x ns (whole.Read fd buf (reading.Part n offset)) t = (refl, refl)
 reads_marks text other x ns (whole.Read fd buf reading.Lock) t = absurd t
 reads_marks text other x ns (whole.Read fd buf (reading.Says count)) t = absurd t
@@ -93,7 +87,7 @@ module _ (p : programs.P Reply) (v : Under) (kept : KeptAs p v) where
       by e (inl reads) = (reads_marks text other x v.listed v.whole reads).0
       by e (inr fine) = fine_marks text other x (whole_of v.listed v.whole) fine
 
-  fine_unless : asks_read (asks p) ≡ false → IsFine p
+  pub fine_unless : asks_read (asks p) ≡ false → IsFine p
   fine_unless unread = elim kept [
     | inl e ↦ by e (reads_or_fine v.listed v.whole)
     | inr s ↦ subst IsFine (sym s.2) tt
@@ -104,12 +98,6 @@ module _ (p : programs.P Reply) (v : Under) (kept : KeptAs p v) where
           absurd (let q : true ≡ false = sym (reads_marks [] [] heard.WasDone v.listed v.whole reads).1 ∙ sym (ap (λ (z : programs.P Reply). asks_read (asks z)) e) ∙ unread in cc)
       by e (inr fine) = subst IsFine (sym e) fine
 
-  same_asked : (op : above.Op) → asks p ≡ Some op → asks (whole_of v.listed v.whole) ≡ Some op
-  same_asked op is = elim kept [
-    | inl e ↦ sym (ap asks e) ∙ is
-    | inr s ↦ ap asks s.3 ∙ sym (ap asks s.2) ∙ is
-  ]
-
 -- ---- when the operation acts
 
 -- it takes a lock, in its first step; or it acts last; or no mark of it makes a move
@@ -119,7 +107,6 @@ Sort op =
     ⊎ ((acts_first op ≡ false) × (is_read op ≡ false) × ((m : above.Answer op → Option above.Mark) → IsFineOp op m → (a : above.Answer op) → MakesNone (m a))))
 
 sort : (op : above.Op) → Sort op
-unfolding is_read
 sort (Take n looking) = inl (refl, refl)
 sort (StatFile fd) = inl (refl, refl)
 sort (LockFile fd) = inl (refl, refl)
@@ -133,9 +120,15 @@ abbrev pub HeardAt : (u : UnderWay) → P (Handover (above.Answer u.op) Carry) �
 HeardAt u left None = at_end left ≡ false
 HeardAt u left (Some x) = (z : Handover (above.Answer u.op) Carry) × (left ≡ Ret z) × (text : List ℕ) × (z.answer ≡ answer_to text u.op x)
 
+-- it acts in its first step, and isn't at its end then; what the tree shows has the mark of what it was answered, in this world
+abbrev pub SeesAlike : (u : UnderWay) → Tree → above.World → P (Handover (above.Answer u.op) Carry) → Option (above.Answer u.op) → Type 0
+SeesAlike u t w left acted =
+    acts_first u.op ≡ true → none_ran u.ran ≡ true → at_end left ≡ false → (y : Heard) (a : above.Answer u.op)
+    → SeenFor t (Some u.op) y → SeesTruly u.op a w → acted ≡ Some a → u.mark a ≡ u.mark (answer_to [] u.op y)
+
 module _ (sizes : Super) (h : ℕ) (x : Outside) (s : State (block_calls sizes)) (made : Made (block_calls sizes)) (was now : ℕ → Option UnderWay)
     (r : RunsAStep sizes h x s made was now) (v : Under) (kept : KeptAs (Do r.under.op r.under.mark r.under.rest) v) (t : Tree) (came : Option Heard) (o : Option Mark)
-    (heard_at : HeardAt r.under (r.rest r.answer) came) where
+    (heard_at : HeardAt r.under (r.rest r.answer) came) (found : (a : above.Answer r.under.op) → or_else r.acts r.under.acted ≡ Some a → spoils (r.under.mark a) ≡ false) where
   abbrev u : UnderWay
   u = r.under
 
@@ -153,23 +146,41 @@ module _ (sizes : Super) (h : ℕ) (x : Outside) (s : State (block_calls sizes))
   marked_at y text m =
       sym (m v.listed) ∙ sym (same_marks (Do u.op u.mark u.rest) v kept y) ∙ text_marks (Do u.op u.mark u.rest) v kept [] text y
 
+  -- where it ends, it has acted with that answer
+  ended : (z : Handover (above.Answer u.op) Carry) → left ≡ Ret z → or_else r.acts u.acted ≡ Some z.answer
+  ended z is = subst (EndsAsActed u (or_else r.acts u.acted)) is r.ends
+
+  abbrev Nothing : Type 0
+  Nothing = MakesNone (marked_as (action_in v.whole) o) × (spoils (marked_as (action_in v.whole) o) ≡ false)
+
+  no_mark : o ≡ None → Nothing
+  no_mark none = (
+    subst (λ (z : Option Mark). MakesNone (marked_as (action_in v.whole) z)) (sym none) tt,
+    ap (λ (z : Option Mark). spoils (marked_as (action_in v.whole) z)) none,
+  )
+
   none_marked : Placed [] → o ≡ None → Alike
-  none_marked is none = inl (is, subst (λ (z : Option Mark). MakesNone (marked_as (action_in v.whole) z)) (sym none) tt)
+  none_marked is none = let n = no_mark none in inl (is, n.0, n.1)
 
   -- no mark of it makes a move
-  quiet : (begun : Bool) (y : Option Heard) → ((m : above.Answer u.op → Option above.Mark) → IsFineOp u.op m → (a : above.Answer u.op) → MakesNone (m a)) → IsFineOp u.op u.mark
+  quiet : (begun : Bool) (y : Option Heard) → HeardAt u left y → ((m : above.Answer u.op → Option above.Mark) → IsFineOp u.op m → (a : above.Answer u.op) → MakesNone (m a)) → IsFineOp u.op u.mark
       → MarksIn t v (Some u.op) false begun y o → Alike
-  quiet begun y none fine m = inl (r.places ∙ by r.acts, marks begun y m)
+  quiet begun y at none fine m = let n = marks begun y at m in inl (r.places ∙ by r.acts, n.0, n.1)
     where
       by : (acts : Option (above.Answer u.op)) → placed_by h u acts s.world.seen ≡ []
       by None = refl
       by (Some a) = none_placed h u.op a s.world.seen (u.mark a) (none u.mark fine a)
 
-      marks : (begun : Bool) (y : Option Heard) → MarksIn t v (Some u.op) false begun y o → MakesNone (marked_as (action_in v.whole) o)
-      marks true None m = subst (λ (z : Option Mark). MakesNone (marked_as (action_in v.whole) z)) (sym m) tt
-      marks false None m = subst (λ (z : Option Mark). MakesNone (marked_as (action_in v.whole) z)) (sym m) tt
-      marks true (Some y) m = subst MakesNone (sym (marked_at y [] m)) (none u.mark fine (answer_to [] u.op y))
-      marks false (Some y) m = subst MakesNone (sym (marked_at y [] m)) (none u.mark fine (answer_to [] u.op y))
+      heard_mark : (y : Heard) → HeardAt u left (Some y) → MarksAt v y o → Nothing
+      heard_mark y at m =
+          let is : marked_as (action_in v.whole) o ≡ u.mark at.0.answer = marked_at y at.2 m ∙ sym (ap u.mark at.3) in
+          (subst MakesNone (sym is) (none u.mark fine at.0.answer), ap spoils is ∙ found at.0.answer (ended at.0 at.1))
+
+      marks : (begun : Bool) (y : Option Heard) → HeardAt u left y → MarksIn t v (Some u.op) false begun y o → Nothing
+      marks true None at m = no_mark m
+      marks false None at m = no_mark m
+      marks true (Some y) at m = heard_mark y at m
+      marks false (Some y) at m = heard_mark y at m
 
   -- it acts in its last step
   last : (begun : Bool) (y : Option Heard) → HeardAt u left y → PlacesAt sizes h x s made was now InLast (none_ran u.ran) r left → MarksIn t v (Some u.op) false begun y o → Alike
@@ -179,7 +190,7 @@ module _ (sizes : Super) (h : ℕ) (x : Outside) (s : State (block_calls sizes))
       is = subst (λ (z : P (Handover (above.Answer u.op) Carry)). PlacesAt sizes h x s made was now InLast (none_ran u.ran) r z) at.1 places_
 
       here : MarksAt v y o → Alike
-      here m = alike h u.op at.0.answer s.world.seen (placed (block_moves sizes) (Step h x) s) (action_in v.whole) o (u.mark at.0.answer) is (marked_at y at.2 m ∙ sym (ap u.mark at.3))
+      here m = alike h u.op at.0.answer s.world.seen (placed (block_moves sizes) (Step h x) s) (action_in v.whole) o (u.mark at.0.answer) is (marked_at y at.2 m ∙ sym (ap u.mark at.3)) (found at.0.answer (ended at.0 at.1))
 
       by : (begun : Bool) → MarksIn t v (Some u.op) false begun (Some y) o → Alike
       by true m = here m
@@ -195,24 +206,23 @@ module _ (sizes : Super) (h : ℕ) (x : Outside) (s : State (block_calls sizes))
       marks false m = m
 
   -- it acts in its first step, where what is seen of the inode is the same in the kept tree
-  abbrev pub SeesAlike : Type 0
-  SeesAlike = (y : Heard) (a : above.Answer u.op) → at_end left ≡ false → SeenFor t (Some u.op) y → SeesTruly u.op a s.world.seen → or_else r.acts u.acted ≡ Some a
-      → u.mark a ≡ u.mark (answer_to [] u.op y)
-
-  first : SeesAlike → (b : Bool) (y : Option Heard) → HeardAt u left y → PlacesAt sizes h x s made was now InFirst b r left
-      → MarksIn t v (Some u.op) true (not b) y o → Alike
-  first sees true (Some y) at p m =
-      let ends : or_else r.acts u.acted ≡ Some at.0.answer = subst (EndsAsActed u (or_else r.acts u.acted)) at.1 r.ends in
-      let same : p.0 ≡ at.0.answer = Some-inj p.0 at.0.answer (sym p.3 ∙ ends) in
+  first : (at_end left ≡ false → (y : Heard) (a : above.Answer u.op) → SeenFor t (Some u.op) y → SeesTruly u.op a s.world.seen → or_else r.acts u.acted ≡ Some a → u.mark a ≡ u.mark (answer_to [] u.op y))
+      → (y : Option Heard) → HeardAt u left y → PlacesAt sizes h x s made was now InFirst true r left → MarksIn t v (Some u.op) true false y o → Alike
+  first sees (Some y) at p m =
+      let same : p.0 ≡ at.0.answer = Some-inj p.0 at.0.answer (sym p.3 ∙ ended at.0 at.1) in
       alike h u.op p.0 s.world.seen (placed (block_moves sizes) (Step h x) s) (action_in v.whole) o (u.mark p.0) p.1
-      (marked_at y at.2 m ∙ sym (ap u.mark at.3) ∙ ap u.mark (sym same))
-  first sees true None at p m =
+      (marked_at y at.2 m ∙ sym (ap u.mark at.3) ∙ ap u.mark (sym same)) (found p.0 p.3)
+  first sees None at p m =
       alike h u.op p.0 s.world.seen (placed (block_moves sizes) (Step h x) s) (action_in v.whole) o (u.mark p.0) p.1
-      (marked_at m.0 [] m.2 ∙ sym (sees m.0 p.0 at m.1 p.2 p.3))
-  first sees false y at p m = none_marked p.0 m
+      (marked_at m.0 [] m.2 ∙ sym (sees at m.0 p.0 m.1 p.2 p.3)) (found p.0 p.3)
 
-  pub step_alike : StepsPlaceInTime → WholeFits v.listed v.whole → v.has_begun ≡ not (none_ran u.ran) → MarksBy t (Some v) came o → SeesAlike → Alike
-  unfolding asks_read is_read
+  -- .. or has acted already
+  first_or_not : acts_first u.op ≡ true → SeesAlike u t s.world.seen left (or_else r.acts u.acted) → (b : Bool) → none_ran u.ran ≡ b → (y : Option Heard) → HeardAt u left y
+      → PlacesAt sizes h x s made was now InFirst b r left → MarksIn t v (Some u.op) true (not b) y o → Alike
+  first_or_not acts sees true none y at p m = first (sees acts none) y at p m
+  first_or_not acts sees false none y at p m = none_marked p.0 m
+
+  pub step_alike : StepsPlaceInTime → WholeFits v.listed v.whole → v.has_begun ≡ not (none_ran u.ran) → MarksBy t (Some v) came o → SeesAlike u t s.world.seen left (or_else r.acts u.acted) → Alike
   step_alike in_time fits begun marks sees = by (sort u.op)
     where
       here : MarksIn t v (Some u.op) (acts_first u.op) v.has_begun came o
@@ -220,7 +230,7 @@ module _ (sizes : Super) (h : ℕ) (x : Outside) (s : State (block_calls sizes))
 
       by : Sort u.op → Alike
       by (inl f) =
-          first sees (none_ran u.ran) came heard_at
+          first_or_not f.1 sees (none_ran u.ran) refl came heard_at
           (subst (λ z. PlacesAt sizes h x s made was now z (none_ran u.ran) r left) f.0 (in_time sizes h x s made was now r))
           (subst (λ (b : Bool). MarksIn t v (Some u.op) b (not (none_ran u.ran)) came o) f.1
           (subst (λ (b : Bool). MarksIn t v (Some u.op) (acts_first u.op) b came o) begun here))
@@ -229,5 +239,5 @@ module _ (sizes : Super) (h : ℕ) (x : Outside) (s : State (block_calls sizes))
           (subst (λ z. PlacesAt sizes h x s made was now z (none_ran u.ran) r left) f.0 (in_time sizes h x s made was now r))
           (subst (λ (b : Bool). MarksIn t v (Some u.op) b v.has_begun came o) f.1 here)
       by (inr (inr f)) =
-          quiet v.has_begun came f.2 (fine_unless (Do u.op u.mark u.rest) v kept f.1)
+          quiet v.has_begun came heard_at f.2 (fine_unless (Do u.op u.mark u.rest) v kept f.1)
           (subst (λ (b : Bool). MarksIn t v (Some u.op) b v.has_begun came o) f.0 here)

@@ -27,8 +27,9 @@ use Rattle.run_laws.specs.Searches.{AnsweredStep}
 use Rattle.run_laws.specs.UnderWay.{RunsAStep, UnderWay, at_beginning, gone_on, none_ran}
 use Rattle.run_laws.specs.Vocabulary.{or_else}
 use Rattle.syscalls.specs.Machines.{Running, TellsOf}
+use Rattle.kept_histories.proofs.ReadRooms.{RoomOf}
 use Rattle.kept_histories.proofs.Standing.{Begins, StandsAt, Went, begins, handed, went}
-use Rattle.kept_histories.specs.Fitting.{at_end}
+use Rattle.kept_histories.proofs.Controls.{at_end}
 
 -- ---- the answer
 
@@ -63,6 +64,7 @@ module _ (sizes : Super) (u : UnderWay) (left : P (Handover (above.Answer u.op) 
     pub is : left ≡ Ret end
     pub text : List ℕ
     pub answer : end.answer ≡ answer_to text u.op k.heard
+    pub room : RoomOf u.op k.heard
     pub begins : Begins sizes end.carry (u.rest end.answer) k g
     pub now : n ≡ Some begins.under
 
@@ -72,6 +74,7 @@ module _ (sizes : Super) (u : UnderWay) (left : P (Handover (above.Answer u.op) 
     pub is : left ≡ Ret end
     pub text : List ℕ
     pub answer : end.answer ≡ answer_to text u.op k.heard
+    pub room : RoomOf u.op k.heard
     pub reply : Reply
     pub ends : u.rest end.answer ≡ Ret reply
     pub now : n ≡ None
@@ -109,6 +112,7 @@ comes sizes u acted step left n None true k g is w =
       is = w.is;
       text = w.text;
       answer = w.answer;
+      room = w.room;
       begins = b;
       now = is ∙ ap (gone_on sizes u acted step) w.is ∙ b.is;
     }
@@ -117,6 +121,7 @@ comes sizes u acted step left n (Some end) true k g is w = record {
   is = w.is;
   text = w.text;
   answer = w.answer;
+  room = w.room;
   reply = _;
   ends = w.next;
   now = is ∙ ap (gone_on sizes u acted step) w.is ∙ ap (at_beginning sizes w.end.carry) w.next;

@@ -18,7 +18,9 @@ use Rattle.syscalls.specs.Machines.{Running}
 use Rattle.tree_histories.proofs.Harts.{is_hart, other_hart, same_hart, stage_put, walk_same}
 use Rattle.tree_histories.specs.Keeping.{HasHeard, HeardBy, HearsSo, KeptTree, ReadsTooMuch, Under, hart_in, stage_of, walk_under, walking, with_hart}
 use Rattle.tree_histories.specs.Walks.{walk_of}
-use Rattle.kept_histories.proofs.KeptCalls.{HeardOn, KeptAs, hears_on}
+use Rattle.whole_calls.specs.Wholes.{WholeFits}
+use Rattle.kept_histories.proofs.KeptCalls.{HeardOn, KeptAs, hears_on, same_asked}
+use Rattle.kept_histories.proofs.ReadRooms.{RoomOf, none_too_much}
 use Rattle.kept_histories.proofs.Standing.{StandsAt}
 use Rattle.kept_histories.proofs.StepMarks.{HeardAt}
 use Rattle.kept_histories.proofs.Stepped.{BeginsNext, Comes, GoesOn}
@@ -28,6 +30,7 @@ module _ (sizes : Super) where
     pub stands : StandsAt u m.control m.hand
     pub sized : m.control.sizes ≡ sizes
     pub kept : KeptAs (Do u.op u.mark u.rest) v
+    pub fits : WholeFits v.listed v.whole
     pub begun : v.has_begun ≡ not (none_ran u.ran)
 
   -- of a hart: all three, or none of them
@@ -70,8 +73,8 @@ stage_same k h w o is walk =
 -- ---- after a step
 
 module _ (sizes : Super) (u : UnderWay) (rest : P (Handover (above.Answer u.op) Carry)) (n : Option UnderWay) (left : Running) (h : ℕ)
-    (between amid : KeptTree) (w : Under) (is : hart_in between h ≡ Some w) (kept : KeptAs (Do u.op u.mark u.rest) w) (x : Option Heard)
-    (hears : HasHeard between h x amid) (sized : left.control.sizes ≡ sizes) where
+    (between amid : KeptTree) (w : Under) (is : hart_in between h ≡ Some w) (kept : KeptAs (Do u.op u.mark u.rest) w)
+    (fits : WholeFits w.listed w.whole) (x : Option Heard) (hears : HasHeard between h x amid) (sized : left.control.sizes ≡ sizes) where
   -- the call goes on, and nothing else has changed
   pub record CallGoes : Type 0 where
     pub then_ : Under
@@ -90,16 +93,21 @@ module _ (sizes : Super) (u : UnderWay) (rest : P (Handover (above.Answer u.op) 
     others = λ j ne. ap (λ (z : KeptTree). hart_in z j) hears.kept ∙ other_hart between h hears.under j ne;
   }
 
-  begins_next : BeginsNext sizes u rest n left.control left.hand → HearsSo w left.control.heard hears.under → (ReadsTooMuch left.control.heard w.whole → ⊥) → CallGoes
-  begins_next c so room =
+  -- it has room for what it heard
+  has_room : RoomOf u.op left.control.heard → ReadsTooMuch left.control.heard w.whole → ⊥
+  has_room = none_too_much w.listed w.whole u.op left.control.heard (same_asked (Do u.op u.mark u.rest) w kept u.op refl)
+
+  begins_next : BeginsNext sizes u rest n left.control left.hand → HearsSo w left.control.heard hears.under → CallGoes
+  begins_next c so =
       let b : UnderWay = c.begins.under in
       let on : HeardOn u w left.control.heard c.text c.end.answer c.answer kept b.op b.mark b.rest c.begins.program hears.under =
-      hears_on u w left.control.heard c.text c.end.answer c.answer kept b.op b.mark b.rest c.begins.program hears.under so room in
+      hears_on u w left.control.heard c.text c.end.answer c.answer kept b.op b.mark b.rest c.begins.program hears.under so (has_room c.room) in
       put_call on.then_ on.found (λ i. option_map (walk_of (on.goes.same.3 i)) (on.goes.same.1 i))
       (subst (λ (z : Option UnderWay). HartAt sizes z (Some left) (Some on.then_)) (sym c.now) (record {
         stands = c.begins.stands;
         sized = sized;
         kept = on.follows;
+        fits = on.goes.fits;
         begun = on.goes.same.2 ∙ sym (ap (λ r. not (none_ran r)) c.begins.begun);
       }))
 
@@ -110,11 +118,10 @@ module _ (sizes : Super) (u : UnderWay) (rest : P (Handover (above.Answer u.op) 
         stands = c.stands;
         sized = sized;
         kept = kept;
+        fits = fits;
         begun = sym (ap not c.has_run);
       }))
 
-  pub call_goes : (b : Bool) → Comes sizes u rest n left.control left.hand None b → x ≡ heard_if b left.control.heard → ((y : Heard) → x ≡ Some y → ReadsTooMuch y w.whole → ⊥) → CallGoes
-  call_goes true c e room =
-      begins_next c (subst (λ (z : Option Heard). HeardBy (Some w) z hears.under) e (subst (λ (z : Option Under). HeardBy z x hears.under) is hears.hears)) (room left.control.heard e)
-  call_goes false c e room =
-      stays_in c (subst (λ (z : Option Heard). HeardBy (Some w) z hears.under) e (subst (λ (z : Option Under). HeardBy z x hears.under) is hears.hears))
+  pub call_goes : (b : Bool) → Comes sizes u rest n left.control left.hand None b → x ≡ heard_if b left.control.heard → CallGoes
+  call_goes true c e = begins_next c (subst (λ (z : Option Heard). HeardBy (Some w) z hears.under) e (subst (λ (z : Option Under). HeardBy z x hears.under) is hears.hears))
+  call_goes false c e = stays_in c (subst (λ (z : Option Heard). HeardBy (Some w) z hears.under) e (subst (λ (z : Option Under). HeardBy z x hears.under) is hears.hears))

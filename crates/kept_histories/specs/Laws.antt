@@ -1,34 +1,27 @@
--- What is kept of a run is its history.
-use Rattle.std.specs.Prelude.{◌≡◌, ◌≤◌, ◌^◌, ℕ, List}
-use Rattle.atomic_programs.specs.Calls.{fresh}
-use Rattle.atomic_programs.specs.Plain.{erase}
-use Rattle.calls_on_blocks.specs.History.{block_moves}
-use Rattle.calls_on_blocks.specs.Theory.{block_calls, block_code}
-use Rattle.explain.specs.Keeps.{KeepsRun}
-use Rattle.fs_layout.specs.declared.superblock.Super.{Super}
-use Rattle.hart_core.specs.Harts.{AreIdle, HartsOf}
-use Rattle.hart_core.specs.Worlds.{calls_of}
+-- What is kept of a run is its own list of tree steps.
+use Rattle.std.specs.Prelude.{◌≡◌, ◌<◌, ◌^◌, ℕ, false, List, length}
+use Rattle.atomic_programs.specs.Calls.{Event as EventOf}
+use Rattle.hart_core.specs.Harts.{HartsOf}
+use Rattle.hart_core.specs.Runs.{FoundRoom, IsHistory, IsMounted}
+use Rattle.hart_core.specs.Worlds.{WorldOf}
 use Rattle.hart_core.specs.declared.events.Came.{Came}
 use Rattle.hart_core.specs.declared.events.Event.{Event}
-use Rattle.inode_machine.specs.Basics.{RunsFrom}
-use Rattle.inode_machine.specs.Kept.{kept, nothing_yet}
-use Rattle.inode_machine.specs.MoveCalls.{NoneClimbs}
-use Rattle.plain_tree.specs.TreeData.{TreeData}
-use Rattle.run_laws.specs.UnderWay.{GoesOnAsItActs}
-use Rattle.tree_histories.specs.Books.{IsBook}
+use Rattle.image_tree.specs.Trees.{tree_in}
+use Rattle.plain_tree.specs.declared.call.Call.{Call}
+use Rattle.run_laws.specs.OneList.{list_of}
+use Rattle.run_laws.specs.Vocabulary.{Outside}
 use Rattle.tree_histories.specs.Keeping.{KeptTree, nothing_kept}
-use Rattle.kept_histories.specs.Fitting.{AllFit, history_in}
+use Rattle.kept_histories.specs.Keeps.{KeepsRun}
 
 module _ {D : Type 0} (contents : D → List (List ℕ)) (failures : D → ℕ) where
-  -- A keeper was told of each event of a run of idle harts on a settled tree. Where each step found room and no path climbs, the operations
-  -- under way go on as they act, and each event fits, it has kept the run's own history.
-  abbrev pub KeptListsAreTheRuns : Type 0
-  KeptListsAreTheRuns =
-      (sizes : Super) (start : (block_calls sizes).M.World) (base : TreeData) (w : HartsOf D) (events : List Event) (came : List Came)
-      (new : HartsOf D) (k : KeptTree) (run : KeepsRun contents failures sizes w (nothing_kept base) events came new k)
-      → let history = history_in contents failures sizes events came w new (nothing_kept base) k run in
-      (goes : GoesOnAsItActs sizes start history) → RunsFrom (block_moves sizes) base start history → NoneClimbs history
-      → base.ninodes ≤ 2 ^ 16
-      → erase (block_calls sizes) (block_code sizes) (fresh (block_calls sizes) start) ≡ calls_of contents failures sizes w → AreIdle w.calls
-      → AllFit contents failures sizes goes.under 0 (fresh (block_calls sizes) start) events came w new (nothing_kept base) k run
-      → IsBook k (kept (block_moves sizes) history (fresh (block_calls sizes) start) nothing_yet)
+  -- A keeper was told of each event of a run of this world, which is as a mount left it, from the image's tree on. Where no step of one of
+  -- the run's histories found no room, it has kept just that history's list of tree steps, and knows of no step without room. There are
+  -- fewer events than a number can tell.
+  abbrev pub KeptListsAreTheRuns : WorldOf D → Type 0
+  KeptListsAreTheRuns w =
+      (device : D) (events : List Event) (came : List Came) (new : HartsOf D) (k : KeptTree) (history : List (EventOf Call Outside))
+      → IsMounted contents failures device w
+      → KeepsRun contents failures w.sizes w.harts (nothing_kept (tree_in (contents device))) events came new k
+      → IsHistory contents failures w.sizes w.harts events came new history → FoundRoom contents failures w history
+      → length events < 2 ^ 64
+      → (k.list ≡ list_of contents failures w history) × (k.full ≡ false)

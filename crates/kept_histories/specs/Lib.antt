@@ -1,2 +1,2 @@
-pub mod Fitting
+pub mod Keeps
 pub mod Laws

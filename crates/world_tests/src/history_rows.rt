@@ -68,6 +68,13 @@ const FULL: &str =
 const FULL_AND_CLIMBS: &str =
     "do 0 open /.. 0\ndo 0 open / 0\ndo 0 open / 0\ndo 0 open / 0\ndo 0 open / 0\ndo 0 open / 0\ndo 0 open / 0\ndo 0 open / 0\ndo 0 open / 0\ndo 0 open / 0\ndo 0 open / 0\ndo 0 open / 0\ndo 0 open / 0\ndo 0 open / 0\ndo 0 open / 0\ndo 0 open / 0\ndo 0 open / 0";
 
+/// A seventeenth descriptor is asked for, and the call hasn't been told yet that there is none.
+const FULL_UNDER_WAY: &str =
+    "do 0 open / 0\ndo 0 open / 0\ndo 0 open / 0\ndo 0 open / 0\ndo 0 open / 0\ndo 0 open / 0\ndo 0 open / 0\ndo 0 open / 0\ndo 0 open / 0\ndo 0 open / 0\ndo 0 open / 0\ndo 0 open / 0\ndo 0 open / 0\ndo 0 open / 0\ndo 0 open / 0\ndo 0 open / 0\n0 open / 0\nupto 0 up 1";
+
+const FULL_UNDER_WAY_AND_CLIMBS: &str =
+    "do 0 open /.. 0\ndo 0 open / 0\ndo 0 open / 0\ndo 0 open / 0\ndo 0 open / 0\ndo 0 open / 0\ndo 0 open / 0\ndo 0 open / 0\ndo 0 open / 0\ndo 0 open / 0\ndo 0 open / 0\ndo 0 open / 0\ndo 0 open / 0\ndo 0 open / 0\ndo 0 open / 0\ndo 0 open / 0\n0 open / 0\nupto 0 up 1";
+
 /// A run, the lines of its list after their event numbers, and of moves of an entry from a place to another whether the list explains
 /// the run then.
 struct Row {
@@ -254,7 +261,7 @@ fn an_empty_list_explains_nothing_made(rt: HostRuntime) -> Result<(), Fail> {
     Ok(())
 }
 
-/// A path that climbs is refused, and want of room also where a path climbs.
+/// A path that climbs is refused, and want of room also where a path climbs, and in a call that hasn't replied.
 #[test]
 fn runs_are_refused(rt: HostRuntime) -> Result<(), Fail> {
     let alloc = rt.alloc();
@@ -262,6 +269,8 @@ fn runs_are_refused(rt: HostRuntime) -> Result<(), Fail> {
         (CLIMBS, ExplainRefused::Climbs),
         (FULL, ExplainRefused::FullSeen),
         (FULL_AND_CLIMBS, ExplainRefused::FullSeen),
+        (FULL_UNDER_WAY, ExplainRefused::FullSeen),
+        (FULL_UNDER_WAY_AND_CLIMBS, ExplainRefused::FullSeen),
     ];
     for (text, wanted) in rows {
         match explained(alloc, &played(alloc, text)?)? {

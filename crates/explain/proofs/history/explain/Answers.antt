@@ -1,11 +1,14 @@
-use Rattle.explain.proofs.Lemmas.{found_played, kept_played}
+use Rattle.explain.proofs.Lemmas.{◌<◌, ◌^◌, length, arith, full_played, own_played}
 use Rattle.explain.proofs.history.explain.Goals as goal
 
-pub returns-clause-found : goal.returns-clause-found
-returns-clause-found c =
-    found_played c.args.image.now c.args.events.now c.in_ok-base.field-0 c.in_ok-base.ensures c.deref.result.now c.deref.ensures.value c.explain_noted.result c.explain_noted.ensures.found
-
-pub returns-clause-kept : goal.returns-clause-kept
-returns-clause-kept c =
+pub returns : goal.returns
+returns c =
     let noted = c.explain_noted in
-    kept_played c.args.image.now c.args.events.now c.in_ok-base.field-0 c.in_ok-base.ensures c.deref.result.now c.deref.ensures.value noted.result noted.ensures.found noted.ensures.kept
+    let few : length c.args.events.now < 2 ^ 64 = omega arith in
+    own_played c.args.image.now c.args.events.now few c.in_ok-base.field-0 c.in_ok-base.ensures c.deref.result.now c.deref.ensures.value noted.result noted.ensures.found noted.ensures.flat noted.ensures.kept
+    (c.is_full.ensures.room c.if-is_full.false)
+
+pub returns-then-is_full : goal.returns-then-is_full
+returns-then-is_full c =
+    let few : length c.args.events.now < 2 ^ 64 = omega arith in
+    full_played c.args.image.now c.args.events.now few c.in_ok-base.field-0 c.in_ok-base.ensures (c.is_full.ensures.full c.if-is_full.true)

@@ -1,4 +1,4 @@
-use Rattle.explain.proofs.Lemmas.{◌≡◌, ◌<◌, ◌^◌, length, arith, refl, sym, ◌∙◌, KeptTree, blocks_of, never, keeps_from}
+use Rattle.explain.proofs.Lemmas.{◌<◌, ◌^◌, length, arith, refl, blocks_of, never, keeps_from}
 use Rattle.explain.proofs.play.play.Goals as goal
 
 pub returns-in-Ok-run_noted : goal.returns-in-Ok-run_noted
