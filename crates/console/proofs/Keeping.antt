@@ -1,52 +1,55 @@
 -- What tells the history of a run in one way tells it in another, of a run that was made and kept: and so on an image.
-use Rattle.console.proofs.Vocabulary.{◌≡◌, ℕ, Bool, true, false, List, Option, Result, Ok, Err, refl, sym, subst, inl, inr, blocks_of, tree_in, TreeData, HasHistory, RunOn, StartsOn, never, found_run, Mode, ConsoleFault, IfTold, IsPrintedAndNoted, History, TellsHistory, WhereSet, history_from, history_of, history_on, CourseOf, KeptRun, NotesOf, all_noted, no_notes, none_kept, run_in, PromptsReader, EndsSo, PrintsAll, RunsReader, RunsScript, EventOfCall, SessionOf}
+use Rattle.std.specs.Prelude.{◌⊎◌, ◌^◌}
+use Rattle.console.proofs.Vocabulary.{◌≡◌, ◌<◌, ℕ, Bool, true, false, List, length, Option, Some, None, Result, Ok, Err, refl, sym, ap, ◌∙◌, subst, inl, inr, blocks_of, tree_in, TreeData, KeptTree, nothing_kept, ExplainRefused, IsRefusedSo, HasKept, RunOn, StartsOn, never, refused_run, never_of, owned, Mode, ConsoleFault, IfTold, IsPrintedAndNoted, HistoryBeside, TellsHistory, WhereSet, HasNoList, IsFound, IsOwn, IsRefusedBeside, IsUnfound, history_from, history_of, CourseOf, KeptRun, NotesOf, all_noted, no_notes, none_kept, run_in, PromptsReader, EndsSo, PrintsAll, RunsReader, RunsScript, EventOfCall, SessionOf, with_beside}
 use Rattle.console.specs.declared.fault.ConsoleFault.TheVariants as faults
 use Rattle.console.proofs.Chaining.{Chain, lines_chain, prompts_all_chain}
-use Rattle.console.proofs.Noting.{IsKept, events_kept, kept_first, kept_history}
+use Rattle.console.proofs.Noting.{IsKept, IsRun, events_kept, kept_first, kept_run}
 
 -- One history of a run that began with this file system is another one, where histories are wanted.
-module _ {D : Type 0} (contents : D → List (List ℕ)) (failures : D → ℕ) (mode : Mode) (one other : History) (s : SessionOf D)
-    (again : mode.explain ≡ true → (run : KeptRun) (t : SessionOf D) → HasHistory contents failures s.world.sizes s.world.harts run.events run.outcomes t.world.harts → (text : List ℕ) → one run text → other run text) where
-  -- there is such a run
-  abbrev IsRunTo : SessionOf D → KeptRun → Type 0
-  IsRunTo t run = HasHistory contents failures s.world.sizes s.world.harts run.events run.outcomes t.world.harts
+module _ {D : Type 0} (contents : D → List (List ℕ)) (failures : D → ℕ) (mode : Mode) (one other : HistoryBeside) (s : SessionOf D)
+    (again : mode.explain ≡ true → (first kept : Option KeptTree) (run : KeptRun) (t : SessionOf D) → IsRun contents failures s.world.sizes s.world.harts first run t.world.harts kept → (text : List ℕ) → one first kept run text → other first kept run text) where
+  module _ (first kept : Option KeptTree) where
+    -- there is such a run, of which this was kept
+    abbrev IsRunTo : SessionOf D → KeptRun → Type 0
+    IsRunTo t run = IsRun contents failures s.world.sizes s.world.harts first run t.world.harts kept
 
-  told_again : (is : mode.explain ≡ true) (t : SessionOf D) (run : KeptRun) (result : Result (Unit {0}) ConsoleFault) (out out' : Option (List ℕ)) → IsRunTo t run → TellsHistory one run result out out' → TellsHistory other run result out out'
-  told_again is t run result out out' made (inl told) = inl (record {
-    text = told.text;
-    is_history = again is run t made told.text told.is_history;
-    ends = told.ends;
-    printed = told.printed;
-  })
-  told_again is t run result out out' made (inr untold) = inr untold
+    told_again : (is : mode.explain ≡ true) (t : SessionOf D) (run : KeptRun) (result : Result (Unit {0}) ConsoleFault) (out out' : Option (List ℕ)) → IsRunTo t run → TellsHistory (one first kept) run result out out' → TellsHistory (other first kept) run result out out'
+    told_again is t run result out out' made (inl told) = inl (record {
+      text = told.text;
+      is_history = again is first kept run t made told.text told.is_history;
+      ends = told.ends;
+      printed = told.printed;
+    })
+    told_again is t run result out out' made (inr untold) = inr untold
 
-  wanted_again : (b : Bool) (t : SessionOf D) (run : KeptRun) (result : Result (Unit {0}) ConsoleFault) (out out' : Option (List ℕ)) (Else : Type 0) → mode.explain ≡ b → (mode.explain ≡ true → IsRunTo t run) → WhereSet b (TellsHistory one run result out out') Else
-      → WhereSet b (TellsHistory other run result out out') Else
-  wanted_again true t run result out out' Else is made told = told_again is t run result out out' (made is) told
-  wanted_again false t run result out out' Else is made told = told
+    wanted_again : (b : Bool) (t : SessionOf D) (run : KeptRun) (result : Result (Unit {0}) ConsoleFault) (out out' : Option (List ℕ)) (Else : Type 0) → mode.explain ≡ b → (mode.explain ≡ true → IsRunTo t run) → WhereSet b (TellsHistory (one first kept) run result out out') Else
+        → WhereSet b (TellsHistory (other first kept) run result out out') Else
+    wanted_again true t run result out out' Else is made told = told_again is t run result out out' (made is) told
+    wanted_again false t run result out out' Else is made told = told
 
-  printed_again : (t : SessionOf D) (notes : NotesOf) (out : Option (List ℕ)) (result : Result (Unit {0}) ConsoleFault) (out' : Option (List ℕ)) → (mode.explain ≡ true → IsRunTo t (run_in notes.kept)) → PrintsAll mode one notes out result out' → PrintsAll mode other notes out result out'
-  printed_again t notes out result out' made (inl printed) =
-      inl (printed.0, printed.1, wanted_again mode.explain t (run_in notes.kept) result printed.0 out' ((result ≡ Ok tt) × (out' ≡ printed.0)) refl made printed.2)
-  printed_again t notes out result out' made (inr unwritten) = inr unwritten
+    printed_again : (t : SessionOf D) (notes : NotesOf) (out : Option (List ℕ)) (result : Result (Unit {0}) ConsoleFault) (out' : Option (List ℕ)) → (mode.explain ≡ true → IsRunTo t (run_in notes.kept)) → PrintsAll mode (one first kept) notes out result out'
+        → PrintsAll mode (other first kept) notes out result out'
+    printed_again t notes out result out' made (inl printed) =
+        inl (printed.0, printed.1, wanted_again mode.explain t (run_in notes.kept) result printed.0 out' ((result ≡ Ok tt) × (out' ≡ printed.0)) refl made printed.2)
+    printed_again t notes out result out' made (inr unwritten) = inr unwritten
 
-  -- what the notes of these events keep
-  made_so : (xs : List EventOfCall) (t : SessionOf D) (notes : NotesOf) → notes ≡ all_noted (no_notes mode) xs → Chain contents failures s xs t → mode.explain ≡ true → IsRunTo t (run_in notes.kept)
-  made_so xs t notes noted chain is =
-      let begins : IsKept contents failures s.world.sizes s.world.harts (no_notes mode).kept s.world.harts = subst (λ (b : Bool). IsKept contents failures s.world.sizes s.world.harts (none_kept b) s.world.harts) (sym is) (kept_first contents failures s.world.sizes s.world.harts) in
-      let all = events_kept contents failures s.world.sizes s.world.harts xs (no_notes mode) s t refl begins chain in
-      subst (λ (n : NotesOf). IsRunTo t (run_in n.kept)) (sym noted) (kept_history contents failures s.world.sizes s.world.harts _ t.world.harts all)
+    -- what the notes of these events keep
+    made_so : (xs : List EventOfCall) (t : SessionOf D) (notes : NotesOf) → notes ≡ all_noted (no_notes mode) xs → Chain contents failures (with_beside first s) xs (with_beside kept t) → mode.explain ≡ true → IsRunTo t (run_in notes.kept)
+    made_so xs t notes noted chain is =
+        let begins : IsKept contents failures s.world.sizes s.world.harts first (no_notes mode).kept first s.world.harts = subst (λ (b : Bool). IsKept contents failures s.world.sizes s.world.harts first (none_kept b) first s.world.harts) (sym is) (kept_first contents failures s.world.sizes s.world.harts first) in
+        let all = events_kept contents failures s.world.sizes s.world.harts first xs (no_notes mode) (with_beside first s) (with_beside kept t) refl begins chain in
+        subst (λ (n : NotesOf). IsRunTo t (run_in n.kept)) (sym noted) (kept_run contents failures s.world.sizes s.world.harts first _ kept t.world.harts all)
 
-  ends_again : (xs : List EventOfCall) (text : List ℕ) (t : SessionOf D) (notes : NotesOf) (ends result : Result (Unit {0}) ConsoleFault) (out between out' : Option (List ℕ)) → Chain contents failures s xs t
-      → IfTold ends (IsPrintedAndNoted out (no_notes mode) xs text between notes) → EndsSo mode one notes ends between result out' → EndsSo mode other notes ends between result out'
-  ends_again xs text t notes (Ok u) result out between out' chain told printed = printed_again t notes between result out' (made_so xs t notes told.noted chain) printed
-  ends_again xs text t notes (Err (faults.Stopped stop)) result out between out' chain told printed =
-      (printed.0, printed_again t notes between printed.0 out' (made_so xs t notes told.noted chain) printed.1, printed.2)
-  ends_again xs text t notes (Err faults.Memory) result out between out' chain told is = is
-  ends_again xs text t notes (Err (faults.Write e)) result out between out' chain told is = is
-  ends_again xs text t notes (Err (faults.Image f)) result out between out' chain told is = is
-  ends_again xs text t notes (Err (faults.Read e)) result out between out' chain told is = is
-  ends_again xs text t notes (Err (faults.Line n why)) result out between out' chain told is = is
+    ends_again : (xs : List EventOfCall) (text : List ℕ) (t : SessionOf D) (notes : NotesOf) (ends result : Result (Unit {0}) ConsoleFault) (out between out' : Option (List ℕ)) → Chain contents failures (with_beside first s) xs (with_beside kept t)
+        → IfTold ends (IsPrintedAndNoted out (no_notes mode) xs text between notes) → EndsSo mode (one first kept) notes ends between result out' → EndsSo mode (other first kept) notes ends between result out'
+    ends_again xs text t notes (Ok u) result out between out' chain told printed = printed_again t notes between result out' (made_so xs t notes told.noted chain) printed
+    ends_again xs text t notes (Err (faults.Stopped stop)) result out between out' chain told printed =
+        (printed.0, printed_again t notes between printed.0 out' (made_so xs t notes told.noted chain) printed.1, printed.2)
+    ends_again xs text t notes (Err faults.Memory) result out between out' chain told is = is
+    ends_again xs text t notes (Err (faults.Write e)) result out between out' chain told is = is
+    ends_again xs text t notes (Err (faults.Image f)) result out between out' chain told is = is
+    ends_again xs text t notes (Err (faults.Read e)) result out between out' chain told is = is
+    ends_again xs text t notes (Err (faults.Line n why)) result out between out' chain told is = is
 
   script_again : (course : Result CourseOf ℕ) (result : Result (Unit {0}) ConsoleFault) (t : SessionOf D) (out out' : Option (List ℕ)) → RunsScript contents failures mode one s course result t out out' → RunsScript contents failures mode other s course result t out out'
   script_again (Err n) result t out out' runs = runs
@@ -56,8 +59,10 @@ module _ {D : Type 0} (contents : D → List (List ℕ)) (failures : D → ℕ) 
     ends = runs.ends;
     between = runs.between;
     notes = runs.notes;
+    first = runs.first;
+    kept = runs.kept;
     runs = runs.runs;
-    end = ends_again runs.runs.events runs.runs.text t runs.notes runs.ends result out runs.between out' (lines_chain contents failures course.lines _ runs.runs.events runs.runs.text runs.ends _ runs.runs.does) runs.runs.told runs.end;
+    end = ends_again runs.first runs.kept runs.runs.events runs.runs.text t runs.notes runs.ends result out runs.between out' (lines_chain contents failures course.lines _ runs.runs.events runs.runs.text runs.ends _ runs.runs.does) runs.runs.told runs.end;
   })
 
   pub reader_again : (script : Option (List ℕ)) (result : Result (Unit {0}) ConsoleFault) (t : SessionOf D) (out out' : Option (List ℕ)) → RunsReader contents failures mode one s script result t out out' → RunsReader contents failures mode other s script result t out out'
@@ -73,30 +78,55 @@ module _ {D : Type 0} (contents : D → List (List ℕ)) (failures : D → ℕ) 
         ends = prompts.ends;
         between = prompts.between;
         notes = prompts.notes;
+        first = prompts.first;
+        kept = prompts.kept;
         answers = prompts.answers;
-        end = ends_again runs.events runs.text t prompts.notes prompts.ends result out prompts.between out' (prompts_all_chain contents failures help 1 prompts.answers.lines _ runs.events runs.text prompts.ends _ runs.does) runs.told prompts.end;
+        end = ends_again prompts.first prompts.kept runs.events runs.text t prompts.notes prompts.ends result out prompts.between out' (prompts_all_chain contents failures help 1 prompts.answers.lines _ runs.events runs.text prompts.ends _ runs.does) runs.told prompts.end;
       })
 
 -- ---- on an image
 
-module _ (image : List ℕ) (base : TreeData) (s : SessionOf (List ℕ)) (starts : StartsOn image s.world) (is : base ≡ tree_in (blocks_of image)) where
-  abbrev made_on : (run : KeptRun) (t : SessionOf (List ℕ)) → HasHistory blocks_of never s.world.sizes s.world.harts run.events run.outcomes t.world.harts → RunOn image run.events
-  made_on run t history = record { world = s.world; outcomes = run.outcomes; new = t.world.harts; starts = starts; history = history }
+module _ (image : List ℕ) (base : TreeData) (s : SessionOf (List ℕ)) (starts : StartsOn image s.world) (is : base ≡ tree_in (blocks_of image)) (first kept : Option KeptTree) (run : KeptRun) (t : SessionOf (List ℕ))
+    (made : IsRun blocks_of never s.world.sizes s.world.harts first run t.world.harts kept) (begins : first ≡ Some (nothing_kept base)) (few : length run.events < 2 ^ 64) where
+  abbrev made_on : RunOn image run.events
+  made_on = record { world = s.world; outcomes = run.outcomes; new = t.world.harts; starts = starts; history = made.0 }
 
-  explained_on : (run : KeptRun) (t : SessionOf (List ℕ)) → HasHistory blocks_of never s.world.sizes s.world.harts run.events run.outcomes t.world.harts → (text : List ℕ) → history_from (tree_in (blocks_of image)) run text → history_on image run text
-  explained_on run t history text (inl found) = inl (record {
-    list = found.list;
-    explains = record { run = made_on run t history; explains = found.explains };
-    text_is = found.text_is;
-  })
-  explained_on run t history text (inr none) = inr (record {
-    why = none.why;
-    has_line = none.has_line;
-    refused = found_run image run.events (made_on run t history) (Err none.why) none.refused;
-    text_is = none.text_is;
-  })
+  -- what is kept beside it was kept of this run
+  kept_on : HasKept image run.events few made_on kept
+  kept_on k same = made.1 (nothing_kept (tree_in (blocks_of image))) k (begins ∙ ap (λ (b : TreeData). Some (nothing_kept b)) is) same
 
-  pub history_is : (run : KeptRun) (t : SessionOf (List ℕ)) → HasHistory blocks_of never s.world.sizes s.world.harts run.events run.outcomes t.world.harts → (text : List ℕ) → history_from base run text → history_of image run text
-  history_is run t history text told =
-      let from : history_from (tree_in (blocks_of image)) run text = subst (λ (b : TreeData). history_from b run text) is told in
-      (explained_on run t history text from, from)
+  own_on : (o : Option KeptTree) → HasKept image run.events few made_on o → (text : List ℕ) → IsFound (tree_in (blocks_of image)) o run text → IsOwn image run text
+  own_on None keeps text found = absurd found.hands
+  own_on (Some k) keeps text found =
+      let own = owned image run.events few made_on k keeps found.list found.explains found.flat found.hands found.room in
+      record { list = found.list; owns = own.0; outcomes = ap (λ (r : RunOn image run.events). r.outcomes) own.1; text_is = found.text_is }
+
+  none_on : (text : List ℕ) → IsUnfound (tree_in (blocks_of image)) kept run text → HasNoList image run text
+  none_on text none = by none.refused
+    where
+      by : IsRefusedBeside (tree_in (blocks_of image)) kept run none.why → HasNoList image run text
+      by (inl so) = record {
+        why = none.why;
+        has_line = none.has_line;
+        refused_so = refused_run image run.events made_on none.why so;
+        refused = inl so;
+        text_is = none.text_is;
+      }
+      by (inr saw) =
+          let never = never_of image run.events few made_on kept kept_on saw.1 in
+          record {
+            why = none.why;
+            has_line = none.has_line;
+            refused_so = subst (λ (why : ExplainRefused). IsRefusedSo image run.events why) (sym saw.0) (record { run = made_on; full = inr never });
+            refused = inr (saw.0, record { made = made_on; outcomes = refl; never = never });
+            text_is = none.text_is;
+          }
+
+  told_on : (text : List ℕ) → IsFound (tree_in (blocks_of image)) kept run text ⊎ IsUnfound (tree_in (blocks_of image)) kept run text → IsOwn image run text ⊎ HasNoList image run text
+  told_on text (inl found) = inl (own_on kept kept_on text found)
+  told_on text (inr none) = inr (none_on text none)
+
+pub history_is : (image : List ℕ) (base : TreeData) (s : SessionOf (List ℕ)) → StartsOn image s.world → base ≡ tree_in (blocks_of image) → (first kept : Option KeptTree) (run : KeptRun) (t : SessionOf (List ℕ)) → IsRun blocks_of never s.world.sizes s.world.harts first run t.world.harts kept
+    → (text : List ℕ) → history_from base first kept run text → history_of image first kept run text
+history_is image base s starts is first kept run t made text told =
+    told_on image base s starts is first kept run t made told.0 told.1 text (subst (λ (b : TreeData). IsFound b kept run text ⊎ IsUnfound b kept run text) is told.2)

@@ -6,6 +6,7 @@ pub mod Commanding
 pub mod Queueing
 pub mod Running
 pub mod Doings
+pub mod Hearing
 pub mod Failing
 pub mod Calm
 pub mod Stopping

@@ -1,5 +1,5 @@
 -- A script that was run, and why it had no end.
-use Rattle.console.proofs.Vocabulary.{◌≡◌, ℕ, ◌<◌, min, arith, List, [], length, take, Option, Some, None, option_map, Result, Ok, Err, refl, ap, sym, ◌∙◌, subst, inl, inr, take_all, length-take, IfSome, Stop, ConsoleFault, Mode, Runs, lines, state, History, CourseOf, FailsTo, IsMemory, script_course, NotesOf, no_notes, QueuedCalls, EndsOn, EndsSo, FailsUnread, PrintsAll, RunsCourse, RunsReader, RunsScript, or_stopped, SessionOf}
+use Rattle.console.proofs.Vocabulary.{◌≡◌, ℕ, ◌<◌, min, arith, List, [], length, take, Option, Some, None, option_map, Result, Ok, Err, refl, ap, sym, ◌∙◌, subst, inl, inr, take_all, length-take, IfSome, Stop, ConsoleFault, Mode, Runs, lines, state, History, HistoryBeside, CourseOf, FailsTo, IsMemory, script_course, NotesOf, no_notes, QueuedCalls, EndsOn, EndsSo, FailsUnread, PrintsAll, RunsCourse, RunsReader, RunsScript, or_stopped, KeptTree, SessionOf, with_beside}
 use Rattle.console.specs.declared.fault.ConsoleFault.TheVariants as faults
 
 any_text : (script : Option (List ℕ)) → (text : List ℕ) × IfSome script (λ bytes. text ≡ bytes)
@@ -19,11 +19,11 @@ pub stopped_so : (mode : Mode) (history : History) (notes : NotesOf) (ended : Re
 stopped_so mode history notes ended stop told result out out' was printed is = subst (λ r. EndsSo mode history notes r out result out') (sym was) (told, printed, is)
 
 module _ {D : Type 0} (contents : D → List (List ℕ)) (failures : D → ℕ) where
-  pub no_memory : (mode : Mode) (history : History) (s : SessionOf D) (course : Result CourseOf ℕ) (out : Option (List ℕ)) → RunsScript contents failures mode history s course (Err faults.Memory) s out out
+  pub no_memory : (mode : Mode) (history : HistoryBeside) (s : SessionOf D) (course : Result CourseOf ℕ) (out : Option (List ℕ)) → RunsScript contents failures mode history s course (Err faults.Memory) s out out
   no_memory mode history s (Ok course) out = inr (record { memory = refl; same = refl; silent = refl })
   no_memory mode history s (Err n) out = (tt, refl, refl)
 
-  pub unread : (mode : Mode) (history : History) (s : SessionOf D) (script : Option (List ℕ)) (fault : ConsoleFault) (out : Option (List ℕ)) → FailsUnread fault → RunsReader contents failures mode history s script (Err fault) s out out
+  pub unread : (mode : Mode) (history : HistoryBeside) (s : SessionOf D) (script : Option (List ℕ)) (fault : ConsoleFault) (out : Option (List ℕ)) → FailsUnread fault → RunsReader contents failures mode history s script (Err fault) s out out
   unread mode history s script (faults.Read e) out may = inl (record { fault = tt; same = refl; silent = refl })
   unread mode history s script faults.Memory out may = let text = any_text script in inr (text.0, text.1, no_memory mode history s _ out)
   unread mode history s script (faults.Write e) out may = absurd may
@@ -33,24 +33,30 @@ module _ {D : Type 0} (contents : D → List (List ℕ)) (failures : D → ℕ) 
 
   -- ---- a course
 
-  pub course_run : (mode : Mode) (history : History) (course : CourseOf) (s t : SessionOf D) (queues left : QueuedCalls) (ends result : Result (Unit {0}) ConsoleFault) (out between out' : Option (List ℕ)) (first notes : NotesOf) → queues ≡ course.left → first ≡ no_notes mode
-      → Runs (lines contents failures course.lines) (state s queues) out first ends (state t left) between notes → EndsSo mode history notes ends between result out' → RunsCourse contents failures mode history s course result t out out'
-  course_run mode history course s t queues left ends result out between out' first notes same is runs end =
+  pub course_run : (mode : Mode) (history : HistoryBeside) (course : CourseOf) (s from to t : SessionOf D) (queues left : QueuedCalls) (beside kept : Option KeptTree) (ends result : Result (Unit {0}) ConsoleFault) (out between out' : Option (List ℕ)) (first notes : NotesOf)
+      → queues ≡ course.left → first ≡ no_notes mode → from ≡ with_beside beside s → t ≡ with_beside None to → kept ≡ to.beside
+      → Runs (lines contents failures course.lines) (state from queues) out first ends (state to left) between notes → EndsSo mode (history beside kept) notes ends between result out' → RunsCourse contents failures mode history s course result t out out'
+  course_run mode history course s from to t queues left beside kept ends result out between out' first notes same is begins ended has runs end =
+      let over : with_beside kept t ≡ to = (λ i. with_beside (has i) (ended i)) in
       inl (record {
         left = left;
         ends = ends;
         between = between;
         notes = notes;
-        runs = subst (λ n. Runs (lines contents failures course.lines) (state s course.left) out n ends (state t left) between notes) is
-            (subst (λ q. Runs (lines contents failures course.lines) (state s q) out first ends (state t left) between notes) same runs);
+        first = beside;
+        kept = kept;
+        runs = subst (λ (v : SessionOf D). Runs (lines contents failures course.lines) (state (with_beside beside s) course.left) out (no_notes mode) ends (state v left) between notes) (sym over)
+            (subst (λ (u : SessionOf D). Runs (lines contents failures course.lines) (state u course.left) out (no_notes mode) ends (state to left) between notes) begins
+            (subst (λ n. Runs (lines contents failures course.lines) (state from course.left) out n ends (state to left) between notes) is
+            (subst (λ q. Runs (lines contents failures course.lines) (state from q) out first ends (state to left) between notes) same runs)));
         end = end;
       })
 
-  pub with_course : (mode : Mode) (history : History) (script : Result CourseOf ℕ) (course : CourseOf) (s t : SessionOf D) (result : Result (Unit {0}) ConsoleFault) (out out' : Option (List ℕ)) → script ≡ Ok course → RunsCourse contents failures mode history s course result t out out'
+  pub with_course : (mode : Mode) (history : HistoryBeside) (script : Result CourseOf ℕ) (course : CourseOf) (s t : SessionOf D) (result : Result (Unit {0}) ConsoleFault) (out out' : Option (List ℕ)) → script ≡ Ok course → RunsCourse contents failures mode history s course result t out out'
       → RunsScript contents failures mode history s script result t out out'
   with_course mode history script course s t result out out' is runs = subst (λ x. RunsScript contents failures mode history s x result t out out') (sym is) runs
 
-  memory_only : (mode : Mode) (history : History) (course : CourseOf) (s : SessionOf D) (fault : ConsoleFault) (out : Option (List ℕ)) → IsMemory fault → RunsCourse contents failures mode history s course (Err fault) s out out
+  memory_only : (mode : Mode) (history : HistoryBeside) (course : CourseOf) (s : SessionOf D) (fault : ConsoleFault) (out : Option (List ℕ)) → IsMemory fault → RunsCourse contents failures mode history s course (Err fault) s out out
   memory_only mode history course s faults.Memory out is = inr (record { memory = refl; same = refl; silent = refl })
   memory_only mode history course s (faults.Line n why) out is = absurd is
   memory_only mode history course s (faults.Image f) out is = absurd is
@@ -58,10 +64,10 @@ module _ {D : Type 0} (contents : D → List (List ℕ)) (failures : D → ℕ) 
   memory_only mode history course s (faults.Write e) out is = absurd is
   memory_only mode history course s (faults.Stopped stop) out is = absurd is
 
-  pub failed_course : (mode : Mode) (history : History) (script : Result CourseOf ℕ) (s : SessionOf D) (fault : ConsoleFault) (result : Result (Unit {0}) ConsoleFault) (out : Option (List ℕ)) → result ≡ Err fault → FailsTo fault script → RunsScript contents failures mode history s script result s out out
+  pub failed_course : (mode : Mode) (history : HistoryBeside) (script : Result CourseOf ℕ) (s : SessionOf D) (fault : ConsoleFault) (result : Result (Unit {0}) ConsoleFault) (out : Option (List ℕ)) → result ≡ Err fault → FailsTo fault script → RunsScript contents failures mode history s script result s out out
   failed_course mode history (Ok course) s fault result out is fails = subst (λ r. RunsCourse contents failures mode history s course r s out out) (sym is) (memory_only mode history course s fault out fails)
   failed_course mode history (Err n) s fault result out is fails = (subst (λ r. EndsOn n r) (sym is) fails, refl, refl)
 
-  pub was_read : (mode : Mode) (history : History) (s t : SessionOf D) (script : Option (List ℕ)) (text slice : List ℕ) (result : Result (Unit {0}) ConsoleFault) (out out' : Option (List ℕ)) → IfSome script (λ bytes. text ≡ bytes) → slice ≡ text
+  pub was_read : (mode : Mode) (history : HistoryBeside) (s t : SessionOf D) (script : Option (List ℕ)) (text slice : List ℕ) (result : Result (Unit {0}) ConsoleFault) (out out' : Option (List ℕ)) → IfSome script (λ bytes. text ≡ bytes) → slice ≡ text
       → RunsScript contents failures mode history s (script_course mode.schedule slice) result t out out' → RunsReader contents failures mode history s script result t out out'
   was_read mode history s t script text slice result out out' is same runs = inr (text, is, subst (λ x. RunsScript contents failures mode history s (script_course mode.schedule x) result t out out') same runs)

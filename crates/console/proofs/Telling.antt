@@ -1,5 +1,6 @@
 -- A history is told, or why there is none.
-use Rattle.console.proofs.Vocabulary.{◌≡◌, ℕ, List, Option, Result, Ok, Err, refl, subst, inl, inr, OnOk, Appends, Came, Event, trace_in, Placed, Explains, TreeData, ExplainsRun, IsRefusedFor, IsRefusedSo, ExplainRefused, ConsoleFault, IsWritten, HasLine, History, TellsHistory, TellsWhy, entries_text, history_from, history_on, why_line, KeptRun}
+use Rattle.std.specs.Prelude.{◌^◌}
+use Rattle.console.proofs.Vocabulary.{◌≡◌, ◌<◌, ℕ, false, List, length, Option, Result, Ok, Err, refl, subst, inl, inr, OnOk, Appends, Came, Event, Trace, trace_in, any_climbs, KeptTree, HandsOutKept, SawNoRoom, SawRoom, Placed, Explains, TreeData, OwnsRun, IsRefusedFor, IsRefusedSo, ExplainRefused, ConsoleFault, IsWritten, HasLine, History, TellsHistory, TellsWhy, entries_text, history_kept, history_on, why_line, KeptRun}
 use Rattle.explain.specs.declared.refused.ExplainRefused.TheVariants as refused
 use Rattle.console.specs.declared.fault.ConsoleFault.TheVariants as faults
 
@@ -41,31 +42,51 @@ list_told history run list (Err (faults.Read e)) out out' explains written lines
 list_told history run list (Err (faults.Line n reason)) out out' explains written lines = absurd written
 list_told history run list (Err (faults.Stopped stop)) out out' explains written lines = absurd written
 
--- ---- from a tree on, of events and outcomes that are the run's
+-- ---- from a tree on, of events and outcomes that are the run's, and of what is kept beside them
 
-module _ (base : TreeData) (run : KeptRun) (events : List Event) (outcomes : List Came) (these : events ≡ run.events) (those : outcomes ≡ run.outcomes) where
-  pub found : (list shown : List Placed) → list ≡ shown → Explains base (trace_in events outcomes) list → history_from base run (entries_text shown)
-  found list shown same explains = inl (record {
-    list = shown;
-    explains = subst (λ (p : List Event × List Came × List Placed). Explains base (trace_in p.0 p.1) p.2) (λ i. (these i, those i, same i)) explains;
-    text_is = refl;
-  })
+module _ (base : TreeData) (kept : Option KeptTree) (run : KeptRun) (events : List Event) (outcomes : List Came) (few : length events < 2 ^ 64) (these : events ≡ run.events) (those : outcomes ≡ run.outcomes) where
+  these_few : length run.events < 2 ^ 64
+  these_few = subst (λ (es : List Event). length es < 2 ^ 64) these few
 
-  pub unfound : (why : ExplainRefused) → IsRefusedFor base (trace_in events outcomes) why → HasLine why → history_from base run (why_line why)
-  unfound why so line = inr (record {
-    why = why;
-    has_line = line;
-    refused = subst (λ (p : List Event × List Came). IsRefusedFor base (trace_in p.0 p.1) why) (λ i. (these i, those i)) so;
-    text_is = refl;
-  })
+  -- what is said of these events and outcomes is said of the run's
+  of_run : (P : Trace → Type 0) → P (trace_in events outcomes) → P (trace_in run.events run.outcomes)
+  of_run P x = subst P (λ i. trace_in (these i) (those i)) x
+
+  pub found : (list shown : List Placed) → list ≡ shown → Explains base (trace_in events outcomes) list → any_climbs (trace_in events outcomes).calls ≡ false → HandsOutKept kept base (trace_in events outcomes) list → SawRoom kept
+      → history_kept base kept run (entries_text shown)
+  found list shown same explains flat hands room = (
+    refl,
+    these_few,
+    inl (record {
+      list = shown;
+      explains = subst (λ (l : List Placed). Explains base (trace_in run.events run.outcomes) l) same (of_run (λ t. Explains base t list) explains);
+      flat = of_run (λ t. any_climbs t.calls ≡ false) flat;
+      hands = subst (λ (l : List Placed). HandsOutKept kept base (trace_in run.events run.outcomes) l) same (of_run (λ t. HandsOutKept kept base t list) hands);
+      room = room;
+      text_is = refl;
+    }),
+  )
+
+  pub unfound : (why : ExplainRefused) → IsRefusedFor base (trace_in events outcomes) why → HasLine why → history_kept base kept run (why_line why)
+  unfound why so line = (
+    refl,
+    these_few,
+    inr (record { why = why; has_line = line; refused = inl (of_run (λ t. IsRefusedFor base t why) so); text_is = refl }),
+  )
+
+  saw_full : SawNoRoom kept → HasLine refused.FullSeen → history_kept base kept run (why_line refused.FullSeen)
+  saw_full saw line = (refl, these_few, inr (record { why = refused.FullSeen; has_line = line; refused = inr (refl, saw); text_is = refl }))
+
+  pub full_told : (result : Result (Unit {0}) ConsoleFault) (out out' : Option (List ℕ)) → SawNoRoom kept → TellsWhy refused.FullSeen result out out' → TellsHistory (history_kept base kept) run result out out'
+  full_told result out out' saw told = why_told (history_kept base kept) run refused.FullSeen result out out' (saw_full saw) told
 
 -- ---- on an image, of events that are the run's
 
 module _ (image : List ℕ) (run : KeptRun) (events : List Event) (these : events ≡ run.events) where
-  pub found_on : (list shown : List Placed) → list ≡ shown → ExplainsRun image events list → history_on image run (entries_text shown)
+  pub found_on : (list shown : List Placed) → list ≡ shown → OwnsRun image events list → history_on image run (entries_text shown)
   found_on list shown same explains = inl (record {
     list = shown;
-    explains = subst (λ (p : List Event × List Placed). ExplainsRun image p.0 p.1) (λ i. (these i, same i)) explains;
+    explains = subst (λ (p : List Event × List Placed). OwnsRun image p.0 p.1) (λ i. (these i, same i)) explains;
     text_is = refl;
   })
 

@@ -1,6 +1,6 @@
 -- What is printed of a run's history, with --explain.
-use Rattle.std.specs.Prelude.{◌≡◌, ◌⊎◌, ℕ, Bool, true, false, List, [], ◌∷◌, ◌++◌, Option, Result, Ok, Err, codes, decimal}
-use Rattle.console.specs.Vocabulary.{Appends, blocks_of, Placed, Explains, TreeData, tree_in, Event, trace_in, ExplainsRun, IsRefusedFor, IsRefusedSo, number_of, name_of, ExplainRefused, entry_line}
+use Rattle.std.specs.Prelude.{◌≡◌, ◌⊎◌, ◌<◌, ◌^◌, ℕ, Bool, true, false, List, [], ◌∷◌, ◌++◌, length, Option, Some, Result, Ok, Err, codes, decimal}
+use Rattle.console.specs.Vocabulary.{Appends, blocks_of, KeptTree, Placed, Explains, TreeData, tree_in, Event, trace_in, any_climbs, nothing_kept, HandsOutKept, SawNoRoom, SawRoom, IsRefusedFor, IsRefusedSo, NeverFoundRoom, OwnsRun, RunOn, number_of, name_of, ExplainRefused, entry_line}
 use Rattle.explain.specs.declared.refused.ExplainRefused.TheVariants as refused
 use Rattle.console.specs.declared.fault.ConsoleFault.{ConsoleFault}
 use Rattle.console.specs.declared.fault.ConsoleFault.TheVariants as faults
@@ -23,6 +23,10 @@ why_line why = codes "history refused " ++ decimal (number_of why) ++ codes " " 
 abbrev pub History : Type 1
 History = KeptRun → List ℕ → Type 0
 
+-- .. by the tree that is kept beside it: as the run begins, and at its end
+abbrev pub HistoryBeside : Type 1
+HistoryBeside = Option KeptTree → Option KeptTree → History
+
 -- want of memory is a fault, and has no line
 abbrev pub HasLine : ExplainRefused → Type 0
 HasLine refused.NoMemory = ⊥
@@ -30,30 +34,43 @@ HasLine (refused.Damaged d) = Unit {0}
 HasLine refused.FullSeen = Unit {0}
 HasLine refused.Climbs = Unit {0}
 
--- ---- of what events came to, from a tree on
+-- ---- of what events came to, from a tree on, and of what is kept beside them at the end
 
--- a list that explains what the run showed
-pub record IsFound (base : TreeData) (run : KeptRun) (text : List ℕ) : Type 0 where
+-- a list that explains what the run showed; it is the one that was kept, where that does
+pub record IsFound (base : TreeData) (kept : Option KeptTree) (run : KeptRun) (text : List ℕ) : Type 0 where
   pub list : List Placed
   pub explains : Explains base (trace_in run.events run.outcomes) list
+  pub flat : any_climbs (trace_in run.events run.outcomes).calls ≡ false
+  pub hands : HandsOutKept kept base (trace_in run.events run.outcomes) list
+  pub room : SawRoom kept
   pub text_is : text ≡ entries_text list
 
+-- as of what events came to; or a step found no room, as what is kept says
+abbrev pub IsRefusedBeside : TreeData → Option KeptTree → KeptRun → ExplainRefused → Type 0
+IsRefusedBeside base kept run why =
+    IsRefusedFor base (trace_in run.events run.outcomes) why ⊎ ((why ≡ refused.FullSeen) × SawNoRoom kept)
+
 -- no list is found, and why
-pub record IsUnfound (base : TreeData) (run : KeptRun) (text : List ℕ) : Type 0 where
+pub record IsUnfound (base : TreeData) (kept : Option KeptTree) (run : KeptRun) (text : List ℕ) : Type 0 where
   pub why : ExplainRefused
   pub has_line : HasLine why
-  pub refused : IsRefusedFor base (trace_in run.events run.outcomes) why
+  pub refused : IsRefusedBeside base kept run why
   pub text_is : text ≡ why_line why
 
-abbrev pub history_from : TreeData → History
-history_from base run text = IsFound base run text ⊎ IsUnfound base run text
+-- the tree is kept from this one on, beside a run that isn't longer than a list in memory can be
+abbrev pub history_from : TreeData → HistoryBeside
+history_from base first kept run text =
+    (first ≡ Some (nothing_kept base)) × (length run.events < 2 ^ 64) × (IsFound base kept run text ⊎ IsUnfound base kept run text)
+
+abbrev pub history_kept : TreeData → Option KeptTree → History
+history_kept base kept = history_from base (Some (nothing_kept base)) kept
 
 -- ---- of events on an image
 
--- a list that explains what these events show on this image
+-- a list that explains what these events show on this image, the run's own
 pub record IsExplained (image : List ℕ) (events : List Event) (text : List ℕ) : Type 0 where
   pub list : List Placed
-  pub explains : ExplainsRun image events list
+  pub explains : OwnsRun image events list
   pub text_is : text ≡ entries_text list
 
 -- no list is found, and why
@@ -66,9 +83,33 @@ pub record IsUnexplained (image : List ℕ) (events : List Event) (text : List �
 abbrev pub history_on : List ℕ → History
 history_on image run text = IsExplained image run.events text ⊎ IsUnexplained image run.events text
 
--- It is one of the events on the image; and of what they came to in this very run, from the image's tree on.
-abbrev pub history_of : List ℕ → History
-history_of image run text = history_on image run text × history_from (tree_in (blocks_of image)) run text
+-- ---- of a run that was made on an image
+
+module _ (image : List ℕ) (run : KeptRun) where
+  -- the list of this very run
+  pub record IsOwn (text : List ℕ) : Type 0 where
+    pub list : List Placed
+    pub owns : OwnsRun image run.events list
+    pub outcomes : owns.run.outcomes ≡ run.outcomes
+    pub text_is : text ≡ entries_text list
+
+  -- in each history of this very run some step found no room
+  pub record NeverHadRoom : Type 0 where
+    pub made : RunOn image run.events
+    pub outcomes : made.outcomes ≡ run.outcomes
+    pub never : NeverFoundRoom image run.events made
+
+  -- it has none: why these events on this image have none, and why what they came to in this very run has none
+  pub record HasNoList (text : List ℕ) : Type 0 where
+    pub why : ExplainRefused
+    pub has_line : HasLine why
+    pub refused_so : IsRefusedSo image run.events why
+    pub refused : IsRefusedFor (tree_in (blocks_of image)) (trace_in run.events run.outcomes) why
+        ⊎ ((why ≡ refused.FullSeen) × NeverHadRoom)
+    pub text_is : text ≡ why_line why
+
+abbrev pub history_of : List ℕ → HistoryBeside
+history_of image _ _ run text = IsOwn image run text ⊎ HasNoList image run text
 
 -- ---- what is printed
 

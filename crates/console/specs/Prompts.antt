@@ -1,13 +1,13 @@
 -- What comes of lines that are typed at a prompt (docs/SCRIPT.md): each is answered before the next is read.
 use Rattle.std.specs.Prelude.{◌≡◌, ◌⊎◌, ℕ, ◌+◌, ◌==◌, if◌then◌else◌, Bool, true, false, List, [], ◌∷◌, ◌++◌, replicate, Option, Some, None, IfSome, Result, Ok, Err, Vec, codes, decimal}
-use Rattle.console.specs.Vocabulary.{Appends, Global, blocks_of, Phase, Open, Staging, Installing, Halted, Kind, Rests, Asked, Nothing, Help, State, Quit, Run, asked_in, typed_lines, kind_word, Mode}
+use Rattle.console.specs.Vocabulary.{Appends, Global, KeptTree, blocks_of, Phase, Open, Staging, Installing, Halted, Kind, Rests, Asked, Nothing, Help, State, Quit, Run, asked_in, typed_lines, kind_word, Mode}
 use Rattle.console.specs.declared.doing.Doing.{Doing}
 use Rattle.console.specs.declared.fault.ConsoleFault.{ConsoleFault}
 use Rattle.console.specs.declared.fault.ConsoleFault.TheVariants as faults
 use Rattle.console.specs.Behaviours.{Behaviour, DoesNothing, Runs, followed_by, gives, in_case, prints, takes_memory}
 use Rattle.console.specs.Commands.{RunOf, all_harts, line, state}
-use Rattle.console.specs.Histories.{History, history_of}
-use Rattle.console.specs.Basics.{bytes_for, NotesOf, no_notes, QueuedCalls, none_left, SessionOf, doing_at, is_joined, locks_of, word_of}
+use Rattle.console.specs.Histories.{HistoryBeside, history_of}
+use Rattle.console.specs.Basics.{bytes_for, NotesOf, no_notes, QueuedCalls, none_left, SessionOf, with_beside, doing_at, is_joined, locks_of, word_of}
 use Rattle.console.specs.Runs.{EndsSo, RunsNone}
 use Rattle.console.specs.Scripts.{HandsOut, TakesNoImage}
 
@@ -156,18 +156,21 @@ module _ {D : Type 0} (contents : D → List (List ℕ)) (failures : D → ℕ) 
     pub are_typed : IfSome typed (λ bytes. lines ≡ typed_lines bytes)
     pub runs : Runs (prompts_all n lines) s out notes result t out' notes'
 
-  -- the lines are answered, and then the last events are told, and the history
-  pub record PromptsLines (mode : Mode) (history : History) (s : SessionOf D) (typed : Option (List ℕ))
+  -- the lines are answered, a tree is kept beside them, and then the last events are told, and the history
+  pub record PromptsLines (mode : Mode) (history : HistoryBeside) (s : SessionOf D) (typed : Option (List ℕ))
       (result : Result (Unit {0}) ConsoleFault) (t : SessionOf D) (out out' : Option (List ℕ)) : Type 0 where
     pub left : QueuedCalls
     pub ends : Result (Unit {0}) ConsoleFault
     pub between : Option (List ℕ)
     pub notes : NotesOf
-    pub answers : PromptsAll 1 typed (state s none_left) out (no_notes mode) ends (state t left) between notes
-    pub end : EndsSo mode history notes ends between result out'
+    pub first : Option KeptTree
+    pub kept : Option KeptTree
+    pub answers : PromptsAll 1 typed (state (with_beside first s) none_left) out (no_notes mode) ends
+        (state (with_beside kept t) left) between notes
+    pub end : EndsSo mode (history first kept) notes ends between result out'
 
-  abbrev pub PromptsReader : Mode → History → SessionOf D → Option (List ℕ) → Result (Unit {0}) ConsoleFault → SessionOf D → Option (List ℕ)
-      → Option (List ℕ) → Type 0
+  abbrev pub PromptsReader : Mode → HistoryBeside → SessionOf D → Option (List ℕ) → Result (Unit {0}) ConsoleFault → SessionOf D
+      → Option (List ℕ) → Option (List ℕ) → Type 0
   PromptsReader mode history s typed result t out out' =
       PromptsLines mode history s typed result t out out' ⊎ RunsNone contents failures s result t out out'
 

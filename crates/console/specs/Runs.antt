@@ -1,13 +1,13 @@
 -- A run of a script on a mounted file system.
 use Rattle.std.specs.Prelude.{◌≡◌, ◌⊎◌, ℕ, List, ◌++◌, Option, IfSome, Result, Ok, Err}
-use Rattle.console.specs.Vocabulary.{Appends, Stop, Mode}
+use Rattle.console.specs.Vocabulary.{Appends, KeptTree, Stop, Mode}
 use Rattle.console.specs.declared.fault.ConsoleFault.{ConsoleFault}
 use Rattle.console.specs.declared.fault.ConsoleFault.TheVariants as faults
 use Rattle.console.specs.Behaviours.{Runs}
 use Rattle.console.specs.Commands.{lines, state}
 use Rattle.console.specs.Events.{last_of, timeline_of}
-use Rattle.console.specs.Histories.{History, TellsHistory, WhereSet}
-use Rattle.console.specs.Basics.{CourseOf, TellsLine, script_course, NotesOf, no_notes, run_in, QueuedCalls, SessionOf}
+use Rattle.console.specs.Histories.{History, HistoryBeside, TellsHistory, WhereSet}
+use Rattle.console.specs.Basics.{CourseOf, TellsLine, script_course, NotesOf, no_notes, run_in, QueuedCalls, SessionOf, with_beside}
 
 -- ---- after the lines
 
@@ -76,16 +76,18 @@ IsReadFault (Err (faults.Line n why)) = ⊥
 IsReadFault (Err (faults.Stopped stop)) = ⊥
 
 module _ {D : Type 0} (contents : D → List (List ℕ)) (failures : D → ℕ) where
-  -- the lines are run, and then the last events are told, and the history
-  pub record RunsLines (mode : Mode) (history : History) (s : SessionOf D) (course : CourseOf) (result : Result (Unit {0}) ConsoleFault)
-      (t : SessionOf D) (out out' : Option (List ℕ)) : Type 0 where
+  -- the lines are run, a tree is kept beside them, and then the last events are told, and the history
+  pub record RunsLines (mode : Mode) (history : HistoryBeside) (s : SessionOf D) (course : CourseOf)
+      (result : Result (Unit {0}) ConsoleFault) (t : SessionOf D) (out out' : Option (List ℕ)) : Type 0 where
     pub left : QueuedCalls
     pub ends : Result (Unit {0}) ConsoleFault
     pub between : Option (List ℕ)
     pub notes : NotesOf
-    pub runs : Runs (lines contents failures course.lines) (state s course.left) out (no_notes mode) ends
-        (state t left) between notes
-    pub end : EndsSo mode history notes ends between result out'
+    pub first : Option KeptTree
+    pub kept : Option KeptTree
+    pub runs : Runs (lines contents failures course.lines) (state (with_beside first s) course.left) out (no_notes mode) ends
+        (state (with_beside kept t) left) between notes
+    pub end : EndsSo mode (history first kept) notes ends between result out'
 
   -- nothing was done and nothing printed, for want of memory
   pub record RunsNone (s : SessionOf D) (result : Result (Unit {0}) ConsoleFault) (t : SessionOf D)
@@ -94,13 +96,13 @@ module _ {D : Type 0} (contents : D → List (List ℕ)) (failures : D → ℕ) 
     pub same : t ≡ s
     pub silent : out' ≡ out
 
-  abbrev pub RunsCourse : Mode → History → SessionOf D → CourseOf → Result (Unit {0}) ConsoleFault → SessionOf D → Option (List ℕ)
-      → Option (List ℕ) → Type 0
+  abbrev pub RunsCourse : Mode → HistoryBeside → SessionOf D → CourseOf → Result (Unit {0}) ConsoleFault → SessionOf D
+      → Option (List ℕ) → Option (List ℕ) → Type 0
   RunsCourse mode history s course result t out out' = RunsLines mode history s course result t out out' ⊎ RunsNone s result t out out'
 
   -- what a script runs, or its bad line
-  abbrev pub RunsScript : Mode → History → SessionOf D → Result CourseOf ℕ → Result (Unit {0}) ConsoleFault → SessionOf D → Option (List ℕ)
-      → Option (List ℕ) → Type 0
+  abbrev pub RunsScript : Mode → HistoryBeside → SessionOf D → Result CourseOf ℕ → Result (Unit {0}) ConsoleFault → SessionOf D
+      → Option (List ℕ) → Option (List ℕ) → Type 0
   RunsScript mode history s (Err n) result t out out' = EndsOn n result × (t ≡ s) × (out' ≡ out)
   RunsScript mode history s (Ok course) result t out out' = RunsCourse mode history s course result t out out'
 
@@ -112,8 +114,8 @@ module _ {D : Type 0} (contents : D → List (List ℕ)) (failures : D → ℕ) 
     pub silent : out' ≡ out
 
   -- a script that is read to its end from a reader, of which may be known what it gives; or that isn't
-  abbrev pub RunsReader : Mode → History → SessionOf D → Option (List ℕ) → Result (Unit {0}) ConsoleFault → SessionOf D → Option (List ℕ)
-      → Option (List ℕ) → Type 0
+  abbrev pub RunsReader : Mode → HistoryBeside → SessionOf D → Option (List ℕ) → Result (Unit {0}) ConsoleFault → SessionOf D
+      → Option (List ℕ) → Option (List ℕ) → Type 0
   RunsReader mode history s script result t out out' =
       Unread s result t out out'
       ⊎ ((text : List ℕ) × IfSome script (λ bytes. text ≡ bytes)

@@ -1,6 +1,6 @@
 -- A mounted file system that a console runs, and what happens to it.
-use Rattle.std.specs.Prelude.{◌≡◌, ℕ, ◌+◌, ◌-◌, min, nat_lt, Bool, true, false, List, replicate, set, get_or, Option, Some, None}
-use Rattle.console.specs.Vocabulary.{Kind, with_answer, Event, Came, Outcome, event_of, came_of, said_of, shared_of, WorldOf, Makes, Answers}
+use Rattle.std.specs.Prelude.{◌≡◌, ℕ, ◌+◌, ◌-◌, min, nat_lt, Bool, true, false, List, replicate, set, get_or, Option, Some, None, IfSome}
+use Rattle.console.specs.Vocabulary.{Kind, KeptTree, with_answer, Event, Came, Outcome, event_of, came_of, said_of, shared_of, AreHarts, WorldOf, Makes, Answers, HasNoted, NotesEvent, heard_by, heard_in}
 use Rattle.fs_machine.specs.declared.kind.Kind.TheVariants as kinds
 use Rattle.hart_core.specs.declared.events.Event.TheVariants as event
 use Rattle.hart_core.specs.declared.events.Came.TheVariants as came
@@ -65,12 +65,53 @@ hart_in (event.Step hart) = hart
 abbrev pub doing_at : ℕ → List (Option Doing) → Option Doing
 doing_at hart doing = get_or doing hart None
 
--- the file system, and what each hart's call has done so far
+-- a step of a hart without a call is none
+abbrev pub is_event_step : Outcome → Bool
+is_event_step outcome.Idle = false
+is_event_step outcome.Waits = true
+is_event_step (outcome.Ran kind) = true
+is_event_step (outcome.Done reply) = true
+is_event_step (outcome.Stopped stop) = true
+
+abbrev pub is_event : Came → Bool
+is_event came.Started = true
+is_event (came.Refused why) = true
+is_event (came.Stepped outcome) = is_event_step outcome
+
+-- The file system, what each hart's call has done so far, and the tree that is kept beside it, where a keeper is told of its events and
+-- memory wasn't refused to it.
 pub record SessionOf (D : Type 0) : Type 0 where
   pub world : WorldOf D
   pub doing : List (Option Doing)
+  pub beside : Option KeptTree
+
+abbrev pub with_beside : {D : Type 0} → Option KeptTree → SessionOf D → SessionOf D
+with_beside beside s = record { world = s.world; doing = s.doing; beside = beside }
+
+-- what a keeper has, where there is one
+abbrev pub beside_in : Option (Option KeptTree) → Option KeptTree
+beside_in None = None
+beside_in (Some kept) = kept
 
 module _ {D : Type 0} (contents : D → List (List ℕ)) (failures : D → ℕ) where
+  -- A keeper was told of an event that came to this, of which there is a copy: what it was, and what the hart's call heard.
+  pub record HearsOf (w : WorldOf D) (hart : ℕ) (copy : Option Event) (c : Came) (old new : Option KeptTree) : Type 0 where
+    pub event : Event
+    pub copied : copy ≡ Some event
+    pub is : is_event c ≡ true
+    pub fits : AreHarts (shared_of contents failures w.harts) w.harts.calls
+    pub noted : HasNoted old event c (heard_in c (heard_by w hart)) new
+
+  -- so, or nothing is kept any more
+  abbrev pub Hears : WorldOf D → ℕ → Option Event → Came → Option KeptTree → Option KeptTree → Type 0
+  Hears w hart copy c old new = IfSome new (λ kept. HearsOf w hart copy c old new)
+
+  -- The tree that is kept beside a file system goes on as the event tells, or is kept no more: so after a step of a hart without a call.
+  abbrev pub KeepsBeside : SessionOf D → EventOfCall → SessionOf D → Type 0
+  KeepsBeside s x t =
+      IfSome t.beside (λ kept. (is_event x.came ≡ true) × NotesEvent contents failures (λ old c heard new. HasNoted old x.event c heard new)
+      s.world.sizes x.event s.world.harts s.beside x.came t.world.harts t.beside)
+
   -- the event makes one file system of the other, and comes to this
   pub record Happens (s : SessionOf D) (x : EventOfCall) (t : SessionOf D) : Type 0 where
     pub makes : Makes contents failures s.world.sizes
@@ -80,3 +121,4 @@ module _ {D : Type 0} (contents : D → List (List ℕ)) (failures : D → ℕ) 
         (with_answer (event_of x.event) (said_of x.came (shared_of contents failures t.world.harts))) s.world.harts
     pub sizes : t.world.sizes ≡ s.world.sizes
     pub doing : t.doing ≡ set s.doing (hart_in x.event) (done_after x.verb x.came (doing_at (hart_in x.event) s.doing))
+    pub beside : KeepsBeside s x t

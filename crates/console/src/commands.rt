@@ -10,15 +10,14 @@ ghost use Rattle.console.specs.Sessions.{doing_at};
 use crate::fault::ConsoleFault;
 use crate::flow::Flow;
 use crate::lines::call_of;
-use crate::notes::{Notes, what_of};
+use crate::notes::Notes;
 use crate::plan::{Plan, Until};
 use crate::queues::Queues;
 use crate::session::{Session, hart_in};
 use crate::tell::tell;
 use crate::verb::Verb;
 use block_device::Device;
-use explain::Keeper;
-use hart_core::{Came, Event};
+use hart_core::Event;
 use script::{CallLine, Command, ScriptLine, write_waits};
 use std::alloc::Global;
 use std::io::Write;
@@ -26,26 +25,11 @@ use std::io::Write;
 /// The harts, in the order of a turn.
 pub const ALL_HARTS: [u8; 8] = [0, 1, 2, 3, 4, 5, 6, 7];
 
-/// What stands beside a file system while a script is run: the calls that harts are still to start, what is noted, and who keeps a tree
-/// beside the run, where that is kept.
+/// What stands beside a file system while a script is run: the calls that harts are still to start, and what is noted.
 #[derive(Drop)]
 pub struct ScriptState {
     pub queues: Queues,
     pub notes: Notes,
-    pub keeper: Keeper,
-}
-
-// Tells the keeper of an event that is kept: of which there is a copy, and which is noted.
-fn hear<D: Device>(
-    session: &Session<D>,
-    keeper: &mut Keeper,
-    verb: Verb,
-    copy: &Option<Event>,
-    came: &Came,
-) {
-    if let (Some(event), Some(_what)) = (copy, what_of(verb, came)) {
-        session.tell(keeper, event, came);
-    }
 }
 
 // Makes an event, tells and notes it. The copy is the event again, where events are kept.
@@ -62,8 +46,7 @@ fn happen<D: Device, W: Write>(
         (W.contents out.old) running.old.notes result (state session.new running.new.queues) (W.contents out.new) running.new.notes }
 {
     let hart = hart_in(&event);
-    let came = session.event(verb, event);
-    hear(session, &mut running.keeper, verb, &copy, &came);
+    let came = session.event(verb, event, &copy);
     tell(hart, verb, came, copy, &mut running.notes, out)
 }
 

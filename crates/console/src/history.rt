@@ -1,7 +1,7 @@
 //! The history of a run, as it is printed.
 ghost use Rattle.std.specs.Prelude.{◌++◌, OnOk, codes, decimal};
 ghost use Rattle.console.specs.Vocabulary.{Appends};
-ghost use Rattle.console.specs.Histories.{TellsHistory, TellsWhy, entries_text, history_from, history_on, why_line};
+ghost use Rattle.console.specs.Histories.{TellsHistory, TellsWhy, entries_text, history_kept, history_on, why_line};
 ghost use Rattle.console.specs.Behaviours.{IsWritten};
 ghost use Rattle.console.specs.Notes.{run_in};
 
@@ -15,7 +15,8 @@ use std::io;
 use std::io::Write;
 
 /// Prints a list of tree steps that explains, from this tree on, what the run that is kept showed of calls, a line a step; or why there is
-/// none. The keeper was told of the run's events as they were made.
+/// none. The list is that of the keeper, who was told of the run's events as they were made: there is none where it saw a step without
+/// room.
 pub fn write_history<W: Write>(
     alloc: Global,
     out: &mut W,
@@ -23,9 +24,12 @@ pub fn write_history<W: Write>(
     notes: &Notes,
     keeper: Keeper,
 ) -> Result<(), ConsoleFault>
-    ensures { TellsHistory (history_from base.now) (run_in notes.now.kept) result (W.contents out.old) (W.contents out.new) }
+    ensures { TellsHistory (history_kept base.now keeper) (run_in notes.now.kept) result (W.contents out.old) (W.contents out.new) }
 {
     let (events, outcomes) = (notes.kept_events(), notes.kept_outcomes());
+    if keeper.is_full() {
+        return tell_why(out, ExplainRefused::FullSeen);
+    }
     match explain_noted(alloc, base, events, outcomes, keeper) {
         Ok(list) => tell_list(out, list.as_slice()),
         Err(why) => tell_why(out, why),

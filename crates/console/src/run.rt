@@ -1,13 +1,14 @@
 //! Running a script.
-ghost use Rattle.std.specs.Prelude.{◌≡◌, ◌<◌, ◌^◌, IfOk, IfErr, IfSome, OnOk};
-ghost use Rattle.console.specs.Vocabulary.{Appends, blocks_of, IsWellFormed};
+ghost use Rattle.std.specs.Prelude.{◌≡◌, ◌<◌, ◌^◌, IfOk, IfErr, IfSome, OnOk, Some};
+ghost use Rattle.console.specs.Vocabulary.{Appends, blocks_of, nothing_kept, IsWellFormed};
 ghost use Rattle.console.specs.declared.fault.ConsoleFault.TheVariants.{Memory};
-ghost use Rattle.console.specs.Histories.{history_from, history_on};
+ghost use Rattle.console.specs.Histories.{TellsHistory, history_from, history_kept, history_on};
 ghost use Rattle.console.specs.Images.{bytes_for, disk_for, fresh_bytes, JudgesImage};
 ghost use Rattle.console.specs.Lines.{course, script_course};
-ghost use Rattle.console.specs.Notes.{no_notes};
+ghost use Rattle.console.specs.Notes.{no_notes, run_in};
 ghost use Rattle.console.specs.Runs.{EndsSo, FailsUnread, PrintsAll, RunsCourse, RunsReader, RunsScript, TellsWanted, end_text};
 ghost use Rattle.console.specs.Scripts.{RunsImage, Tells};
+ghost use Rattle.console.specs.Sessions.{beside_in, with_beside};
 
 use crate::commands::{ScriptState, run_lines};
 use crate::events::{write_last, write_timeline};
@@ -177,30 +178,30 @@ fn run_course<D: Device, W: Write>(
         (W.contents out.old) (W.contents out.new) }
 {
     let Course { queues, lines } = run;
-    let mut running = script_state(alloc, mode, base, queues)?;
+    let mut running = script_state(alloc, session, mode, base, queues)?;
     let ended = run_lines(alloc, session, &mut running, out, lines);
-    finish(alloc, out, mode, base, running, ended)
+    let keeper = session.hand_back();
+    finish(alloc, out, mode, base, running, keeper, ended)
 }
 
-/// The state of a script with these calls to be started, where nothing is noted. The keeper begins with this tree.
-pub fn script_state(
+/// The state of a script with these calls to be started, where nothing is noted. Beside the file system this tree is kept from now on.
+pub fn script_state<D: Device>(
     alloc: Global,
+    session: &mut Session<D>,
     mode: Mode,
     base: &Tree,
     queues: Queues,
 ) -> Result<ScriptState, ConsoleFault>
     ensures state { IfOk result (λ running. (running.queues ≡ queues) × (running.notes ≡ no_notes mode)) }
-    ensures memory { IfErr result (λ fault. fault ≡ Memory) }
+    ensures keeps { IfOk result (λ _. session.new ≡ with_beside (Some (nothing_kept base.now)) session.old) }
+    ensures memory { IfErr result (λ fault. (fault ≡ Memory) × (session.new ≡ session.old)) }
 {
     let notes = Notes::new(alloc, mode)?;
     let Ok(keeper) = Keeper::new(alloc, base) else {
         return Err(ConsoleFault::Memory);
     };
-    Ok(ScriptState {
-        queues,
-        notes,
-        keeper,
-    })
+    session.keep(keeper);
+    Ok(ScriptState { queues, notes })
 }
 
 /// Prints what stands behind all answers, where the lines came to their end or a call was stopped.
@@ -210,14 +211,16 @@ pub fn finish<W: Write>(
     mode: Mode,
     base: &Tree,
     running: ScriptState,
+    keeper: Option<Keeper>,
     ended: Result<(), ConsoleFault>,
 ) -> Result<(), ConsoleFault>
-    ensures { EndsSo mode (history_from base.now) running.notes ended (W.contents out.old) result (W.contents out.new) }
+    ensures { EndsSo mode (history_kept base.now (beside_in keeper)) running.notes ended (W.contents out.old) result
+        (W.contents out.new) }
 {
     match ended {
-        Ok(()) => write_rest(alloc, out, mode, base, running),
+        Ok(()) => write_rest(alloc, out, mode, base, running, keeper),
         Err(ConsoleFault::Stopped(stop)) => {
-            write_rest(alloc, out, mode, base, running)?;
+            write_rest(alloc, out, mode, base, running, keeper)?;
             Err(ConsoleFault::Stopped(stop))
         }
         Err(fault) => Err(fault),
@@ -230,13 +233,13 @@ fn write_rest<W: Write>(
     mode: Mode,
     base: &Tree,
     running: ScriptState,
+    keeper: Option<Keeper>,
 ) -> Result<(), ConsoleFault>
-    ensures { PrintsAll mode (history_from base.now) running.notes (W.contents out.old) result (W.contents out.new) }
+    ensures { PrintsAll mode (history_kept base.now (beside_in keeper)) running.notes (W.contents out.old) result (W.contents out.new) }
 {
     let ScriptState {
         queues: _queues,
         notes,
-        keeper,
     } = running;
     write_end(out, mode, &notes).map_err(ConsoleFault::Write)?;
     write_wanted(alloc, out, mode, base, &notes, keeper)
@@ -249,14 +252,31 @@ fn write_wanted<W: Write>(
     mode: Mode,
     base: &Tree,
     notes: &Notes,
-    keeper: Keeper,
+    keeper: Option<Keeper>,
 ) -> Result<(), ConsoleFault>
-    ensures { TellsWanted mode (history_from base.now) notes.now (W.contents out.old) result (W.contents out.new) }
+    ensures { TellsWanted mode (history_kept base.now (beside_in keeper)) notes.now (W.contents out.old) result (W.contents out.new) }
 {
     if mode.explain {
-        write_history(alloc, out, base, notes, keeper)
+        write_kept(alloc, out, base, notes, keeper)
     } else {
         Ok(())
+    }
+}
+
+// The history of the run. Without a keeper there is none.
+fn write_kept<W: Write>(
+    alloc: Global,
+    out: &mut W,
+    base: &Tree,
+    notes: &Notes,
+    keeper: Option<Keeper>,
+) -> Result<(), ConsoleFault>
+    ensures { TellsHistory (history_kept base.now (beside_in keeper)) (run_in notes.now.kept) result (W.contents out.old)
+        (W.contents out.new) }
+{
+    match keeper {
+        Some(keeper) => write_history(alloc, out, base, notes, keeper),
+        None => Err(ConsoleFault::Memory),
     }
 }
 

@@ -1,36 +1,41 @@
 //! A mounted file system that scripts are run on.
-ghost use Rattle.std.specs.Prelude.{◌≡◌, IfOk, IfErr, None, replicate, set};
+ghost use Rattle.std.specs.Prelude.{◌≡◌, IfOk, IfErr, IfSome, None, replicate, set};
 ghost use Rattle.fs_layout.specs.Recovered.{sizes_of};
 ghost use Rattle.image_tree.specs.Damage.{IsWellFormed};
 ghost use Rattle.hart_core.specs.Mounting.{HandsBack, Rests};
-ghost use Rattle.console.specs.Sessions.{Happens, doing_at, hart_in};
+ghost use Rattle.hart_core.specs.Harts.{AreHarts, shared_of};
+ghost use Rattle.hart_core.specs.Telling.{heard_by, heard_in};
+ghost use Rattle.explain.specs.Keeps.{HasNoted};
+ghost use Rattle.console.specs.Sessions.{Happens, Hears, beside_in, doing_at, hart_in, is_event, is_event_step, with_beside};
 
 use crate::doing::{Doing, done_after};
 use crate::verb::Verb;
 use block_device::Device;
 use explain::Keeper;
 use group_log::Phase;
-use hart_core::{Came, Event, World};
+use hart_core::{Came, Event, Outcome, World};
 use image_tree::MountFault;
+use path_walk::Heard;
 use std::alloc::Global;
 use std::marker::Model;
 
 /// How many harts there are.
 pub const HARTS: usize = 8;
 
-/// A mounted file system, and what each hart's call has done so far. It must be unmounted.
+/// A mounted file system, what each hart's call has done so far, and who keeps a tree beside it, where that is kept. It must be unmounted.
 pub struct Session<D: Device> {
     world: World<D>,
     doing: [Option<Doing>; HARTS],
+    keeper: Option<Keeper>,
 }
 
 impl<D: Device> Model for Session<D> {
     ghost use Rattle.std.specs.Prelude.{◌≡◌, length};
-    ghost use Rattle.console.specs.Sessions.{SessionOf};
+    ghost use Rattle.console.specs.Sessions.{SessionOf, beside_in};
 
     ghost Value = { SessionOf D };
 
-    ghost view = { λ s. record { world = s.world; doing = s.doing } };
+    ghost view = { λ s. record { world = s.world; doing = s.doing; beside = beside_in s.keeper } };
 
     ghost invariant = { λ s. length s.doing ≡ 8 };
 }
@@ -55,6 +60,62 @@ fn put_doing(doing: &mut [Option<Doing>; HARTS], hart: u8, next: Option<Doing>)
     }
 }
 
+// Whether what came to this is an event. A step of a hart without a call is none.
+fn is_event(came: &Came) -> bool
+    ensures { result ≡ is_event came.now }
+{
+    match came {
+        Came::Started | Came::Refused(_) => true,
+        Came::Stepped(outcome) => is_event_step(outcome),
+    }
+}
+
+fn is_event_step(outcome: &Outcome) -> bool
+    ensures { result ≡ is_event_step outcome.now }
+{
+    match outcome {
+        Outcome::Idle => false,
+        Outcome::Waits | Outcome::Ran(_) | Outcome::Done(_) | Outcome::Stopped(_) => true,
+    }
+}
+
+// What the hart's call heard in an event that came to this.
+fn heard_in<D: Device>(world: &World<D>, hart: u8, came: &Came) -> Option<Heard>
+    ensures heard { result ≡ heard_in came.now (heard_by world.now hart) }
+    ensures fits { AreHarts (shared_of D.contents D.failures world.now.harts) world.now.harts.calls }
+{
+    let heard = world.heard(hart);
+    match came {
+        Came::Stepped(Outcome::Ran(_) | Outcome::Done(_)) => heard,
+        _ => None,
+    }
+}
+
+fn note(keeper: &mut Option<Keeper>, event: &Event, came: &Came, heard: Option<Heard>)
+    ensures { HasNoted (beside_in keeper.old) event.now came.now heard (beside_in keeper.new) }
+{
+    if let Some(keeper) = keeper {
+        keeper.note(event, came, heard);
+    }
+}
+
+// Tells the keeper of the event that came to this last. Without a copy of it nothing is kept any more; and after a step of a hart without a
+// call, which isn't made.
+fn hear<D: Device>(
+    world: &World<D>,
+    keeper: &mut Option<Keeper>,
+    hart: u8,
+    copy: &Option<Event>,
+    came: &Came,
+)
+    ensures { Hears D.contents D.failures world.now hart copy.now came.now (beside_in keeper.old) (beside_in keeper.new) }
+{
+    match copy {
+        Some(event) if is_event(came) => note(keeper, event, came, heard_in(world, hart, came)),
+        _ => *keeper = None,
+    }
+}
+
 impl<D: Device> Session<D> {
     /// Examines the image on a device and recovers it. No hart has a call or descriptors, and each is in the root. A damaged image, a
     /// device that fails and want of memory hand the device back.
@@ -69,6 +130,7 @@ impl<D: Device> Session<D> {
             Ok(world) => Ok(Session {
                 world,
                 doing: [None; HARTS],
+                keeper: None,
             }),
             Err(fault) => Err(fault),
         }
@@ -93,8 +155,10 @@ impl<D: Device> Session<D> {
         self.world.phase()
     }
 
-    /// Makes an event, of a call with this word.
-    pub(crate) fn event(&mut self, verb: Verb, event: Event) -> Came
+    /// Makes an event, of a call with this word, and tells it to the keeper. The copy is the event again; without one nothing is kept from
+    /// then on.
+    pub(crate) fn event(&mut self, verb: Verb, event: Event, copy: &Option<Event>) -> Came
+        requires { IfSome copy.now (λ again. again ≡ event) }
         ensures { Happens D.contents D.failures self.old (record { event = event; verb = verb; came = result }) self.new }
     {
         let hart = hart_in(&event);
@@ -102,19 +166,34 @@ impl<D: Device> Session<D> {
         let came = self.world.event(event);
         let next = done_after(verb, &came, doing);
         put_doing(&mut self.doing, hart, next);
+        hear(&self.world, &mut self.keeper, hart, copy, &came);
         came
     }
 
-    /// Tells a keeper of the event that was made last, and what it came to. No clause says what the keeper is told.
-    pub(crate) fn tell(&self, keeper: &mut Keeper, event: &Event, came: &Came) {
-        keeper.note(event, came, self.world.heard(hart_in(event)));
+    /// From now on a tree is kept beside it.
+    pub(crate) fn keep(&mut self, keeper: Keeper)
+        ensures { self.new ≡ with_beside keeper self.old }
+    {
+        self.keeper = Some(keeper);
+    }
+
+    /// Hands back who kept the tree, which is kept no more.
+    pub(crate) fn hand_back(&mut self) -> Option<Keeper>
+        ensures kept { beside_in result ≡ self.old.beside }
+        ensures left { self.new ≡ with_beside None self.old }
+    {
+        self.keeper.take()
     }
 
     /// Ends it at any moment, in mid-call too, without a call of the device, and gives the device.
     pub fn unmount(self) -> D
         ensures { result ≡ self.world.harts.core.log.cache.device }
     {
-        let Session { world, doing: _ } = self;
+        let Session {
+            world,
+            doing: _,
+            keeper: _keeper,
+        } = self;
         world.unmount()
     }
 }

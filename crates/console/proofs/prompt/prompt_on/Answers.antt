@@ -1,13 +1,13 @@
-use Rattle.console.proofs.Lemmas.{rules, refl, ◌≡◌, ◌∙◌, Err, inr, Memory, history_from, lines_answered}
+use Rattle.console.proofs.Lemmas.{rules, refl, ◌≡◌, ◌∙◌, Err, inr, Memory, Some, beside_in, history_from, lines_answered, nothing_kept}
 use Rattle.console.proofs.prompt.prompt_on.Goals as goal
 
 pub returns-in_err-running : goal.returns-in_err-running
 returns-in_err-running g c =
-    let memory = c.in_err-running.ensures.memory in
+    let memory = c.in_err-running.ensures.memory.0 in
     let is : c.from_residual.result ≡ Err Memory = search (rules, memory) in
-    inr (record { memory = is; same = refl; silent = refl })
+    inr (record { memory = is; same = c.in_err-running.ensures.memory.1; silent = refl })
 
 pub returns : goal.returns
 returns g c =
-    lines_answered g.D.Device.contents g.D.Device.failures _ c.args.mode (history_from c.args.base.now) c.args.session.now c.prompt_all-ended.new.session _ c.in_ok-running.running.queues c.prompt_all-ended.new.running.queues c.prompt_all-ended.result c.finish.result _ _ _ _ _
-    (c.in_ok-running.ensures.state.0 ∙ c.new.ensures) c.in_ok-running.ensures.state.1 c.prompt_all-ended.ensures c.finish.ensures
+    lines_answered g.D.Device.contents g.D.Device.failures _ c.args.mode (history_from c.args.base.now) c.args.session.now c.script_state.new.session c.prompt_all-ended.new.session c.hand_back-keeper.new.self _ c.in_ok-running.running.queues c.prompt_all-ended.new.running.queues (Some (nothing_kept c.args.base.now)) (beside_in c.hand_back-keeper.result) c.prompt_all-ended.result c.finish.result _ _ _ _ _
+    (c.in_ok-running.ensures.state.0 ∙ c.new.ensures) c.in_ok-running.ensures.state.1 c.in_ok-running.ensures.keeps c.hand_back-keeper.ensures.left c.hand_back-keeper.ensures.kept c.prompt_all-ended.ensures c.finish.ensures
