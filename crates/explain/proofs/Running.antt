@@ -81,7 +81,7 @@ module _ (image : List ℕ) (events : List Event) (few : length events < 2 ^ 64)
   pub owned : (k : KeptTree) → HasKept (Some k) → (list : List Placed) → Explains (tree_in (blocks_of image)) (trace_in events run.outcomes) list → any_climbs (trace_in events run.outcomes).calls ≡ false
       → HandsOut (Some k) (tree_in (blocks_of image)) (trace_in events run.outcomes) list → SawRoom (Some k) → (owns : OwnsRun image events list) × (owns.run ≡ run)
   owned k keeps list is flat hands room =
-      (record { run = run; explains = is; own = kept_own k keeps flat list hands; stops = all_stops flat; kept = k; keeps = keeps k refl; room = room }, refl)
+      (record { run = run; explains = is; own = kept_own k keeps flat list hands; stops = all_stops flat; kept = k; keeps = keeps k refl; room = room; handed = hands }, refl)
 
   pub owns : (o : Option KeptTree) → HasKept o → (found : Result (Vec Placed Global) ExplainRefused) → IsFoundFor (tree_in (blocks_of image)) (trace_in events run.outcomes) found
       → IfOk found (λ _. any_climbs (trace_in events run.outcomes).calls ≡ false)

@@ -27,7 +27,8 @@ pub record RunOn (image : List ℕ) (events : List Event) : Type 0 where
 
 -- The list explains what such a run shows of calls, from the image's tree, and is the run's own: that of each of its histories, where
 -- every step found room. Wherever such a run is stopped, the list so far is a beginning of it, and the disk's tree is what has names in the
--- tree after a beginning of it. A keeper that was told of each event of the run saw no step without room.
+-- tree after a beginning of it. A keeper that was told of each event of the run saw no step without room; where what it kept explains the
+-- same, it is that list, whether every step found room or not.
 pub record OwnsRun (image : List ℕ) (events : List Event) (list : List Placed) : Type 0 where
   pub run : RunOn image events
   pub explains : Explains (tree_in (blocks_of image)) (trace_in events run.outcomes) list
@@ -42,6 +43,7 @@ pub record OwnsRun (image : List ℕ) (events : List Event) (list : List Placed)
   pub keeps : KeepsRun blocks_of never run.world.sizes run.world.harts (nothing_kept (tree_in (blocks_of image))) events run.outcomes
       run.new kept
   pub room : kept.full ≡ false
+  pub handed : Explains (tree_in (blocks_of image)) (trace_in events run.outcomes) kept.list → list ≡ kept.list
 
 -- in each history of the run some step found no room
 abbrev pub NeverFoundRoom : (image : List ℕ) (events : List Event) → RunOn image events → Type 0
