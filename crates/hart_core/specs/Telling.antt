@@ -1,6 +1,6 @@
 -- What an event tells of the call of its hart: where it stands, and what it hears.
-use Rattle.std.specs.Prelude.{◌≡◌, ℕ, List, [], ◌∷◌, Option, Some, None, get_or, slice_set}
-use Rattle.hart_core.specs.Vocabulary.{Super, Call, Heard, HasBegun, Running, State, TellsOf, heard_of}
+use Rattle.std.specs.Prelude.{◌≡◌, ℕ, Bool, List, [], ◌∷◌, Option, Some, None, get_or, slice_set}
+use Rattle.hart_core.specs.Vocabulary.{Super, Call, Heard, HasBegun, Running, State, TellsOf, heard_of, lacks_place_at, list_any}
 use Rattle.hart_core.specs.declared.events.Event.{Event}
 use Rattle.hart_core.specs.declared.events.Event.TheVariants as event
 use Rattle.hart_core.specs.declared.events.Came.{Came}
@@ -46,6 +46,10 @@ heard_at last (Some m) = heard_of m
 
 abbrev pub heard_by : {D : Type 0} → WorldOf D → ℕ → Option Heard
 heard_by w h = heard_at w.last (get_or w.harts.calls h None)
+
+-- a call claims an inode for which no place in memory was left, and isn't told so yet
+abbrev pub some_lacks_place : {D : Type 0} → HartsOf D → Bool
+some_lacks_place w = list_any lacks_place_at w.calls
 
 -- ---- of an event
 

@@ -11,7 +11,7 @@ pub use Rattle.atomic_programs.specs.Calls.{DidRun, DidStop, DidWait, Outcome as
 pub use Rattle.atomic_programs.specs.Plain.{MayOf, Plain, PlainHonest, PlainHonestStep, hart_step, plain_makes, plain_outcomes, plain_run}
 pub use Rattle.calls_on_blocks.specs.Theory.{block_calls, block_code, child_of, has_file, reserved}
 pub use Rattle.plain_tree.specs.declared.trace.TracedCall.{TracedCall}
-pub use Rattle.syscalls.specs.Machines.{Running, RunningFits, TellsOf, heard_of}
+pub use Rattle.syscalls.specs.Machines.{Running, RunningFits, TellsOf, heard_of, lacks_place_at}
 unfoldable pub use Rattle.syscalls.specs.Machines.{running_of}
 pub use Rattle.atomic_programs.specs.Tables.{PlaceFits, plain_at}
 pub use Rattle.calls_on_blocks.specs.History.{first}

@@ -1,5 +1,6 @@
 // The calls that eight harts have under way.
 ghost use Rattle.std.specs.Prelude.{◌≡◌, ◌<◌, [], ◌∷◌, false, None, IfOk, get_or, is_some, replicate, slice_set};
+ghost use Rattle.std.specs.List.{list_any};
 ghost use Rattle.std.specs.Option.{MatchOption};
 ghost use Rattle.atomic_programs.specs.Plain.{PlainHonestStep, MayOf, hart_step};
 ghost use Rattle.atomic_programs.specs.Machines.{program_at};
@@ -7,7 +8,7 @@ ghost use Rattle.fs_machine.specs.Steps.{state_of};
 ghost use Rattle.fs_machine.specs.Machines.{CallsOnce};
 ghost use Rattle.fs_machine.specs.Tied.{LeavesTied};
 ghost use Rattle.inode_parts.specs.Sizes.{IsSized};
-ghost use Rattle.syscalls.specs.Machines.{heard_of, running_of};
+ghost use Rattle.syscalls.specs.Machines.{heard_of, lacks_place_at, running_of};
 ghost use Rattle.syscalls.specs.Places.{HasBegun};
 ghost use Rattle.whole_calls.specs.Wholes.{IsCall};
 ghost use Rattle.hart_core.specs.Blocks.{blocks, code};
@@ -182,6 +183,13 @@ impl Calls {
         ensures { MatchOption (get_or self.now hart None) (Unit {0}) (λ call. result ≡ heard_of call) }
     {
         self.places[hart as usize].heard()
+    }
+
+    /// Whether one of them claims an inode for which no place in memory was left, and is to be told so in its next step.
+    pub fn lack_place(&self) -> bool
+        ensures { result ≡ list_any lacks_place_at self.now }
+    {
+        self.places.iter().any(|place| place.lacks_place())
     }
 
     /// Ends those of idle harts.

@@ -9,7 +9,7 @@ ghost use Rattle.inode_machine.specs.Exec.{is_at};
 ghost use Rattle.calls_on_blocks.specs.Theory.{block_calls, has_file, reserved};
 ghost use Rattle.hart_core.specs.Harts.{outcome_of, outcome_with, said, IsTold, shared_of, programs_of, busy_in, children_in, AreHarts, AreIdle};
 ghost use Rattle.hart_core.specs.Starts.{fault_of};
-ghost use Rattle.hart_core.specs.Telling.{SetsAt, TellsOutcome, heard_at};
+ghost use Rattle.hart_core.specs.Telling.{SetsAt, TellsOutcome, heard_at, some_lacks_place};
 ghost use Rattle.inode_parts.specs.Sizes.{IsSized};
 ghost use Rattle.syscalls.specs.Places.{HasBegun};
 ghost use Rattle.atomic_programs.specs.Prog.{plain};
@@ -178,6 +178,13 @@ impl<D: Device> Harts<D> {
             return last;
         }
         self.calls.heard(hart)
+    }
+
+    /// Whether a call claims an inode for which no place in memory was left, and is to be told so in its next step.
+    pub fn lack_place(&self) -> bool
+        ensures { result ≡ some_lacks_place self.now }
+    {
+        self.calls.lack_place()
     }
 
     /// Where the log's commit is.

@@ -10,7 +10,7 @@ ghost use Rattle.hart_core.specs.Harts.{outcome_of, said, shared_of, AreHarts};
 ghost use Rattle.hart_core.specs.Mounting.{HandsBack, Rests};
 ghost use Rattle.hart_core.specs.Promised.{IdleHartsHaveNothing, QuietBlocksAreAnImage, WaitsByTheRule};
 ghost use Rattle.hart_core.specs.Starts.{child_refusal, fault_of, others_refusal, refusal_of, start_outcome, IsOfBytes};
-ghost use Rattle.hart_core.specs.Telling.{SetsAt, TellsOutcome, heard_by};
+ghost use Rattle.hart_core.specs.Telling.{SetsAt, TellsOutcome, heard_by, some_lacks_place};
 ghost use Rattle.hart_core.specs.Worlds.{Makes, Answers};
 ghost use Rattle.syscalls.specs.Places.{HasBegun};
 
@@ -174,6 +174,14 @@ impl<D: Device> World<D> {
         ensures fits { AreHarts (shared_of D.contents D.failures self.now.harts) self.now.harts.calls }
     {
         self.harts.heard(hart, self.last)
+    }
+
+    /// Whether a call under way claims an inode for which none of the fifty places in memory was left, and is to be told so in its next
+    /// step. That is the one want of room that a call isn't told of in the very step that finds it.
+    pub fn lacks_place(&self) -> bool
+        ensures { result ≡ some_lacks_place self.now.harts }
+    {
+        self.harts.lack_place()
     }
 
     /// Where the log's commit is: none is under way, or so many of its blocks were copied.

@@ -11,6 +11,10 @@ use Rattle.inode_parts.specs.Calls.{IsReading, whole_with}
 use Rattle.inode_parts.specs.FileReads.{FillsFrom}
 use Rattle.inode_parts.specs.InodeParts.{part_left}
 use Rattle.inode_parts.specs.declared.lowered.Lowered.{Lowered}
+use Rattle.inode_parts.specs.declared.part.InodePart.{InodePart}
+use Rattle.inode_parts.specs.declared.part.InodePart.TheVariants as part
+use Rattle.inode_table.specs.declared.new_inode.NewInode.{NewInode}
+use Rattle.inode_table.specs.declared.new_inode.NewInode.TheVariants as new
 
 -- what is left of the part that is under way
 abbrev pub part_of : Lowered → Hand → Part
@@ -57,3 +61,20 @@ pub record LoweredTells (l : Lowered) (h : Hand) (answer : (o : steps.Op) → st
 -- a call that begins asks its first operation
 abbrev pub BeginsAsking : Super → Carry → programs.P Reply → Lowered → Hand → Type 0
 BeginsAsking sizes c p l h = (l.sizes ≡ sizes) × AsksNext sizes c p l h
+
+-- ---- what isn't told yet
+
+-- it gives back the block that it looked through, since no place in memory was left for an inode
+abbrev pub gives_back : NewInode → Bool
+gives_back (new.Fetching seat looking fetch) = false
+gives_back (new.Look seat looking) = false
+gives_back (new.Record seat looking number) = false
+gives_back (new.GiveBack seat looking) = true
+
+abbrev pub finds_no_place : InodePart → Bool
+finds_no_place (part.Claim p) = gives_back p.claim
+finds_no_place p = false
+
+-- The call claims an inode, and no place in memory was left for one: it is told so in its next step.
+abbrev pub lacks_place : Lowered → Bool
+lacks_place l = finds_no_place l.part

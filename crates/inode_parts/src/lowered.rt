@@ -8,12 +8,14 @@ ghost use Rattle.inode_parts.specs.InodeParts.{part_left, part_left_after, part_
 ghost use Rattle.inode_parts.specs.Leaving.{having, heard_if};
 ghost use Rattle.inode_parts.specs.UnderWay.{GoesOrLeaves, UnderWay};
 ghost use Rattle.inode_parts.specs.Sizes.{IsSized};
-ghost use Rattle.inode_parts.specs.Telling.{BeginsAsking, LoweredTells};
+ghost use Rattle.inode_parts.specs.Telling.{BeginsAsking, LoweredTells, lacks_place};
 
+use crate::claim_part::ClaimPart;
 use crate::note::Notes;
 use crate::part::InodePart;
 use fs_layout::Super;
 use fs_machine::{Answer, Control, Hand, Op};
+use inode_table::NewInode;
 use path_walk::{Heard, Numbers};
 use plain_tree::{Answer as CallAnswer, Call, Reply};
 use std::alloc::{AllocError, Global};
@@ -89,6 +91,20 @@ impl Lowered {
         ensures { result ≡ heard_if self.now.ended self.now.heard }
     {
         if self.ended { Some(self.heard) } else { None }
+    }
+
+    /// Whether the call claims an inode for which no place in memory was left, and is to be told so in its next step.
+    pub fn lacks_place(&self) -> bool
+        ensures { result ≡ lacks_place self.now }
+    {
+        match &self.part {
+            InodePart::Claim(
+                ClaimPart {
+                    claim: NewInode::GiveBack(_, _),
+                },
+            ) => true,
+            _ => false,
+        }
     }
 
     /// The reply of the call, once it has ended.

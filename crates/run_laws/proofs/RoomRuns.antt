@@ -9,7 +9,7 @@ use Rattle.run_laws.proofs.Worlds.{worlds_refine}
 
 -- ---- one step
 
-marked_clean : (h : ℕ) (k : Option Mark) (w : above.World) → (marked h k w).clean ≡ (not (spoils k) && (roomy (told_by h k w) && w.clean))
+pub marked_clean : (h : ℕ) (k : Option Mark) (w : above.World) → (marked h k w).clean ≡ (not (spoils k) && (roomy (told_by h k w) && w.clean))
 marked_clean h None w = refl
 marked_clean h (Some (Makes v)) w = refl
 marked_clean h (Some (Frees n)) w = refl
@@ -27,7 +27,7 @@ told_same h (Some Fills) w u e = refl
 told_same h (Some Mends) w u e = refl
 told_same h (Some (Spoils s)) w u e = refl
 
-after_clean : {A : Type 0} (h : ℕ) (k : Option Mark) (before after : above.World) (a : A) (d : ExecResult A above.World) → Goes h before d → with_mark h (λ _. k) d ≡ Ran a after
+pub after_clean : {A : Type 0} (h : ℕ) (k : Option Mark) (before after : above.World) (a : A) (d : ExecResult A above.World) → Goes h before d → with_mark h (λ _. k) d ≡ Ran a after
     → after.clean ≡ (not (spoils k) && (roomy (told_by h k before) && before.clean))
 after_clean h k before after a Waits g e = cc
 after_clean h k before after a (Stops u) g e = absurd g

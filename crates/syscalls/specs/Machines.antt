@@ -1,6 +1,6 @@
 -- A call under way, with all that its hart has in hand.
-use Rattle.syscalls.specs.Vocabulary.{Reply, State, P, HandFits, Heard, Machine, TellsBy, heard_if, lowered_left, LoweredReady, LoweredTells, Lowered}
-use Rattle.std.specs.Prelude.{ℕ, Option}
+use Rattle.syscalls.specs.Vocabulary.{Reply, State, P, HandFits, Heard, Machine, TellsBy, heard_if, lacks_place, lowered_left, LoweredReady, LoweredTells, Lowered}
+use Rattle.std.specs.Prelude.{ℕ, Bool, false, Option, Some, None}
 
 abbrev pub Running : Type 0
 Running = Machine Lowered (Unit {0})
@@ -17,6 +17,11 @@ pub record RunningFits (hart : ℕ) (s : State) (m : Running) : Type 0 where
 -- what the call heard in its last step
 abbrev pub heard_of : Running → Option Heard
 heard_of m = heard_if m.control.ended m.control.heard
+
+-- what was claimed for a call that is under way has no place in memory, and the call isn't told so yet
+abbrev pub lacks_place_at : Option Running → Bool
+lacks_place_at None = false
+lacks_place_at (Some m) = lacks_place m.control
 
 -- what a step of it that ran tells; the call may have ended
 abbrev pub TellsOf : ℕ → Running → Option (Unit {0}) → Running → (old new : State) → Type 0

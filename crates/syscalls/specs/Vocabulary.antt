@@ -13,7 +13,7 @@ pub use Rattle.fs_machine.specs.declared.shared.Core.{Core}
 pub use Rattle.fs_machine.specs.Controls.{TellsBy}
 pub use Rattle.inode_parts.specs.Calls.{LoweredReady, RunsByParts, lowered_left, path_of}
 pub use Rattle.inode_parts.specs.Leaving.{heard_if}
-pub use Rattle.inode_parts.specs.Telling.{BeginsAsking, LoweredTells}
+pub use Rattle.inode_parts.specs.Telling.{BeginsAsking, LoweredTells, lacks_place}
 pub use Rattle.inode_parts.specs.Expecting.{RunsAlone}
 pub use Rattle.inode_parts.specs.Parts.{lowered}
 pub use Rattle.inode_parts.specs.declared.lowered.Lowered.{Lowered}

@@ -6,7 +6,7 @@ ghost use Rattle.fs_machine.specs.Machines.{MayNext};
 ghost use Rattle.whole_calls.specs.Wholes.{IsCall};
 ghost use Rattle.fs_machine.specs.Empty.{IsEmpty};
 ghost use Rattle.inode_parts.specs.Sizes.{IsSized};
-ghost use Rattle.syscalls.specs.Machines.{heard_of, running_of, RunningFits};
+ghost use Rattle.syscalls.specs.Machines.{heard_of, lacks_place_at, running_of, RunningFits};
 ghost use Rattle.syscalls.specs.Places.{with_reply, HasBegun, IsReplied, StepsAt};
 
 use crate::calls_run_by_parts;
@@ -157,6 +157,13 @@ impl CallPlace {
         ensures { MatchOption self.now (Unit {0}) (λ call. result ≡ heard_of call) }
     {
         self.machine.control.heard()
+    }
+
+    /// Whether a call is under way that claims an inode for which no place in memory was left, and is to be told so in its next step.
+    pub fn lacks_place(&self) -> bool
+        ensures { result ≡ lacks_place_at self.now }
+    {
+        self.is_busy && self.machine.control.lacks_place()
     }
 
     /// Ends an idle place.
