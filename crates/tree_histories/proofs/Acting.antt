@@ -1,5 +1,5 @@
 -- A step that acted on the tree, as the move of a walk makes it.
-use Rattle.tree_histories.proofs.Vocabulary.{◌≡◌, ℕ, Bool, true, false, nat_lt, Option, Some, None, refl, sym, ◌∙◌, ap, Cause, Call, Action, StepAnswer, TreeStep, IsAppliedAtWith, IsBadChoiceWith, Outcome, applied_with, in_place_with, IsInPlace, IsLeastUnused, IsNewNode, makes_node, opens_one, place_of, refusal_with, refused, Name, Tree, settle, hart_count, and_true, Made, act_all, act_answer, act_entered, acts, own_made, Deed, ActedOn, ActsSo, step_for}
+use Rattle.tree_histories.proofs.Vocabulary.{◌≡◌, ℕ, Bool, true, false, nat_lt, Option, Some, None, refl, sym, ◌∙◌, ap, Cause, Call, Action, StepAnswer, TreeStep, IsAppliedAtWith, IsBadChoiceWith, Outcome, applied_with, in_place_with, IsInPlace, IsLeastUnused, IsNewNode, is_nothing, makes_node, opens_one, place_of, refusal_with, refused, Name, Tree, settle, hart_count, and_true, Made, act_all, act_answer, act_entered, acts, own_made, Deed, ActedOn, ActsSo, step_for}
 use Rattle.plain_tree.specs.declared.call.Call.TheVariants as calls
 use Rattle.inode_machine.proofs.MadeMoves.{own_opened, refused_settles}
 
@@ -25,6 +25,21 @@ applied_place t s res par id place =
     let both : (nat_lt s.hart hart_count ≡ true) × (place_of t s.hart s.action ≡ true) = and_true (nat_lt s.hart hart_count) (place_of t s.hart s.action) place in
     rw (both.0, both.1) refl
 
+module _ (t : Tree) (s : TreeStep) (R : Option ℕ) (Q : Option (ℕ × Name)) where
+  answer_in : (id : ℕ) (o : Option Cause) → (in_place_with t s R Q o id).answer ≡ act_answer o t s.hart s.action R Q id
+  answer_in id None = refl
+  answer_in id (Some k) = refl
+
+  pub answer_of : (id : ℕ) (a : StepAnswer) (t' : Tree) → IsInPlace t s.hart s.action → IsAppliedAtWith t s R Q id a t'
+      → a ≡ act_answer (refusal_with t s.hart s.action R Q) t s.hart s.action R Q id
+  answer_of id a t' place is =
+      sym (ap (λ (z : Outcome). z.answer) is.is) ∙ (ap (λ (z : Outcome). z.answer) (applied_place t s R Q id place) ∙ answer_in id (refusal_with t s.hart s.action R Q))
+
+-- what an own step tells is told where it is refused, too
+pub own_told : (t : Tree) (h : ℕ) (s : Action) (o : Option Cause) (m : Made) → (own_made o t h s m).told ≡ m.told
+own_told t h s None m = refl
+own_told t h s (Some k) m = refl
+
 -- the tree after a step and what is told are those of what a move makes, by the id of a new open file, the least that is unused; and its
 -- walk is over
 pub record EndsAs (t : Tree) (x : ℕ → Made) (d : Option Deed) (t' : Tree) : Type 0 where
@@ -33,6 +48,7 @@ pub record EndsAs (t : Tree) (x : ℕ → Made) (d : Option Deed) (t' : Tree) : 
   pub tree : t' ≡ settle (x id).all
   pub told : d ≡ (x id).told
   pub walk : (x id).walk ≡ None
+  pub acted : is_nothing d ≡ false
 
 -- R, Q: what was found for the step's path
 module _ (t : Tree) (h : ℕ) (s : Action) (new : ℕ) (t' : Tree) (settled : settle t ≡ t) (R : Option ℕ) (Q : Option (ℕ × Name)) where
@@ -50,21 +66,13 @@ module _ (t : Tree) (h : ℕ) (s : Action) (new : ℕ) (t' : Tree) (settled : se
   tree_after : (id : ℕ) (a : StepAnswer) → IsInPlace t h s → IsAppliedAtWith t st R Q id a t' → t' ≡ (in_place_with t st R Q (refusal_with t h s R Q) id).tree
   tree_after id a place is = sym (ap (λ (z : Outcome). z.tree) is.is) ∙ ap (λ (z : Outcome). z.tree) (applied_place t st R Q id place)
 
-  answer_in : (id : ℕ) (o : Option Cause) → (in_place_with t st R Q o id).answer ≡ act_answer o t h s R Q id
-  answer_in id None = refl
-  answer_in id (Some k) = refl
-
-  answer_of : (id : ℕ) (a : StepAnswer) → IsInPlace t h s → IsAppliedAtWith t st R Q id a t' → a ≡ act_answer (refusal_with t h s R Q) t h s R Q id
-  answer_of id a place is =
-      sym (ap (λ (z : Outcome). z.answer) is.is) ∙ (ap (λ (z : Outcome). z.answer) (applied_place t st R Q id place) ∙ answer_in id (refusal_with t h s R Q))
-
   abbrev deed : Action → StepAnswer → ℕ → Deed
   deed b a n = record { act = record { step = b; answer = a }; new = n }
 
   told_so : (d : Deed) → IsInPlace t h s → (x : ActedOn st R Q t (Some d) t') → ◌≡◌ {A = Option Deed} (Some d) (Some (deed s (act_answer (refusal_with t h s R Q) t h s R Q x.2.id) new))
   told_so d place x =
       ap (λ (b : Action). Some (deed b d.act.answer d.new)) x.0
-      ∙ (ap (λ (a : StepAnswer). Some (deed s a d.new)) (answer_of x.2.id d.act.answer place x.2.made)
+      ∙ (ap (λ (a : StepAnswer). Some (deed s a d.new)) (answer_of t st R Q x.2.id d.act.answer t' place x.2.made)
       ∙ ap (λ (n : ℕ). Some (deed s (act_answer (refusal_with t h s R Q) t h s R Q x.2.id) n)) x.1)
 
   never_bad : {A : Type 0} → IsBadChoiceWith t st R Q → (refusal_with t h s R Q ≡ None → makes_node t s Q ≡ true → IsNewNode t new) → A
@@ -84,15 +92,12 @@ module _ (t : Tree) (h : ℕ) (s : Action) (new : ℕ) (t' : Tree) (settled : se
     tree = tree_after x.2.id d.act.answer place x.2.made ∙ act_tree same x.2.id (refusal_with t h s R Q);
     told = told_so d place x;
     walk = refl;
+    acted = refl;
   }
 
   -- a step of a walk
   pub ends_so : (d : Option Deed) → refused t h s ≡ t → ActsSo t h s R Q new → ActedOn st R Q t d t' → EndsAs t (λ id. acts t h s R Q new id) d t'
   ends_so d same so x = ends_here d same so.place so.node x
-
-  own_told : (o : Option Cause) (m : Made) → (own_made o t h s m).told ≡ m.told
-  own_told None m = refl
-  own_told (Some k) m = refl
 
   own_walk : (o : Option Cause) (m : Made) → (own_made o t h s m).walk ≡ m.walk
   own_walk None m = refl
@@ -105,6 +110,7 @@ module _ (t : Tree) (h : ℕ) (s : Action) (new : ℕ) (t' : Tree) (settled : se
     id = x.2.id;
     least = λ e. x.2.least (opens (opens_one t h s) (refusal_with t h s R Q) x.2.id (sym (own_opened t h s (acts t h s R Q new x.2.id) (refusal_with t h s R Q)) ∙ e));
     tree = tree_after x.2.id d.act.answer so.place x.2.made ∙ own_tree x.2.id (refusal_with t h s R Q) refl;
-    told = told_so d so.place x ∙ sym (own_told (refusal_with t h s R Q) (acts t h s R Q new x.2.id));
+    told = told_so d so.place x ∙ sym (own_told t h s (refusal_with t h s R Q) (acts t h s R Q new x.2.id));
     walk = own_walk (refusal_with t h s R Q) (acts t h s R Q new x.2.id);
+    acted = refl;
   }

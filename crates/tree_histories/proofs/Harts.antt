@@ -1,5 +1,5 @@
 -- One hart's call in what is kept is put, and what is then seen of all.
-use Rattle.tree_histories.proofs.Vocabulary.{◌≡◌, ◌≢◌, inl, inr, ℕ, ◌<◌, List, length, get_or, Option, Some, None, refl, sym, ◌∙◌, ap, option_map, get_or-eq_default, cases_lt, put, tree_of, TreeData, put_back, set_put, Deed, Stage, call_in, Walk, KeptTree, Under, hart_in, stage_of, walk_under, walking, with_hart, with_walk, written, written_by, walk_of}
+use Rattle.tree_histories.proofs.Vocabulary.{◌≡◌, ◌≢◌, ◌⊎◌, inl, inr, ℕ, ◌<◌, ◌≤◌, arith, List, length, length-set, cases_eq, SameCalls, get_or, Option, Some, None, refl, sym, ◌∙◌, ap, option_map, get_or-eq_default, cases_lt, put, tree_of, TreeData, put_back, set_put, Deed, Stage, call_in, Walk, KeptTree, Under, hart_in, stage_of, walk_under, walking, with_hart, with_walk, written, written_by, walk_of}
 use Rattle.std.proofs.Common.{get_or-set_other, get_or-set_same}
 use Rattle.std.proofs.Math.ListN.{set}
 use Rattle.tree_laws.specs.Moves as moves
@@ -26,6 +26,26 @@ same_hart k h o g e lt = ap (λ (j : ℕ). get_or (set k.harts h o) j None) e �
 
 pub other_hart : (k : KeptTree) (h : ℕ) (o : Option Under) (g : ℕ) → g ≢ h → hart_in (with_hart k h o) g ≡ hart_in k g
 other_hart k h o g ne = get_or-set_other k.harts h g o None ne
+
+-- a walk changes no call
+pub same_calls : (k : KeptTree) (h : ℕ) (w : Option Walk) → SameCalls k (with_walk k h w)
+same_calls k h w g = elim (cases_eq g h) [
+  | inl e ↦ here e (cases_lt h (length k.harts))
+  | inr ne ↦ ap (option_map (walking None)) (other_hart k h (option_map (walking w) (hart_in k h)) g ne)
+]
+  where
+    twice : (o : Option Under) → option_map (walking None) (option_map (walking w) o) ≡ option_map (walking None) o
+    twice None = refl
+    twice (Some u) = refl
+
+    here : g ≡ h → (h < length k.harts) ⊎ (length k.harts ≤ h) → option_map (walking None) (hart_in (with_walk k h w) g) ≡ option_map (walking None) (hart_in k g)
+    here e (inl lt) =
+        ap (option_map (walking None)) (same_hart k h (option_map (walking w) (hart_in k h)) g e lt)
+        ∙ (twice (hart_in k h) ∙ ap (λ (j : ℕ). option_map (walking None) (hart_in k j)) (sym e))
+    here e (inr le) =
+        let same = length-set k.harts h (option_map (walking w) (hart_in k h)) in
+        ap (option_map (walking None))
+        (get_or-eq_default (set k.harts h (option_map (walking w) (hart_in k h))) None (omega (arith, e, le, same)) ∙ sym (get_or-eq_default k.harts None (omega (arith, e, le))))
 
 -- ---- the stage
 

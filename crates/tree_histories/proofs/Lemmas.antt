@@ -25,4 +25,4 @@ pub use Rattle.tree_histories.proofs.ListLemmas.{chain_none, last_at, last_none}
 pub use Rattle.tree_histories.proofs.OrderLemmas.{HasEnds, NoneStands, in_order, is_due}
 pub use Rattle.tree_histories.proofs.PositionLemmas.{bad_dead, bad_numbers, no_call, no_fit, no_next, no_place, not_timely}
 pub use Rattle.tree_histories.proofs.Seeing.{found_name, seen_take}
-pub use Rattle.tree_histories.proofs.Telling.{told_alone, told_begun, told_looked, told_lost, told_next, told_nowhere, told_quit, told_start}
+pub use Rattle.tree_histories.proofs.Telling.{only_acts, told_alone, told_begun, told_looked, told_lost, told_next, told_nowhere, told_quit, told_start}

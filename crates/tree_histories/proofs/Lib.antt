@@ -16,6 +16,7 @@ pub mod Falling
 pub mod Harts
 pub mod Hearing
 pub mod Hinting
+pub mod Rooms
 pub mod Seeing
 pub mod Steps
 pub mod Telling

@@ -1,9 +1,10 @@
 -- What is told where a call's mark is met: what the move tells.
-use Rattle.tree_histories.proofs.Vocabulary.{◌≡◌, ℕ, ◌<◌, ◌^◌, List, [], ◌∷◌, Option, Some, None, Result, Ok, Err, IfOk, if◌then◌else◌, refl, sym, ◌∙◌, ap, subst, option_map, Action, path_of, refused, Name, Tree, elements, is_absolute, look, put, settle, start_of, tree_of, root, NoMemory, Move, Stage, Begin, Look, GiveUpWalk, Own, fail, Made, begun, looked, look_made, made_by, Makes, mark_in, Mark, action_in, call_in, Deed, Walk, KeptTree, Under, hart_in, stage_of, walk_under, with_walk, ActedOn, IsActed, MayBegin, MayLook, MayLookOn, MayMake, Tells, TellsOf, IsNextWalk, IsWalk, is_on_new, step_in, walk_of, walk_on, IsActedAlone, Lead, LeadsBy, live_directory, name_from, parent, resolve, true, false, with_name}
+use Rattle.tree_histories.proofs.Vocabulary.{◌≡◌, ℕ, ◌<◌, ◌^◌, ◌||◌, Bool, List, [], ◌∷◌, Option, Some, None, Result, Ok, Err, IfOk, if◌then◌else◌, refl, sym, ◌∙◌, ap, subst, option_map, Action, path_of, refused, Name, Tree, elements, is_absolute, look, put, settle, start_of, tree_of, root, NoMemory, Move, Stage, Begin, Look, GiveUpWalk, Own, fail, Made, begun, looked, look_made, made_by, Makes, mark_in, Mark, action_in, call_in, Deed, Walk, KeptTree, Under, hart_in, stage_of, walk_under, with_walk, ActedOn, IsActed, MayBegin, MayLook, MayLookOn, MayMake, FindsRoom, Tells, TellsMove, TellsOf, OnlyMoves, TreeStep, true, walking, length, length-set, acts, hart_count, is_nothing, refusal, roomy, IsNextWalk, IsWalk, is_on_new, step_in, walk_of, walk_on, IsActedAlone, Lead, LeadsBy, live_directory, name_from, parent, resolve, false, with_name}
 use Rattle.tree_laws.specs.Moves as moves
 use Rattle.path_walk.specs.declared.asks.Mark.TheVariants as mark
 use Rattle.tree_histories.proofs.Acting.{EndsAs, ends_own, ends_so, refused_same}
-use Rattle.tree_histories.proofs.Harts.{stage_walk, walk_same}
+use Rattle.tree_histories.proofs.Harts.{same_calls, stage_walk, walk_same}
+use Rattle.tree_histories.proofs.Rooms.{acts_room, own_room}
 use Rattle.tree_histories.proofs.Steps.{action_is}
 
 refused_action : (t : Tree) (h : ℕ) (u : Under) → refused t h (action_in u.whole) ≡ t
@@ -14,7 +15,7 @@ module _ (k : KeptTree) (h : ℕ) (u : Under) (is : hart_in k h ≡ Some u) wher
   m = stage_of k
 
   -- a step acted
-  tells_end : (v : Move) (d : Option Deed) (k' : KeptTree) → k' ≡ record (with_walk k h None) { tree = k'.tree }
+  tells_end : (v : Move) (d : Option Deed) (k' : KeptTree) → k' ≡ record (with_walk k h None) { tree = k'.tree; full = is_nothing d || k.full }
       → EndsAs (tree_of k.tree) (λ id. made_by (tree_of k.tree) h id ((stage_of k).walk h) v) d (tree_of k'.tree) → Tells k h v d k'
   tells_end v d k' kept e = record {
     id = e.id;
@@ -23,6 +24,7 @@ module _ (k : KeptTree) (h : ℕ) (u : Under) (is : hart_in k h ≡ Some u) wher
         ∙ (ap (λ (t : Tree). let n : Stage = record { tree = t; walk = put (stage_of k).walk h None } in n) e.tree
         ∙ ap (λ (w : Option moves.Walk). let n : Stage = record { tree = settle (made_by (tree_of k.tree) h e.id ((stage_of k).walk h) v).all; walk = put (stage_of k).walk h w } in n) (sym e.walk)));
     told = e.told;
+    full = ap (λ (x : KeptTree). x.full) kept ∙ ap (λ (b : Bool). b || k.full) e.acted;
   }
 
   -- a walk goes on, or is over, and the tree stays
@@ -37,6 +39,7 @@ module _ (k : KeptTree) (h : ℕ) (u : Under) (is : hart_in k h ≡ Some u) wher
         ∙ (ap (λ (y : Option moves.Walk). let n : Stage = record { tree = settle x.all; walk = put (stage_of k).walk h y } in n) (sym walk)
         ∙ ap (λ (y : Made). let n : Stage = record { tree = settle y.all; walk = put (stage_of k).walk h y.walk } in n) (sym made))));
     told = told ∙ ap (λ (y : Made). y.told) (sym made);
+    full = ap (λ (y : KeptTree). y.full) kept;
   }
 
   -- ---- a walk begins
@@ -45,19 +48,34 @@ module _ (k : KeptTree) (h : ℕ) (u : Under) (is : hart_in k h ≡ Some u) wher
       → (d : Option Deed) (t' : Tree) → ActedOn (record { hart = h; new = 0; action = s }) (Some (start_of (tree_of k.tree) h (path_of s))) None (tree_of k.tree) d t' → EndsAs (tree_of k.tree) (λ id. begun (tree_of k.tree) h s es 0 id) d t'
   begins_end s [] cut may settled same d t' x =
       let e = ends_so (tree_of k.tree) h s 0 t' settled (Some (start_of (tree_of k.tree) h (path_of s))) None d same may x in
-      record { id = e.id; least = e.least; tree = e.tree; told = e.told; walk = e.walk }
+      record { id = e.id; least = e.least; tree = e.tree; told = e.told; walk = e.walk; acted = e.acted }
   begins_end s (e ∷ es) cut may settled same d t' x = absurd cc
 
+  begins_room : (s : Action) (es : List Name) → es ≡ [] → (d : Option Deed) (k' : KeptTree) → IsActed (record { hart = h; new = 0; action = s }) (Some (start_of (tree_of k.tree) h (path_of s))) None k d k'
+      → h < hart_count → k'.full ≡ false → roomy d ≡ true → (id : ℕ) → roomy (begun (tree_of k.tree) h s es 0 id).told ≡ true
+  begins_room s [] cut d k' x lt free room id = acts_room (record { hart = h; new = 0; action = s }) (Some (start_of (tree_of k.tree) h (path_of s))) None k d k' lt x free room id
+  begins_room s (e ∷ es) cut d k' x lt free room id = absurd cc
+
   pub tells_begun : (d : Option Deed) (k' : KeptTree) (start : ℕ) → IsWalk (call_in u.whole) None (action_in u.whole) start (elements (path_of (action_in u.whole)))
-      → IsActed (record { hart = h; new = 0; action = action_in u.whole }) (Some (start_of (tree_of k.tree) h (path_of (action_in u.whole)))) None k d k' → MayMake (stage_of k) h (Begin (action_in u.whole) 0) → Tells k h (Begin (action_in u.whole) 0) d k'
-  tells_begun d k' start none x may =
-      tells_end (Begin (action_in u.whole) 0) d k' x.kept
-      (begins_end (action_in u.whole) (elements (path_of (action_in u.whole))) (no_elements (elements (path_of (action_in u.whole))) none) may.move may.settled
-      (refused_action (tree_of k.tree) h u) d (tree_of k'.tree) x.acted)
+      → IsActed (record { hart = h; new = 0; action = action_in u.whole }) (Some (start_of (tree_of k.tree) h (path_of (action_in u.whole)))) None k d k'
+      → TellsMove k h (Begin (action_in u.whole) 0) d k'
+  tells_begun d k' start none x =
+      let cut : elements (path_of (action_in u.whole)) ≡ [] = no_elements (elements (path_of (action_in u.whole))) none in
+      record {
+        tells = λ may. tells_end (Begin (action_in u.whole) 0) d k' x.kept
+            (begins_end (action_in u.whole) (elements (path_of (action_in u.whole))) cut may.move may.settled
+            (refused_action (tree_of k.tree) h u) d (tree_of k'.tree) x.acted);
+        room = λ lt free room. record { alive = tt; roomy = begins_room (action_in u.whole) (elements (path_of (action_in u.whole))) cut d k' x lt free room };
+      }
     where
       no_elements : (es : List Name) → IsWalk (call_in u.whole) None (action_in u.whole) start es → es ≡ []
       no_elements [] q = refl
       no_elements (e ∷ es) q = absurd cc
+
+  start_room : (s : Action) (w : Walk) (start : ℕ) (es : List Name) → IsWalk (call_in u.whole) (Some w) s start es → (id : ℕ)
+      → roomy (begun (tree_of k.tree) h s es 0 id).told ≡ true
+  start_room s w start [] q id = absurd cc
+  start_room s w start (e ∷ es) q id = refl
 
   begins_on : (s : Action) (w : Walk) (start : ℕ) (es : List Name) → start ≡ start_of (tree_of k.tree) h (path_of s) → IsWalk (call_in u.whole) (Some w) s start es
       → ((begun (tree_of k.tree) h s es 0 0).all ≡ tree_of k.tree)
@@ -69,10 +87,13 @@ module _ (k : KeptTree) (h : ℕ) (u : Under) (is : hart_in k h ≡ Some u) wher
 
   pub tells_start : (w : Walk) (start : ℕ) → start ≡ start_of (tree_of k.tree) h (path_of (action_in u.whole))
       → IsWalk (call_in u.whole) (Some w) (action_in u.whole) start (elements (path_of (action_in u.whole)))
-      → settle (tree_of k.tree) ≡ tree_of k.tree → (k' : KeptTree) → k' ≡ with_walk k h (Some w) → Tells k h (Begin (action_in u.whole) 0) None k'
-  tells_start w start at q settled k' kept =
+      → (k' : KeptTree) → k' ≡ with_walk k h (Some w) → TellsMove k h (Begin (action_in u.whole) 0) None k'
+  tells_start w start at q k' kept =
       let b = begins_on (action_in u.whole) w start (elements (path_of (action_in u.whole))) at q in
-      tells_walk (Begin (action_in u.whole) 0) (Some w) (begun (tree_of k.tree) h (action_in u.whole) (elements (path_of (action_in u.whole))) 0 0) settled refl b.0 b.1 b.2 None b.3 k' kept
+      record {
+        tells = λ may. tells_walk (Begin (action_in u.whole) 0) (Some w) (begun (tree_of k.tree) h (action_in u.whole) (elements (path_of (action_in u.whole))) 0 0) may.settled refl b.0 b.1 b.2 None b.3 k' kept;
+        room = λ lt free room. record { alive = tt; roomy = start_room (action_in u.whole) w start (elements (path_of (action_in u.whole))) q };
+      }
 
   -- ---- an element is looked up
 
@@ -100,17 +121,57 @@ module _ (k : KeptTree) (h : ℕ) (u : Under) (is : hart_in k h ≡ Some u) wher
         (λ i. with_name (leads.1 i) (name_from lead.from (path_of W.step))) x))
     looks_end (e ∷ es) (Some n) next may settled d t' lead leads x = absurd (let q : None ≡ Some (walk_on W.step n (e ∷ es)) = next in cc)
 
-    pub tells_looked : (d : Option Deed) (k' : KeptTree) → IsNextWalk (call_in u.whole) None W (look (tree_of k.tree).nodes W.at W.next)
+    -- the move is made by what is found there
+    made_there : (id : ℕ) → made_by (tree_of k.tree) h id ((stage_of k).walk h) (Look new) ≡ looked (tree_of k.tree) h W W.rest (look (tree_of k.tree).nodes W.at W.next) new id
+    made_there id = ap (λ (o : Option moves.Walk). look_made (tree_of k.tree) h o new id) (sym walk_there)
+
+    -- it finds room, if its directory is live and what it tells says so
+    finds_there : live_directory ((tree_of k.tree).nodes w.directory) ≡ true
+        → ((id : ℕ) → roomy (looked (tree_of k.tree) h W W.rest (look (tree_of k.tree).nodes W.at W.next) new id).told ≡ true) → FindsRoom (stage_of k) h (Look new)
+    finds_there live room = record {
+      alive = λ v is. ap (λ (x : moves.Walk). live_directory ((tree_of k.tree).nodes x.at)) (same v is) ∙ live;
+      roomy = λ id. ap (λ (y : Made). roomy y.told) (made_there id) ∙ room id;
+    }
+      where
+        same : (v : moves.Walk) → (stage_of k).walk h ≡ Some v → v ≡ W
+        same v is = let q : Some v ≡ Some W = sym is ∙ sym walk_there in cc
+
+    looks_room : (es : List Name) (found : Option ℕ) → IsNextWalk (call_in u.whole) None (record W { rest = es }) found
+        → (given : ℕ) (d : Option Deed) (k' : KeptTree) (lead : Lead) → LeadsBy lead w es found
+        → IsActed (record { hart = h; new = given; action = W.step }) lead.node (with_name lead.parent (name_from lead.from (path_of W.step))) k d k'
+        → h < hart_count → k'.full ≡ false → roomy d ≡ true → (id : ℕ) → roomy (looked (tree_of k.tree) h W es found new id).told ≡ true
+    looks_room [] found next given d k' lead leads x lt free room id =
+        acts_room (record { hart = h; new = given; action = W.step }) found (Some (W.at, W.next)) k d k' lt
+        (subst (λ (r : Option ℕ). IsActed (record { hart = h; new = given; action = W.step }) r (Some (W.at, W.next)) k d k') leads.0
+        (subst (λ (q : Option (ℕ × Name)). IsActed (record { hart = h; new = given; action = W.step }) lead.node q k d k')
+        (λ i. with_name (leads.1 i) (name_from (leads.2 i) (path_of W.step))) x)) free room id
+    looks_room (e ∷ es) None next given d k' lead leads x lt free room id =
+        acts_room (record { hart = h; new = given; action = W.step }) None None k d k' lt
+        (subst (λ (r : Option ℕ). IsActed (record { hart = h; new = given; action = W.step }) r None k d k') leads.0
+        (subst (λ (q : Option (ℕ × Name)). IsActed (record { hart = h; new = given; action = W.step }) lead.node q k d k')
+        (λ i. with_name (leads.1 i) (name_from lead.from (path_of W.step))) x)) free room id
+    looks_room (e ∷ es) (Some n) next given d k' lead leads x lt free room id = absurd (let q : None ≡ Some (walk_on W.step n (e ∷ es)) = next in cc)
+
+    -- given: the number that code takes for what is made
+    pub tells_looked : (given : ℕ) → (new < 2 ^ 16 → given ≡ new) → live_directory ((tree_of k.tree).nodes w.directory) ≡ true → (d : Option Deed) (k' : KeptTree)
+        → IsNextWalk (call_in u.whole) None W (look (tree_of k.tree).nodes W.at W.next)
         → (lead : Lead) → LeadsBy lead w W.rest (look (tree_of k.tree).nodes W.at W.next)
-        → IsActed (record { hart = h; new = new; action = W.step }) lead.node (with_name lead.parent (name_from lead.from (path_of W.step))) k d k'
-        → MayMake (stage_of k) h (Look new) → Tells k h (Look new) d k'
-    tells_looked d k' next lead leads x may =
-        tells_end (Look new) d k' x.kept
-        (subst (λ (o : Option moves.Walk). EndsAs (tree_of k.tree) (λ id. look_made (tree_of k.tree) h o new id) d (tree_of k'.tree)) walk_there
-        (looks_end W.rest (look (tree_of k.tree).nodes W.at W.next) next (may_look (sym walk_there) may.move.0).1 may.settled d (tree_of k'.tree) lead leads x.acted))
+        → IsActed (record { hart = h; new = given; action = W.step }) lead.node (with_name lead.parent (name_from lead.from (path_of W.step))) k d k'
+        → TellsMove k h (Look new) d k'
+    tells_looked given fits live d k' next lead leads x = record {
+      tells = λ may. tells_here may (subst (λ (n : ℕ). IsActed (record { hart = h; new = n; action = W.step }) lead.node (with_name lead.parent (name_from lead.from (path_of W.step))) k d k') (fits may.move.1) x);
+      room = λ lt free room. finds_there live (looks_room W.rest (look (tree_of k.tree).nodes W.at W.next) next given d k' lead leads x lt free room);
+    }
       where
         may_look : (stage_of k).walk h ≡ Some W → MayLookOn (tree_of k.tree) h ((stage_of k).walk h) new → MayLookOn (tree_of k.tree) h (Some W) new
         may_look q z = subst (λ (o : Option moves.Walk). MayLookOn (tree_of k.tree) h o new) q z
+
+        tells_here : MayMake (stage_of k) h (Look new) → IsActed (record { hart = h; new = new; action = W.step }) lead.node (with_name lead.parent (name_from lead.from (path_of W.step))) k d k'
+            → Tells k h (Look new) d k'
+        tells_here may y =
+            tells_end (Look new) d k' y.kept
+            (subst (λ (o : Option moves.Walk). EndsAs (tree_of k.tree) (λ id. look_made (tree_of k.tree) h o new id) d (tree_of k'.tree)) walk_there
+            (looks_end W.rest (look (tree_of k.tree).nodes W.at W.next) next (may_look (sym walk_there) may.move.0).1 may.settled d (tree_of k'.tree) lead leads y.acted))
 
     looks_on : (w2 : Walk) (es : List Name) (found : Option ℕ) → IsNextWalk (call_in u.whole) (Some w2) (record W { rest = es }) found
         → ((looked (tree_of k.tree) h W es found new 0).all ≡ tree_of k.tree)
@@ -122,12 +183,22 @@ module _ (k : KeptTree) (h : ℕ) (u : Under) (is : hart_in k h ≡ Some u) wher
     looks_on w2 (e ∷ es) None next = absurd cc
     looks_on w2 (e ∷ es) (Some n) next = (refl, sym next, refl, refl)
 
-    pub tells_next : (w2 : Walk) → IsNextWalk (call_in u.whole) (Some w2) W (look (tree_of k.tree).nodes W.at W.next)
-        → settle (tree_of k.tree) ≡ tree_of k.tree → (k' : KeptTree) → k' ≡ with_walk k h (Some w2) → Tells k h (Look new) None k'
-    tells_next w2 next settled k' kept =
+    next_room : (w2 : Walk) (es : List Name) (found : Option ℕ) → IsNextWalk (call_in u.whole) (Some w2) (record W { rest = es }) found → (id : ℕ)
+        → roomy (looked (tree_of k.tree) h W es found new id).told ≡ true
+    next_room w2 [] None next id = absurd cc
+    next_room w2 [] (Some n) next id = absurd cc
+    next_room w2 (e ∷ es) None next id = absurd cc
+    next_room w2 (e ∷ es) (Some n) next id = refl
+
+    pub tells_next : live_directory ((tree_of k.tree).nodes w.directory) ≡ true → (w2 : Walk) → IsNextWalk (call_in u.whole) (Some w2) W (look (tree_of k.tree).nodes W.at W.next)
+        → (k' : KeptTree) → k' ≡ with_walk k h (Some w2) → TellsMove k h (Look new) None k'
+    tells_next live w2 next k' kept =
         let b = looks_on w2 W.rest (look (tree_of k.tree).nodes W.at W.next) next in
-        tells_walk (Look new) (Some w2) (looked (tree_of k.tree) h W W.rest (look (tree_of k.tree).nodes W.at W.next) new 0) settled
-        (ap (λ (o : Option moves.Walk). look_made (tree_of k.tree) h o new 0) (sym walk_there)) b.0 b.1 b.2 None b.3 k' kept
+        record {
+          tells = λ may. tells_walk (Look new) (Some w2) (looked (tree_of k.tree) h W W.rest (look (tree_of k.tree).nodes W.at W.next) new 0) may.settled
+              (made_there 0) b.0 b.1 b.2 None b.3 k' kept;
+          room = λ lt free room. finds_there live (next_room w2 W.rest (look (tree_of k.tree).nodes W.at W.next) next);
+        }
 
     -- where it may look, its directory is live
     pub looks_live : MayMake (stage_of k) h (Look new) → live_directory ((tree_of k.tree).nodes w.directory) ≡ true
@@ -136,33 +207,62 @@ module _ (k : KeptTree) (h : ℕ) (u : Under) (is : hart_in k h ≡ Some u) wher
         live : (stage_of k).walk h ≡ Some W → MayLookOn (tree_of k.tree) h ((stage_of k).walk h) new → live_directory ((tree_of k.tree).nodes w.directory) ≡ true
         live q z = (subst (λ (o : Option moves.Walk). MayLookOn (tree_of k.tree) h o new) q z).0
 
+    -- and where that isn't, it is known that there was no room
+    pub tells_lost : live_directory ((tree_of k.tree).nodes w.directory) ≡ false → (k' : KeptTree) → k' ≡ record k { full = true } → TellsMove k h (Look new) None k'
+    tells_lost dead k' kept = record {
+      tells = λ may. absurd (let live : live_directory ((tree_of k.tree).nodes w.directory) ≡ true = looks_live may in cc (live, dead));
+      room = λ lt free room. absurd (let q : true ≡ false = sym (ap (λ (x : KeptTree). x.full) kept) ∙ free in cc);
+    }
+
   -- without a walk nothing is looked up
-  pub tells_nowhere : u.walk ≡ None → (new : ℕ) → settle (tree_of k.tree) ≡ tree_of k.tree → (k' : KeptTree) → k' ≡ k → Tells k h (Look new) None k'
-  tells_nowhere none new settled k' kept =
-      let nowhere : None ≡ (stage_of k).walk h = sym (ap walk_under is ∙ ap (option_map (walk_of (call_in u.whole))) none) in
-      let made : look_made (tree_of k.tree) h ((stage_of k).walk h) new 0 ≡ look_made (tree_of k.tree) h None new 0 = ap (λ (o : Option moves.Walk). look_made (tree_of k.tree) h o new 0) (sym nowhere) in
-      record {
-        id = 0;
-        least = λ e. absurd (let opens : None ≡ Some 0 = ap (λ (y : Made). y.opened) (sym made) ∙ e in cc);
-        stage = ap stage_of kept
-            ∙ (ap (λ (f : ℕ → Option moves.Walk). let n : Stage = record { tree = tree_of k.tree; walk = f } in n) (sym (walk_same k h None nowhere))
-            ∙ (ap (λ (t : Tree). let n : Stage = record { tree = t; walk = put (stage_of k).walk h None } in n) (sym settled)
-            ∙ ap (λ (y : Made). let n : Stage = record { tree = settle y.all; walk = put (stage_of k).walk h y.walk } in n) (sym made)));
-        told = ap (λ (y : Made). y.told) (sym made);
-      }
+  module _ (none : u.walk ≡ None) (new : ℕ) where
+    nowhere : None ≡ (stage_of k).walk h
+    nowhere = sym (ap walk_under is ∙ ap (option_map (walk_of (call_in u.whole))) none)
+
+    made_nowhere : (id : ℕ) → look_made (tree_of k.tree) h ((stage_of k).walk h) new id ≡ look_made (tree_of k.tree) h None new id
+    made_nowhere id = ap (λ (o : Option moves.Walk). look_made (tree_of k.tree) h o new id) (sym nowhere)
+
+    tells_none : settle (tree_of k.tree) ≡ tree_of k.tree → (k' : KeptTree) → k' ≡ k → Tells k h (Look new) None k'
+    tells_none settled k' kept = record {
+      id = 0;
+      least = λ e. absurd (let opens : None ≡ Some 0 = ap (λ (y : Made). y.opened) (sym (made_nowhere 0)) ∙ e in cc);
+      stage = ap stage_of kept
+          ∙ (ap (λ (f : ℕ → Option moves.Walk). let n : Stage = record { tree = tree_of k.tree; walk = f } in n) (sym (walk_same k h None nowhere))
+          ∙ (ap (λ (t : Tree). let n : Stage = record { tree = t; walk = put (stage_of k).walk h None } in n) (sym settled)
+          ∙ ap (λ (y : Made). let n : Stage = record { tree = settle y.all; walk = put (stage_of k).walk h y.walk } in n) (sym (made_nowhere 0))));
+      told = ap (λ (y : Made). y.told) (sym (made_nowhere 0));
+      full = ap (λ (y : KeptTree). y.full) kept;
+    }
+
+    pub tells_nowhere : (k' : KeptTree) → k' ≡ k → TellsMove k h (Look new) None k'
+    tells_nowhere k' kept = record {
+      tells = λ may. tells_none may.settled k' kept;
+      room = λ lt free room. record {
+        alive = λ v there. absurd (let q : None ≡ Some v = nowhere ∙ there in cc);
+        roomy = λ id. ap (λ (y : Made). roomy y.told) (made_nowhere id);
+      };
+    }
 
   -- ---- a walk is given up; a step acts
 
-  pub tells_quit : (s : Action) → settle (tree_of k.tree) ≡ tree_of k.tree → (d : Option Deed) → d ≡ Some (fail s)
-      → (k' : KeptTree) → k' ≡ with_walk k h None → Tells k h (GiveUpWalk s) d k'
-  tells_quit s settled d told k' kept =
-      tells_walk (GiveUpWalk s) None (made_by (tree_of k.tree) h 0 ((stage_of k).walk h) (GiveUpWalk s)) settled refl refl refl refl d told k' kept
+  pub tells_quit : (s : Action) (d : Option Deed) → d ≡ Some (fail s) → (k' : KeptTree) → k' ≡ with_walk k h None → TellsMove k h (GiveUpWalk s) d k'
+  tells_quit s d told k' kept = record {
+    tells = λ may. tells_walk (GiveUpWalk s) None (made_by (tree_of k.tree) h 0 ((stage_of k).walk h) (GiveUpWalk s)) may.settled refl refl refl refl d told k' kept;
+    room = λ lt free room. record { alive = tt; roomy = λ id. refl };
+  }
 
-  pub tells_own : (s : Action) (d : Option Deed) (k' : KeptTree) → IsActedAlone k (record { hart = h; new = 0; action = s }) d k' → MayMake (stage_of k) h (Own s 0)
-      → Tells k h (Own s 0) d k'
-  tells_own s d k' x may =
-      tells_end (Own s 0) d k' x.kept
-      (ends_own (tree_of k.tree) h s 0 (tree_of k'.tree) may.settled (resolve (tree_of k.tree) h (path_of s)) (parent (tree_of k.tree) h (path_of s)) d may.move x.acted)
+  pub tells_own : (s : Action) (d : Option Deed) (k' : KeptTree) → IsActedAlone k (record { hart = h; new = 0; action = s }) d k' → TellsMove k h (Own s 0) d k'
+  tells_own s d k' x =
+      let R : Option ℕ = resolve (tree_of k.tree) h (path_of s) in
+      let Q : Option (ℕ × Name) = parent (tree_of k.tree) h (path_of s) in
+      record {
+        tells = λ may. tells_end (Own s 0) d k' x.kept (ends_own (tree_of k.tree) h s 0 (tree_of k'.tree) may.settled R Q d may.move x.acted);
+        room = λ lt free room. record {
+          alive = tt;
+          roomy = λ id. own_room (tree_of k.tree) h s (refusal (tree_of k.tree) h s) (acts (tree_of k.tree) h s R Q 0 id)
+              (acts_room (record { hart = h; new = 0; action = s }) R Q k d k' lt x free room id);
+        };
+      }
 
 -- ---- as the code meets it
 
@@ -170,20 +270,38 @@ ok_map : {T E : Type 0} (r : Result T E) (P Q : T → Type 0) → ((x : T) → P
 ok_map (Ok x) P Q f h = f x h
 ok_map (Err e) P Q f h = tt
 
+-- a step that acted leaves the rest as it was
+only_acted : (s : TreeStep) (R : Option ℕ) (Q : Option (ℕ × Name)) (k : KeptTree) (d : Option Deed) (k' : KeptTree) → IsActed s R Q k d k' → OnlyMoves k k'
+only_acted s R Q k d k' x = record {
+  count = ap (λ (y : KeptTree). length y.harts) x.kept ∙ length-set k.harts s.hart (option_map (walking None) (hart_in k s.hart));
+  list = ap (λ (y : KeptTree). y.list) x.kept;
+  events = ap (λ (y : KeptTree). y.events) x.kept;
+  calls = ap (λ (y : KeptTree). y.calls) x.kept;
+  grows = λ known. ap (λ (y : KeptTree). y.full) x.kept ∙ or_known (is_nothing d) k.full known;
+  harts = λ g. ap (λ (y : KeptTree). option_map (walking None) (hart_in y g)) x.kept ∙ same_calls k s.hart None g;
+}
+  where
+    or_known : (a b : Bool) → b ≡ true → (a || b) ≡ true
+    or_known true b known = refl
+    or_known false b known = known
+
+pub only_acts : (s : TreeStep) (R : Option ℕ) (Q : Option (ℕ × Name)) (k k' : KeptTree) (r : Result (Option Deed) NoMemory) → IfOk r (λ d. IsActed s R Q k d k') → IfOk r (λ _. OnlyMoves k k')
+only_acts s R Q k k' r acted = ok_map r (λ d. IsActed s R Q k d k') (λ _. OnlyMoves k k') (λ d x. only_acted s R Q k d k' x) acted
+
 -- the hart's call is this one, and its mark is for this move
 told_by : (k : KeptTree) (h : ℕ) (s : Under) (m : Mark) (v : Move) (d : Option Deed) (k' : KeptTree) → hart_in k h ≡ Some s → mark_in (action_in s.whole) m ≡ Makes v
-    → (MayMake (stage_of k) h v → Tells k h v d k') → TellsOf k h m d k'
-told_by k h s m v d k' there is f u v' is' mk may =
+    → TellsMove k h v d k' → TellsOf k h m d k'
+told_by k h s m v d k' there is told u v' is' mk =
     let us : s ≡ u = (let q : Some s ≡ Some u = sym there ∙ is' in cc) in
     let vv : v ≡ v' = (let q : Makes v ≡ Makes v' = sym is ∙ (ap (λ (x : Under). mark_in (action_in x.whole) m) us ∙ mk) in cc) in
-    subst (λ (x : Move). Tells k h x d k') vv (f (subst (λ (x : Move). MayMake (stage_of k) h x) (sym vv) may))
+    subst (λ (x : Move). TellsMove k h x d k') vv told
 
 pub told_start : (k k' : KeptTree) (h : ℕ) (s : Under) (w : Walk) (dir : ℕ) → hart_in k h ≡ Some s → dir ≡ (tree_of k.tree).cwd h
     → IsWalk (call_in s.whole) (Some w) (action_in s.whole) (if is_absolute (path_of (action_in s.whole)) then root else dir) (elements (path_of (action_in s.whole)))
     → k' ≡ with_walk k h (Some w) → TellsOf k h mark.Begin None k'
 told_start k k' h s w dir there at walk kept =
     told_by k h s mark.Begin (Begin (action_in s.whole) 0) None k' there refl
-    (λ may. tells_start k h s there w (if is_absolute (path_of (action_in s.whole)) then root else dir) (ap (λ (x : ℕ). if is_absolute (path_of (action_in s.whole)) then root else x) at) walk may.settled k' kept)
+    (tells_start k h s there w (if is_absolute (path_of (action_in s.whole)) then root else dir) (ap (λ (x : ℕ). if is_absolute (path_of (action_in s.whole)) then root else x) at) walk k' kept)
 
 pub told_begun : (k k' : KeptTree) (h : ℕ) (s : Under) (a : Action) (start dir : ℕ) (r : Result (Option Deed) NoMemory) → hart_in k h ≡ Some s → a ≡ action_in s.whole
     → IsWalk (call_in s.whole) None (action_in s.whole) start (elements (path_of (action_in s.whole))) → dir ≡ (tree_of k.tree).cwd h
@@ -198,45 +316,44 @@ told_begun k k' h s a start dir r there is none at number starts acted =
     (subst (λ (y : Action). IsActed (record { hart = h; new = 0; action = y }) (Some number) None k d k') is x)))) acted
 
 pub told_next : (k k' : KeptTree) (h : ℕ) (s : Under) (w w2 : Walk) (new : ℕ) → hart_in k h ≡ Some s → s.walk ≡ Some w
+    → live_directory ((tree_of k.tree).nodes w.directory) ≡ true
     → IsNextWalk (call_in s.whole) (Some w2) (walk_of (call_in s.whole) w) (look (tree_of k.tree).nodes w.directory (walk_of (call_in s.whole) w).next)
     → k' ≡ with_walk k h (Some w2) → TellsOf k h (mark.Look new) None k'
-told_next k k' h s w w2 new there has next kept =
-    told_by k h s (mark.Look new) (Look new) None k' there refl (λ may. tells_next k h s there w has new w2 next may.settled k' kept)
+told_next k k' h s w w2 new there has live next kept =
+    told_by k h s (mark.Look new) (Look new) None k' there refl (tells_next k h s there w has new live w2 next k' kept)
 
 -- the number that code takes for what is made
 pub told_looked : (k k' : KeptTree) (h : ℕ) (s : Under) (w : Walk) (new given : ℕ) (a : Action) (r : Result (Option Deed) NoMemory) → hart_in k h ≡ Some s → s.walk ≡ Some w
-    → (new < 2 ^ 16 → given ≡ new) → a ≡ (walk_of (call_in s.whole) w).step
+    → (new < 2 ^ 16 → given ≡ new) → live_directory ((tree_of k.tree).nodes w.directory) ≡ true → a ≡ (walk_of (call_in s.whole) w).step
     → IsNextWalk (call_in s.whole) None (walk_of (call_in s.whole) w) (look (tree_of k.tree).nodes w.directory (walk_of (call_in s.whole) w).next)
     → (lead : Lead) → LeadsBy lead w (walk_of (call_in s.whole) w).rest (look (tree_of k.tree).nodes w.directory (walk_of (call_in s.whole) w).next)
     → IfOk r (λ d. IsActed (record { hart = h; new = given; action = a }) lead.node (with_name lead.parent (name_from lead.from (path_of a))) k d k')
     → IfOk r (λ d. TellsOf k h (mark.Look new) d k')
-told_looked k k' h s w new given a r there has fits is next lead leads acted =
+told_looked k k' h s w new given a r there has fits live is next lead leads acted =
     ok_map r (λ d. IsActed (record { hart = h; new = given; action = a }) lead.node (with_name lead.parent (name_from lead.from (path_of a))) k d k') (λ d. TellsOf k h (mark.Look new) d k')
     (λ d x. told_by k h s (mark.Look new) (Look new) d k' there refl
-    (λ may. tells_looked k h s there w has new d k' next lead leads
-    (subst (λ (n : ℕ). let b : Action = (walk_of (call_in s.whole) w).step in IsActed (record { hart = h; new = n; action = b }) lead.node (with_name lead.parent (name_from lead.from (path_of b))) k d k') (fits may.move.1)
-    (subst (λ (y : Action). IsActed (record { hart = h; new = given; action = y }) lead.node (with_name lead.parent (name_from lead.from (path_of y))) k d k') is x)) may)) acted
+    (tells_looked k h s there w has new given fits live d k' next lead leads
+    (subst (λ (y : Action). IsActed (record { hart = h; new = given; action = y }) lead.node (with_name lead.parent (name_from lead.from (path_of y))) k d k') is x))) acted
 
 -- a lost walk looks nothing up
 pub told_lost : (k k' : KeptTree) (h : ℕ) (s : Under) (w : Walk) (new : ℕ) → hart_in k h ≡ Some s → s.walk ≡ Some w → live_directory ((tree_of k.tree).nodes w.directory) ≡ false
-    → TellsOf k h (mark.Look new) None k'
-told_lost k k' h s w new there has dead =
-    told_by k h s (mark.Look new) (Look new) None k' there refl
-    (λ may. absurd (let live : live_directory ((tree_of k.tree).nodes w.directory) ≡ true = looks_live k h s there w has new may in cc (live, dead)))
+    → k' ≡ record k { full = true } → TellsOf k h (mark.Look new) None k'
+told_lost k k' h s w new there has dead kept =
+    told_by k h s (mark.Look new) (Look new) None k' there refl (tells_lost k h s there w has new dead k' kept)
 
 pub told_nowhere : (k k' : KeptTree) (h : ℕ) (s : Under) (new : ℕ) → hart_in k h ≡ Some s → s.walk ≡ None → k' ≡ k → TellsOf k h (mark.Look new) None k'
 told_nowhere k k' h s new there none kept =
-    told_by k h s (mark.Look new) (Look new) None k' there refl (λ may. tells_nowhere k h s there none new may.settled k' kept)
+    told_by k h s (mark.Look new) (Look new) None k' there refl (tells_nowhere k h s there none new k' kept)
 
 pub told_quit : (k k' : KeptTree) (h : ℕ) (s : Under) (a : Action) (d : Deed) → hart_in k h ≡ Some s → a ≡ action_in s.whole → d ≡ fail a → k' ≡ with_walk k h None
     → TellsOf k h mark.GiveUpWalk (Some d) k'
 told_quit k k' h s a d there is fails kept =
     told_by k h s mark.GiveUpWalk (GiveUpWalk (action_in s.whole)) (Some d) k' there refl
-    (λ may. tells_quit k h s there (action_in s.whole) may.settled (Some d) (ap (λ (x : Deed). Some x) (fails ∙ ap fail is)) k' kept)
+    (tells_quit k h s there (action_in s.whole) (Some d) (ap (λ (x : Deed). Some x) (fails ∙ ap fail is)) k' kept)
 
 pub told_alone : (k k' : KeptTree) (h : ℕ) (m : Mark) (r : Result (Option Deed) NoMemory) → ((s : Action) → mark_in s m ≡ Makes (Own (step_in s m) 0))
     → IfOk r (λ d. (u : Under) → hart_in k h ≡ Some u → IsActedAlone k (record { hart = h; new = 0; action = step_in (action_in u.whole) m }) d k') → IfOk r (λ d. TellsOf k h m d k')
 told_alone k k' h m r own acted =
     ok_map r (λ d. (u : Under) → hart_in k h ≡ Some u → IsActedAlone k (record { hart = h; new = 0; action = step_in (action_in u.whole) m }) d k') (λ d. TellsOf k h m d k')
-    (λ d f u v there mk may. told_by k h u m (Own (step_in (action_in u.whole) m) 0) d k' there (own (action_in u.whole))
-    (tells_own k h u there (step_in (action_in u.whole) m) d k' (f u there)) u v there mk may) acted
+    (λ d f u v there mk. told_by k h u m (Own (step_in (action_in u.whole) m) 0) d k' there (own (action_in u.whole))
+    (tells_own k h u there (step_in (action_in u.whole) m) d k' (f u there)) u v there mk) acted

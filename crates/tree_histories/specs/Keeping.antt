@@ -1,5 +1,5 @@
 -- What is kept beside a run: a tree, the calls under way with their walks in it, and the list of the steps so far.
-use Rattle.std.specs.Prelude.{◌≡◌, ◌<◌, ◌⊎◌, ℕ, ◌+◌, ◌-◌, ◌^◌, min, Bool, true, false, not, List, [], ◌∷◌, ◌++◌, length, Option, Some, None, replicate, slice_index_or, slice_set}
+use Rattle.std.specs.Prelude.{◌≡◌, ◌<◌, ◌⊎◌, ℕ, ◌+◌, ◌-◌, ◌^◌, min, Bool, true, false, not, ◌||◌, List, [], ◌∷◌, ◌++◌, length, Option, Some, None, replicate, slice_index_or, slice_set}
 use Rattle.tree_histories.specs.Vocabulary.{option_map, Answer, Call, is_nothing, tree_of, TreeData, hart_count, Placed, entry_of, Deed, lost_of, program, Ret, count_in, hears, reply_to, Heard, WholeFits, call_in, text_in, whole_of, Whole}
 use Rattle.tree_laws.specs.Moves as moves
 use Rattle.whole_calls.specs.declared.reading.Read.TheVariants as reading
@@ -46,7 +46,7 @@ capped n = min n (2 ^ 64 - 1)
 abbrev pub counted : ℕ → ℕ
 counted n = capped (n + 1)
 
--- harts: by hart, its call under way; full: a step of a call found no room
+-- harts: by hart, its call under way; full: a step of a call found no room, as it was answered, or as a move shows that can't be made
 pub record KeptTree : Type 0 where
   pub tree : TreeData
   pub list : List Placed
@@ -70,6 +70,10 @@ walking w u = record u { walk = w }
 -- the hart's call, if it has one, has this walk
 abbrev pub with_walk : KeptTree → ℕ → Option Walk → KeptTree
 with_walk k h w = with_hart k h (option_map (walking w) (hart_in k h))
+
+-- the run has ended, and its world says whether a call found no room that wasn't told so yet
+abbrev pub ended : Bool → KeptTree → KeptTree
+ended lacks k = record k { full = k.full || lacks }
 
 abbrev pub passed : KeptTree → KeptTree
 passed k = record k { events = counted k.events }

@@ -2,7 +2,8 @@
 use Rattle.std.specs.Prelude.{◌≡◌, ℕ, ◌<◌, Bool, true, false, not, ◌||◌, List, length, Option, Some, None, Result, Ok, Err, slice_index_or}
 use Rattle.plain_tree.specs.declared.refused.ApplyRefused.{ApplyRefused}
 use Rattle.plain_tree.specs.declared.refused.ApplyRefused.TheVariants.{BadChoice}
-use Rattle.tree_histories.specs.Vocabulary.{option_map, Action, StepAnswer, TreeStep, Deed, IsAppliedWith, IsBadChoiceWith, Name, Tree, tree_of, parent, path_of, resolve, hart_count, History, Move, Stage, all_fall, moves_on, Makes, MayMake, OpensLeast, roomy, stage_by, told_by_move, mark_in, Heard, Mark, action_in}
+use Rattle.tree_histories.specs.Vocabulary.{option_map, Action, StepAnswer, TreeStep, Deed, IsAppliedWith, IsBadChoiceWith, Name, Tree, tree_of, is_nothing, live_directory, parent, path_of, resolve, hart_count, History, Look, Move, Stage, all_fall, moves_on, Makes, MayMake, OpensLeast, roomy, stage_by, told_by_move, mark_in, Heard, Mark, action_in}
+use Rattle.tree_laws.specs.Moves as moves
 use Rattle.path_walk.specs.declared.asks.Mark.TheVariants as mark
 use Rattle.tree_histories.specs.Books.{IsBook}
 use Rattle.tree_histories.specs.Sights.{MarksBy}
@@ -39,9 +40,9 @@ module _ (s : TreeStep) (res : Option ℕ) (par : Option (ℕ × Name)) where
   ActedOn t None t' = IsBadChoiceWith t s res par × (t' ≡ t)
   ActedOn t (Some d) t' = (d.act.step ≡ s.action) × (d.new ≡ s.new) × IsAppliedWith t s res par d.act.answer t'
 
-  -- the step acted, if it may, and its hart's walk is over
+  -- The step acted, if it may, and its hart's walk is over. Where it can't take its number, it is known that there was no room.
   pub record IsActed (k : KeptTree) (d : Option Deed) (k' : KeptTree) : Type 0 where
-    pub kept : k' ≡ record (with_walk k s.hart None) { tree = k'.tree }
+    pub kept : k' ≡ record (with_walk k s.hart None) { tree = k'.tree; full = is_nothing d || k.full }
     pub acted : ActedOn (tree_of k.tree) d (tree_of k'.tree)
 
 -- .. by what the path leads to in the tree itself
@@ -53,13 +54,13 @@ IsActedAlone k s d k' =
 abbrev pub SameCalls : KeptTree → KeptTree → Type 0
 SameCalls k k' = (h : ℕ) → option_map (walking None) (hart_in k' h) ≡ option_map (walking None) (hart_in k h)
 
--- nothing but the tree and walks has changed
+-- nothing but the tree and walks has changed, and what is known of want of room stays known
 pub record OnlyMoves (k k' : KeptTree) : Type 0 where
   pub count : length k'.harts ≡ length k.harts
   pub list : k'.list ≡ k.list
   pub events : k'.events ≡ k.events
   pub calls : k'.calls ≡ k.calls
-  pub full : k'.full ≡ k.full
+  pub grows : k.full ≡ true → k'.full ≡ true
   pub harts : SameCalls k k'
 
 -- the stage is that of the move, where a file that it opens has the least id that is unused, and what is told is what the move tells
@@ -68,11 +69,26 @@ pub record Tells (k : KeptTree) (h : ℕ) (v : Move) (d : Option Deed) (k' : Kep
   pub least : OpensLeast (stage_of k) h id v
   pub stage : stage_of k' ≡ stage_by (stage_of k) h id v
   pub told : d ≡ told_by_move (stage_of k) h id v
+  pub full : k'.full ≡ k.full
 
--- where the mark of the hart's call makes a move, that is told
+-- a lookup is made in a live directory
+abbrev pub LooksAlive : Stage → ℕ → Move → Type 0
+LooksAlive m h (Look new) = (w : moves.Walk) → m.walk h ≡ Some w → live_directory (m.tree.nodes w.at) ≡ true
+LooksAlive m h v = Unit {0}
+
+-- There is room for the move: its directory is there, and no step of it is answered otherwise, whichever id a file takes.
+pub record FindsRoom (m : Stage) (h : ℕ) (v : Move) : Type 0 where
+  pub alive : LooksAlive m h v
+  pub roomy : (id : ℕ) → roomy (told_by_move m h id v) ≡ true
+
+-- The move is told, if the hart may make it. Where no want of room is known then, and none is told, there was room for it.
+pub record TellsMove (k : KeptTree) (h : ℕ) (v : Move) (d : Option Deed) (k' : KeptTree) : Type 0 where
+  pub tells : MayMake (stage_of k) h v → Tells k h v d k'
+  pub room : h < hart_count → k'.full ≡ false → roomy d ≡ true → FindsRoom (stage_of k) h v
+
+-- .. where the mark of the hart's call makes a move
 abbrev pub TellsOf : KeptTree → ℕ → Mark → Option Deed → KeptTree → Type 0
-TellsOf k h m d k' = (u : Under) (v : Move) → hart_in k h ≡ Some u → mark_in (action_in u.whole) m ≡ Makes v → MayMake (stage_of k) h v
-    → Tells k h v d k'
+TellsOf k h m d k' = (u : Under) (v : Move) → hart_in k h ≡ Some u → mark_in (action_in u.whole) m ≡ Makes v → TellsMove k h v d k'
 
 -- a mark that makes no move changes nothing of the tree, the calls and the list
 abbrev pub StaysFor : KeptTree → Mark → Option Deed → KeptTree → Type 0
@@ -121,6 +137,10 @@ pub record MovesBy (k : KeptTree) (h : ℕ) (m : Mark) (k' : KeptTree) : Type 0 
   pub still : makes_none m ≡ true → k' ≡ record k { full = k.full || spoils m }
   -- no call under way has changed, but for its walk
   pub calls : SameCalls k k'
+  -- what is known of want of room stays known; and where none is known then, there was room for the move
+  pub grows : k.full ≡ true → k'.full ≡ true
+  pub room : k'.full ≡ false → (u : Under) (v : Move) → hart_in k h ≡ Some u → mark_in (action_in u.whole) m ≡ Makes v
+      → FindsRoom (stage_of k) h v
 
 -- without a mark nothing changes
 abbrev pub MovesByAny : KeptTree → ℕ → Option Mark → KeptTree → Type 0

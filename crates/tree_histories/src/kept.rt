@@ -1,7 +1,7 @@
 //! The tree kept beside a run, and the list of the tree steps so far. Each event appends to it; no entry is changed.
-ghost use Rattle.std.specs.Prelude.{◌≡◌, ◌-◌, ◌<◌, ◌^◌, ◌&&◌, ℕ, false, not, true, List, None, Some, IfOk, IfSome, MatchOption, slice_index_or};
+ghost use Rattle.std.specs.Prelude.{◌≡◌, ◌-◌, ◌<◌, ◌^◌, ◌&&◌, ◌||◌, ℕ, false, length, not, true, List, None, Some, IfOk, IfSome, MatchOption, slice_index_or};
 ghost use Rattle.plain_tree.specs.Code.{with_name};
-ghost use Rattle.plain_tree.specs.Steps.{path_of};
+ghost use Rattle.plain_tree.specs.Steps.{is_nothing, path_of};
 ghost use Rattle.plain_tree.specs.Tree.{live_directory, look, tree_of};
 ghost use Rattle.plain_tree.specs.Widths.{hart_count};
 ghost use Rattle.plain_tree.specs.declared.answer.Reply.{Reply};
@@ -14,7 +14,7 @@ ghost use Rattle.inode_machine.specs.Marks.{roomy};
 ghost use Rattle.path_walk.specs.Asks.{asks, op_in};
 ghost use Rattle.whole_calls.specs.Wholes.{IsCall, WholeFits, action_in, call_in, whole_of};
 ghost use Rattle.tree_histories.specs.Books.{IsBook};
-ghost use Rattle.tree_histories.specs.Keeping.{HasHeard, HasStarted, Under, counted, hart_in, is_lost, nothing_kept, passed, stage_of, with_hart, with_walk, written};
+ghost use Rattle.tree_histories.specs.Keeping.{HasHeard, HasStarted, Under, counted, ended, hart_in, is_lost, nothing_kept, passed, stage_of, with_hart, with_walk, written};
 ghost use Rattle.tree_histories.specs.Moving.{HasRun, HaveFallen, IsActed, IsActedAlone, IsDeedOf, KeepsRest, MovesBy, NoneFalls, OnlyMoves, StaysFor, TellsOf, WereLost, spoils, told_in, tree_step};
 ghost use Rattle.tree_histories.specs.Sights.{MarksBy, SeenFor, acts_first};
 ghost use Rattle.tree_histories.specs.Walks.{IsNextWalk, LeadsBy, name_from, step_in, walk_of};
@@ -62,7 +62,7 @@ pub struct Kept {
     events: u64,
     calls: usize,
     harts: [Option<Standing>; HARTS as usize],
-    /// A step of a call found no room.
+    /// A step of a call found no room, as it was answered, or as a move shows that can't be made.
     full: bool,
 }
 
@@ -147,25 +147,6 @@ fn name_from(path: &[u8], from: usize) -> &[u8]
     }
 }
 
-// The step with its answer, unless the tree refuses it.
-fn deed_of(
-    step: TreeStep,
-    answer: Result<StepAnswer, ApplyRefused>,
-) -> Result<Option<Deed>, NoMemory>
-    ensures { IfOk result (λ d. IsDeedOf step answer d) }
-{
-    let TreeStep { action, new, .. } = step;
-    match answer {
-        Ok(answer) => Ok(Some(Deed {
-            action,
-            answer,
-            new,
-        })),
-        Err(ApplyRefused::BadChoice) => Ok(None),
-        Err(ApplyRefused::NoMemory) => Err(NoMemory),
-    }
-}
-
 // The step of a walk, which finds no live directory to look in.
 fn failed(action: Action) -> Deed
     ensures { result ≡ fail action }
@@ -239,8 +220,15 @@ impl Kept {
         self.passes();
     }
 
-    /// Whether a step of a call found no room: an operation was answered so, or a step of the tree. From then on no list of steps need
-    /// explain the run.
+    /// The run has ended. `lacks_place`: a call under way has found no place for an inode that it claims, and wasn't told so yet.
+    pub fn ends(&mut self, lacks_place: bool)
+        ensures { self.new ≡ ended lacks_place self.old }
+    {
+        self.full = self.full || lacks_place;
+    }
+
+    /// Whether a step of a call found no room: an operation was answered so, or a step of the tree; or a call makes a move that can't be
+    /// made in the tree, as none does in a run in which each step found room. From then on no list of steps need explain the run.
     pub fn is_full(&self) -> bool
         ensures { result ≡ self.now.full }
     {
@@ -387,7 +375,8 @@ impl Kept {
         told: Option<Deed>,
         was_lost: bool,
     ) -> Result<(), NoMemory>
-        ensures { IfOk result (λ _. self.new ≡ told_in self.old hart mark told was_lost) }
+        ensures told { IfOk result (λ _. self.new ≡ told_in self.old hart mark told was_lost) }
+        ensures harts { length self.old.harts ≡ hart_count }
     {
         self.full = self.full || spoils(mark) || is_full(&told);
         match told {
@@ -448,6 +437,36 @@ impl Kept {
         }
     }
 
+    // The tree can't make this move: some step found no room. Nothing is told of it.
+    fn cannot_move(&mut self) -> Option<Deed>
+        ensures none { result ≡ None }
+        ensures full { self.new ≡ record self.old { full = true } }
+    {
+        self.full = true;
+        None
+    }
+
+    // The step with its answer, unless the tree refuses the number that it says.
+    fn deed_of(
+        &mut self,
+        step: TreeStep,
+        answer: Result<StepAnswer, ApplyRefused>,
+    ) -> Result<Option<Deed>, NoMemory>
+        ensures deed { IfOk result (λ d. IsDeedOf step answer d) }
+        ensures full { IfOk result (λ d. self.new ≡ record self.old { full = is_nothing d || self.old.full }) }
+    {
+        let TreeStep { action, new, .. } = step;
+        match answer {
+            Ok(answer) => Ok(Some(Deed {
+                action,
+                answer,
+                new,
+            })),
+            Err(ApplyRefused::BadChoice) => Ok(self.cannot_move()),
+            Err(ApplyRefused::NoMemory) => Err(NoMemory),
+        }
+    }
+
     // The step of a walk acts on the tree, by what that has found, and the walk is over. One that the tree refuses is left out.
     fn acts(&mut self, alloc: Global, step: TreeStep, lead: Lead) -> Result<Option<Deed>, NoMemory>
         requires { IfSome lead.parent (λ d. live_directory ((tree_of self.old.tree).nodes d) ≡ true) }
@@ -461,7 +480,7 @@ impl Kept {
             name: name_from(step.action.path(), lead.from),
         };
         let answer = self.tree.apply_found(alloc, &step, &found);
-        deed_of(step, answer)
+        self.deed_of(step, answer)
     }
 
     // The step that the mark is for acts; it follows no path.
@@ -481,7 +500,7 @@ impl Kept {
             action,
         };
         let answer = self.tree.apply(alloc, &step);
-        deed_of(step, answer)
+        self.deed_of(step, answer)
     }
 
     // A walk stands at the start of its path; a path without elements is found there.
@@ -549,8 +568,8 @@ impl Kept {
         }
     }
 
-    // The next element is looked up: the step acts at the last one, or where nothing is found. Without a walk in a live directory nothing
-    // is looked up.
+    // The next element is looked up: the step acts at the last one, or where nothing is found. Without a walk nothing is looked up, and in
+    // a directory that isn't live nothing can be.
     fn looks(&mut self, alloc: Global, hart: u8, new: u32) -> Result<Option<Deed>, NoMemory>
         ensures only { IfOk result (λ _. OnlyMoves self.old self.new) }
         ensures tells { IfOk result (λ d. TellsOf self.old hart (Mark.Look new) d self.new) }
@@ -562,7 +581,7 @@ impl Kept {
             return Ok(None);
         };
         if !self.is_live(walk) {
-            return Ok(None);
+            return Ok(self.cannot_move());
         }
         match self.next_walk(standing, walk) {
             Some(next) => {
