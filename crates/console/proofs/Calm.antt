@@ -1,5 +1,5 @@
 -- Over a device that never fails no call is stopped.
-use Rattle.console.proofs.Vocabulary.{◌≡◌, ℕ, zero, suc, Bool, true, false, List, [], ◌∷◌, Option, Some, None, Result, Ok, Err, sym, ap, subst, inl, inr, IsWellFormed, Stop, ConsoleFault, Flow, PlanOf, Until, Verb, Doing, Behaviour, GoesOn, gives, in_case, followed_by, takes_memory, prints, IsOrMemory, IsWritten, RunOf, IsPassed, acts, acts_as, all_harts, flow_of, goes_on, happens, in_steps, is_enough, joined, line, lines, settles, starts, tells_flow, tells_waits, to_end, turn, turns, up_to, called, left_to, SessionOf, EventOfCall, Happens, doing_at, verb_of, Mode, History, HistoryBeside, IsUntold, TellsHistory, WhereSet, JudgesImage, CourseOf, TellsLine, NotesOf, run_in, EndsSo, RunsReader, RunsScript}
+use Rattle.console.proofs.Vocabulary.{◌≡◌, ℕ, zero, suc, Bool, true, false, List, [], ◌∷◌, Option, Some, None, Result, Ok, Err, sym, ap, subst, inl, inr, IsWellFormed, Stop, ConsoleFault, Flow, PlanOf, Until, Verb, Doing, Behaviour, GoesOn, gives, in_case, followed_by, takes_memory, prints, IsOrMemory, IsWritten, RunOf, IsPassed, acts, acts_as, all_harts, flow_of, goes_on, happens, in_steps, is_enough, joined, line, lines, settles, starts, tells_flow, tells_waits, to_end, turn, turns, up_to, called, left_to, SessionOf, EventOfCall, Happens, doing_at, verb_of, Mode, History, HistoryBeside, IsUntold, TellsHistory, WhereSet, JudgesImage, CourseOf, TellsLine, NotesOf, run_in, EndsSo, RunsReader, RunsScript, known_at}
 use Rattle.script.specs.Said as said
 use Rattle.console.specs.declared.fault.ConsoleFault.TheVariants as faults
 use Rattle.console.specs.declared.flow.Flow.TheVariants as flows
@@ -194,7 +194,7 @@ module _ {D : Type 0} (contents : D → List (List ℕ)) (failures : D → ℕ) 
   script_judged mode history s t (Err n) fault out out' still runs = of_line disk n fault mounted runs.0
   script_judged mode history s t (Ok course) fault out out' still (inl runs) =
       of_run disk fault mounted
-      (ended mode (history runs.first runs.kept) runs.notes runs.ends fault runs.between out' (lines_still contents failures calm course.lines _ runs.runs.events runs.runs.text runs.ends _ still runs.runs.does).1 runs.end)
+      (ended mode (history runs.first (known_at t runs.kept)) runs.notes runs.ends fault runs.between out' (lines_still contents failures calm course.lines _ runs.runs.events runs.runs.text runs.ends _ still runs.runs.does).1 runs.end)
   script_judged mode history s t (Ok course) fault out out' still (inr nothing) = subst (λ f. JudgesImage disk f) (sym (memory fault nothing.memory)) tt
     where
       fault_in : Result (Unit {0}) ConsoleFault → ConsoleFault

@@ -1,19 +1,19 @@
 -- What tells the history of a run in one way tells it in another, of a run that was made and kept: and so on an image.
 use Rattle.std.specs.Prelude.{◌⊎◌, ◌^◌}
-use Rattle.console.proofs.Vocabulary.{◌≡◌, ◌<◌, ℕ, Bool, true, false, List, length, Option, Some, None, Result, Ok, Err, refl, sym, ap, ◌∙◌, subst, inl, inr, blocks_of, tree_in, TreeData, KeptTree, nothing_kept, ExplainRefused, IsRefusedSo, HasKept, RunOn, StartsOn, never, refused_run, never_of, owned, Mode, ConsoleFault, IfTold, IsPrintedAndNoted, HistoryBeside, TellsHistory, WhereSet, HasNoList, IsFound, IsOwn, IsRefusedBeside, IsUnfound, history_from, history_of, CourseOf, KeptRun, NotesOf, all_noted, no_notes, none_kept, run_in, PromptsReader, EndsSo, PrintsAll, RunsReader, RunsScript, EventOfCall, SessionOf, with_beside}
+use Rattle.console.proofs.Vocabulary.{◌≡◌, ◌<◌, ℕ, Bool, true, false, List, length, Option, Some, None, Result, Ok, Err, refl, sym, ap, ◌∙◌, subst, inl, inr, blocks_of, tree_in, TreeData, KeptTree, nothing_kept, HasKept, RunOn, StartsOn, never, never_of, owned, refused_by_run, Mode, ConsoleFault, IfTold, IsPrintedAndNoted, HistoryBeside, TellsHistory, WhereSet, HasNoList, IsFound, IsOwn, IsUnfound, history_from, history_of, CourseOf, KeptRun, NotesOf, all_noted, no_notes, none_kept, run_in, PromptsReader, EndsSo, PrintsAll, RunsReader, RunsScript, EventOfCall, SessionOf, with_beside, known_at, some_lacks_place, was_told}
 use Rattle.console.specs.declared.fault.ConsoleFault.TheVariants as faults
 use Rattle.console.proofs.Chaining.{Chain, lines_chain, prompts_all_chain}
 use Rattle.console.proofs.Noting.{IsKept, IsRun, events_kept, kept_first, kept_run}
 
 -- One history of a run that began with this file system is another one, where histories are wanted.
 module _ {D : Type 0} (contents : D → List (List ℕ)) (failures : D → ℕ) (mode : Mode) (one other : HistoryBeside) (s : SessionOf D)
-    (again : mode.explain ≡ true → (first kept : Option KeptTree) (run : KeptRun) (t : SessionOf D) → IsRun contents failures s.world.sizes s.world.harts first run t.world.harts kept → (text : List ℕ) → one first kept run text → other first kept run text) where
+    (again : mode.explain ≡ true → (first kept : Option KeptTree) (run : KeptRun) (t : SessionOf D) → IsRun contents failures s.world.sizes s.world.harts first run t.world.harts kept → (text : List ℕ) → one first (known_at t kept) run text → other first (known_at t kept) run text) where
   module _ (first kept : Option KeptTree) where
     -- there is such a run, of which this was kept
     abbrev IsRunTo : SessionOf D → KeptRun → Type 0
     IsRunTo t run = IsRun contents failures s.world.sizes s.world.harts first run t.world.harts kept
 
-    told_again : (is : mode.explain ≡ true) (t : SessionOf D) (run : KeptRun) (result : Result (Unit {0}) ConsoleFault) (out out' : Option (List ℕ)) → IsRunTo t run → TellsHistory (one first kept) run result out out' → TellsHistory (other first kept) run result out out'
+    told_again : (is : mode.explain ≡ true) (t : SessionOf D) (run : KeptRun) (result : Result (Unit {0}) ConsoleFault) (out out' : Option (List ℕ)) → IsRunTo t run → TellsHistory (one first (known_at t kept)) run result out out' → TellsHistory (other first (known_at t kept)) run result out out'
     told_again is t run result out out' made (inl told) = inl (record {
       text = told.text;
       is_history = again is first kept run t made told.text told.is_history;
@@ -22,13 +22,13 @@ module _ {D : Type 0} (contents : D → List (List ℕ)) (failures : D → ℕ) 
     })
     told_again is t run result out out' made (inr untold) = inr untold
 
-    wanted_again : (b : Bool) (t : SessionOf D) (run : KeptRun) (result : Result (Unit {0}) ConsoleFault) (out out' : Option (List ℕ)) (Else : Type 0) → mode.explain ≡ b → (mode.explain ≡ true → IsRunTo t run) → WhereSet b (TellsHistory (one first kept) run result out out') Else
-        → WhereSet b (TellsHistory (other first kept) run result out out') Else
+    wanted_again : (b : Bool) (t : SessionOf D) (run : KeptRun) (result : Result (Unit {0}) ConsoleFault) (out out' : Option (List ℕ)) (Else : Type 0) → mode.explain ≡ b → (mode.explain ≡ true → IsRunTo t run) → WhereSet b (TellsHistory (one first (known_at t kept)) run result out out') Else
+        → WhereSet b (TellsHistory (other first (known_at t kept)) run result out out') Else
     wanted_again true t run result out out' Else is made told = told_again is t run result out out' (made is) told
     wanted_again false t run result out out' Else is made told = told
 
-    printed_again : (t : SessionOf D) (notes : NotesOf) (out : Option (List ℕ)) (result : Result (Unit {0}) ConsoleFault) (out' : Option (List ℕ)) → (mode.explain ≡ true → IsRunTo t (run_in notes.kept)) → PrintsAll mode (one first kept) notes out result out'
-        → PrintsAll mode (other first kept) notes out result out'
+    printed_again : (t : SessionOf D) (notes : NotesOf) (out : Option (List ℕ)) (result : Result (Unit {0}) ConsoleFault) (out' : Option (List ℕ)) → (mode.explain ≡ true → IsRunTo t (run_in notes.kept)) → PrintsAll mode (one first (known_at t kept)) notes out result out'
+        → PrintsAll mode (other first (known_at t kept)) notes out result out'
     printed_again t notes out result out' made (inl printed) =
         inl (printed.0, printed.1, wanted_again mode.explain t (run_in notes.kept) result printed.0 out' ((result ≡ Ok tt) × (out' ≡ printed.0)) refl made printed.2)
     printed_again t notes out result out' made (inr unwritten) = inr unwritten
@@ -41,7 +41,7 @@ module _ {D : Type 0} (contents : D → List (List ℕ)) (failures : D → ℕ) 
         subst (λ (n : NotesOf). IsRunTo t (run_in n.kept)) (sym noted) (kept_run contents failures s.world.sizes s.world.harts first _ kept t.world.harts all)
 
     ends_again : (xs : List EventOfCall) (text : List ℕ) (t : SessionOf D) (notes : NotesOf) (ends result : Result (Unit {0}) ConsoleFault) (out between out' : Option (List ℕ)) → Chain contents failures (with_beside first s) xs (with_beside kept t)
-        → IfTold ends (IsPrintedAndNoted out (no_notes mode) xs text between notes) → EndsSo mode (one first kept) notes ends between result out' → EndsSo mode (other first kept) notes ends between result out'
+        → IfTold ends (IsPrintedAndNoted out (no_notes mode) xs text between notes) → EndsSo mode (one first (known_at t kept)) notes ends between result out' → EndsSo mode (other first (known_at t kept)) notes ends between result out'
     ends_again xs text t notes (Ok u) result out between out' chain told printed = printed_again t notes between result out' (made_so xs t notes told.noted chain) printed
     ends_again xs text t notes (Err (faults.Stopped stop)) result out between out' chain told printed =
         (printed.0, printed_again t notes between printed.0 out' (made_so xs t notes told.noted chain) printed.1, printed.2)
@@ -91,42 +91,40 @@ module _ (image : List ℕ) (base : TreeData) (s : SessionOf (List ℕ)) (starts
   abbrev made_on : RunOn image run.events
   made_on = record { world = s.world; outcomes = run.outcomes; new = t.world.harts; starts = starts; history = made.0 }
 
-  -- what is kept beside it was kept of this run
-  kept_on : HasKept image run.events few made_on kept
-  kept_on k same = made.1 (nothing_kept (tree_in (blocks_of image))) k (begins ∙ ap (λ (b : TreeData). Some (nothing_kept b)) is) same
+  -- what is known beside it at its end was kept of this run
+  known_on : HasKept image run.events few made_on (known_at t kept)
+  known_on k same =
+      let told = was_told kept k (some_lacks_place t.world.harts) same in
+      record {
+        kept = told.kept;
+        keeps = made.1 (nothing_kept (tree_in (blocks_of image))) told.kept (begins ∙ ap (λ (b : TreeData). Some (nothing_kept b)) is) told.was;
+        is = told.is;
+      }
 
   own_on : (o : Option KeptTree) → HasKept image run.events few made_on o → (text : List ℕ) → IsFound (tree_in (blocks_of image)) o run text → IsOwn image run text
   own_on None keeps text found = absurd found.hands
   own_on (Some k) keeps text found =
-      let own = owned image run.events few made_on k keeps found.list found.explains found.flat found.hands found.room in
+      let own = owned image run.events few made_on k (keeps k refl) found.list found.explains found.flat found.hands found.room in
       record { list = found.list; owns = own.0; outcomes = ap (λ (r : RunOn image run.events). r.outcomes) own.1; text_is = found.text_is }
 
-  none_on : (text : List ℕ) → IsUnfound (tree_in (blocks_of image)) kept run text → HasNoList image run text
-  none_on text none = by none.refused
-    where
-      by : IsRefusedBeside (tree_in (blocks_of image)) kept run none.why → HasNoList image run text
-      by (inl so) = record {
+  none_on : (o : Option KeptTree) → HasKept image run.events few made_on o → (text : List ℕ) → IsUnfound (tree_in (blocks_of image)) o run text → HasNoList image run text
+  none_on o keeps text none =
+      record {
         why = none.why;
         has_line = none.has_line;
-        refused_so = refused_run image run.events made_on none.why so;
-        refused = inl so;
+        refused_so = refused_by_run image run.events few made_on o keeps none.why none.refused;
+        refused = elim none.refused [
+          | inl saw ↦ inr (saw.1, record { made = made_on; outcomes = refl; never = never_of image run.events few made_on o keeps saw.0 })
+          | inr so ↦ inl so.2
+        ];
         text_is = none.text_is;
       }
-      by (inr saw) =
-          let never = never_of image run.events few made_on kept kept_on saw.1 in
-          record {
-            why = none.why;
-            has_line = none.has_line;
-            refused_so = subst (λ (why : ExplainRefused). IsRefusedSo image run.events why) (sym saw.0) (record { run = made_on; full = inr never });
-            refused = inr (saw.0, record { made = made_on; outcomes = refl; never = never });
-            text_is = none.text_is;
-          }
 
-  told_on : (text : List ℕ) → IsFound (tree_in (blocks_of image)) kept run text ⊎ IsUnfound (tree_in (blocks_of image)) kept run text → IsOwn image run text ⊎ HasNoList image run text
-  told_on text (inl found) = inl (own_on kept kept_on text found)
-  told_on text (inr none) = inr (none_on text none)
+  told_on : (text : List ℕ) → IsFound (tree_in (blocks_of image)) (known_at t kept) run text ⊎ IsUnfound (tree_in (blocks_of image)) (known_at t kept) run text → IsOwn image run text ⊎ HasNoList image run text
+  told_on text (inl found) = inl (own_on (known_at t kept) known_on text found)
+  told_on text (inr none) = inr (none_on (known_at t kept) known_on text none)
 
 pub history_is : (image : List ℕ) (base : TreeData) (s : SessionOf (List ℕ)) → StartsOn image s.world → base ≡ tree_in (blocks_of image) → (first kept : Option KeptTree) (run : KeptRun) (t : SessionOf (List ℕ)) → IsRun blocks_of never s.world.sizes s.world.harts first run t.world.harts kept
-    → (text : List ℕ) → history_from base first kept run text → history_of image first kept run text
+    → (text : List ℕ) → history_from base first (known_at t kept) run text → history_of image first (known_at t kept) run text
 history_is image base s starts is first kept run t made text told =
-    told_on image base s starts is first kept run t made told.0 told.1 text (subst (λ (b : TreeData). IsFound b kept run text ⊎ IsUnfound b kept run text) is told.2)
+    told_on image base s starts is first kept run t made told.0 told.1 text (subst (λ (b : TreeData). IsFound b (known_at t kept) run text ⊎ IsUnfound b (known_at t kept) run text) is told.2)

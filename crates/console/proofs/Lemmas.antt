@@ -5,7 +5,7 @@ pub use Rattle.console.specs.Vocabulary.{State, asked_by, call_said, shape_line,
 pub use Rattle.std.proofs.Common.{rules, tests, true≢false}
 pub use Rattle.script.proofs.Appending.{tells_both}
 pub use Rattle.console.proofs.Mounting.{image_prompted, image_run, image_untaken, mount_refused, mounted_on, not_taken, prompted_on, ran_on, refused_judged}
-pub use Rattle.console.proofs.Telling.{found, found_on, full_told, line_told, list_told, unfound, unfound_on, why_told}
+pub use Rattle.console.proofs.Telling.{found, found_on, line_told, list_told, unfound, unfound_on, why_told}
 pub use Rattle.console.specs.Lines.{course, course_in}
 pub use Rattle.std.proofs.lemmas.Iterator.Adapters.{YieldsList-from_vec}
 pub use Rattle.std.proofs.lemmas.Iterator.Consumers.{YieldsList-end, YieldsList-turn}

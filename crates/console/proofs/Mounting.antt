@@ -1,5 +1,5 @@
 -- A disk in memory is mounted, and what is run on it; or it isn't mounted.
-use Rattle.console.proofs.Vocabulary.{◌≡◌, ℕ, arith, Bool, true, false, List, [], Option, None, Result, Err, replicate, refl, sym, ap, ◌∙◌, subst, inl, inr, Vec, Global, blocks_of, sizes_of, buffer_count, hart_count, unused_from, IsPlaced, IsWellFormed, JudgesFault, fault_count_of, tree_in, MountFault, TreeData, IsSettled, HartsOf, never, KeptTree, Mode, ConsoleFault, of_mount, WhereSet, history_from, history_of, JudgesImage, RefusesDisk, bytes_for, KeptRun, PromptsImage, PromptsOn, PromptsReader, RunsReader, HandsOut, IsMountedOn, IsUntaken, RunsImage, RunsOn, TakesNoImage, SessionOf}
+use Rattle.console.proofs.Vocabulary.{◌≡◌, ℕ, arith, Bool, true, false, List, [], Option, None, Result, Err, replicate, refl, sym, ap, ◌∙◌, subst, inl, inr, Vec, Global, blocks_of, sizes_of, buffer_count, hart_count, unused_from, IsPlaced, IsWellFormed, JudgesFault, fault_count_of, tree_in, MountFault, TreeData, IsSettled, HartsOf, never, KeptTree, Mode, ConsoleFault, of_mount, WhereSet, history_from, history_of, JudgesImage, RefusesDisk, bytes_for, KeptRun, PromptsImage, PromptsOn, PromptsReader, RunsReader, HandsOut, IsMountedOn, IsUntaken, RunsImage, RunsOn, TakesNoImage, SessionOf, known_at}
 use Rattle.group_log.specs.declared.phase.Phase.TheVariants.{Open}
 use Rattle.image_tree.specs.declared.fault.MountFault.TheVariants as mounts
 use Rattle.hart_core.specs.Mounting.{Rests}
@@ -83,8 +83,8 @@ unset true this other is holds = absurd (cc is)
 unset false this other is holds = holds
 
 module _ (mode : Mode) (bytes : List ℕ) (base : TreeData) (first last : SessionOf (List ℕ)) (on : IsMountedOn mode.explain bytes base first) where
-  tells : mode.explain ≡ true → (begun kept : Option KeptTree) (run : KeptRun) (t : SessionOf (List ℕ)) → IsRun blocks_of never first.world.sizes first.world.harts begun run t.world.harts kept → (text : List ℕ) → history_from base begun kept run text
-      → history_of bytes begun kept run text
+  tells : mode.explain ≡ true → (begun kept : Option KeptTree) (run : KeptRun) (t : SessionOf (List ℕ)) → IsRun blocks_of never first.world.sizes first.world.harts begun run t.world.harts kept → (text : List ℕ) → history_from base begun (known_at t kept) run text
+      → history_of bytes begun (known_at t kept) run text
   tells is = history_is bytes base first on.starts (wanted_base mode.explain base (tree_in (blocks_of bytes)) is on.base_is)
 
   pub ran_on : (script : Option (List ℕ)) (ended : Result (Unit {0}) ConsoleFault) (result : Result (List ℕ) ConsoleFault) (out out' : Option (List ℕ)) → RunsReader blocks_of never mode (history_from base) first script ended last out out'

@@ -1,5 +1,5 @@
 -- A script that was run, and why it had no end.
-use Rattle.console.proofs.Vocabulary.{◌≡◌, ℕ, ◌<◌, min, arith, List, [], length, take, Option, Some, None, option_map, Result, Ok, Err, refl, ap, sym, ◌∙◌, subst, inl, inr, take_all, length-take, IfSome, Stop, ConsoleFault, Mode, Runs, lines, state, History, HistoryBeside, CourseOf, FailsTo, IsMemory, script_course, NotesOf, no_notes, QueuedCalls, EndsOn, EndsSo, FailsUnread, PrintsAll, RunsCourse, RunsReader, RunsScript, or_stopped, KeptTree, SessionOf, with_beside}
+use Rattle.console.proofs.Vocabulary.{◌≡◌, ℕ, ◌<◌, min, arith, List, [], length, take, Option, Some, None, option_map, Result, Ok, Err, refl, ap, sym, ◌∙◌, subst, inl, inr, take_all, length-take, IfSome, Stop, ConsoleFault, Mode, Runs, lines, state, History, HistoryBeside, CourseOf, FailsTo, IsMemory, script_course, NotesOf, no_notes, QueuedCalls, EndsOn, EndsSo, FailsUnread, PrintsAll, RunsCourse, RunsReader, RunsScript, or_stopped, KeptTree, SessionOf, with_beside, known_at}
 use Rattle.console.specs.declared.fault.ConsoleFault.TheVariants as faults
 
 any_text : (script : Option (List ℕ)) → (text : List ℕ) × IfSome script (λ bytes. text ≡ bytes)
@@ -33,23 +33,25 @@ module _ {D : Type 0} (contents : D → List (List ℕ)) (failures : D → ℕ) 
 
   -- ---- a course
 
-  pub course_run : (mode : Mode) (history : HistoryBeside) (course : CourseOf) (s from to t : SessionOf D) (queues left : QueuedCalls) (beside kept : Option KeptTree) (ends result : Result (Unit {0}) ConsoleFault) (out between out' : Option (List ℕ)) (first notes : NotesOf)
-      → queues ≡ course.left → first ≡ no_notes mode → from ≡ with_beside beside s → t ≡ with_beside None to → kept ≡ to.beside
-      → Runs (lines contents failures course.lines) (state from queues) out first ends (state to left) between notes → EndsSo mode (history beside kept) notes ends between result out' → RunsCourse contents failures mode history s course result t out out'
-  course_run mode history course s from to t queues left beside kept ends result out between out' first notes same is begins ended has runs end =
-      let over : with_beside kept t ≡ to = (λ i. with_beside (has i) (ended i)) in
+  -- from begins it, and to is left when its lines are run; shown: what is known beside it then
+  pub course_run : (mode : Mode) (history : HistoryBeside) (course : CourseOf) (s from to t : SessionOf D) (queues left : QueuedCalls) (beside shown : Option KeptTree) (ends result : Result (Unit {0}) ConsoleFault) (out between out' : Option (List ℕ)) (first notes : NotesOf)
+      → queues ≡ course.left → first ≡ no_notes mode → from ≡ with_beside beside s → t ≡ with_beside None to → shown ≡ known_at to to.beside
+      → Runs (lines contents failures course.lines) (state from queues) out first ends (state to left) between notes → EndsSo mode (history beside shown) notes ends between result out' → RunsCourse contents failures mode history s course result t out out'
+  course_run mode history course s from to t queues left beside shown ends result out between out' first notes same is begins gone has runs end =
+      let over : with_beside to.beside t ≡ to = ap (with_beside to.beside) gone in
+      let known : shown ≡ known_at t to.beside = has ∙ sym (ap (λ (u : SessionOf D). known_at u to.beside) gone) in
       inl (record {
         left = left;
         ends = ends;
         between = between;
         notes = notes;
         first = beside;
-        kept = kept;
+        kept = to.beside;
         runs = subst (λ (v : SessionOf D). Runs (lines contents failures course.lines) (state (with_beside beside s) course.left) out (no_notes mode) ends (state v left) between notes) (sym over)
             (subst (λ (u : SessionOf D). Runs (lines contents failures course.lines) (state u course.left) out (no_notes mode) ends (state to left) between notes) begins
             (subst (λ n. Runs (lines contents failures course.lines) (state from course.left) out n ends (state to left) between notes) is
             (subst (λ q. Runs (lines contents failures course.lines) (state from q) out first ends (state to left) between notes) same runs)));
-        end = end;
+        end = subst (λ (k : Option KeptTree). EndsSo mode (history beside k) notes ends between result out') known end;
       })
 
   pub with_course : (mode : Mode) (history : HistoryBeside) (script : Result CourseOf ℕ) (course : CourseOf) (s t : SessionOf D) (result : Result (Unit {0}) ConsoleFault) (out out' : Option (List ℕ)) → script ≡ Ok course → RunsCourse contents failures mode history s course result t out out'

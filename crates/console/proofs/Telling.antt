@@ -1,6 +1,6 @@
 -- A history is told, or why there is none.
 use Rattle.std.specs.Prelude.{◌^◌}
-use Rattle.console.proofs.Vocabulary.{◌≡◌, ◌<◌, ℕ, false, List, length, Option, Result, Ok, Err, refl, subst, inl, inr, OnOk, Appends, Came, Event, Trace, trace_in, any_climbs, KeptTree, HandsOutKept, SawNoRoom, SawRoom, Placed, Explains, TreeData, OwnsRun, IsRefusedFor, IsRefusedSo, ExplainRefused, ConsoleFault, IsWritten, HasLine, History, TellsHistory, TellsWhy, entries_text, history_kept, history_on, why_line, KeptRun}
+use Rattle.console.proofs.Vocabulary.{◌≡◌, ◌<◌, ℕ, false, List, length, Option, Result, Ok, Err, refl, subst, inl, inr, OnOk, Appends, Came, Event, Trace, trace_in, any_climbs, KeptTree, HandsOutKept, SawRoom, Placed, Explains, TreeData, OwnsRun, IsRefusedBy, IsRefusedSo, ExplainRefused, ConsoleFault, IsWritten, HasLine, History, TellsHistory, TellsWhy, entries_text, history_kept, history_on, why_line, KeptRun}
 use Rattle.explain.specs.declared.refused.ExplainRefused.TheVariants as refused
 use Rattle.console.specs.declared.fault.ConsoleFault.TheVariants as faults
 
@@ -67,18 +67,12 @@ module _ (base : TreeData) (kept : Option KeptTree) (run : KeptRun) (events : Li
     }),
   )
 
-  pub unfound : (why : ExplainRefused) → IsRefusedFor base (trace_in events outcomes) why → HasLine why → history_kept base kept run (why_line why)
+  pub unfound : (why : ExplainRefused) → IsRefusedBy kept base (trace_in events outcomes) why → HasLine why → history_kept base kept run (why_line why)
   unfound why so line = (
     refl,
     these_few,
-    inr (record { why = why; has_line = line; refused = inl (of_run (λ t. IsRefusedFor base t why) so); text_is = refl }),
+    inr (record { why = why; has_line = line; refused = of_run (λ t. IsRefusedBy kept base t why) so; text_is = refl }),
   )
-
-  saw_full : SawNoRoom kept → HasLine refused.FullSeen → history_kept base kept run (why_line refused.FullSeen)
-  saw_full saw line = (refl, these_few, inr (record { why = refused.FullSeen; has_line = line; refused = inr (refl, saw); text_is = refl }))
-
-  pub full_told : (result : Result (Unit {0}) ConsoleFault) (out out' : Option (List ℕ)) → SawNoRoom kept → TellsWhy refused.FullSeen result out out' → TellsHistory (history_kept base kept) run result out out'
-  full_told result out out' saw told = why_told (history_kept base kept) run refused.FullSeen result out out' (saw_full saw) told
 
 -- ---- on an image, of events that are the run's
 

@@ -1,6 +1,6 @@
 -- What is printed of a run's history, with --explain.
 use Rattle.std.specs.Prelude.{◌≡◌, ◌⊎◌, ◌<◌, ◌^◌, ℕ, Bool, true, false, List, [], ◌∷◌, ◌++◌, length, Option, Some, Result, Ok, Err, codes, decimal}
-use Rattle.console.specs.Vocabulary.{Appends, blocks_of, KeptTree, Placed, Explains, TreeData, tree_in, Event, trace_in, any_climbs, nothing_kept, HandsOutKept, SawNoRoom, SawRoom, IsRefusedFor, IsRefusedSo, NeverFoundRoom, OwnsRun, RunOn, number_of, name_of, ExplainRefused, entry_line}
+use Rattle.console.specs.Vocabulary.{Appends, blocks_of, KeptTree, Placed, Explains, TreeData, tree_in, Event, trace_in, any_climbs, nothing_kept, HandsOutKept, SawRoom, IsRefusedBy, IsRefusedFor, IsRefusedSo, NeverFoundRoom, OwnsRun, RunOn, number_of, name_of, ExplainRefused, entry_line}
 use Rattle.explain.specs.declared.refused.ExplainRefused.TheVariants as refused
 use Rattle.console.specs.declared.fault.ConsoleFault.{ConsoleFault}
 use Rattle.console.specs.declared.fault.ConsoleFault.TheVariants as faults
@@ -45,16 +45,11 @@ pub record IsFound (base : TreeData) (kept : Option KeptTree) (run : KeptRun) (t
   pub room : SawRoom kept
   pub text_is : text ≡ entries_text list
 
--- as of what events came to; or a step found no room, as what is kept says
-abbrev pub IsRefusedBeside : TreeData → Option KeptTree → KeptRun → ExplainRefused → Type 0
-IsRefusedBeside base kept run why =
-    IsRefusedFor base (trace_in run.events run.outcomes) why ⊎ ((why ≡ refused.FullSeen) × SawNoRoom kept)
-
 -- no list is found, and why
 pub record IsUnfound (base : TreeData) (kept : Option KeptTree) (run : KeptRun) (text : List ℕ) : Type 0 where
   pub why : ExplainRefused
   pub has_line : HasLine why
-  pub refused : IsRefusedBeside base kept run why
+  pub refused : IsRefusedBy kept base (trace_in run.events run.outcomes) why
   pub text_is : text ≡ why_line why
 
 -- the tree is kept from this one on, beside a run that isn't longer than a list in memory can be

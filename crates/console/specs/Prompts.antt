@@ -7,7 +7,7 @@ use Rattle.console.specs.declared.fault.ConsoleFault.TheVariants as faults
 use Rattle.console.specs.Behaviours.{Behaviour, DoesNothing, Runs, followed_by, gives, in_case, prints, takes_memory}
 use Rattle.console.specs.Commands.{RunOf, all_harts, line, state}
 use Rattle.console.specs.Histories.{HistoryBeside, history_of}
-use Rattle.console.specs.Basics.{bytes_for, NotesOf, no_notes, QueuedCalls, none_left, SessionOf, with_beside, doing_at, is_joined, locks_of, word_of}
+use Rattle.console.specs.Basics.{bytes_for, NotesOf, no_notes, QueuedCalls, none_left, SessionOf, known_at, with_beside, doing_at, is_joined, locks_of, word_of}
 use Rattle.console.specs.Runs.{EndsSo, RunsNone}
 use Rattle.console.specs.Scripts.{HandsOut, TakesNoImage}
 
@@ -167,7 +167,7 @@ module _ {D : Type 0} (contents : D → List (List ℕ)) (failures : D → ℕ) 
     pub kept : Option KeptTree
     pub answers : PromptsAll 1 typed (state (with_beside first s) none_left) out (no_notes mode) ends
         (state (with_beside kept t) left) between notes
-    pub end : EndsSo mode (history first kept) notes ends between result out'
+    pub end : EndsSo mode (history first (known_at t kept)) notes ends between result out'
 
   abbrev pub PromptsReader : Mode → HistoryBeside → SessionOf D → Option (List ℕ) → Result (Unit {0}) ConsoleFault → SessionOf D
       → Option (List ℕ) → Option (List ℕ) → Type 0

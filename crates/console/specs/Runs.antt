@@ -7,7 +7,7 @@ use Rattle.console.specs.Behaviours.{Runs}
 use Rattle.console.specs.Commands.{lines, state}
 use Rattle.console.specs.Events.{last_of, timeline_of}
 use Rattle.console.specs.Histories.{History, HistoryBeside, TellsHistory, WhereSet}
-use Rattle.console.specs.Basics.{CourseOf, TellsLine, script_course, NotesOf, no_notes, run_in, QueuedCalls, SessionOf, with_beside}
+use Rattle.console.specs.Basics.{CourseOf, TellsLine, script_course, NotesOf, no_notes, run_in, QueuedCalls, SessionOf, known_at, with_beside}
 
 -- ---- after the lines
 
@@ -87,7 +87,7 @@ module _ {D : Type 0} (contents : D → List (List ℕ)) (failures : D → ℕ) 
     pub kept : Option KeptTree
     pub runs : Runs (lines contents failures course.lines) (state (with_beside first s) course.left) out (no_notes mode) ends
         (state (with_beside kept t) left) between notes
-    pub end : EndsSo mode (history first kept) notes ends between result out'
+    pub end : EndsSo mode (history first (known_at t kept)) notes ends between result out'
 
   -- nothing was done and nothing printed, for want of memory
   pub record RunsNone (s : SessionOf D) (result : Result (Unit {0}) ConsoleFault) (t : SessionOf D)

@@ -1,6 +1,7 @@
 -- A mounted file system that a console runs, and what happens to it.
 use Rattle.std.specs.Prelude.{◌≡◌, ℕ, ◌+◌, ◌-◌, min, nat_lt, Bool, true, false, List, replicate, set, get_or, Option, Some, None, IfSome}
-use Rattle.console.specs.Vocabulary.{Kind, KeptTree, with_answer, Event, Came, Outcome, event_of, came_of, said_of, shared_of, AreHarts, WorldOf, Makes, Answers, HasNoted, NotesEvent, heard_by, heard_in}
+use Rattle.std.specs.Option.{option_map}
+use Rattle.console.specs.Vocabulary.{Kind, KeptTree, with_answer, Event, Came, Outcome, event_of, came_of, said_of, shared_of, AreHarts, WorldOf, Makes, Answers, HasNoted, NotesEvent, ended, heard_by, heard_in, some_lacks_place}
 use Rattle.fs_machine.specs.declared.kind.Kind.TheVariants as kinds
 use Rattle.hart_core.specs.declared.events.Event.TheVariants as event
 use Rattle.hart_core.specs.declared.events.Came.TheVariants as came
@@ -92,6 +93,10 @@ with_beside beside s = record { world = s.world; doing = s.doing; beside = besid
 abbrev pub beside_in : Option (Option KeptTree) → Option KeptTree
 beside_in None = None
 beside_in (Some kept) = kept
+
+-- what it knows once the run has ended
+abbrev pub known_at : {D : Type 0} → SessionOf D → Option KeptTree → Option KeptTree
+known_at s kept = option_map (ended (some_lacks_place s.world.harts)) kept
 
 module _ {D : Type 0} (contents : D → List (List ℕ)) (failures : D → ℕ) where
   -- A keeper was told of an event that came to this, of which there is a copy: what it was, and what the hart's call heard.

@@ -15,8 +15,8 @@ use std::io;
 use std::io::Write;
 
 /// Prints a list of tree steps that explains, from this tree on, what the run that is kept showed of calls, a line a step; or why there is
-/// none. The list is that of the keeper, who was told of the run's events as they were made: there is none where it saw a step without
-/// room.
+/// none. The list is that of the keeper, who was told of the run's events as they were made, and of its end: there is none where it knows
+/// of a step without room.
 pub fn write_history<W: Write>(
     alloc: Global,
     out: &mut W,
@@ -27,9 +27,6 @@ pub fn write_history<W: Write>(
     ensures { TellsHistory (history_kept base.now keeper) (run_in notes.now.kept) result (W.contents out.old) (W.contents out.new) }
 {
     let (events, outcomes) = (notes.kept_events(), notes.kept_outcomes());
-    if keeper.is_full() {
-        return tell_why(out, ExplainRefused::FullSeen);
-    }
     match explain_noted(alloc, base, events, outcomes, keeper) {
         Ok(list) => tell_list(out, list.as_slice()),
         Err(why) => tell_why(out, why),

@@ -6,7 +6,7 @@ ghost use Rattle.hart_core.specs.Mounting.{HandsBack, Rests};
 ghost use Rattle.hart_core.specs.Harts.{AreHarts, shared_of};
 ghost use Rattle.hart_core.specs.Telling.{heard_by, heard_in};
 ghost use Rattle.explain.specs.Keeps.{HasNoted};
-ghost use Rattle.console.specs.Sessions.{Happens, Hears, beside_in, doing_at, hart_in, is_event, is_event_step, with_beside};
+ghost use Rattle.console.specs.Sessions.{beside_in, doing_at, hart_in, is_event, is_event_step, known_at, with_beside, Happens, Hears};
 
 use crate::doing::{Doing, done_after};
 use crate::verb::Verb;
@@ -177,12 +177,20 @@ impl<D: Device> Session<D> {
         self.keeper = Some(keeper);
     }
 
-    /// Hands back who kept the tree, which is kept no more.
+    /// Hands back who kept the tree, and was told that the run has ended. It is kept no more.
     pub(crate) fn hand_back(&mut self) -> Option<Keeper>
-        ensures kept { beside_in result ≡ self.old.beside }
+        ensures kept { beside_in result ≡ known_at self.old self.old.beside }
         ensures left { self.new ≡ with_beside None self.old }
     {
-        self.keeper.take()
+        let lacks_place = self.world.lacks_place();
+        match self.keeper.take() {
+            Some(keeper) => {
+                let mut keeper = keeper;
+                keeper.ends(lacks_place);
+                Some(keeper)
+            }
+            None => None,
+        }
     }
 
     /// Ends it at any moment, in mid-call too, without a call of the device, and gives the device.

@@ -2,13 +2,16 @@
 pub use Rattle.explain.proofs.Vocabulary.{ExplainRefused, Global, IsRefusedMount, Ok, Placed, Vec, any_climbs, inr, subst, ◌∙◌}
 pub use Rattle.hart_core.proofs.Vocabulary.{IsCall, Option, ap, refl, sym}
 pub use Rattle.explain.proofs.Mounting.{refused_mount}
-pub use Rattle.explain.proofs.Running.{full_played, nowhere, own_played}
-pub use Rattle.explain.proofs.Noting.{keeps_from}
+pub use Rattle.explain.proofs.Running.{knows, nowhere, own_played}
+pub use Rattle.explain.proofs.Noting.{keeps_from, was_told}
+pub use Rattle.std.specs.Option.{option_map}
+pub use Rattle.explain.specs.Vocabulary.{ended, some_lacks_place}
 pub use Rattle.explain.specs.Played.{IsFound}
 pub use Rattle.explain.specs.Vocabulary.{KeptTree}
 pub use Rattle.explain.proofs.Vocabulary.{blocks_of, never, ◌≡◌}
-pub use Rattle.std.specs.Prelude.{◌<◌, ◌^◌, length}
+pub use Rattle.std.specs.Prelude.{◌<◌, ◌^◌, length, Bool}
 pub use Rattle.std.proofs.Common.{arith}
 pub use Rattle.hart_core.proofs.RightCalls.{right_call}
 pub use Rattle.std.proofs.Common.{rules}
 pub use Rattle.plain_tree.specs.declared.call.Call.{Call}
+pub use Rattle.explain.specs.declared.refused.ExplainRefused.TheVariants.{FullSeen}

@@ -1,9 +1,10 @@
 -- A keeper that was told of each event of a run has kept it.
 use Rattle.explain.proofs.Vocabulary.{◌≡◌, ℕ, List, [], ◌∷◌, subst, ◌∙◌, Came, Event}
-use Rattle.std.specs.Prelude.{◌+◌, ◌-◌, ◌^◌, ◌<◌, ◌≤◌, min, ◌++◌, length, Option, Some, None, slice_get}
+use Rattle.std.specs.Option.{option_map}
+use Rattle.std.specs.Prelude.{◌+◌, ◌-◌, ◌^◌, ◌<◌, ◌≤◌, min, ◌++◌, length, Bool, Option, Some, None, slice_get}
 use Rattle.std.proofs.Common.{refl, sym, ap, arith, append_assoc}
 use Rattle.hart_core.proofs.Vocabulary.{nat_tests}
-use Rattle.explain.specs.Vocabulary.{Super, Heard, heard_in, HartsOf, KeptTree, NotesEvent, TreeData, nothing_kept}
+use Rattle.explain.specs.Vocabulary.{Super, Heard, heard_in, HartsOf, KeptTree, NotesEvent, TreeData, ended, nothing_kept}
 use Rattle.explain.specs.Keeps.{HasNoted}
 use Rattle.kept_histories.specs.Keeps.{KeepsEvent, KeepsRun}
 use Rattle.explain.specs.Telling.{TellsKeeper}
@@ -75,3 +76,15 @@ module _ {D : Type 0} (contents : D → List (List ℕ)) (failures : D → ℕ) 
       let from = noted_run [] old t es cs new t' k' events place room run is in
       let began : from.kept ≡ nothing_kept base = (let e : Some from.kept ≡ Some (nothing_kept base) = sym from.is ∙ first in cc e) in
       subst (λ (k : KeptTree). KeepsRun contents failures sizes old k es cs new k') (began ∙ ap nothing_kept same) from.run
+
+-- ---- at its end
+
+-- who has something after the run's end has kept it before
+pub record WasTold (o : Option KeptTree) (b : Bool) (k : KeptTree) : Type 0 where
+  pub kept : KeptTree
+  pub was : o ≡ Some kept
+  pub is : k ≡ ended b kept
+
+pub was_told : (o : Option KeptTree) (k : KeptTree) (b : Bool) → option_map (ended b) o ≡ Some k → WasTold o b k
+was_told None k b e = absurd cc
+was_told (Some kept) k b e = record { kept = kept; was = refl; is = (let same : Some (ended b kept) ≡ Some k = e in cc same) }

@@ -1,16 +1,15 @@
 -- What a list that explains a trace, or its want, says of the run that came to the trace.
 use Rattle.explain.proofs.Vocabulary.{◌≡◌, ℕ, false, List, [], ◌∷◌, Result, Ok, Err, subst, ◌∙◌, inl, inr, MatchResult, Vec, All, Global, or_parts, All-cons, All-nil, blocks_of, Placed, Trace, TracedCall, call_climbs, Explains, TreeData, tree_in, Came, Event, trace_in, explained, any_climbs, Played, ExplainRefused, IsFoundFor, IsRefusedFor, IsRefusedMount, IsRefusedSo, RunOn, never, IsPlayed}
 use Rattle.explain.specs.declared.refused.ExplainRefused.TheVariants as refused
-use Rattle.std.specs.Prelude.{◌<◌, ◌≤◌, ◌^◌, length, IfOk, Option, Some, None}
+use Rattle.std.specs.Prelude.{◌↔◌, ◌<◌, ◌^◌, length, IfOk, Option, Some, None}
 use Rattle.std.proofs.Common.{refl, sym}
 use Rattle.run_laws.proofs.OneList.{runs_have_one_list}
-use Rattle.run_laws.specs.OneList.{AgreesWithTheList, list_of}
+use Rattle.run_laws.specs.OneList.{list_of}
 use Rattle.explain.proofs.Own.{list_explains}
-use Rattle.explain.specs.Vocabulary.{Call, EventOf, FoundRoom, IsHistory, KeptTree, Outside, nothing_kept}
+use Rattle.explain.specs.Vocabulary.{Call, EventOf, KeptTree, Outside}
 use Rattle.kept_histories.proofs.KeptRuns.{kept_lists_are}
-use Rattle.explain.specs.Explained.{FindsNoRoom, NeverFoundRoom, OwnsRun}
-use Rattle.explain.specs.Keeps.{HandsOut, SawNoRoom, SawRoom}
-use Rattle.kept_histories.specs.Keeps.{KeepsRun}
+use Rattle.explain.specs.Explained.{EachFoundRoom, IsOneOf, IsRefusedBy, KeepsToTheEnd, NeverFoundRoom, OwnsRun, RoomIn}
+use Rattle.explain.specs.Keeps.{HandsOut, IsListOf, KnowsWhy, SawNoRoom, SawRoom}
 
 pub refused_so : (image : List ℕ) (events : List Event) (e : ExplainRefused) → IsRefusedMount image e → IsRefusedSo image events e
 refused_so image events refused.NoMemory mount = tt
@@ -27,19 +26,10 @@ none_climbs (c ∷ cs) none =
 pub nowhere : (base : TreeData) (t u : Trace) → t ≡ u → any_climbs t.calls ≡ false → ((list : List Placed) → Explains base t list → ⊥) → (any_climbs u.calls ≡ false) × ((list : List Placed) → Explains base u list → ⊥)
 nowhere base t u same flat none = subst (λ (v : Trace). (any_climbs v.calls ≡ false) × ((list : List Placed) → Explains base v list → ⊥)) same (flat, none)
 
--- A run of these events on the image came to the outcomes of the trace.
-module _ (image : List ℕ) (events : List Event) (run : RunOn image events) where
-  pub refused_run : (e : ExplainRefused) → IsRefusedFor (tree_in (blocks_of image)) (trace_in events run.outcomes) e → IsRefusedSo image events e
-  refused_run refused.NoMemory is = tt
-  refused_run (refused.Damaged d) is = absurd is
-  refused_run refused.Climbs is = record { run = run; told = is.0; climbs = is.1 }
-  refused_run refused.FullSeen (inl full) = record { run = run; full = inl full }
-  refused_run refused.FullSeen (inr none) = record {
-    run = run;
-    full = inr (λ history is room.
-        let one = explained blocks_of never run.world events run.outcomes run.new image history run.starts.mounted is room (inl (none_climbs (trace_in events run.outcomes).calls none.0)) in
-        none.1 one.0 one.1);
-  }
+-- a keeper that has a list tells why that isn't handed out
+pub knows : (o : Option KeptTree) (list : List Placed) (why : ExplainRefused) → IsListOf o list → KnowsWhy o why
+knows None list why is = absurd is
+knows (Some k) list why is = tt
 
 -- what is found of the tree and the outcomes of a run is found of that run
 module _ (image : List ℕ) (events : List Event) (p : Played) (played : IsPlayed image events p) (outcomes : List Came) (same : outcomes ≡ p.outcomes.items) where
@@ -49,65 +39,89 @@ module _ (image : List ℕ) (events : List Event) (p : Played) (played : IsPlaye
 -- ---- what was kept of it
 
 module _ (image : List ℕ) (events : List Event) (few : length events < 2 ^ 64) (run : RunOn image events) where
-  -- each history's list, where that found room, is this one
-  abbrev IsOwn : List Placed → Type 0
-  IsOwn list =
-      (history : List (EventOf Call Outside)) → IsHistory blocks_of never run.world.sizes run.world.harts events run.outcomes run.new history
-      → FoundRoom blocks_of never run.world history → list ≡ list_of blocks_of never run.world history
+  abbrev base : TreeData
+  base = tree_in (blocks_of image)
+
+  abbrev trace : Trace
+  trace = trace_in events run.outcomes
 
   -- what a keeper has of the run
   abbrev pub HasKept : Option KeptTree → Type 0
-  HasKept o =
-      (k : KeptTree) → o ≡ Some k
-      → KeepsRun blocks_of never run.world.sizes run.world.harts (nothing_kept (tree_in (blocks_of image))) events run.outcomes run.new k
+  HasKept o = (k : KeptTree) → o ≡ Some k → KeepsToTheEnd image events run k
 
-  kept_own : (k : KeptTree) → HasKept (Some k) → any_climbs (trace_in events run.outcomes).calls ≡ false → (list : List Placed)
-      → HandsOut (Some k) (tree_in (blocks_of image)) (trace_in events run.outcomes) list → IsOwn list
-  kept_own k keeps flat list hands history is room =
-      let same : k.list ≡ list_of blocks_of never run.world history =
-      (kept_lists_are blocks_of never run.world image events run.outcomes run.new k history run.starts.mounted (keeps k refl) is room few).0 in
-      hands (subst (λ (l : List Placed). Explains (tree_in (blocks_of image)) (trace_in events run.outcomes) l) (sym same)
-      (list_explains blocks_of never run.world image events run.outcomes run.new history run.starts.mounted is room (inl (none_climbs (trace_in events run.outcomes).calls flat)))) ∙ same
+  module _ (k : KeptTree) (keeps : KeepsToTheEnd image events run k) where
+    -- what is known of room, and the list, of each history
+    law : (history : List (EventOf Call Outside)) → IsOneOf image events run history
+        → (RoomIn image events run history ↔ (k.full ≡ false)) × (RoomIn image events run history → k.list ≡ list_of blocks_of never run.world history)
+    law history is =
+        subst (λ (z : KeptTree). (RoomIn image events run history ↔ (z.full ≡ false)) × (RoomIn image events run history → z.list ≡ list_of blocks_of never run.world history)) (sym keeps.is)
+        (kept_lists_are blocks_of never run.world image events run.outcomes run.new keeps.kept history run.starts.mounted keeps.keeps is few)
 
-  -- each beginning of the run agrees with that list
-  all_stops : any_climbs (trace_in events run.outcomes).calls ≡ false → (history : List (EventOf Call Outside))
-      → IsHistory blocks_of never run.world.sizes run.world.harts events run.outcomes run.new history
-      → FoundRoom blocks_of never run.world history → (n : ℕ) → n ≤ length events
-      → AgreesWithTheList blocks_of never (tree_in (blocks_of image)) run.world events run.outcomes history n
-  all_stops flat history is room n le =
-      runs_have_one_list blocks_of never run.world image events run.outcomes run.new history run.starts.mounted is room (inl (none_climbs (trace_in events run.outcomes).calls flat)) n le
+    pub each_found : SawRoom (Some k) → EachFoundRoom image events run
+    each_found room history is = (law history is).0.1 room
 
-  -- a list that explains the run is this run's own, as what was kept is
-  pub owned : (k : KeptTree) → HasKept (Some k) → (list : List Placed) → Explains (tree_in (blocks_of image)) (trace_in events run.outcomes) list → any_climbs (trace_in events run.outcomes).calls ≡ false
-      → HandsOut (Some k) (tree_in (blocks_of image)) (trace_in events run.outcomes) list → SawRoom (Some k) → (owns : OwnsRun image events list) × (owns.run ≡ run)
-  owned k keeps list is flat hands room =
-      (record { run = run; explains = is; own = kept_own k keeps flat list hands; stops = all_stops flat; kept = k; keeps = keeps k refl; room = room; handed = hands }, refl)
+    none_found : SawNoRoom (Some k) → NeverFoundRoom image events run
+    none_found saw history is room = absurd (let none : k.full ≡ false = (law history is).0.0 room in cc (none, saw))
 
-  pub owns : (o : Option KeptTree) → HasKept o → (found : Result (Vec Placed Global) ExplainRefused) → IsFoundFor (tree_in (blocks_of image)) (trace_in events run.outcomes) found
-      → IfOk found (λ _. any_climbs (trace_in events run.outcomes).calls ≡ false)
-      → IfOk found (λ v. HandsOut o (tree_in (blocks_of image)) (trace_in events run.outcomes) v.items) → SawRoom o
-      → MatchResult found (λ v. OwnsRun image events v.items) (λ e. IsRefusedSo image events e)
-  owns None keeps (Ok list) is flat hands room = absurd hands
-  owns (Some k) keeps (Ok list) is flat hands room = (owned k keeps list.items is flat hands room).0
-  owns o keeps (Err e) is flat hands room = refused_run image events run e is
+    -- a list that explains the run is this run's own, as what was kept is
+    pub owned : (list : List Placed) → Explains (tree_in (blocks_of image)) (trace_in events run.outcomes) list → any_climbs (trace_in events run.outcomes).calls ≡ false
+        → HandsOut (Some k) (tree_in (blocks_of image)) (trace_in events run.outcomes) list → SawRoom (Some k) → (owns : OwnsRun image events list) × (owns.run ≡ run)
+    owned list is flat hands room = (
+      record {
+        run = run;
+        room = each_found room;
+        explains = is;
+        own = own;
+        stops = λ history one n le. runs_have_one_list blocks_of never run.world image events run.outcomes run.new history run.starts.mounted one (each_found room history one) (inl (none_climbs trace.calls flat)) n le;
+      },
+      refl,
+    )
+      where
+        own : (history : List (EventOf Call Outside)) → IsOneOf image events run history → list ≡ list_of blocks_of never run.world history
+        own history one =
+            let found = each_found room history one in
+            let same : k.list ≡ list_of blocks_of never run.world history = (law history one).1 found in
+            hands (subst (λ (l : List Placed). Explains base trace l) (sym same)
+            (list_explains blocks_of never run.world image events run.outcomes run.new history run.starts.mounted one found (inl (none_climbs trace.calls flat)))) ∙ same
 
   -- a keeper that saw a step without room
   pub never_of : (o : Option KeptTree) → HasKept o → SawNoRoom o → NeverFoundRoom image events run
-  never_of None keeps saw history is room = saw
-  never_of (Some k) keeps saw history is room = absurd
-      (let none : k.full ≡ false = (kept_lists_are blocks_of never run.world image events run.outcomes run.new k history run.starts.mounted (keeps k refl) is room few).1 in cc (none, saw))
+  never_of None keeps saw = absurd saw
+  never_of (Some k) keeps saw = none_found k (keeps k refl) saw
 
-  pub full_of : (o : Option KeptTree) → HasKept o → SawNoRoom o → FindsNoRoom image events
-  full_of o keeps saw = record { run = run; full = inr (never_of o keeps saw) }
+  -- why there is no list, where the keeper knows of no step without room
+  refused_run : (o : Option KeptTree) → HasKept o → SawRoom o → (e : ExplainRefused) → KnowsWhy o e → IsRefusedFor (tree_in (blocks_of image)) (trace_in events run.outcomes) e → IsRefusedSo image events e
+  refused_run o keeps room refused.NoMemory tells is = tt
+  refused_run o keeps room (refused.Damaged d) tells is = absurd is
+  refused_run None keeps room refused.Climbs tells is = absurd tells
+  refused_run (Some k) keeps room refused.Climbs tells is = record { run = run; room = each_found k (keeps k refl) room; told = is.0; climbs = is.1 }
+  refused_run o keeps room refused.FullSeen tells (inl full) = record { run = run; full = inl full }
+  refused_run o keeps room refused.FullSeen tells (inr none) = record {
+    run = run;
+    full = inr (λ history is found.
+        let one = explained blocks_of never run.world events run.outcomes run.new image history run.starts.mounted is found (inl (none_climbs trace.calls none.0)) in
+        none.1 one.0 one.1);
+  }
+
+  -- .. or whether it does
+  pub refused_by_run : (o : Option KeptTree) → HasKept o → (e : ExplainRefused) → IsRefusedBy o (tree_in (blocks_of image)) (trace_in events run.outcomes) e → IsRefusedSo image events e
+  refused_by_run o keeps e (inl saw) =
+      subst (λ (why : ExplainRefused). IsRefusedSo image events why) (sym saw.1) (record { run = run; full = inr (never_of o keeps saw.0) })
+  refused_by_run o keeps e (inr so) = refused_run o keeps so.0 e so.1 so.2
+
+  pub owns : (o : Option KeptTree) → HasKept o → (found : Result (Vec Placed Global) ExplainRefused) → IsFoundFor o (tree_in (blocks_of image)) (trace_in events run.outcomes) found
+      → IfOk found (λ _. any_climbs (trace_in events run.outcomes).calls ≡ false)
+      → IfOk found (λ v. HandsOut o (tree_in (blocks_of image)) (trace_in events run.outcomes) v.items)
+      → MatchResult found (λ v. OwnsRun image events v.items) (λ e. IsRefusedSo image events e)
+  owns None keeps (Ok list) is flat hands = absurd hands
+  owns (Some k) keeps (Ok list) is flat hands = (owned k (keeps k refl) list.items is.1 flat hands is.0).0
+  owns o keeps (Err e) is flat hands = refused_by_run o keeps e is
 
 module _ (image : List ℕ) (events : List Event) (few : length events < 2 ^ 64) (p : Played) (played : IsPlayed image events p) where
-  pub own_played : (outcomes : List Came) → outcomes ≡ p.outcomes.items → (found : Result (Vec Placed Global) ExplainRefused) → IsFoundFor p.base (trace_in events outcomes) found
+  pub own_played : (outcomes : List Came) → outcomes ≡ p.outcomes.items → (found : Result (Vec Placed Global) ExplainRefused) → IsFoundFor p.keeper p.base (trace_in events outcomes) found
       → IfOk found (λ _. any_climbs (trace_in events outcomes).calls ≡ false) → IfOk found (λ v. HandsOut p.keeper p.base (trace_in events outcomes) v.items)
-      → SawRoom p.keeper → MatchResult found (λ v. OwnsRun image events v.items) (λ e. IsRefusedSo image events e)
-  own_played outcomes same found is flat hands room =
-      owns image events few played.run p.keeper played.keeps found (of_run image events p played outcomes same (λ base os. IsFoundFor base (trace_in events os) found) is)
+      → MatchResult found (λ v. OwnsRun image events v.items) (λ e. IsRefusedSo image events e)
+  own_played outcomes same found is flat hands =
+      owns image events few played.run p.keeper played.keeps found (of_run image events p played outcomes same (λ base os. IsFoundFor p.keeper base (trace_in events os) found) is)
       (of_run image events p played outcomes same (λ base os. IfOk found (λ _. any_climbs (trace_in events os).calls ≡ false)) flat)
-      (of_run image events p played outcomes same (λ base os. IfOk found (λ v. HandsOut p.keeper base (trace_in events os) v.items)) hands) room
-
-  pub full_played : SawNoRoom p.keeper → FindsNoRoom image events
-  full_played saw = full_of image events few played.run p.keeper played.keeps saw
+      (of_run image events p played outcomes same (λ base os. IfOk found (λ v. HandsOut p.keeper base (trace_in events os) v.items)) hands)

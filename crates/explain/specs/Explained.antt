@@ -1,9 +1,10 @@
 -- What a run of events on an image is explained by, and why it isn't.
-use Rattle.std.specs.Prelude.{◌≡◌, ◌⊎◌, ◌≤◌, ℕ, true, false, List, length, MatchResult, Result, Vec}
+use Rattle.std.specs.Prelude.{◌≡◌, ◌⊎◌, ◌≤◌, ℕ, true, false, List, length, MatchResult, Option, Result, Vec}
 use Rattle.run_laws.specs.OneList.{AgreesWithTheList, list_of}
 use Rattle.kept_histories.specs.Keeps.{KeepsRun}
-use Rattle.explain.specs.Vocabulary.{Global, KeptTree, nothing_kept, blocks_of, Call, Placed, Trace, Explains, TreeData, MountFault, IsFirstDamage, IsWellFormed, tree_in, EventOf, Outside, Came, Event, HartsOf, FoundRoom, HasHistory, IsHistory, IsMounted, trace_in, WorldOf, any_climbs, any_full}
+use Rattle.explain.specs.Vocabulary.{Global, KeptTree, nothing_kept, ended, some_lacks_place, blocks_of, Call, Placed, Trace, Explains, TreeData, MountFault, IsFirstDamage, IsWellFormed, tree_in, EventOf, Outside, Came, Event, HartsOf, FoundRoom, HasHistory, IsHistory, IsMounted, trace_in, WorldOf, any_climbs, any_full}
 use Rattle.image_tree.specs.declared.fault.MountFault.TheVariants as faults
+use Rattle.explain.specs.Keeps.{SawNoRoom, SawRoom, KnowsWhy}
 use Rattle.explain.specs.declared.refused.ExplainRefused.{ExplainRefused}
 use Rattle.explain.specs.declared.refused.ExplainRefused.TheVariants as refused
 
@@ -25,40 +26,48 @@ pub record RunOn (image : List ℕ) (events : List Event) : Type 0 where
   pub starts : StartsOn image world
   pub history : HasHistory blocks_of never world.sizes world.harts events outcomes new
 
--- The list explains what such a run shows of calls, from the image's tree, and is the run's own: that of each of its histories, where
--- every step found room. Wherever such a run is stopped, the list so far is a beginning of it, and the disk's tree is what has names in the
--- tree after a beginning of it. A keeper that was told of each event of the run saw no step without room; where what it kept explains the
--- same, it is that list, whether every step found room or not.
+-- What a keeper has that was told of each event of the run, from the image's tree on, and of its end.
+pub record KeepsToTheEnd (image : List ℕ) (events : List Event) (r : RunOn image events) (k : KeptTree) : Type 0 where
+  pub kept : KeptTree
+  pub keeps : KeepsRun blocks_of never r.world.sizes r.world.harts (nothing_kept (tree_in (blocks_of image))) events r.outcomes r.new kept
+  pub is : k ≡ ended (some_lacks_place r.new) kept
+
+module _ (image : List ℕ) (events : List Event) (r : RunOn image events) where
+  abbrev pub IsOneOf : List (EventOf Call Outside) → Type 0
+  IsOneOf history = IsHistory blocks_of never r.world.sizes r.world.harts events r.outcomes r.new history
+
+  abbrev pub RoomIn : List (EventOf Call Outside) → Type 0
+  RoomIn history = FoundRoom blocks_of never r.world history
+
+  -- in each history of the run each step found room
+  abbrev pub EachFoundRoom : Type 0
+  EachFoundRoom = (history : List (EventOf Call Outside)) → IsOneOf history → RoomIn history
+
+  -- .. or in each of them some step found none
+  abbrev pub NeverFoundRoom : Type 0
+  NeverFoundRoom = (history : List (EventOf Call Outside)) → IsOneOf history → RoomIn history → ⊥
+
+-- Each step of such a run found room, and the list explains what the run shows of calls, from the image's tree. It is the run's own: that of
+-- each of its histories. Wherever the run is stopped, the list so far is a beginning of it, and the disk's tree is what has names in the tree
+-- after a beginning of it.
 pub record OwnsRun (image : List ℕ) (events : List Event) (list : List Placed) : Type 0 where
   pub run : RunOn image events
+  pub room : EachFoundRoom image events run
   pub explains : Explains (tree_in (blocks_of image)) (trace_in events run.outcomes) list
-  pub own : (history : List (EventOf Call Outside))
-      → IsHistory blocks_of never run.world.sizes run.world.harts events run.outcomes run.new history
-      → FoundRoom blocks_of never run.world history → list ≡ list_of blocks_of never run.world history
-  pub stops : (history : List (EventOf Call Outside))
-      → IsHistory blocks_of never run.world.sizes run.world.harts events run.outcomes run.new history
-      → FoundRoom blocks_of never run.world history → (k : ℕ) → k ≤ length events
+  pub own : (history : List (EventOf Call Outside)) → IsOneOf image events run history
+      → list ≡ list_of blocks_of never run.world history
+  pub stops : (history : List (EventOf Call Outside)) → IsOneOf image events run history → (k : ℕ) → k ≤ length events
       → AgreesWithTheList blocks_of never (tree_in (blocks_of image)) run.world events run.outcomes history k
-  pub kept : KeptTree
-  pub keeps : KeepsRun blocks_of never run.world.sizes run.world.harts (nothing_kept (tree_in (blocks_of image))) events run.outcomes
-      run.new kept
-  pub room : kept.full ≡ false
-  pub handed : Explains (tree_in (blocks_of image)) (trace_in events run.outcomes) kept.list → list ≡ kept.list
-
--- in each history of the run some step found no room
-abbrev pub NeverFoundRoom : (image : List ℕ) (events : List Event) → RunOn image events → Type 0
-NeverFoundRoom image events r =
-    (history : List (EventOf Call Outside)) → IsHistory blocks_of never r.world.sizes r.world.harts events r.outcomes r.new history
-    → FoundRoom blocks_of never r.world history → ⊥
 
 -- A step of such a run found no room: a reply says so, or it is one of a call that hasn't replied.
 pub record FindsNoRoom (image : List ℕ) (events : List Event) : Type 0 where
   pub run : RunOn image events
   pub full : (any_full (trace_in events run.outcomes).calls ≡ true) ⊎ NeverFoundRoom image events run
 
--- The path of a call that such a run started has the element "..", and no reply says that there is no room.
+-- Each step of such a run found room, and no reply says otherwise; and the path of a call that it started has the element "..".
 pub record HasClimbed (image : List ℕ) (events : List Event) : Type 0 where
   pub run : RunOn image events
+  pub room : EachFoundRoom image events run
   pub told : any_full (trace_in events run.outcomes).calls ≡ false
   pub climbs : any_climbs (trace_in events run.outcomes).calls ≡ true
 
@@ -85,9 +94,13 @@ IsRefusedFor base t refused.FullSeen =
     (any_full t.calls ≡ true) ⊎ ((any_climbs t.calls ≡ false) × ((list : List Placed) → Explains base t list → ⊥))
 IsRefusedFor base t refused.Climbs = (any_full t.calls ≡ false) × (any_climbs t.calls ≡ true)
 
+-- Why a keeper's list isn't handed out: it knows of a step without room; or it knows of none, and no list explains the trace.
+abbrev pub IsRefusedBy : Option KeptTree → TreeData → Trace → ExplainRefused → Type 0
+IsRefusedBy o base t why = (SawNoRoom o × (why ≡ refused.FullSeen)) ⊎ (SawRoom o × KnowsWhy o why × IsRefusedFor base t why)
+
 -- a list that explains the trace from the tree, or why there is none
-abbrev pub IsFoundFor : TreeData → Trace → Result (Vec Placed Global) ExplainRefused → Type 0
-IsFoundFor base t found = MatchResult found (λ v. Explains base t v.items) (λ e. IsRefusedFor base t e)
+abbrev pub IsFoundFor : Option KeptTree → TreeData → Trace → Result (Vec Placed Global) ExplainRefused → Type 0
+IsFoundFor o base t found = MatchResult found (λ v. SawRoom o × Explains base t v.items) (λ why. IsRefusedBy o base t why)
 
 -- how the refusal of a mount in memory is told
 abbrev pub refused_by : MountFault → ExplainRefused

@@ -2,6 +2,8 @@
 use Rattle.std.specs.Prelude.{◌≡◌, List, Option, Some, None, Bool, true, false}
 use Rattle.kept_histories.specs.Keeps.{KeepsEvent}
 use Rattle.explain.specs.Vocabulary.{Explains, Placed, Trace, TreeData, Heard, Came, Event, KeptTree}
+use Rattle.explain.specs.declared.refused.ExplainRefused.{ExplainRefused}
+use Rattle.explain.specs.declared.refused.ExplainRefused.TheVariants as refused
 
 -- what a keeper has, unless memory was refused to it
 abbrev pub kept_unless : Bool → KeptTree → Option KeptTree
@@ -22,6 +24,14 @@ SawNoRoom (Some k) = k.full ≡ true
 abbrev pub SawRoom : Option KeptTree → Type 0
 SawRoom None = Unit {0}
 SawRoom (Some k) = k.full ≡ false
+
+-- of a keeper to which memory was refused nothing else is told
+abbrev pub KnowsWhy : Option KeptTree → ExplainRefused → Type 0
+KnowsWhy None refused.NoMemory = Unit {0}
+KnowsWhy None (refused.Damaged d) = ⊥
+KnowsWhy None refused.FullSeen = ⊥
+KnowsWhy None refused.Climbs = ⊥
+KnowsWhy (Some k) why = Unit {0}
 
 -- where what was kept explains the trace, just that is handed out
 abbrev pub HandsOut : Option KeptTree → TreeData → Trace → List Placed → Type 0

@@ -1,18 +1,16 @@
 -- What the parts of an explanation answer.
 use Rattle.std.specs.Prelude.{◌≡◌, List, ℕ, IfOk, MatchOption, Option, Some, Result, Vec}
-use Rattle.explain.specs.Vocabulary.{Global, blocks_of, NoMemory, Placed, Trace, Explains, TreeData, tree_in, Event, KeptTree, nothing_kept}
+use Rattle.explain.specs.Vocabulary.{Global, blocks_of, NoMemory, Placed, Trace, Explains, TreeData, tree_in, Event, KeptTree}
 use Rattle.explain.specs.declared.play.Played.{Played}
-use Rattle.explain.specs.Explained.{RunOn, never}
-use Rattle.kept_histories.specs.Keeps.{KeepsRun}
+use Rattle.explain.specs.Explained.{KeepsToTheEnd, RunOn}
 
 -- A run of the events on the image came to these outcomes, and the base is the image's tree.
 pub record IsPlayed (image : List ℕ) (events : List Event) (p : Played) : Type 0 where
   pub run : RunOn image events
   pub outcomes : p.outcomes.items ≡ run.outcomes
   pub base : p.base ≡ tree_in (blocks_of image)
-  -- the keeper was told of each event, from that tree on
-  pub keeps : (k : KeptTree) → p.keeper ≡ Some k
-      → KeepsRun blocks_of never run.world.sizes run.world.harts (nothing_kept (tree_in (blocks_of image))) events run.outcomes run.new k
+  -- the keeper was told of each event, from that tree on, and of the end
+  pub keeps : (k : KeptTree) → p.keeper ≡ Some k → KeepsToTheEnd image events run k
 
 -- a list that explains the trace, or none only where there is none
 abbrev pub IsFound : TreeData → Trace → Result (Option (Vec Placed Global)) NoMemory → Type 0

@@ -15,8 +15,8 @@ pub use Rattle.image_tree.specs.declared.fault.MountFault.{MountFault}
 pub use Rattle.plain_tree.specs.declared.call.Call.{Call}
 pub use Rattle.plain_tree.specs.declared.trace.Placed.{Placed}
 pub use Rattle.plain_tree.specs.declared.trace.Trace.{Trace}
-pub use Rattle.hart_core.specs.Telling.{NotesEvent, heard_in}
+pub use Rattle.hart_core.specs.Telling.{NotesEvent, heard_in, some_lacks_place}
 pub use Rattle.fs_layout.specs.declared.superblock.Super.{Super}
 pub use Rattle.path_walk.specs.declared.asks.Heard.{Heard}
-pub use Rattle.tree_histories.specs.Keeping.{KeptTree, nothing_kept}
+pub use Rattle.tree_histories.specs.Keeping.{KeptTree, ended, nothing_kept}
 pub use Rattle.hart_core.specs.Starts.{fault_of}

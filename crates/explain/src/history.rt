@@ -36,14 +36,13 @@ fn kept_or_found(
 /// showed of calls: event number, call, step and answer each. Without events the list is empty.
 ///
 /// It is refused by the image's first damage; by 71 where a step found no room, also in a call that hasn't replied, and also where a path
-/// climbs as well; by 72 where the path of a call that was started has the element ".."; by 33 where memory was refused.
+/// climbs as well; by 72 where each step found room and the path of a call that was started has the element ".."; by 33 where memory was
+/// refused.
 ///
 /// The events run beside a tree, on which each operation makes its move as it acts: the list is the one that comes about so, each step
 /// with its answer at the event at which it acted, and the failing steps of walks at the event of the unlink that removed their directory.
 /// It is the run's own, of which the disk holds a beginning wherever the run is stopped. That takes as long as the run and the steps on
-/// the tree, twice. Where an inode is being claimed for which there is no place in memory, and its call hasn't been told so yet as the
-/// events end, that want of room isn't seen: the kept list is handed out if it explains the run, and else one is sought, which may take
-/// long. That want of room is seen in all other cases is only tested.
+/// the tree, twice.
 pub fn explain(alloc: Global, image: &[u8], events: &[Event]) -> Result<Vec<Placed>, ExplainRefused>
     ensures { MatchResult result (λ v. OwnsRun image.now events.now v.items) (λ e. IsRefusedSo image.now events.now e) }
 {
@@ -52,17 +51,14 @@ pub fn explain(alloc: Global, image: &[u8], events: &[Event]) -> Result<Vec<Plac
         outcomes,
         keeper,
     } = play(alloc, image, events)?;
-    if keeper.is_full() {
-        return Err(ExplainRefused::FullSeen);
-    }
     explain_noted(alloc, &base, events, &outcomes, keeper)
 }
 
 /// The same of events that were noted as they were made of a mounted world, with what each came to; the world isn't run again. `base`
-/// is the tree of the image that was mounted, and the keeper was told of each event.
+/// is the tree of the image that was mounted, and the keeper was told of each event, and of the end.
 ///
 /// Whatever is passed, a list that is handed out explains these events and outcomes from this tree: it is the keeper's, where that does.
-/// With another keeper it may take long. The keeper isn't asked here whether it saw a step without room (`Keeper::is_full`).
+/// With another keeper it may take long. 71 also where the keeper knows of a step without room.
 pub fn explain_noted(
     alloc: Global,
     base: &Tree,
@@ -70,10 +66,13 @@ pub fn explain_noted(
     outcomes: &[Came],
     keeper: Keeper,
 ) -> Result<Vec<Placed>, ExplainRefused>
-    ensures found { IsFoundFor base.now (trace_in events.now outcomes.now) result }
+    ensures found { IsFoundFor keeper base.now (trace_in events.now outcomes.now) result }
     ensures kept { IfOk result (λ v. HandsOut keeper base.now (trace_in events.now outcomes.now) v.items) }
     ensures flat { IfOk result (λ _. any_climbs (trace_in events.now outcomes.now).calls ≡ false) }
 {
+    if keeper.is_full() {
+        return Err(ExplainRefused::FullSeen);
+    }
     let Ok(kept) = keeper.into_list() else {
         return Err(ExplainRefused::NoMemory);
     };

@@ -1,9 +1,10 @@
 // The tree kept beside a run.
+ghost use Rattle.std.specs.Option.{option_map};
 ghost use Rattle.std.specs.Prelude.{◌≡◌, false, IfOk, IsTrue, None, Some};
 ghost use Rattle.explain.specs.Keeps.{HasNoted, IsListOf, SawNoRoom, SawRoom};
 ghost use Rattle.kept_histories.specs.Keeps.{KeepsEvent, KeepsOutcome, Starts};
 ghost use Rattle.explain.specs.Telling.{TellsKeeper};
-ghost use Rattle.explain.specs.Vocabulary.{fault_of, nothing_kept};
+ghost use Rattle.explain.specs.Vocabulary.{ended, fault_of, nothing_kept};
 
 use hart_core::{Came, Event, Observer, Outcome, find_fault};
 use path_walk::Heard;
@@ -56,8 +57,17 @@ impl Keeper {
         }
     }
 
-    /// Whether it saw a step that found no room: an operation was answered so, also in a call that hasn't replied, or a step of the tree.
-    pub fn is_full(&self) -> bool
+    /// The run has ended. `lacks_place` is what its world says then (`World::lacks_place`).
+    pub fn ends(&mut self, lacks_place: bool)
+        ensures { self.new ≡ option_map (ended lacks_place) self.old }
+    {
+        if !self.is_short {
+            self.kept.ends(lacks_place);
+        }
+    }
+
+    /// Whether some step found no room, also of a call that hasn't replied: the keeper is told of each event and of the run's end.
+    pub(crate) fn is_full(&self) -> bool
         ensures full { IsTrue result → SawNoRoom self.now }
         ensures room { result ≡ false → SawRoom self.now }
     {

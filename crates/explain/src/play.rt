@@ -89,11 +89,13 @@ pub(crate) fn play(alloc: Global, image: &[u8], events: &[Event]) -> Result<Play
                 cut: _,
                 doubt: _,
             } = run;
+            let mut keeper = telling.keeper;
+            keeper.ends(world.lacks_place());
             let _disk = world.unmount();
             Ok(Played {
                 base,
                 outcomes,
-                keeper: telling.keeper,
+                keeper,
             })
         }
         Err((world, _)) => {

@@ -28,7 +28,7 @@ module _ {D : Type 0} (contents : D → List (List ℕ)) (failures : D → ℕ) 
     pub agrees : Agrees contents failures sizes s b w k (under n)
     pub counted : IsCounted n b
 
-  few_calls : (n : ℕ) (s : State (block_calls sizes)) (b : History) (w : HartsOf D) (k : KeptTree) → AgreesAt n s b w k → n < 2 ^ 64 - 1 → k.calls < 2 ^ 64 - 1
+  pub few_calls : (n : ℕ) (s : State (block_calls sizes)) (b : History) (w : HartsOf D) (k : KeptTree) → AgreesAt n s b w k → n < 2 ^ 64 - 1 → k.calls < 2 ^ 64 - 1
   few_calls n s b w k at few = let is = at.agrees.book.calls in let least = at.counted.calls in omega (arith, few, is, least)
 
   -- So what is kept agrees with the theory after the run.

@@ -36,7 +36,7 @@ use Rattle.kept_histories.proofs.Prefixes.{clean_at, idle_at, moves_at, so_far}
 use Rattle.kept_histories.proofs.ShownFirst.{sees_rightly}
 use Rattle.kept_histories.proofs.Together.{HartAt}
 
-longer : {A : Type 0} (es : List A) (e : A) → length (es ++ e ∷ []) ≡ suc (length es)
+pub longer : {A : Type 0} (es : List A) (e : A) → length (es ++ e ∷ []) ≡ suc (length es)
 longer [] e = refl
 longer (x ∷ es) e = ap suc (longer es e)
 
@@ -61,7 +61,7 @@ module _ (disk : List (List ℕ)) (count : ℕ) (events : List (Event Call Outsi
   free (Some r) None fits e = absurd fits
   free (Some r) (Some u) fits e = absurd cc
 
-  known : (es : List (Event Call Outside)) (f : Event Call Outside) (fs : List (Event Call Outside)) → es ++ f ∷ fs ≡ events → AllFound (goes.under (length es))
+  pub known : (es : List (Event Call Outside)) (f : Event Call Outside) (fs : List (Event Call Outside)) → es ++ f ∷ fs ≡ events → AllFound (goes.under (length es))
       → Known sizes f (at es) (goes.under (length es)) (goes.under (suc (length es)))
   known es f fs is found =
       let more : List (Event Call Outside) = es ++ f ∷ [] in
@@ -98,7 +98,7 @@ module _ (disk : List (List ℕ)) (count : ℕ) (events : List (Event Call Outsi
 
 -- ---- the beginning
 
-none_in : {A : Type 0} (n h : ℕ) → ◌≡◌ {A = Option A} (get_or (replicate n None) h None) None
+pub none_in : {A : Type 0} (n h : ℕ) → ◌≡◌ {A = Option A} (get_or (replicate n None) h None) None
 none_in zero h = refl
 none_in (suc n) zero = refl
 none_in (suc n) (suc h) = none_in n h

@@ -32,3 +32,12 @@ pub mod Hands
 pub mod InHand
 pub mod PathHands
 pub mod ShownFirst
+pub mod Claiming
+pub mod Lacking
+pub mod Lasting
+pub mod Roominess
+pub mod MarksOfRoom
+pub mod FirstShort
+pub mod EventShort
+pub mod HartsAtEnd
+pub mod ShortRuns

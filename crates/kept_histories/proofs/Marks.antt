@@ -67,7 +67,7 @@ makes_none_is s mark.Mends none = refl
 makes_none_is s mark.Fills none = refl
 
 -- it says that there was no room just where the theory's mark does
-spoils_so : (s : Action) (m : Mark) → spoils (Some (mark_in s m)) ≡ kept_spoils m
+pub spoils_so : (s : Action) (m : Mark) → spoils (Some (mark_in s m)) ≡ kept_spoils m
 spoils_so s mark.Begin = refl
 spoils_so s (mark.Look new) = refl
 spoils_so s mark.GiveUpWalk = refl
@@ -81,6 +81,17 @@ spoils_so s (mark.Frees n) = refl
 spoils_so s (mark.Orphans n) = refl
 spoils_so s mark.Mends = refl
 spoils_so s mark.Fills = refl
+
+-- such a mark makes no move
+pub spoils_none : (m : Mark) → kept_spoils m ≡ true → makes_none m ≡ true
+spoils_none (mark.PartOfPiece i n) e = refl
+spoils_none mark.Mends e = refl
+spoils_none mark.Fills e = refl
+spoils_none m e = absurd cc
+
+pub or_true : (b : Bool) → (b || true) ≡ true
+or_true true = refl
+or_true false = refl
 
 pub or_false : (b : Bool) → (b || false) ≡ b
 or_false true = refl

@@ -67,7 +67,7 @@ reads_marks text other x ns (whole.Close fd c) t = absurd t
 reads_marks text other x ns (whole.Inherit child c) t = absurd t
 
 module _ (p : programs.P Reply) (v : Under) (kept : KeptAs p v) where
-  same_marks : (x : Heard) → mark_with [] p x ≡ mark_at (whole_of v.listed v.whole) x
+  pub same_marks : (x : Heard) → mark_with [] p x ≡ mark_at (whole_of v.listed v.whole) x
   same_marks x = elim kept [
     | inl e ↦ ap (λ (z : programs.P Reply). mark_with [] z x) e ∙ by (whole_of v.listed v.whole)
     | inr s ↦ ap (λ (z : programs.P Reply). mark_with [] z x) s.2 ∙ sym (ap (λ (z : programs.P Reply). mark_at z x) s.3)
@@ -77,7 +77,7 @@ module _ (p : programs.P Reply) (v : Under) (kept : KeptAs p v) where
       by (Ret r) = refl
       by (Do op m k) = refl
 
-  text_marks : (text other : List ℕ) (x : Heard) → mark_with text p x ≡ mark_with other p x
+  pub text_marks : (text other : List ℕ) (x : Heard) → mark_with text p x ≡ mark_with other p x
   text_marks text other x = elim kept [
     | inl e ↦ ap (λ (z : programs.P Reply). mark_with text z x) e ∙ by e (reads_or_fine v.listed v.whole) ∙ sym (ap (λ (z : programs.P Reply). mark_with other z x) e)
     | inr s ↦ ap (λ (z : programs.P Reply). mark_with text z x) s.2 ∙ sym (ap (λ (z : programs.P Reply). mark_with other z x) s.2)

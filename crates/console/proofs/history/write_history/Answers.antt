@@ -1,19 +1,14 @@
-use Rattle.console.proofs.Lemmas.{◌<◌, ◌^◌, length, arith, sym, history_kept, run_in, found, full_told, list_told, unfound, why_told}
+use Rattle.console.proofs.Lemmas.{◌<◌, ◌^◌, length, arith, sym, history_kept, run_in, found, list_told, unfound, why_told}
 use Rattle.console.proofs.history.write_history.Goals as goal
 
 pub returns-in-Err : goal.returns-in-Err
 returns-in-Err g c =
     let few : length c.kept_events-events.result.now < 2 ^ 64 = omega arith in
-    why_told (history_kept c.args.base.now c.args.keeper) (run_in c.args.notes.now.kept) c.in-Err.why c.tell_why-in-Err.result _ _
-    (unfound c.args.base.now c.args.keeper (run_in c.args.notes.now.kept) c.kept_events-events.result.now c.kept_outcomes-outcomes.result.now few c.kept_events-events.ensures c.kept_outcomes-outcomes.ensures c.in-Err.why c.in-Err.ensures.found) c.tell_why-in-Err.ensures
+    why_told (history_kept c.args.base.now c.args.keeper) (run_in c.args.notes.now.kept) c.in-Err.why c.tell_why.result _ _
+    (unfound c.args.base.now c.args.keeper (run_in c.args.notes.now.kept) c.kept_events-events.result.now c.kept_outcomes-outcomes.result.now few c.kept_events-events.ensures c.kept_outcomes-outcomes.ensures c.in-Err.why c.in-Err.ensures.found) c.tell_why.ensures
 
 pub returns-in-Ok : goal.returns-in-Ok
 returns-in-Ok g c =
     let few : length c.kept_events-events.result.now < 2 ^ 64 = omega arith in
     list_told (history_kept c.args.base.now c.args.keeper) (run_in c.args.notes.now.kept) c.as_slice.result.now c.tell_list.result _ _
-    (found c.args.base.now c.args.keeper (run_in c.args.notes.now.kept) c.kept_events-events.result.now c.kept_outcomes-outcomes.result.now few c.kept_events-events.ensures c.kept_outcomes-outcomes.ensures c.in-Ok.list.items c.as_slice.result.now (sym c.as_slice.ensures.value) c.in-Ok.ensures.found c.in-Ok.ensures.flat c.in-Ok.ensures.kept (c.is_full.ensures.room c.if-is_full.false)) c.tell_list.ensures.written c.tell_list.ensures.prints
-
-pub returns-then-is_full : goal.returns-then-is_full
-returns-then-is_full g c =
-    let few : length c.kept_events-events.result.now < 2 ^ 64 = omega arith in
-    full_told c.args.base.now c.args.keeper (run_in c.args.notes.now.kept) c.kept_events-events.result.now c.kept_outcomes-outcomes.result.now few c.kept_events-events.ensures c.kept_outcomes-outcomes.ensures c.tell_why.result _ _ (c.is_full.ensures.full c.if-is_full.true) c.tell_why.ensures
+    (found c.args.base.now c.args.keeper (run_in c.args.notes.now.kept) c.kept_events-events.result.now c.kept_outcomes-outcomes.result.now few c.kept_events-events.ensures c.kept_outcomes-outcomes.ensures c.in-Ok.list.items c.as_slice.result.now (sym c.as_slice.ensures.value) c.in-Ok.ensures.found.1 c.in-Ok.ensures.flat c.in-Ok.ensures.kept c.in-Ok.ensures.found.0) c.tell_list.ensures.written c.tell_list.ensures.prints

@@ -1,4 +1,4 @@
-use Rattle.explain.proofs.Lemmas.{◌<◌, ◌^◌, length, arith, full_played, own_played}
+use Rattle.explain.proofs.Lemmas.{◌<◌, ◌^◌, length, arith, own_played}
 use Rattle.explain.proofs.history.explain.Goals as goal
 
 pub returns : goal.returns
@@ -6,9 +6,3 @@ returns c =
     let noted = c.explain_noted in
     let few : length c.args.events.now < 2 ^ 64 = omega arith in
     own_played c.args.image.now c.args.events.now few c.in_ok-base.field-0 c.in_ok-base.ensures c.deref.result.now c.deref.ensures.value noted.result noted.ensures.found noted.ensures.flat noted.ensures.kept
-    (c.is_full.ensures.room c.if-is_full.false)
-
-pub returns-then-is_full : goal.returns-then-is_full
-returns-then-is_full c =
-    let few : length c.args.events.now < 2 ^ 64 = omega arith in
-    full_played c.args.image.now c.args.events.now few c.in_ok-base.field-0 c.in_ok-base.ensures (c.is_full.ensures.full c.if-is_full.true)

@@ -1,4 +1,4 @@
-use Rattle.explain.proofs.Lemmas.{◌<◌, ◌^◌, length, arith, refl, blocks_of, never, keeps_from}
+use Rattle.explain.proofs.Lemmas.{◌<◌, ◌^◌, ◌∙◌, Bool, KeptTree, Option, length, arith, ap, refl, sym, blocks_of, ended, never, keeps_from, option_map, some_lacks_place, was_told}
 use Rattle.explain.proofs.play.play.Goals as goal
 
 pub returns-in-Ok-run_noted : goal.returns-in-Ok-run_noted
@@ -16,5 +16,12 @@ returns-in-Ok-run_noted c =
       };
       outcomes = refl;
       base = c.in_ok-base.ensures;
-      keeps = λ k is. keeps_from blocks_of never world.sizes world.harts _ c.args.events.now run.outcomes.items run.world.harts _ k refl refl few c.in-Ok-run_noted.ensures.notes is _ _ c.in_ok-base.ensures c.in-Ok.ensures;
+      keeps = λ k is.
+          let before : Option KeptTree = c.run_noted.new.observer.keeper in
+          let told = was_told before k (some_lacks_place run.world.harts) (sym (c.ends.ensures ∙ ap (λ (b : Bool). option_map (ended b) before) c.lacks_place.ensures) ∙ is) in
+          record {
+            kept = told.kept;
+            keeps = keeps_from blocks_of never world.sizes world.harts _ c.args.events.now run.outcomes.items run.world.harts _ told.kept refl refl few c.in-Ok-run_noted.ensures.notes told.was _ _ c.in_ok-base.ensures c.in-Ok.ensures;
+            is = told.is;
+          };
     }
