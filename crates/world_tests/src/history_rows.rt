@@ -75,6 +75,10 @@ const FULL_UNDER_WAY: &str =
 const FULL_UNDER_WAY_AND_CLIMBS: &str =
     "do 0 open /.. 0\ndo 0 open / 0\ndo 0 open / 0\ndo 0 open / 0\ndo 0 open / 0\ndo 0 open / 0\ndo 0 open / 0\ndo 0 open / 0\ndo 0 open / 0\ndo 0 open / 0\ndo 0 open / 0\ndo 0 open / 0\ndo 0 open / 0\ndo 0 open / 0\ndo 0 open / 0\ndo 0 open / 0\n0 open / 0\nupto 0 up 1";
 
+/// A file is claimed for which there is no place in memory, and its call isn't told so yet.
+const PLACE_UNDER_WAY: &str =
+    "do 0 open /f0 0x200\ndo 0 open /f1 0x200\ndo 0 open /f2 0x200\ndo 0 open /f3 0x200\ndo 0 open /f4 0x200\ndo 0 open /f5 0x200\ndo 0 open /f6 0x200\ndo 0 open /f7 0x200\ndo 0 open /f8 0x200\ndo 0 open /f9 0x200\ndo 0 open /f10 0x200\ndo 0 open /f11 0x200\ndo 0 open /f12 0x200\ndo 0 open /f13 0x200\ndo 0 open /f14 0x200\ndo 0 open /f15 0x200\ndo 1 open /f16 0x200\ndo 1 open /f17 0x200\ndo 1 open /f18 0x200\ndo 1 open /f19 0x200\ndo 1 open /f20 0x200\ndo 1 open /f21 0x200\ndo 1 open /f22 0x200\ndo 1 open /f23 0x200\ndo 1 open /f24 0x200\ndo 1 open /f25 0x200\ndo 1 open /f26 0x200\ndo 1 open /f27 0x200\ndo 1 open /f28 0x200\ndo 1 open /f29 0x200\ndo 1 open /f30 0x200\ndo 1 open /f31 0x200\ndo 2 open /f32 0x200\ndo 2 open /f33 0x200\ndo 2 open /f34 0x200\ndo 2 open /f35 0x200\ndo 2 open /f36 0x200\ndo 2 open /f37 0x200\ndo 2 open /f38 0x200\ndo 2 open /f39 0x200\ndo 2 open /f40 0x200\ndo 2 open /f41 0x200\ndo 2 open /f42 0x200\ndo 2 open /f43 0x200\ndo 2 open /f44 0x200\ndo 2 open /f45 0x200\ndo 2 open /f46 0x200\ndo 2 open /f47 0x200\ndo 3 open /f48 0x200\n4 open /new 0x200\nupto 4 up 2";
+
 /// A run, the lines of its list after their event numbers, and of moves of an entry from a place to another whether the list explains
 /// the run then.
 struct Row {
@@ -271,6 +275,7 @@ fn runs_are_refused(rt: HostRuntime) -> Result<(), Fail> {
         (FULL_AND_CLIMBS, ExplainRefused::FullSeen),
         (FULL_UNDER_WAY, ExplainRefused::FullSeen),
         (FULL_UNDER_WAY_AND_CLIMBS, ExplainRefused::FullSeen),
+        (PLACE_UNDER_WAY, ExplainRefused::FullSeen),
     ];
     for (text, wanted) in rows {
         match explained(alloc, &played(alloc, text)?)? {
