@@ -1,4 +1,5 @@
-//! What a keeper kept of a run is the run's own list of tree steps, where each step found room; and it knows whether each did. The function does nothing: it carries the law.
+//! What a keeper kept of a run is the run's own list of tree steps, where each step found room; and it knows whether each did. The
+//! function does nothing: it carries the law.
 #![tactic(auto)]
 
 ghost use Rattle.kept_histories.specs.Laws.{KeptListsAreTheRuns};
