@@ -186,7 +186,7 @@ impl Calls {
     }
 
     /// Whether one of them claims an inode for which no place in memory was left, and is to be told so in its next step.
-    pub fn lack_place(&self) -> bool
+    pub fn lacks_place(&self) -> bool
         ensures { result ≡ list_any lacks_place_at self.now }
     {
         self.places.iter().any(|place| place.lacks_place())

@@ -181,10 +181,10 @@ impl<D: Device> Harts<D> {
     }
 
     /// Whether a call claims an inode for which no place in memory was left, and is to be told so in its next step.
-    pub fn lack_place(&self) -> bool
+    pub fn lacks_place(&self) -> bool
         ensures { result ≡ some_lacks_place self.now }
     {
-        self.calls.lack_place()
+        self.calls.lacks_place()
     }
 
     /// Where the log's commit is.

@@ -177,11 +177,12 @@ impl<D: Device> World<D> {
     }
 
     /// Whether a call under way claims an inode for which none of the fifty places in memory was left, and is to be told so in its next
-    /// step. That is the one want of room that a call isn't told of in the very step that finds it.
+    /// step. A reader who keeps the tree beside the world sees each other want of room in the very step that finds it; this one it has to
+    /// ask for, at the end of a run.
     pub fn lacks_place(&self) -> bool
         ensures { result ≡ some_lacks_place self.now.harts }
     {
-        self.harts.lack_place()
+        self.harts.lacks_place()
     }
 
     /// Where the log's commit is: none is under way, or so many of its blocks were copied.

@@ -56,6 +56,7 @@ use Rattle.run_laws.specs.UnderWay.{EventDoes, Fits, GoesOnAsItActs, InOne, Lead
 use Rattle.run_laws.specs.Vocabulary.{Outside, or_else}
 use Rattle.kept_histories.proofs.HandRuns.{sound_here}
 use Rattle.kept_histories.proofs.Heads.{MakesNone}
+use Rattle.kept_histories.proofs.Basics.{longer, none_some, not_both}
 
 -- ---- what is left
 
@@ -245,9 +246,6 @@ unspoilt h (Some Fills) w none e = absurd (let q : true ≡ false = e in cc)
 unspoilt h (Some Mends) w none e = absurd (let q : true ≡ false = e in cc)
 unspoilt h (Some (Spoils s)) w none e = absurd (let q : true ≡ false = e in cc)
 
-not_both : {X : Type 0} (b : Bool) → b ≡ true → b ≡ false → X
-not_both b t f = absurd (let q : true ≡ false = sym t ∙ f in cc)
-
 module _ (sizes : Super) (h : ℕ) (x : Outside) (w u : W) (op : steps.Op) (mark : steps.Answer op → Option Acts) (b : steps.Answer op) (ran : (block_calls sizes).M.go h x op mark w ≡ Ran b u) where
   sees : (k : Option Acts) → mark b ≡ k → u.seen ≡ seen_after machine h k w.seen
   sees k is = seen_is h mark w.seen (exec h x op w.real) b u ran ∙ ap (λ (z : Option Acts). seen_after machine h z w.seen) is
@@ -323,9 +321,6 @@ changed_each Is was now h o is new all j u e = by (same_or j h)
     by : (j ≡ h) ⊎ (j ≢ h) → Is u
     by (inl same) = new u (sym (changed_same was h o j same) ∙ sym at ∙ e)
     by (inr ne) = all j u (sym (changed_other was h o j ne) ∙ sym at ∙ e)
-
-none_some : {X A : Type 0} (a : A) → ◌≡◌ {A = Option A} None (Some a) → X
-none_some a e = absurd cc
 
 none_each : (Is : UnderWay → Type 0) (under : ℕ → Option UnderWay) → ((h : ℕ) → under h ≡ None) → OfEach Is under
 none_each Is under none h u e = none_some u (sym (none h) ∙ e)
@@ -448,10 +443,6 @@ module _ (sizes : Super) (s : State (block_calls sizes)) (made : Made (block_cal
   event_gives_none (Step h x) does all = stepped_gives h x made.came does all
 
 -- ---- along a run
-
-longer : {A : Type 0} (es : List A) (e : A) → length (es ++ e ∷ []) ≡ suc (length es)
-longer [] e = refl
-longer (x ∷ es) e = ap suc (longer es e)
 
 module _ (sizes : Super) (start : (block_calls sizes).M.World) (events : List (Event Call Outside)) (goes : GoesOnAsItActs sizes start events) where
   abbrev SpoilAfter : List (Event Call Outside) → Type 0

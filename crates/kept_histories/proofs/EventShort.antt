@@ -53,6 +53,7 @@ use Rattle.kept_histories.proofs.EachEvent.{AllSee}
 use Rattle.kept_histories.proofs.EventSteps.{HasRun, IsQuiet, ended_is, made_so, ran_is, run_off}
 use Rattle.kept_histories.proofs.FirstShort.{first_short}
 use Rattle.kept_histories.proofs.Lasting.{SomeLacks}
+use Rattle.kept_histories.proofs.Claiming.{leads_there}
 
 -- ---- events that find room
 
@@ -148,12 +149,6 @@ module _ (sizes : Super) where
     pub inv : Inv s.world.seen
     pub shows : s.stopped ≡ false → Shows s.world.real.blocks s.world.seen
 
-  leads_of : (o : Option (Run (block_calls sizes))) (p : Option UnderWay) (u : UnderWay) → Fits sizes o p → p ≡ Some u → LeadTo (handlers sizes u.hand u.op u.mark) u.ran u.left
-  leads_of None None u fits e = absurd cc
-  leads_of None (Some v) u fits e = absurd fits
-  leads_of (Some r) None u fits e = absurd fits
-  leads_of (Some r) (Some v) u fits e = subst (λ (z : UnderWay). LeadTo (handlers sizes z.hand z.op z.mark) z.ran z.left) (Some-inj v u e) fits.leads
-
 some_passed : {D : Type 0} (w : HartsOf D) (k k' : KeptTree) → JustPasses k k' → SomeLacks w k → SomeLacks w k'
 some_passed w k k' p some = record {
   hart = some.hart;
@@ -195,7 +190,7 @@ module _ {D : Type 0} (contents : D → List (List ℕ)) (failures : D → ℕ) 
   short_in h out came has_run r ran fine amid runs known short =
       first_short contents failures sizes h s (makes L (Step h Passes) s) was now r b old new k agree
       out came ran amid runs fine (known.sees h (makes L (Step h Passes) s) r (run_off sizes h Passes s (s.running h) has_run) (tree_of k.tree) (ap (λ (m : Stage). m.tree) agree.stage))
-      (leads_of sizes (s.running h) (was h) r.under (known.fits h) r.is) (known.tells h r.under r.is) known.inv (known.shows (run_off sizes h Passes s (s.running h) has_run)) clean short
+      (leads_there sizes (s.running h) r.under (subst (Fits sizes (s.running h)) r.is (known.fits h))) (known.tells h r.under r.is) known.inv (known.shows (run_off sizes h Passes s (s.running h) has_run)) clean short
 
   ran_event : (h : ℕ) (kind : _) (n : NotesEvent contents failures (λ a d x z. KeepsEvent a (event.Step h) d x z) sizes (event.Step h) old k (came.Stepped (outcome.Ran kind)) new k')
       → KnownShort sizes (Step h Passes) s was now → Short (Step h Passes) → Result

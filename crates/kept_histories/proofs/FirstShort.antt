@@ -62,11 +62,9 @@ use Rattle.kept_histories.proofs.ReadRooms.{is_read}
 use Rattle.kept_histories.proofs.StepMarks.{HeardAt, SeesAlike, fine_unless, same_marks, text_marks}
 use Rattle.kept_histories.proofs.Stepped.{Comes, comes_to}
 use Rattle.kept_histories.proofs.Together.{CallGoes, HartAt, StillCalled, Together, call_goes, heard_so, still_called}
+use Rattle.kept_histories.proofs.Basics.{none_some}
 
 -- ---- an operation that acts, and leaves the world unclean
-
-none_some : {X A : Type 0} (a : A) → ◌≡◌ {A = Option A} None (Some a) → X
-none_some a e = absurd cc
 
 true_false : {X : Type 0} → true ≡ false → X
 true_false e = absurd cc

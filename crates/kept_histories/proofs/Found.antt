@@ -28,6 +28,7 @@ use Rattle.run_laws.specs.UnderWay.{EventDoes, IsMadeBy, RunsAStep, StartDoes, S
 use Rattle.run_laws.specs.Vocabulary.{Outside, or_else}
 use Rattle.run_laws.specs.WholeInodes.{told_by}
 use Rattle.tree_laws.specs.Moves.{Deed, Move}
+use Rattle.kept_histories.proofs.Basics.{none_some}
 
 -- ---- an operation that acts
 
@@ -83,9 +84,6 @@ FoundBy u = (a : above.Answer u.op) → u.acted ≡ Some a → spoils (u.mark a)
 
 abbrev pub AllFound : (ℕ → Option UnderWay) → Type 0
 AllFound under = (h : ℕ) (u : UnderWay) → under h ≡ Some u → FoundBy u
-
-none_some : {X A : Type 0} (a : A) → ◌≡◌ {A = Option A} None (Some a) → X
-none_some a e = absurd cc
 
 begun_found : (sizes : Super) (c : Carry) (p : programs.P Reply) (u : UnderWay) → at_beginning sizes c p ≡ Some u → FoundBy u
 begun_found sizes c (Ret r) u e = none_some u e

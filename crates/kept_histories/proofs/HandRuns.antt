@@ -14,10 +14,7 @@ use Rattle.run_laws.specs.UnderWay.{GoesOnAsItActs}
 use Rattle.run_laws.specs.Vocabulary.{Outside}
 use Rattle.run_laws.specs.WholeInodes.{lowered_inode_calls}
 use Rattle.kept_histories.proofs.HandSteps.{InHands, event_on}
-
-longer : {A : Type 0} (es : List A) (e : A) → length (es ++ e ∷ []) ≡ suc (length es)
-longer [] e = refl
-longer (x ∷ es) e = ap suc (longer es e)
+use Rattle.kept_histories.proofs.Basics.{longer}
 
 module _ (L : Theory) where
   first_honest : (es rest : List (Event L.Call L.M.Outside)) (s : State L) → AllHonest L (es ++ rest) s → AllHonest L es s × AllHonest L rest (run L es s)

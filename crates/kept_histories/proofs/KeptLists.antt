@@ -35,10 +35,7 @@ use Rattle.kept_histories.proofs.KeptHistory.{history_in}
 use Rattle.kept_histories.proofs.Prefixes.{clean_at, idle_at, moves_at, so_far}
 use Rattle.kept_histories.proofs.ShownFirst.{sees_rightly}
 use Rattle.kept_histories.proofs.Together.{HartAt}
-
-pub longer : {A : Type 0} (es : List A) (e : A) → length (es ++ e ∷ []) ≡ suc (length es)
-longer [] e = refl
-longer (x ∷ es) e = ap suc (longer es e)
+use Rattle.kept_histories.proofs.Basics.{longer}
 
 -- ---- each event
 

@@ -40,6 +40,7 @@ use Rattle.kept_histories.proofs.KeptHistory.{history_in, is_history}
 use Rattle.kept_histories.proofs.KeptLists.{agrees_first, kept_agrees}
 use Rattle.kept_histories.proofs.OneRun.{one_run}
 use Rattle.kept_histories.proofs.ShortRuns.{EndsShort, EndsWithRoom, lacks_none, run_ends}
+use Rattle.kept_histories.proofs.Basics.{not_both}
 
 module _ {D : Type 0} (contents : D → List (List ℕ)) (failures : D → ℕ) (device : D) (w : HartsOf D) (rests : Rests contents failures device w) where
   abbrev disk : List (List ℕ)
@@ -116,15 +117,13 @@ module _ {D : Type 0} (contents : D → List (List ℕ)) (failures : D → ℕ) 
         λ clean. ap (λ (b : Bool). b || some_lacks_place new) e.agrees.agrees.room ∙ lacks_none disk count told honest goes nothing_ran contents failures new k e harts,
         λ none. e.clean,
       )
-      | inr e ↦ (λ clean. not_both clean e.short, λ none. known_not e.known none)
+      | inr e ↦ (λ clean. not_both _ clean e.short, λ none. known_not e.known none)
     ]
       where
-        not_both : {X : Type 0} {b : Bool} → b ≡ true → b ≡ false → X
-        not_both is isnt = absurd (let q : true ≡ false = sym is ∙ isnt in cc)
 
         known_not : {X : Type 0} → (k.full ≡ true) ⊎ (some_lacks_place new ≡ true) → (k.full || some_lacks_place new) ≡ false → X
-        known_not (inl full) none = not_both full (or_parts k.full (some_lacks_place new) none).0
-        known_not (inr lacks) none = not_both lacks (or_parts k.full (some_lacks_place new) none).1
+        known_not (inl full) none = not_both _ full (or_parts k.full (some_lacks_place new) none).0
+        known_not (inr lacks) none = not_both _ lacks (or_parts k.full (some_lacks_place new) none).1
 
     -- .. and so of each history
     any_history : (history : List (Event Call Outside)) → IsMounted contents failures device world → IsHistory contents failures sizes w events cs new history → length events < 2 ^ 64

@@ -1,3 +1,4 @@
+pub mod Basics
 pub mod Controls
 pub mod ReadRooms
 pub mod Buffers

@@ -36,15 +36,13 @@ use Rattle.kept_histories.proofs.EventShort.{KnownShort, event_short}
 use Rattle.kept_histories.proofs.Events.{event_agrees}
 use Rattle.kept_histories.proofs.Found.{AllFound, event_found}
 use Rattle.kept_histories.proofs.KeptHistory.{history_in}
-use Rattle.kept_histories.proofs.KeptLists.{known, longer}
+use Rattle.kept_histories.proofs.KeptLists.{known}
 use Rattle.kept_histories.proofs.Lacking.{lacks_gives}
 use Rattle.kept_histories.proofs.Lasting.{run_lasts, who_lacks}
 use Rattle.kept_histories.proofs.Prefixes.{clean_at, honest_parts, so_far, sound_at}
 use Rattle.kept_histories.proofs.ShownFirst.{sees_rightly}
 use Rattle.kept_histories.proofs.Together.{HartAt}
-
-not_both : {X : Type 0} (b : Bool) → b ≡ true → b ≡ false → X
-not_both b is isnt = absurd (let q : true ≡ false = sym is ∙ isnt in cc)
+use Rattle.kept_histories.proofs.Basics.{longer, not_both}
 
 module _ (disk : List (List ℕ)) (count : ℕ) (whole : List (Event Call Outside)) (honest : AllHonest (block_calls (sizes_of disk)) whole (fresh (block_calls (sizes_of disk)) (first disk count)))
     (goes : GoesOnAsItActs (sizes_of disk) (first disk count) whole) (began : RunsOn disk count []) where

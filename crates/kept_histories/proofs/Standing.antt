@@ -26,6 +26,7 @@ use Rattle.whole_calls.specs.Wholes.{HasRoomFor, text_in}
 use Rattle.kept_histories.proofs.Buffers.{TextFits, hears_same, text_fits, text_goes, with_own_text}
 use Rattle.kept_histories.proofs.Controls.{Answers, at_end, goes_on_still, plain_end, plain_goes}
 use Rattle.kept_histories.proofs.ReadRooms.{RoomOf, room_asked}
+use Rattle.kept_histories.proofs.Basics.{none_some}
 
 -- what a part's end is to the operation
 abbrev pub handed : (op : above.Op) → Handover Message Carry → Handover (above.Answer op) Carry
@@ -38,9 +39,6 @@ pub record StandsAt (u : UnderWay) (l : Lowered) (h : Hand) : Type 0 where
   pub part : plain u.left ≡ bind (part_of l h) (λ r. Ret (handed u.op r))
   pub fits : TextFits (whole_with l.list l.call) text (part_of l h)
   pub room : (x : Heard) → HasRoomFor x l.call → RoomOf u.op x
-
-none_some : {X A : Type 0} (a : A) → ◌≡◌ {A = Option A} None (Some a) → X
-none_some a e = absurd cc
 
 -- ---- an operation that begins
 

@@ -24,6 +24,7 @@ use Rattle.kept_histories.proofs.ReadRooms.{RoomOf, none_too_much}
 use Rattle.kept_histories.proofs.Standing.{StandsAt}
 use Rattle.kept_histories.proofs.StepMarks.{HeardAt}
 use Rattle.kept_histories.proofs.Stepped.{BeginsNext, Comes, GoesOn}
+use Rattle.kept_histories.proofs.Basics.{none_some}
 
 module _ (sizes : Super) where
   pub record Together (u : UnderWay) (m : Running) (v : Under) : Type 0 where
@@ -56,9 +57,6 @@ pub record StillCalled (v : Under) (o : Option Under) : Type 0 where
   pub call : Under
   pub is : o ≡ Some call
   pub same : walking None call ≡ walking None v
-
-none_some : {X A : Type 0} (a : A) → ◌≡◌ {A = Option A} None (Some a) → X
-none_some a e = absurd cc
 
 pub still_called : (v : Under) (o p : Option Under) → p ≡ Some v → option_map (walking None) o ≡ option_map (walking None) p → StillCalled v o
 still_called v None p is same = none_some (walking None v) (same ∙ ap (option_map (walking None)) is)
