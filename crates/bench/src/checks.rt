@@ -1,6 +1,7 @@
 //! The check of a list of tree steps.
 use crate::trees;
 use crate::workload::WorkloadError;
+use image_versions::Version;
 use plain_tree::{
     Action, Answer, Bytes, Call, Calls, Placed, Reply, Trace, TracedCall, Tree, TreeStep, check,
 };
@@ -99,7 +100,9 @@ fn list(alloc: Global, base: &Tree) -> Result<Vec<Placed>, WorkloadError> {
             new: 0,
             action: action(alloc, number)?,
         };
-        let answer = tree.apply(alloc, &step).map_err(|_| WorkloadError::Wrong)?;
+        let answer = tree
+            .apply(alloc, Version::One, &step)
+            .map_err(|_| WorkloadError::Wrong)?;
         list.push(Placed {
             event: number * 3 + 1,
             call: number as usize,
@@ -120,7 +123,7 @@ pub fn check_entries(alloc: Global) -> Result<u64, WorkloadError> {
     let list = list(alloc, &base)?;
     let mut count = 0u64;
     for _ in 0..ROUNDS {
-        match check(alloc, &base, &trace, &list) {
+        match check(alloc, Version::One, &base, &trace, &list) {
             Ok(true) => count = count.wrapping_add(CALLS),
             _ => return Err(WorkloadError::Wrong),
         }

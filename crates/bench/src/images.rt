@@ -2,6 +2,8 @@
 use crate::workload::WorkloadError;
 use block_device::MemoryDisk;
 use image_tree::examine;
+use image_versions::Version;
+use image_versions::widths::{BLOCK_LEN, MOST_DISK_BLOCKS};
 use mkfs::{NewFile, make};
 use std::alloc::{AllocError, Global};
 
@@ -9,11 +11,7 @@ const FRESH_BLOCKS: u32 = 2000;
 
 const FRESH_INODES: u32 = 200;
 
-const LARGEST_BLOCKS: u32 = 8191;
-
 const LARGEST_INODES: u32 = 1200;
-
-const BLOCK: usize = 1024;
 
 /// Files `f0`, `f1` .. of so many bytes.
 pub fn files(alloc: Global, count: u32, size: usize) -> Result<Vec<NewFile>, AllocError> {
@@ -47,7 +45,7 @@ fn examine_often(
 ) -> Result<u64, WorkloadError> {
     let mut right = 0u64;
     for _ in 0..rounds {
-        match examine(alloc, &mut disk) {
+        match examine(alloc, &mut disk, Version::One) {
             Ok(shape) if shape.live == live => right = right.wrapping_add(1),
             _ => return Err(WorkloadError::Wrong),
         }
@@ -63,18 +61,18 @@ pub fn examine_fresh(alloc: Global) -> Result<u64, WorkloadError> {
 
 /// A full image of 8191 blocks with 1000 files, examined.
 pub fn examine_full(alloc: Global) -> Result<u64, WorkloadError> {
-    let files = files(alloc, 1000, 8 * BLOCK)?;
-    let disk = image(alloc, LARGEST_BLOCKS, LARGEST_INODES, files.as_slice())?;
+    let files = files(alloc, 1000, 8 * BLOCK_LEN)?;
+    let disk = image(alloc, MOST_DISK_BLOCKS, LARGEST_INODES, files.as_slice())?;
     examine_often(alloc, disk, 20, 1001)
 }
 
 /// An image of 2000 blocks with 100 files of 10 KiB, made.
 pub fn make_image(alloc: Global) -> Result<u64, WorkloadError> {
-    let files = files(alloc, 100, 10 * BLOCK)?;
+    let files = files(alloc, 100, 10 * BLOCK_LEN)?;
     let mut count = 0u64;
     for _ in 0..50 {
         let disk = image(alloc, FRESH_BLOCKS, FRESH_INODES, files.as_slice())?;
-        if disk.into_bytes().len() != FRESH_BLOCKS as usize * BLOCK {
+        if disk.into_bytes().len() != FRESH_BLOCKS as usize * BLOCK_LEN {
             return Err(WorkloadError::Wrong);
         }
         count = count.wrapping_add(1);

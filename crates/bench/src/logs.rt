@@ -12,6 +12,7 @@ use buffer_cache::{BUFFERS_OF_A_HART, Buffers, Cache, Got};
 use fs_layout::Super;
 use group_log::{AfterLeave, Log, Phase, Progress, Txn};
 use image_tree::{find_layout, recover};
+use image_versions::Version;
 use mkfs::make;
 use std::alloc::Global;
 
@@ -55,7 +56,7 @@ pub fn record_cached(alloc: Global) -> Result<u64, WorkloadError> {
 // So many operations, where the disk then has what the last transaction wrote.
 fn ended(disk: MemoryDisk, operations: u32) -> Result<u64, WorkloadError> {
     let mut disk = disk;
-    recover(&mut disk).map_err(|_| WorkloadError::Wrong)?;
+    recover(&mut disk, Version::One).map_err(|_| WorkloadError::Wrong)?;
     if has_last_bytes(disk) {
         Ok(u64::from(operations))
     } else {
@@ -69,8 +70,8 @@ fn recovered(disk: MemoryDisk) -> Result<(Super, MemoryDisk), WorkloadError>
     ensures empty { IfOk result (λ (_, disk). logged (blocks_of disk) ≡ []) }
 {
     let mut disk = disk;
-    recover(&mut disk).map_err(|_| WorkloadError::Wrong)?;
-    let layout = find_layout(&mut disk).map_err(|_| WorkloadError::Wrong)?;
+    recover(&mut disk, Version::One).map_err(|_| WorkloadError::Wrong)?;
+    let layout = find_layout(&mut disk, Version::One).map_err(|_| WorkloadError::Wrong)?;
     let _ = disk.blocks();
     Ok((layout.sizes, disk))
 }

@@ -1,17 +1,20 @@
 //! Records of one block, at places that a row of pseudorandom numbers gives.
 use crate::workload::WorkloadError;
 use bitmap_alloc::{clear, first_clear, set};
-use fs_layout::widths::{BITS_PER_BLOCK, BLOCK_LEN, DIRENTS_PER_BLOCK, INODES_PER_BLOCK};
+use fs_layout::widths::{BITS_PER_BLOCK, BLOCK_LEN, INODES_PER_BLOCK};
 use fs_layout::{
     Dinode, Dirent, Name, bit, read_dinode, read_dirent, set_bit, write_dinode, write_dirent,
 };
+use image_versions::Version;
+use image_versions::one::DIRENTS_PER_BLOCK;
+use image_versions::widths::{ADDRESSES, MOST_DISK_BLOCKS};
 
 const OPERATIONS: u32 = 4_000_000;
 
 const SEARCHES: u32 = 400_000;
 
-// The last block of a disk of 8191.
-const LAST_BLOCK: usize = 8190;
+// The last block of the largest disk.
+const LAST_BLOCK: usize = MOST_DISK_BLOCKS as usize - 1;
 
 // The number after `state` in a row of pseudorandom ones: its upper bits vary well.
 fn next(state: u32) -> u32 {
@@ -26,7 +29,7 @@ pub fn inode_of_size(size: u32) -> Dinode {
         minor: 0,
         nlink: 1,
         size,
-        addrs: [size; 13],
+        addrs: [size; ADDRESSES],
     }
 }
 
@@ -69,7 +72,7 @@ pub fn read_inodes() -> Result<u64, WorkloadError> {
 
 /// Entries, written.
 pub fn write_dirents() -> Result<u64, WorkloadError> {
-    let Some(name) = Name::new(b"a_name") else {
+    let Some(name) = Name::new(Version::One, b"a_name") else {
         return Err(WorkloadError::Wrong);
     };
     let entry = Dirent::Used { number: 7, name };
@@ -79,9 +82,9 @@ pub fn write_dirents() -> Result<u64, WorkloadError> {
     for _ in 0..OPERATIONS {
         state = next(state ^ u32::from(block[0]));
         place = (state >> 16) as usize % DIRENTS_PER_BLOCK;
-        write_dirent(&mut block, place, &entry);
+        write_dirent(Version::One, &mut block, place, &entry);
     }
-    let last = read_dirent(&block, place % DIRENTS_PER_BLOCK);
+    let last = read_dirent(Version::One, &block, place % DIRENTS_PER_BLOCK);
     checked(matches!(last, Some(Dirent::Used { number: 7, .. })))
 }
 
@@ -96,6 +99,7 @@ pub fn read_dirents() -> Result<u64, WorkloadError> {
     let mut sum = 0u64;
     for _ in 0..OPERATIONS {
         if let Some(Dirent::Used { number, name }) = read_dirent(
+            Version::One,
             &block,
             (state >> 16) as usize % DIRENTS_PER_BLOCK,
         ) {

@@ -1,5 +1,6 @@
 //! The plain tree.
 use crate::workload::WorkloadError;
+use image_versions::Version;
 use plain_tree::{Action, Bytes, StepAnswer, Tree, TreeStep};
 use std::alloc::{AllocError, Global};
 
@@ -25,7 +26,8 @@ fn apply(
         new,
         action,
     };
-    tree.apply(alloc, &step).map_err(|_| WorkloadError::Wrong)
+    tree.apply(alloc, Version::One, &step)
+        .map_err(|_| WorkloadError::Wrong)
 }
 
 fn close(alloc: Global, tree: &mut Tree) -> Result<(), WorkloadError> {
@@ -45,7 +47,7 @@ fn open(alloc: Global, tree: &mut Tree, number: u16, flags: u32) -> Result<(), W
 
 /// A tree of 200 nodes: the root and the files "/f2" to "/f199".
 pub fn grown(alloc: Global) -> Result<Tree, WorkloadError> {
-    let mut tree = Tree::new(alloc, NODES).map_err(|_| WorkloadError::Wrong)?;
+    let mut tree = Tree::new(alloc, Version::One, NODES).map_err(|_| WorkloadError::Wrong)?;
     for number in 2..NODES {
         open(alloc, &mut tree, number, CREATE)?;
         close(alloc, &mut tree)?;

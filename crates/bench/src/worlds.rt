@@ -4,6 +4,7 @@ use crate::plans::{Ask, CREATE, Row, TRUNCATE, WRITE, Wave, waves};
 use crate::workload::WorkloadError;
 use block_device::MemoryDisk;
 use hart_core::{Outcome, World};
+use image_versions::widths::LARGEST_SIZE;
 use plain_tree::{Call, Reply};
 use std::alloc::Global;
 use std::mem;
@@ -24,7 +25,7 @@ const PAGE: u32 = 4096;
 const PIECE: u32 = 3072;
 
 // The greatest file.
-const LARGEST: u32 = 274_432;
+const LARGEST: u32 = LARGEST_SIZE as u32;
 
 // Directories below one another, with a file in each.
 const DEEPEN: [(u32, Ask); 4] = [

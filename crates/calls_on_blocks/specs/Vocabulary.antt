@@ -1,8 +1,7 @@
 -- What the crates below call things: the words that this crate's definitions and contracts use.
 pub use Rattle.inodes_on_blocks.specs.Vocabulary.{Answer, Both, Commit, ExecResult, Do, IsGoodSuper, IsNamedPart, IsPlaced, IsWellFormed, LogPart, LowerLayer, Op, Outside, Ran, Ret, SeatState, Stops, TablesState, Tree, UpToLog, descriptor_count, file_named, hart_count, is_at, joined_count as joined, tree_in, tree_of}
 unfoldable pub use Rattle.inodes_on_blocks.specs.Vocabulary.{any_below, put, sizes_of}
-pub use Rattle.inode_machine.specs.Vocabulary.{AllHonest, Began, Begins, DidEnd, Event, Lawful, Refuses, Run, Start, State, Step, Theory, fresh, makes, next, run}
-unfoldable pub use Rattle.inode_machine.specs.Vocabulary.{Chain}
+pub use Rattle.inode_machine.specs.Vocabulary.{AllHonest, Began, Begins, DidEnd, Event, Lawful, Refuses, Run, Start, State, Step, Theory, fresh, makes, next, run, Chain}
 pub use Rattle.fs_machine.specs.Vocabulary.{exec_result_in}
 pub use Rattle.group_log.specs.Stories.{IsMarked, after_leave, after_write, no_marks}
 pub use Rattle.group_log.specs.declared.marks.Marks.{Marks}

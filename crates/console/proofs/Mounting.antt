@@ -1,7 +1,9 @@
 -- A disk in memory is mounted, and what is run on it; or it isn't mounted.
-use Rattle.console.proofs.Vocabulary.{◌≡◌, ℕ, arith, Bool, true, false, List, [], Option, None, Result, Err, replicate, refl, sym, ap, ◌∙◌, subst, inl, inr, Vec, Global, blocks_of, sizes_of, buffer_count, hart_count, unused_from, IsPlaced, IsWellFormed, JudgesFault, fault_count_of, tree_in, MountFault, TreeData, IsSettled, HartsOf, never, KeptTree, Mode, ConsoleFault, of_mount, WhereSet, history_from, history_of, JudgesImage, RefusesDisk, bytes_for, KeptRun, PromptsImage, PromptsOn, PromptsReader, RunsReader, HandsOut, IsMountedOn, IsUntaken, RunsImage, RunsOn, TakesNoImage, SessionOf, known_at}
+use Rattle.console.proofs.Vocabulary.{◌≡◌, ℕ, arith, Bool, true, false, List, [], Option, None, Result, Err, replicate, refl, sym, ap, ◌∙◌, subst, inl, inr, Vec, Global, blocks_of, sizes_of, buffer_count, hart_count, unused_from, IsPlaced, IsWellFormed, JudgesFault, fault_count_of, tree_in, MountFault, TreeData, IsSettled, HartsOf, never, KeptTree, Mode, ConsoleFault, of_mount, WhereSet, history_from, history_of, JudgesImage, RefusesDisk, bytes_for, KeptRun, PromptsImage, PromptsOn, PromptsReader, RunsReader, HandsOut, IsMountedOn, IsUntaken, RunsImage, RunsOn, TakesNoImage, SessionOf, known_at, One}
 use Rattle.group_log.specs.declared.phase.Phase.TheVariants.{Open}
 use Rattle.image_tree.specs.declared.fault.MountFault.TheVariants as mounts
+use Rattle.image_tree.specs.Damage as images
+use Rattle.image_versions.specs.declared.version.Version.{Version}
 use Rattle.hart_core.specs.Mounting.{Rests}
 use Rattle.console.specs.declared.fault.ConsoleFault.TheVariants as faults
 use Rattle.console.proofs.Keeping.{history_is, prompts_again, reader_again}
@@ -14,7 +16,13 @@ mount_refused disk (mounts.Damaged d) judged none = judged
 mount_refused disk mounts.DeviceFault judged none = let bad : 1 ≡ 0 = none in absurd (omega (arith, bad))
 mount_refused disk mounts.NoMemory judged none = tt
 
-pub refused_judged : (disk : List (List ℕ)) (fault : ConsoleFault) → RefusesDisk disk fault → JudgesImage disk fault
+-- of one that is only examined, as an image of any version
+pub judged_as : (v : Version) (disk : List (List ℕ)) (fault : MountFault) → images.JudgesFault v disk fault → fault_count_of fault 0 ≡ 0 → JudgesImage v disk (of_mount fault)
+judged_as v disk (mounts.Damaged d) judged none = judged
+judged_as v disk mounts.DeviceFault judged none = let bad : 1 ≡ 0 = none in absurd (omega (arith, bad))
+judged_as v disk mounts.NoMemory judged none = tt
+
+pub refused_judged : (disk : List (List ℕ)) (fault : ConsoleFault) → RefusesDisk disk fault → JudgesImage One disk fault
 refused_judged disk (faults.Image (mounts.Damaged d)) refuses = refuses
 refused_judged disk (faults.Image mounts.DeviceFault) refuses = absurd refuses
 refused_judged disk (faults.Image mounts.NoMemory) refuses = absurd refuses

@@ -73,3 +73,4 @@ pub use Rattle.image_tree.specs.declared.fault.MountFault.{MountFault}
 pub use Rattle.plain_tree.specs.declared.call.Call.{Call}
 pub use Rattle.plain_tree.specs.declared.trace.Placed.{Placed}
 pub use Rattle.plain_tree.specs.declared.trace.Trace.{Trace}
+pub use Rattle.console.specs.Vocabulary.{One}

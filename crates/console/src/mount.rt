@@ -9,6 +9,7 @@ use crate::fault::ConsoleFault;
 use crate::session::Session;
 use block_device::MemoryDisk;
 use image_tree::tree_of;
+use image_versions::Version;
 use plain_tree::Tree;
 use std::alloc::Global;
 
@@ -27,7 +28,7 @@ fn base_of(alloc: Global, wanted: bool, disk: &mut MemoryDisk) -> Result<Tree, C
     if !wanted {
         return Ok(Tree::of_nodes(alloc, Vec::new(alloc)));
     }
-    let base = tree_of(alloc, disk)?;
+    let base = tree_of(alloc, disk, Version::One)?;
     Ok(base)
 }
 

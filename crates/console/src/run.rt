@@ -1,9 +1,10 @@
 //! Running a script.
 ghost use Rattle.std.specs.Prelude.{◌≡◌, ◌<◌, ◌^◌, IfOk, IfErr, IfSome, OnOk, Some};
-ghost use Rattle.console.specs.Vocabulary.{Appends, blocks_of, nothing_kept, IsWellFormed};
+ghost use Rattle.console.specs.Vocabulary.{Appends, blocks_of, nothing_kept, version_of};
 ghost use Rattle.console.specs.declared.fault.ConsoleFault.TheVariants.{Memory};
 ghost use Rattle.console.specs.Histories.{TellsHistory, history_from, history_kept, history_on};
-ghost use Rattle.console.specs.Images.{bytes_for, disk_for, fresh_bytes, JudgesImage};
+ghost use Rattle.console.specs.Images.{bytes_for, disk_for, fresh_bytes, taken_as, JudgesImage};
+ghost use Rattle.image_tree.specs.Damage as images;
 ghost use Rattle.console.specs.Lines.{course, script_course};
 ghost use Rattle.console.specs.Notes.{no_notes, run_in};
 ghost use Rattle.console.specs.Runs.{EndsSo, FailsUnread, PrintsAll, RunsCourse, RunsReader, RunsScript, TellsWanted, end_text};
@@ -21,7 +22,8 @@ use crate::queues::Queues;
 use crate::session::Session;
 use block_device::{Device, MemoryDisk};
 use explain::Keeper;
-use image_tree::examine;
+use image_tree::{examine, find_version};
+use image_versions::Version;
 use mkfs::{MakeRefused, make};
 use plain_tree::Tree;
 use script::{Mode, parse, write_shape};
@@ -70,8 +72,8 @@ pub fn run_script<R: Read + Drop, W: Write>(
 ) -> Result<MemoryDisk, ConsoleFault>
     ensures runs { RunsImage mode image (R.remaining script) result (W.contents out.old) (W.contents out.new) }
     // A refused image is refused for its first damage alone; all else is told of a mounted one.
-    ensures mounted { IfOk result (λ disk. IsWellFormed (disk_for image)) }
-    ensures refused { IfErr result (JudgesImage (disk_for image)) }
+    ensures mounted { IfOk result (λ disk. images.IsWellFormed (taken_as mode.check (disk_for image)) (disk_for image)) }
+    ensures refused { IfErr result (JudgesImage (taken_as mode.check (disk_for image)) (disk_for image)) }
 {
     let disk = image_disk(alloc, image)?;
     if mode.check {
@@ -85,14 +87,27 @@ pub fn run_script<R: Read + Drop, W: Write>(
     Ok(disk)
 }
 
-// Examines a disk, and prints what it finds.
-fn check<W: Write>(alloc: Global, disk: MemoryDisk, out: &mut W) -> Result<MemoryDisk, ConsoleFault>
-    ensures tells { Tells disk result (W.contents out.old) (W.contents out.new) }
-    ensures mounted { IfOk result (λ d. IsWellFormed (blocks_of disk)) }
-    ensures refused { IfErr result (JudgesImage (blocks_of disk)) }
+// The version that a disk in memory says that it is of, and the disk, whose blocks stay.
+fn version_in(disk: MemoryDisk) -> (MemoryDisk, Version)
+    ensures blocks { blocks_of result.0 ≡ blocks_of disk }
+    ensures version { result.1 ≡ version_of (blocks_of disk) }
 {
     let mut disk = disk;
-    let shape = examine(alloc, &mut disk)?;
+    match find_version(&mut disk) {
+        Ok(version) => (disk, version),
+        Err(_) => unreachable!(),
+    }
+}
+
+// Examines a disk as an image of the version that it says, and prints what it finds.
+fn check<W: Write>(alloc: Global, disk: MemoryDisk, out: &mut W) -> Result<MemoryDisk, ConsoleFault>
+    ensures tells { Tells disk result (W.contents out.old) (W.contents out.new) }
+    ensures mounted { IfOk result (λ d. images.IsWellFormed (version_of (blocks_of disk)) (blocks_of disk)) }
+    ensures refused { IfErr result (JudgesImage (version_of (blocks_of disk)) (blocks_of disk)) }
+{
+    let (disk, version) = version_in(disk);
+    let mut disk = disk;
+    let shape = examine(alloc, &mut disk, version)?;
     write_shape(out, &shape).map_err(ConsoleFault::Write)?;
     Ok(disk)
 }

@@ -1,7 +1,7 @@
 //! A mounted file system that scripts are run on.
 ghost use Rattle.std.specs.Prelude.{◌≡◌, IfOk, IfErr, IfSome, None, replicate, set};
 ghost use Rattle.fs_layout.specs.Recovered.{sizes_of};
-ghost use Rattle.image_tree.specs.Damage.{IsWellFormed};
+ghost use Rattle.image_tree.specs.VersionOne.{IsWellFormed};
 ghost use Rattle.hart_core.specs.Mounting.{HandsBack, Rests};
 ghost use Rattle.hart_core.specs.Harts.{AreHarts, shared_of};
 ghost use Rattle.hart_core.specs.Telling.{heard_by, heard_in};

@@ -4,6 +4,7 @@ use block_device::{Fused, MemoryDisk};
 use console::{ConsoleFault, Session, run_on, run_script, status};
 use hart_core::Stop;
 use image_tree::{MountFault, tree_of};
+use image_versions::Version;
 use plain_tree::Tree;
 use script::{Mode, Reason, Schedule};
 use std::alloc::{AllocError, Global};
@@ -68,7 +69,7 @@ fn prints_why_a_call_is_stopped(rt: HostRuntime) -> Result<(), Fail> {
 
 // The tree of the image of `mounted_at_last`.
 fn tree_at_first(alloc: Global) -> Result<Tree, Fail> {
-    match tree_of(alloc, &mut disk(alloc, 60, 16)?) {
+    match tree_of(alloc, &mut disk(alloc, 60, 16)?, Version::One) {
         Ok(tree) => Ok(tree),
         Err(MountFault::NoMemory) => Err(Fail::from(AllocError)),
         Err(_) => Err(Fail::new("it has no tree")),

@@ -1,5 +1,5 @@
 -- A slot compared where it stands is compared by what it is.
-use Rattle.directory.proofs.Vocabulary.{◌≡◌, ◌≢◌, ℕ, ◌+◌, ◌-◌, ◌*◌, ◌<◌, ◌≤◌, true, false, not, eqb, ◌==◌, ◌&&◌, List, ◌++◌, length, drop, replicate, Option, Some, None, refl, sym, ap, ◌∙◌, arith, ⊎_elim, length-append, length-drop, and_parts, cases_lt, eq-eqb, eqb-true, ne_eqb, eqb-false, not-true, same_from_decides, bytes_eq-Decides, drop_at, length-replicate, get_or_append_left, get_or-append_right, Dirent, Free, Used, u16_bytes, u16_at, record_at, IsBytes, list_all, is_zero, IsName, spell_dirent, dirent_of, used_of, free_of, dirent_at, which_branch, dirent_of-spell, spell-dirent_of, number-part, name_parts, u16_at-lt, u16_bytes-at, length-u16_bytes, is_named, field_of, has_words, u64_at}
+use Rattle.directory.proofs.Vocabulary.{One, ◌≡◌, ◌≢◌, ℕ, ◌+◌, ◌-◌, ◌*◌, ◌<◌, ◌≤◌, true, false, not, eqb, ◌==◌, ◌&&◌, List, ◌++◌, length, drop, replicate, Option, Some, None, refl, sym, ap, ◌∙◌, arith, ⊎_elim, length-append, length-drop, and_parts, cases_lt, eq-eqb, eqb-true, ne_eqb, eqb-false, not-true, same_from_decides, bytes_eq-Decides, drop_at, length-replicate, get_or_append_left, get_or-append_right, Dirent, Free, Used, u16_bytes, u16_at, record_at, IsBytes, list_all, is_zero, IsName, spell_dirent, dirent_of, used_of, free_of, dirent_at, which_branch, dirent_of-spell, spell-dirent_of, number-part, name_parts, u16_at-lt, u16_bytes-at, length-u16_bytes, is_named, field_of, has_words, u64_at}
 use Rattle.directory.proofs.OneSlot.{IsSlot, slot_in, field_fits, zeros_at}
 use Rattle.directory.proofs.Words.{same_row, u64_at-part, u64_at-drop}
 
@@ -29,13 +29,13 @@ unfolding field_of
 named_there bytes name s is some field =
     let spelled : spell_dirent (Used (u16_at bytes 0) name) ≡ bytes =
     ap (λ (xs : List ℕ). u16_bytes (u16_at bytes 0) ++ xs) (sym field) ∙ u16_bytes-at bytes 0 (omega (arith, s.long)) s.fits in
-    ap dirent_of (sym spelled) ∙ dirent_of-spell (Used (u16_at bytes 0) name) (some, u16_at-lt bytes 0 s.fits, is)
+    ap dirent_of (sym spelled) ∙ dirent_of-spell One (Used (u16_at bytes 0) name) (some, u16_at-lt bytes 0 s.fits, is)
 
 -- and where it is used by that name, the field stands there
 field_there : (bytes name : List ℕ) (n : ℕ) → IsSlot bytes → dirent_of bytes ≡ Some (Used n name) → drop 2 bytes ≡ field_of name
 unfolding field_of
 field_there bytes name n s e =
-    ap (drop 2) (sym (spell-dirent_of bytes (Used n name) s.long s.fits e)) ∙ drop_at (u16_bytes n) (name ++ replicate (14 - length name) 0) 2 (length-u16_bytes n)
+    ap (drop 2) (sym (spell-dirent_of One bytes (Used n name) s.long s.fits e)) ∙ drop_at (u16_bytes n) (name ++ replicate (14 - length name) 0) 2 (length-u16_bytes n)
 
 -- what the words of a slot are
 same_words : (block name : List ℕ) (p : ℕ) → drop 2 (record_at 16 p block) ≡ field_of name
@@ -65,7 +65,7 @@ field_of-fits name fits i =
 
 module _ (block name : List ℕ) (p : ℕ) (long : length block ≡ 1024) (fits : IsBytes block) (name_fits : IsBytes name) (within : p < 64) (is : IsName name) where
   short : length name ≤ 14
-  short = (name_parts name is).high
+  short = (name_parts One name is).high
 
   by_words : has_words (u64_at (field_of name) 0) (u64_at (field_of name) 6) p block ≡ true → is_named name (dirent_at p block) ≡ true
   unfolding has_words
@@ -74,7 +74,7 @@ module _ (block name : List ℕ) (p : ℕ) (long : length block ≡ 1024) (fits 
       let s = slot_in block p long fits within in
       let both = and_parts (not (u16_at block (16 * p) == 0) && (u64_at block (16 * p + 2) == u64_at (field_of name) 0)) (u64_at block (16 * p + 8) == u64_at (field_of name) 6) h in
       let front = and_parts (not (u16_at block (16 * p) == 0)) (u64_at block (16 * p + 2) == u64_at (field_of name) 0) both.0 in
-      let some : u16_at slot 0 ≢ 0 = λ z. eqb-false (u16_at block (16 * p)) 0 (not-true (u16_at block (16 * p) == 0) front.0) (sym (number-part block p) ∙ z) in
+      let some : u16_at slot 0 ≢ 0 = λ z. eqb-false (u16_at block (16 * p)) 0 (not-true (u16_at block (16 * p) == 0) front.0) (sym (number-part One block p) ∙ z) in
       let field = same_as_name block name p s (field_of-fits name name_fits) short
       (eqb-true (u64_at block (16 * p + 2)) (u64_at (field_of name) 0) front.1) (eqb-true (u64_at block (16 * p + 8)) (u64_at (field_of name) 6) both.1) in
       ap (is_named name) (named_there slot name s is some field) ∙ (bytes_eq-Decides name name).1 refl
@@ -85,7 +85,7 @@ module _ (block name : List ℕ) (p : ℕ) (long : length block ≡ 1024) (fits 
       let slot : List ℕ = record_at 16 p block in
       let s = slot_in block p long fits within in
       let words = same_words block name p (field_there slot name n s e) in
-      let some : u16_at block (16 * p) ≢ 0 = λ z. used_number slot n name e (number-part block p ∙ z) in
+      let some : u16_at block (16 * p) ≢ 0 = λ z. used_number slot n name e (number-part One block p ∙ z) in
       rw (words.0, words.1, ne_eqb (u16_at block (16 * p)) 0 some, eq-eqb (u64_at (field_of name) 0) (u64_at (field_of name) 0) refl, eq-eqb (u64_at (field_of name) 6) (u64_at (field_of name) 6) refl) refl
 
   by_name : (o : Option Dirent) → dirent_at p block ≡ o → is_named name o ≡ true → has_words (u64_at (field_of name) 0) (u64_at (field_of name) 6) p block ≡ true

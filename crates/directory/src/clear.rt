@@ -6,8 +6,8 @@ ghost use Rattle.directory.specs.Clearing.{clear_left, clear_asked, ClearReady};
 
 use crate::place::clear_at;
 use fs_layout::Dinode;
-use fs_layout::widths::{DIRENT_LEN, DIRENTS_PER_BLOCK};
 use fs_machine::{Answer, Hand, Op, Part, Place, Routine};
+use image_versions::one::{DIRENT_LEN, DIRENTS_PER_BLOCK};
 use inode_data::{FetchBlock, fetch_of};
 use inode_table::StoreInode;
 

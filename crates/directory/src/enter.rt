@@ -8,9 +8,10 @@ ghost use Rattle.directory.specs.EnterParts.{entered_as, enter_left, enter_asked
 use crate::found::{Found, MOST_SLOTS, Sought};
 use crate::search::Search;
 use byteorder::{ByteOrder, LittleEndian};
-use fs_layout::widths::{DIRENT_LEN, DIRENT_NAME_AT};
+use fs_layout::widths::DIRENT_NAME_AT;
 use fs_layout::{Dinode, Super};
 use fs_machine::{Answer, Hand, Op, Routine};
+use image_versions::one::DIRENT_LEN;
 use inode_data::{Begun, WritePart, Written};
 
 // An entry can have so many numbers.

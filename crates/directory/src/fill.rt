@@ -5,9 +5,9 @@ ghost use Rattle.directory.specs.Filling.{dots, fill, fill_left, fill_asked, fil
 ghost use Rattle.directory.specs.declared.fill.Filled.{Filled as FilledState};
 
 use crate::enter::entry_bytes;
-use fs_layout::widths::DIRENT_LEN;
 use fs_layout::{Dinode, Super};
 use fs_machine::{Answer, Hand, Op, Routine};
+use image_versions::one::DIRENT_LEN;
 use inode_data::{WritePart, Written};
 
 // "." and "..".

@@ -6,11 +6,11 @@ ghost use Rattle.directory.specs.Sought.{aim_of, IsSlot, IsSought};
 
 use crate::slots::{first_free, first_named, first_used, number_at};
 use fs_layout::Dinode;
-use fs_layout::widths::{Block, DIRENT_LEN, DIRENTS_PER_BLOCK};
-use inode_data::MOST_BLOCKS;
+use fs_layout::widths::Block;
+use image_versions::one::{DIRENT_LEN, DIRENTS_PER_BLOCK};
 
 /// How many slots a directory may have.
-pub const MOST_SLOTS: usize = DIRENTS_PER_BLOCK * MOST_BLOCKS;
+pub const MOST_SLOTS: usize = image_versions::one::MOST_SLOTS;
 
 // The type of a directory.
 const DIRECTORY: i16 = 1;

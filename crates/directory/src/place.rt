@@ -6,6 +6,7 @@ ghost use Rattle.directory.specs.Programs.{with_dirent};
 use buffer_cache::Buffer;
 use fs_layout::{Dirent, write_dirent};
 use fs_machine::Hand;
+use image_versions::Version;
 use sleep_lock::Guard;
 
 // Writes a free entry into a buffer.
@@ -15,7 +16,12 @@ fn clear_in(guard: &mut Guard<Buffer>, place: usize)
     requires valid { IsSome guard.old.value.content }
     ensures { guard.new ≡ with_content (with_dirent place Free (bytes_of guard.old)) guard.old }
 {
-    write_dirent(guard.value_mut().bytes_mut(), place, &Dirent::Free);
+    write_dirent(
+        Version::One,
+        guard.value_mut().bytes_mut(),
+        place,
+        &Dirent::Free,
+    );
 }
 
 // The same in hand.

@@ -4,8 +4,10 @@ ghost use Rattle.directory.specs.Vocabulary.{u16_at, dirent_at, IsName, dirent_l
 ghost use Rattle.directory.specs.Slots.{field_of, first_free, first_named, first_used, has_words, is_clear, is_used, u64_at};
 
 use byteorder::{ByteOrder, LittleEndian};
-use fs_layout::widths::{Block, DIRENT_LEN, DIRENT_NAME_AT, NAME_LEN};
+use fs_layout::widths::{Block, DIRENT_NAME_AT};
 use fs_layout::{Dirent, read_dirent};
+use image_versions::Version;
+use image_versions::one::{DIRENT_LEN, NAME_LEN};
 
 // How many bytes a word has.
 const WORD_LEN: usize = 8;
@@ -77,7 +79,10 @@ fn is_used(block: &Block, place: usize) -> bool
     requires { place < dirents_per_block }
     ensures { result ≡ is_used (dirent_at place block.now) }
 {
-    matches!(read_dirent(block, place), Some(Dirent::Used { .. }))
+    matches!(
+        read_dirent(Version::One, block, place),
+        Some(Dirent::Used { .. })
+    )
 }
 
 /// The first slot of this name among the first so many.

@@ -10,6 +10,7 @@ use crate::keep::Keeper;
 use crate::play::{Played, play};
 use crate::refused::ExplainRefused;
 use hart_core::{Came, Event, trace};
+use image_versions::Version;
 use plain_tree::{NoMemory, Placed, Trace, Tree, check};
 use std::alloc::Global;
 use tree_histories::{any_climbs, any_full, find_history, hints_of, replays};
@@ -25,7 +26,7 @@ fn kept_or_found(
     ensures found { IsFound base.now trace.now result }
     ensures kept { Explains base.now trace.now kept.items → IfOk result (λ o. MatchOption o ⊥ (λ v. v.items ≡ kept.items)) }
 {
-    if replays(alloc, base, trace, &kept)? || check(alloc, base, trace, &kept)? {
+    if replays(alloc, base, trace, &kept)? || check(alloc, Version::One, base, trace, &kept)? {
         return Ok(Some(kept));
     }
     let hints = hints_of(alloc, &kept)?;

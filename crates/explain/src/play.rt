@@ -9,6 +9,7 @@ use crate::refused::ExplainRefused;
 use block_device::MemoryDisk;
 use hart_core::{Came, Event, Run, World, run_noted};
 use image_tree::{MountFault, tree_of};
+use image_versions::Version;
 use plain_tree::Tree;
 use std::alloc::{AllocError, Global};
 
@@ -47,7 +48,7 @@ fn base_of(alloc: Global, image: &[u8]) -> Result<Tree, ExplainRefused>
         return Err(ExplainRefused::NoMemory);
     };
     let mut disk = disk;
-    let base = match tree_of(alloc, &mut disk) {
+    let base = match tree_of(alloc, &mut disk, Version::One) {
         Ok(base) => base,
         Err(fault) => return Err(refusal(fault)),
     };

@@ -8,4 +8,5 @@ pub mod LogHead
 pub mod Name
 pub mod Recovered
 pub mod Super
+pub mod VersionOne
 pub mod Widths

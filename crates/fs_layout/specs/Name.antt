@@ -1,7 +1,7 @@
 -- The name of a directory's element.
 use Rattle.std.specs.Prelude.{ℕ, ◌==◌, ◌&&◌, nat_lt, nat_le, not, Bool, IsTrue, List, length}
-use Rattle.fs_layout.specs.Vocabulary.{list_all}
-use Rattle.fs_layout.specs.Widths.{name_len, slash}
+use Rattle.fs_layout.specs.Vocabulary.{list_all, longest_name, name_len_of, Version}
+use Rattle.fs_layout.specs.Widths.{slash}
 
 abbrev pub is_zero : ℕ → Bool
 is_zero b = b == 0
@@ -10,9 +10,17 @@ is_zero b = b == 0
 abbrev pub is_name_byte : ℕ → Bool
 is_name_byte b = not (b == 0) && not (b == slash)
 
--- such bytes, at least one and not too many
-abbrev pub is_name : List ℕ → Bool
-is_name name = (nat_lt 0 (length name) && nat_le (length name) name_len) && list_all is_name_byte name
+-- such bytes, at least one and at most so many
+abbrev pub is_name_within : ℕ → List ℕ → Bool
+is_name_within most name = (nat_lt 0 (length name) && nat_le (length name) most) && list_all is_name_byte name
 
-abbrev pub IsName : List ℕ → Type 0
-IsName name = IsTrue (is_name name)
+-- a name of this version
+abbrev pub is_name : Version → List ℕ → Bool
+is_name v name = is_name_within (name_len_of v) name
+
+abbrev pub IsName : Version → List ℕ → Type 0
+IsName v name = IsTrue (is_name v name)
+
+-- a name of some version
+abbrev pub IsAnyName : List ℕ → Type 0
+IsAnyName name = IsTrue (is_name_within longest_name name)

@@ -1,17 +1,17 @@
 -- The superblock: the magic number, then where the parts of a disk lie.
 use Rattle.std.specs.Prelude.{ℕ, ◌==◌, ◌^◌, ◌<◌, if◌then◌else◌, List, [], ◌∷◌, Option, Some, None}
-use Rattle.fs_layout.specs.Vocabulary.{flat_map, AllByRecursion}
+use Rattle.fs_layout.specs.Vocabulary.{flat_map, AllByRecursion, magic_of, Version}
 use Rattle.fs_layout.specs.declared.superblock.Super.{Super}
 use Rattle.fs_layout.specs.Bytes.{u32_bytes, u32_at}
-use Rattle.fs_layout.specs.Widths.{magic, super_magic_at, super_size_at, super_nblocks_at, super_ninodes_at, super_nlog_at, super_logstart_at, super_inodestart_at, super_bmapstart_at}
+use Rattle.fs_layout.specs.Widths.{super_magic_at, super_size_at, super_nblocks_at, super_ninodes_at, super_nlog_at, super_logstart_at, super_inodestart_at, super_bmapstart_at}
 
 -- the fields in their order on the disk
 abbrev pub super_numbers : Super → List ℕ
 super_numbers s = s.size ∷ s.nblocks ∷ s.ninodes ∷ s.nlog ∷ s.logstart ∷ s.inodestart ∷ s.bmapstart ∷ []
 
 -- the bytes of a superblock
-abbrev pub spell_super : Super → List ℕ
-spell_super s = flat_map u32_bytes (magic ∷ super_numbers s)
+abbrev pub spell_super : Version → Super → List ℕ
+spell_super v s = flat_map u32_bytes (magic_of v ∷ super_numbers s)
 
 abbrev pub super_fields : List ℕ → Super
 super_fields block = record {
@@ -25,8 +25,8 @@ super_fields block = record {
 }
 
 -- the superblock that a block is, where its magic number is right
-abbrev pub super_of : List ℕ → Option Super
-super_of block = if u32_at block super_magic_at == magic then Some (super_fields block) else None
+abbrev pub super_of : Version → List ℕ → Option Super
+super_of v block = if u32_at block super_magic_at == magic_of v then Some (super_fields block) else None
 
 -- the values of the code's type
 abbrev pub IsSuper : Super → Type 0

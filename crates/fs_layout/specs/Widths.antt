@@ -1,23 +1,20 @@
 -- How wide the parts of a block are and where they stand, in bytes where nothing else is said.
 use Rattle.std.specs.Prelude.{ℕ}
+use Rattle.image_versions.specs.Shared as shared
 
 abbrev pub block_len : ℕ
-block_len = 1024
+block_len = shared.block_len
 
 abbrev pub number_len : ℕ
 number_len = 4
 
 -- how many numbers an indirect block has
 abbrev pub numbers_per_block : ℕ
-numbers_per_block = 256
+numbers_per_block = shared.numbers_per_block
 
 -- how many bits a bitmap block has
 abbrev pub bits_per_block : ℕ
 bits_per_block = 8192
-
--- the number that a superblock begins with
-abbrev pub magic : ℕ
-magic = 0x10203040
 
 -- a superblock's magic number and fields
 abbrev pub super_len : ℕ
@@ -56,7 +53,7 @@ inodes_per_block = 16
 
 -- how many block numbers stand in an inode
 abbrev pub addresses : ℕ
-addresses = 13
+addresses = shared.addresses
 
 abbrev pub inode_kind_at : ℕ
 inode_kind_at = 0
@@ -76,22 +73,11 @@ inode_size_at = 8
 abbrev pub inode_addresses_at : ℕ
 inode_addresses_at = 12
 
-abbrev pub dirent_len : ℕ
-dirent_len = 16
-
--- how many entries a block has
-abbrev pub dirents_per_block : ℕ
-dirents_per_block = 64
-
 abbrev pub dirent_number_at : ℕ
 dirent_number_at = 0
 
 abbrev pub dirent_name_at : ℕ
 dirent_name_at = 2
-
--- the longest name, and the field that holds one
-abbrev pub name_len : ℕ
-name_len = 14
 
 -- the code of '/'
 abbrev pub slash : ℕ

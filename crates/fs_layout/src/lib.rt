@@ -23,6 +23,6 @@ pub use crate::indirect::{
 };
 pub use crate::inode::{Dinode, dinode_spelling, read_dinode, write_dinode};
 pub use crate::log_head::{LogHead, log_head_spelling, read_log_head, write_log_head};
-pub use crate::name::Name;
+pub use crate::name::{Name, names_have_room};
 pub use crate::recovered::recovered_blocks;
-pub use crate::superblock::{Super, read_super, super_spelling, write_super};
+pub use crate::superblock::{Super, read_super, read_version, super_spelling, write_super};

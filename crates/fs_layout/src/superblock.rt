@@ -1,15 +1,17 @@
 //! The superblock: block 1 of a disk. docs/FORMATS.md has its table; the xv6 book, chapter 8, its use.
-ghost use Rattle.std.specs.Prelude.{◌≡◌, ℕ, List, Some, length};
-ghost use Rattle.fs_layout.specs.Bytes.{overwrite, IsBytes};
+ghost use Rattle.std.specs.Prelude.{◌≡◌, ◌↔◌, ℕ, List, Some, IsSome, length};
+ghost use Rattle.fs_layout.specs.Vocabulary.{version_of_magic, Version};
+ghost use Rattle.fs_layout.specs.Bytes.{overwrite, u32_at, IsBytes};
 ghost use Rattle.fs_layout.specs.Super.{spell_super, super_of, IsSuper};
 ghost use Rattle.fs_layout.specs.declared.superblock.Super.{Super};
 ghost use Rattle.fs_layout.specs.Widths.{super_len, super_magic_at};
 
 use crate::bytes::{put_u32s, u32_in};
 use crate::widths::{
-    Block, MAGIC, SUPER_BMAPSTART_AT, SUPER_INODESTART_AT, SUPER_LOGSTART_AT, SUPER_MAGIC_AT,
+    Block, SUPER_BMAPSTART_AT, SUPER_INODESTART_AT, SUPER_LOGSTART_AT, SUPER_MAGIC_AT,
     SUPER_NBLOCKS_AT, SUPER_NINODES_AT, SUPER_NLOG_AT, SUPER_SIZE_AT,
 };
+use image_versions::Version;
 
 /// Where the parts of a disk lie, by block numbers, and how many inodes it has. Any values are one: whether they fit
 /// together, as a well-formed image has them, is for the examination of an image to say.
@@ -31,11 +33,18 @@ pub struct Super {
     pub bmapstart: u32,
 }
 
-/// The superblock that a block is; `None` where its magic number is another.
-pub fn read_super(block: &Block) -> Option<Super>
-    ensures { result ≡ super_of block.now }
+/// The version whose magic number a superblock begins with; `None` where it is of none.
+pub fn read_version(block: &Block) -> Option<Version>
+    ensures { result ≡ version_of_magic (u32_at block.now super_magic_at) }
 {
-    if u32_in(block, SUPER_MAGIC_AT) != MAGIC {
+    Version::of_magic(u32_in(block, SUPER_MAGIC_AT))
+}
+
+/// The superblock of this version that a block is; `None` where its magic number is another.
+pub fn read_super(version: Version, block: &Block) -> Option<Super>
+    ensures { result ≡ super_of version block.now }
+{
+    if u32_in(block, SUPER_MAGIC_AT) != version.magic() {
         return None;
     }
     Some(Super {
@@ -49,14 +58,14 @@ pub fn read_super(block: &Block) -> Option<Super>
     })
 }
 
-/// Writes the magic number and the fields. What stands behind them stays: begin with a block of
+/// Writes the version's magic number and the fields. What stands behind them stays: begin with a block of
 /// zeros where it is to be zero.
-pub fn write_super(block: &mut Block, superblock: &Super)
-    ensures bytes { block.new ≡ overwrite block.old super_magic_at (spell_super superblock.now) }
-    ensures reads_back { super_of block.new ≡ Some superblock.now }
+pub fn write_super(version: Version, block: &mut Block, superblock: &Super)
+    ensures bytes { block.new ≡ overwrite block.old super_magic_at (spell_super version superblock.now) }
+    ensures reads_back { super_of version block.new ≡ Some superblock.now }
 {
     let numbers = [
-        MAGIC,
+        version.magic(),
         superblock.size,
         superblock.nblocks,
         superblock.ninodes,
@@ -68,9 +77,11 @@ pub fn write_super(block: &mut Block, superblock: &Super)
     put_u32s(block, SUPER_MAGIC_AT, &numbers);
 }
 
-/// A superblock and its bytes determine each other, and other bytes are none.
+/// A superblock and its bytes determine each other, and other bytes are none. Its magic number tells which version's it is.
 pub fn super_spelling()
-    ensures reads_back { (s : Super) → IsSuper s → super_of (spell_super s) ≡ Some s }
-    ensures only { (bytes : List ℕ) (s : Super) → length bytes ≡ super_len → IsBytes bytes
-        → super_of bytes ≡ Some s → spell_super s ≡ bytes }
+    ensures reads_back { (v : Version) (s : Super) → IsSuper s → super_of v (spell_super v s) ≡ Some s }
+    ensures only { (v : Version) (bytes : List ℕ) (s : Super) → length bytes ≡ super_len → IsBytes bytes
+        → super_of v bytes ≡ Some s → spell_super v s ≡ bytes }
+    ensures version { (v : Version) (block : List ℕ)
+        → IsSome (super_of v block) ↔ (version_of_magic (u32_at block super_magic_at) ≡ Some v) }
 {}

@@ -1,8 +1,8 @@
 //! How wide the parts of a block are and where they stand: the tables of docs/FORMATS.md.
-//! Widths and places are in bytes where nothing else is said.
+//! Widths and places are in bytes where nothing else is said. What a version has of its own stands in `image_versions`.
 
 /// A block of the disk.
-pub const BLOCK_LEN: usize = 1024;
+pub const BLOCK_LEN: usize = image_versions::widths::BLOCK_LEN;
 
 /// A block's bytes.
 pub type Block = [u8; BLOCK_LEN];
@@ -11,13 +11,10 @@ pub type Block = [u8; BLOCK_LEN];
 pub const NUMBER_LEN: usize = 4;
 
 /// How many numbers an indirect block has.
-pub const NUMBERS_PER_BLOCK: usize = 256;
+pub const NUMBERS_PER_BLOCK: usize = image_versions::widths::NUMBERS_PER_BLOCK;
 
 /// How many bits a bitmap block has.
 pub const BITS_PER_BLOCK: usize = 8192;
-
-/// The number that a superblock begins with.
-pub const MAGIC: u32 = 0x1020_3040;
 
 /// A superblock: its magic number and seven fields, each a u32. Each place below is one of block 1.
 pub const SUPER_LEN: usize = 32;
@@ -53,7 +50,7 @@ pub const INODE_LEN: usize = 64;
 pub const INODES_PER_BLOCK: usize = 16;
 
 /// How many block numbers stand in an inode: 12 direct ones and that of an indirect block.
-pub const ADDRESSES: usize = 13;
+pub const ADDRESSES: usize = image_versions::widths::ADDRESSES;
 
 /// Where the major number of a device stands, an i16.
 pub const INODE_MAJOR_AT: usize = 2;
@@ -70,17 +67,8 @@ pub const INODE_SIZE_AT: usize = 8;
 /// Where the 13 block numbers begin, each a u32.
 pub const INODE_ADDRESSES_AT: usize = 12;
 
-/// A directory entry.
-pub const DIRENT_LEN: usize = 16;
-
-/// How many entries a block has.
-pub const DIRENTS_PER_BLOCK: usize = 64;
-
-/// Where the name of an entry stands in it.
-pub const DIRENT_NAME_AT: usize = 2;
-
-/// The longest name, and the field that holds one.
-pub const NAME_LEN: usize = 14;
+/// Where the name of a directory entry stands in it, behind the inode's number.
+pub const DIRENT_NAME_AT: usize = image_versions::widths::ENTRY_NUMBER_LEN;
 
 /// How many blocks a log's head can name.
 pub const LOG_HEAD_LEN: usize = 255;

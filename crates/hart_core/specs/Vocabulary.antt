@@ -1,6 +1,6 @@
 -- What the crates below call things: the words that this crate's definitions and contracts use.
-pub use Rattle.calls_on_blocks.specs.Vocabulary.{Answer, Begins, Code, DidEnd, Event as EventOf, IsMountable, IsNamedPart, IsPlaced, IsWellFormed, LogPart, Op, Outside, Refusal, Start as StartOf, Step as StepOf, Theory, Tree, are_bytes, before, fresh, is_open, joined, no_marks, or_else, run, tree_in, tree_of}
-unfoldable pub use Rattle.calls_on_blocks.specs.Vocabulary.{Chain, exec, sizes_of}
+pub use Rattle.calls_on_blocks.specs.Vocabulary.{Answer, Begins, Code, DidEnd, Event as EventOf, IsMountable, IsNamedPart, IsPlaced, IsWellFormed, LogPart, Op, Outside, Refusal, Start as StartOf, Step as StepOf, Theory, Tree, are_bytes, before, fresh, is_open, joined, no_marks, or_else, run, tree_in, tree_of, Chain}
+unfoldable pub use Rattle.calls_on_blocks.specs.Vocabulary.{exec, sizes_of}
 pub use Rattle.inodes_on_blocks.specs.Vocabulary.{HasBytes, HasWholeBlocks, IsOutsideLog, Machine, State, block_at, buffer_count, count_of, holder_of as buffer_holder, is_held_by, is_marked, lock_holder as holder_of, seen_of}
 unfoldable pub use Rattle.inodes_on_blocks.specs.Vocabulary.{May, MayWait, logged, numbers_by, recovered, unused_from}
 pub use Rattle.tree_laws.specs.Vocabulary.{Explains, Other, Replied, Shown, Started, TreeData, call_climbs, noted, trace_of}
@@ -24,7 +24,8 @@ pub use Rattle.calls_on_blocks.specs.Stops.{marks_at}
 pub use Rattle.fs_machine.specs.Premises.{IsElsewhere, JoinWaits}
 unfoldable pub use Rattle.fs_machine.specs.Premises.{Honest}
 pub use Rattle.fs_machine.specs.Steps.{kind_of}
-pub use Rattle.image_tree.specs.Damage.{JudgesFault, fault_count_of, faults_with}
+pub use Rattle.image_tree.specs.Damage.{fault_count_of, faults_with}
+pub use Rattle.image_tree.specs.VersionOne.{JudgesFault}
 pub use Rattle.image_tree.specs.Freeing.{AreNamed}
 pub use Rattle.image_tree.specs.Shape.{is_orphan}
 pub use Rattle.image_tree.specs.declared.fault.MountFault.{MountFault}

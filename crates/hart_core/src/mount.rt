@@ -14,6 +14,7 @@ use fs_layout::Super;
 use fs_machine::{Core, Tables};
 use group_log::Log;
 use image_tree::{MountFault, examine_layout, settle};
+use image_versions::Version;
 use std::alloc::Global;
 
 /// All memory that a file system takes, and the sizes of its disk.
@@ -37,11 +38,11 @@ fn prepare<D: Device>(alloc: Global, device: &mut D) -> Result<Ready, MountFault
     ensures calls { ComesByCalls D.Called device.old device.new }
     ensures err { IfErr result (λ fault. HandsBack D.contents D.failures device.old device.new fault) }
 {
-    let layout = examine_layout(alloc, device)?;
+    let layout = examine_layout(alloc, device, Version::One)?;
     let buffers = Buffers::new(alloc)?;
     let tables = Tables::new(alloc)?;
     let calls = Calls::idle(alloc)?;
-    match settle(device, layout.sizes) {
+    match settle(device, Version::One, layout.sizes) {
         Ok(()) => {}
         Err(fault) => {
             calls.end();

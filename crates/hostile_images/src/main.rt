@@ -13,6 +13,7 @@ use crate::slow::{Found, judge};
 use anyhow::anyhow;
 use block_device::MemoryDisk;
 use image_tree::{MountFault, Shape, examine};
+use image_versions::Version;
 use std::alloc::{AllocError, Global};
 use std::time::Instant;
 use std::{env, fs};
@@ -94,7 +95,7 @@ fn try_images(rt: &HostRuntime, alloc: Global, count: u64, seed: u64) -> anyhow:
         let judged = judge(alloc, image.as_slice())?;
         let mut disk = MemoryDisk::new(image);
         let start = Instant::now(rt)?;
-        let answer = examine(alloc, &mut disk);
+        let answer = examine(alloc, &mut disk, Version::One);
         let took = start.elapsed(rt)?.as_nanos();
         tally.note(seed, as_found(&answer), judged, took);
     }

@@ -1,5 +1,5 @@
 -- What an inode in use holds is seen in its own blocks alone.
-use Rattle.image_tree.proofs.Vocabulary.{◌≡◌, ◌≢◌, ◌⊎◌, inl, inr, ℕ, zero, suc, ◌+◌, ◌/◌, ◌%◌, ◌<◌, ◌≤◌, ◌==◌, nat_lt, ◌&&◌, not, Bool, true, false, if◌then◌else◌, List, [], ◌∷◌, ◌++◌, slice_index, slice_index_or, take, Option, map, refl, ◌∙◌, ap, subst, All, and_parts, Super, Dinode, Dirent, numbers_in, dirent_at, dirents_per_block, dirent_len, recovered, sizes_of, inode_of, is_free, is_directory, is_live, is_node, is_live_directory, direct, numbers_of, block_number, content_block, numbers_by, front_blocks, content_of, blocks_for, slot_at, first_slots, slots_of, IsData, HasGoodNumbers, Directory, File, Device, slot_of, is_file, kind_of}
+use Rattle.image_tree.proofs.Vocabulary.{Version, ◌≡◌, ◌≢◌, ◌⊎◌, inl, inr, ℕ, zero, suc, ◌+◌, ◌/◌, ◌%◌, ◌==◌, nat_lt, ◌&&◌, not, Bool, true, false, if◌then◌else◌, List, [], ◌∷◌, ◌++◌, slice_index, slice_index_or, take, Option, map, refl, ◌∙◌, ap, subst, All, and_parts, Dinode, Dirent, numbers_in, dirent_at, dirents_per_block_of, dirent_len_of, recovered, sizes_of, inode_of, is_free, is_directory, is_live, is_node, is_live_directory, direct, numbers_of, block_number, content_block, numbers_by, front_blocks, content_of, blocks_for, slot_at, first_slots, slots_of, IsData, HasGoodNumbers, Directory, File, Device, slot_of, is_file, kind_of}
 use Rattle.image_tree.proofs.Views.{number_at, All-front, kind_used}
 pub use Rattle.image_tree.proofs.Views.{InRange, pick, ranged}
 
@@ -49,22 +49,24 @@ module _ (d e : List (List ℕ)) (same : (b : ℕ) → (b ≡ 0) ⊎ IsData (siz
       ap (λ (l : List ℕ). recovered e (block_number l k)) numbers_same
       ∙ place_same (if nat_lt k direct then k else k + 1)
 
-  slot_same : (n : ℕ) → slot_at e x n ≡ slot_at d x n
-  unfolding slot_at
-  slot_same n = ap (λ (bytes : List ℕ). dirent_at (n % dirents_per_block) bytes) (content_same (n / dirents_per_block))
-
-  pub slots_same : (n : ℕ) → first_slots e x n ≡ first_slots d x n
-  unfolding first_slots
-  slots_same zero = refl
-  slots_same (suc n) = ap (λ (l : List (Option Dirent)). l ++ slot_at e x n ∷ []) (slots_same n) ∙ ap (λ (o : Option Dirent). first_slots d x n ++ o ∷ []) (slot_same n)
-
   front_same : (n : ℕ) → front_blocks e x n ≡ front_blocks d x n
   unfolding front_blocks
   front_same zero = refl
   front_same (suc n) = ap (λ (l : List ℕ). l ++ content_block e x n) (front_same n) ∙ ap (λ (l : List ℕ). front_blocks d x n ++ l) (content_same n)
 
-  pub kind_same : kind_of e x ≡ kind_of d x
+-- and of a version's slots
+module _ (v : Version) (d e : List (List ℕ)) (same : (b : ℕ) → (b ≡ 0) ⊎ IsData (sizes_of d) b → recovered e b ≡ recovered d b) (x : Dinode) (good : Good d x) where
+  slot_same : (n : ℕ) → slot_at v e x n ≡ slot_at v d x n
+  unfolding slot_at
+  slot_same n = ap (λ (bytes : List ℕ). dirent_at v (n % dirents_per_block_of v) bytes) (content_same d e same x good (n / dirents_per_block_of v))
+
+  pub slots_same : (n : ℕ) → first_slots v e x n ≡ first_slots v d x n
+  unfolding first_slots
+  slots_same zero = refl
+  slots_same (suc n) = ap (λ (l : List (Option Dirent)). l ++ slot_at v e x n ∷ []) (slots_same n) ∙ ap (λ (o : Option Dirent). first_slots v d x n ++ o ∷ []) (slot_same n)
+
+  pub kind_same : kind_of v e x ≡ kind_of v d x
   unfolding kind_of
   kind_same =
-      ap (λ (l : List (Option Dirent)). if is_directory x then Directory (map slot_of l) else (if is_file x then File (content_of e x) else Device x.major x.minor x.size)) (slots_same (x.size / dirent_len))
-      ∙ ap (λ (l : List ℕ). if is_directory x then Directory (map slot_of (slots_of d x)) else (if is_file x then File (take x.size l) else Device x.major x.minor x.size)) (front_same (blocks_for x.size))
+      ap (λ (l : List (Option Dirent)). if is_directory x then Directory (map slot_of l) else (if is_file x then File (content_of e x) else Device x.major x.minor x.size)) (slots_same (x.size / dirent_len_of v))
+      ∙ ap (λ (l : List ℕ). if is_directory x then Directory (map slot_of (slots_of v d x)) else (if is_file x then File (take x.size l) else Device x.major x.minor x.size)) (front_same d e same x good (blocks_for x.size))

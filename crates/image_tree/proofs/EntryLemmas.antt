@@ -78,9 +78,9 @@ no_directory disk i d e not t =
 
 pub slots_told : (disk : List (List ℕ)) (layout : Layout) (i : ℕ) (d : Dinode) (nodes : List Bool) (slots : List (Option Dirent)) (told : Bool)
     → IsLayout disk layout → 1 ≤ i → i < layout.sizes.ninodes → d ≡ inode_of disk i → (is_directory d && is_live d) ≡ true
-    → IsNodeTable disk nodes → slots ≡ slots_in disk i
+    → IsNodeTable disk nodes → slots ≡ slots_in layout.version disk i
     → (IsTrue told ↔ AreGoodSlots (λ n. get_or nodes n false) i slots)
-    → IsTrue told ↔ (is_live_directory disk i ≡ true → AreGoodSlots (is_node disk) i (slots_in disk i))
+    → IsTrue told ↔ (is_live_directory disk i ≡ true → AreGoodSlots (is_node disk) i (slots_in layout.version disk i))
 slots_told disk layout i d nodes slots told h low bound e is table same says = (
   λ yes _. subst (AreGoodSlots (is_node disk) i) same (good_slots_same (λ n. get_or nodes n false) (is_node disk) i slots table.says (says.0 yes)),
   λ good.

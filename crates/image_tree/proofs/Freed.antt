@@ -1,5 +1,5 @@
 -- An image stays well formed where a node without a name is freed.
-use Rattle.image_tree.proofs.Vocabulary.{◌≡◌, ◌≢◌, inl, inr, ℕ, zero, suc, ◌-◌, ◌/◌, ◌<◌, ◌≤◌, ◌==◌, nat_lt, ◌&&◌, not, ℤ, pos, ◌≤ℤ◌, ◌<ℤ◌, Bool, true, false, if◌then◌else◌, List, [], ◌∷◌, ◌++◌, length, get_or, slice_index_or, drop, filter, Option, Some, None, refl, sym, ◌∙◌, ap, subst, arith, Contains, All, cases_eq, cases_lt, and_parts, ltb-true, false≢true, ne_eqb, get_or_default, Super, Dinode, Dirent, dirent_len, sizes_of, IsOnce, gathered, times, inode_of, is_number, is_free, is_directory, is_live, is_node, is_live_directory, numbers_of, block_number, numbers_by, named_by, is_block, slots_of, last, slots_in, slot_numbers, number_in, up, names_of, further_names_of, proper_names_of, children_of, Reaches, IsGoodType, IsData, is_marked, IsGoodSize, AreGoodSlots, IsOneTree, IsGoodCount, HasMarks, HasGoodTypes, HasRoot, HasGoodNumbers, NamesOnce, HasGoodSizes, HasGoodSlots, HasGoodCounts, IsWellFormed, is_orphan, IsFreed, FreedNodesLeaveImages, NodeKind, Node, at_rest, kind_of, count_of, node_of, first_nodes, tree_in}
+use Rattle.image_tree.proofs.Vocabulary.{Version, ◌≡◌, ◌≢◌, inl, inr, ℕ, zero, suc, ◌-◌, ◌/◌, ◌<◌, ◌≤◌, ◌==◌, nat_lt, ◌&&◌, not, ℤ, pos, ◌≤ℤ◌, ◌<ℤ◌, Bool, true, false, if◌then◌else◌, List, [], ◌∷◌, ◌++◌, length, get_or, slice_index_or, drop, filter, Option, Some, None, refl, sym, ◌∙◌, ap, subst, arith, Contains, All, cases_eq, cases_lt, and_parts, ltb-true, false≢true, ne_eqb, get_or_default, Super, Dinode, Dirent, dirent_len_of, sizes_of, IsOnce, gathered, times, inode_of, is_number, is_free, is_directory, is_live, is_node, is_live_directory, numbers_of, block_number, numbers_by, named_by, is_block, slots_of, last, slots_in, slot_numbers, number_in, up, names_of, further_names_of, proper_names_of, children_of, Reaches, IsGoodType, IsData, is_marked, IsGoodSize, AreGoodSlots, IsOneTree, IsGoodCount, HasMarks, HasGoodTypes, HasRoot, HasGoodNumbers, NamesOnce, HasGoodSizes, HasGoodSlots, HasGoodCounts, IsWellFormed, is_orphan, IsFreed, FreedNodesLeaveImages, NodeKind, Node, at_rest, kind_of, count_of, node_of, first_nodes, tree_in}
 use Rattle.image_tree.proofs.Nodes.{node_is, directory_is}
 use Rattle.image_tree.proofs.NumberLists.{All-nil, numbers_by_free}
 use Rattle.image_tree.proofs.Contents.{pick, not_free, InRange, ranged, used_good, node_good, live_good, numbers_same, slots_same, kind_same}
@@ -46,17 +46,17 @@ kept_at b (x ∷ xs) ne (suc k) l e =
 kept_has : (b : ℕ) (xs : List ℕ) → b ≢ 0 → Contains xs b → Contains (filter is_block xs) b
 kept_has b xs ne has = kept_at b xs ne has.0 has.1 has.2
 
-module _ (d e : List (List ℕ)) (i : ℕ) (orphan : is_orphan d i ≡ true) (f : IsFreed d e i) (well : IsWellFormed d) where
-  good_counts_d : HasGoodCounts d
+module _ (v : Version) (d e : List (List ℕ)) (i : ℕ) (orphan : is_orphan d i ≡ true) (f : IsFreed v d e i) (well : IsWellFormed v d) where
+  good_counts_d : HasGoodCounts v d
   good_counts_d = well.1
 
-  one_tree_d : IsOneTree d
+  one_tree_d : IsOneTree v d
   one_tree_d = (let tree = well.0 in tree.1)
 
-  slots_d : HasGoodSlots d
+  slots_d : HasGoodSlots v d
   slots_d = (let tree = well.0 in let slot = tree.0 in slot.1)
 
-  sizes_d : HasGoodSizes d
+  sizes_d : HasGoodSizes v d
   sizes_d = (let tree = well.0 in let slot = tree.0 in let size = slot.0 in size.1)
 
   marks_d : HasMarks d
@@ -88,10 +88,10 @@ module _ (d e : List (List ℕ)) (i : ℕ) (orphan : is_orphan d i ≡ true) (f 
   range_i = (ranged (sizes_of d) i (not (is_free (inode_of d i))) is_node_i).0
 
   no_live : is_live_directory d i ≡ false
-  no_live = no_directory d i is_node_i dead slots_d one_tree_d good_counts_d
+  no_live = no_directory v d i is_node_i dead slots_d one_tree_d good_counts_d
 
   not_root : 1 ≢ i
-  not_root = no_root d i is_node_i dead slots_d one_tree_d good_counts_d
+  not_root = no_root v d i is_node_i dead slots_d one_tree_d good_counts_d
 
   ninodes_same : (sizes_of e).ninodes ≡ (sizes_of d).ninodes
   ninodes_same = ap (λ (z : Super). z.ninodes) f.sizes
@@ -216,54 +216,54 @@ module _ (d e : List (List ℕ)) (i : ℕ) (orphan : is_orphan d i ≡ true) (f 
     ];
   }
 
-  sizes : HasGoodSizes e
+  sizes : HasGoodSizes v e
   sizes j is =
       let was = left j is in
       let old = sizes_d j was.1 in
-      subst (λ (x : Dinode). IsGoodSize e x) (sym (f.inodes j was.0 (node_is d j was.1).bound))
+      subst (λ (x : Dinode). IsGoodSize v e x) (sym (f.inodes j was.0 (node_is d j was.1).bound))
       (record { fits = old.fits; named = λ k lt. subst (λ (l : List ℕ). block_number l k ≢ 0) (sym (numbers_same d e f.contents (inode_of d j) (node_good d numbers_d j was.1))) (old.named k lt) })
 
-  slots_in_same : (j : ℕ) → slots_in e j ≡ slots_in d j
+  slots_in_same : (j : ℕ) → slots_in v e j ≡ slots_in v d j
   unfolding slots_in
   slots_in_same j =
-      ap (λ (t : Bool). if t then slots_of e (inode_of e j) else []) (live_same j)
-      ∙ pick (is_live_directory d j) (λ t. is_live_directory d j ≡ t → (if t then slots_of e (inode_of e j) else []) ≡ (if t then slots_of d (inode_of d j) else []))
+      ap (λ (t : Bool). if t then slots_of v e (inode_of e j) else []) (live_same j)
+      ∙ pick (is_live_directory d j) (λ t. is_live_directory d j ≡ t → (if t then slots_of v e (inode_of e j) else []) ≡ (if t then slots_of v d (inode_of d j) else []))
       (λ _ is.
       let ne : j ≢ i = (λ q. false≢true (sym no_live ∙ ap (is_live_directory d) (sym q) ∙ is)) in
-      ap (λ (x : Dinode). slots_of e x) (f.inodes j ne (directory_is d j is).bound) ∙ slots_same d e f.contents (inode_of d j) (live_good d numbers_d j is) ((inode_of d j).size / dirent_len)) (λ _ _. refl) refl
+      ap (λ (x : Dinode). slots_of v e x) (f.inodes j ne (directory_is d j is).bound) ∙ slots_same v d e f.contents (inode_of d j) (live_good d numbers_d j is) ((inode_of d j).size / dirent_len_of v)) (λ _ _. refl) refl
 
-  all_slots : slots_in e ≡ slots_in d
+  all_slots : slots_in v e ≡ slots_in v d
   all_slots = λ j i. slots_in_same i j
 
-  ups : up e ≡ up d
+  ups : up v e ≡ up v d
   ups = λ j i. number_in (slice_index_or (all_slots j i) 1 None)
 
-  all_names : names_of e ≡ names_of d
+  all_names : names_of v e ≡ names_of v d
   all_names = λ j i. times i (gathered (λ n. slot_numbers (all_slots j n)) ((f.sizes j).ninodes - 1))
 
-  all_further : further_names_of e ≡ further_names_of d
+  all_further : further_names_of v e ≡ further_names_of v d
   all_further = λ j i. times i (gathered (λ n. slot_numbers (drop 2 (all_slots j n))) ((f.sizes j).ninodes - 1))
 
-  all_proper : proper_names_of e ≡ proper_names_of d
+  all_proper : proper_names_of v e ≡ proper_names_of v d
   all_proper = λ j i. times i (gathered (λ n. filter (λ m. ups j m == n) (slot_numbers (drop 2 (all_slots j n)))) ((f.sizes j).ninodes - 1))
 
-  all_children : children_of e ≡ children_of d
+  all_children : children_of v e ≡ children_of v d
   all_children = λ j i. times i (gathered (λ n. filter (λ m. not (m == n)) (ups j n ∷ [])) ((f.sizes j).ninodes - 1))
 
-  good_slots : HasGoodSlots e
+  good_slots : HasGoodSlots v e
   good_slots j is =
       let live : is_live_directory d j ≡ true = sym (live_same j) ∙ is in
       let old = slots_d j live in
-      let others = unnamed d i is_node_i dead slots_d one_tree_d good_counts_d j live in
+      let others = unnamed v d i is_node_i dead slots_d one_tree_d good_counts_d j live in
       subst (λ (l : List (Option Dirent)). AreGoodSlots (is_node e) j l) (sym (slots_in_same j)) (record {
         first = old.first;
         second = old.second;
         entries = old.entries;
-        nodes = λ k w lt. node_other (slice_index_or (slot_numbers (slots_in d j)) k w) (others k w lt) ∙ old.nodes k w lt;
+        nodes = λ k w lt. node_other (slice_index_or (slot_numbers (slots_in v d j)) k w) (others k w lt) ∙ old.nodes k w lt;
         names = old.names;
       })
 
-  one_tree : IsOneTree e
+  one_tree : IsOneTree v e
   one_tree = record {
     root = ap (λ (g : ℕ → ℕ). g 1) ups ∙ one_tree_d.root;
     root_unnamed = ap (λ (g : ℕ → ℕ). g 1) all_further ∙ one_tree_d.root_unnamed;
@@ -272,46 +272,46 @@ module _ (d e : List (List ℕ)) (i : ℕ) (orphan : is_orphan d i ≡ true) (f 
     reaches = λ j is. subst (λ (g : ℕ → ℕ). Reaches g j) (sym ups) (one_tree_d.reaches j (sym (live_same j) ∙ is));
   }
 
-  good_counts : HasGoodCounts e
+  good_counts : HasGoodCounts v e
   good_counts j is =
       let was = left j is in
-      subst (λ (x : Dinode). IsGoodCount x (names_of e j) (further_names_of e j) (children_of e j)) (sym (f.inodes j was.0 (node_is d j was.1).bound))
-      (subst (λ (g : ℕ → ℕ). IsGoodCount (inode_of d j) (g j) (further_names_of e j) (children_of e j)) (sym all_names)
-      (subst (λ (g : ℕ → ℕ). IsGoodCount (inode_of d j) (names_of d j) (g j) (children_of e j)) (sym all_further)
-      (subst (λ (g : ℕ → ℕ). IsGoodCount (inode_of d j) (names_of d j) (further_names_of d j) (g j)) (sym all_children)
+      subst (λ (x : Dinode). IsGoodCount x (names_of v e j) (further_names_of v e j) (children_of v e j)) (sym (f.inodes j was.0 (node_is d j was.1).bound))
+      (subst (λ (g : ℕ → ℕ). IsGoodCount (inode_of d j) (g j) (further_names_of v e j) (children_of v e j)) (sym all_names)
+      (subst (λ (g : ℕ → ℕ). IsGoodCount (inode_of d j) (names_of v d j) (g j) (children_of v e j)) (sym all_further)
+      (subst (λ (g : ℕ → ℕ). IsGoodCount (inode_of d j) (names_of v d j) (further_names_of v d j) (g j)) (sym all_children)
       (good_counts_d j was.1))))
 
-  pub well_formed : IsWellFormed e
+  pub well_formed : IsWellFormed v e
   well_formed = (((((((((f.good, types), root), named), once), marks), sizes), good_slots), one_tree), good_counts)
 
   -- ---- the tree
 
-  node_same : (j : ℕ) → node_of e j ≡ node_of d j
+  node_same : (j : ℕ) → node_of v e j ≡ node_of v d j
   unfolding node_of
   node_same j = elim (cases_eq j i) [
     | inl q ↦
-        ap (λ (t : Bool). if t && is_live (inode_of e j) then Some (a_node (kind_of e (inode_of e j)) (inode_of e j)) else None) (ap (is_node e) q ∙ gone)
-        ∙ sym (ap (λ (t : Bool). if t then Some (a_node (kind_of d (inode_of d j)) (inode_of d j)) else None)
+        ap (λ (t : Bool). if t && is_live (inode_of e j) then Some (a_node (kind_of v e (inode_of e j)) (inode_of e j)) else None) (ap (is_node e) q ∙ gone)
+        ∙ sym (ap (λ (t : Bool). if t then Some (a_node (kind_of v d (inode_of d j)) (inode_of d j)) else None)
         (ap (λ (t : Bool). is_node d j && t) (ap (λ (k : ℕ). is_live (inode_of d k)) q ∙ dead) ∙ no_and (is_node d j)))
     | inr ne ↦
-        ap (λ (t : Bool). if t && is_live (inode_of e j) then Some (a_node (kind_of e (inode_of e j)) (inode_of e j)) else None) (node_other j ne)
-        ∙ pick (is_node d j) (λ t. is_node d j ≡ t → (if t && is_live (inode_of e j) then Some (a_node (kind_of e (inode_of e j)) (inode_of e j)) else None)
-        ≡ (if t && is_live (inode_of d j) then Some (a_node (kind_of d (inode_of d j)) (inode_of d j)) else None))
+        ap (λ (t : Bool). if t && is_live (inode_of e j) then Some (a_node (kind_of v e (inode_of e j)) (inode_of e j)) else None) (node_other j ne)
+        ∙ pick (is_node d j) (λ t. is_node d j ≡ t → (if t && is_live (inode_of e j) then Some (a_node (kind_of v e (inode_of e j)) (inode_of e j)) else None)
+        ≡ (if t && is_live (inode_of d j) then Some (a_node (kind_of v d (inode_of d j)) (inode_of d j)) else None))
         (λ _ is.
-        ap (λ (x : Dinode). if is_live x then Some (a_node (kind_of e x) x) else None) (f.inodes j ne (node_is d j is).bound)
-        ∙ ap (λ (k : NodeKind). if is_live (inode_of d j) then Some (a_node k (inode_of d j)) else None) (kind_same d e f.contents (inode_of d j) (node_good d numbers_d j is)))
+        ap (λ (x : Dinode). if is_live x then Some (a_node (kind_of v e x) x) else None) (f.inodes j ne (node_is d j is).bound)
+        ∙ ap (λ (k : NodeKind). if is_live (inode_of d j) then Some (a_node k (inode_of d j)) else None) (kind_same v d e f.contents (inode_of d j) (node_good d numbers_d j is)))
         (λ _ _. refl) refl
   ]
 
-  nodes_same : (n : ℕ) → first_nodes e n ≡ first_nodes d n
+  nodes_same : (n : ℕ) → first_nodes v e n ≡ first_nodes v d n
   unfolding first_nodes
   nodes_same zero = refl
-  nodes_same (suc n) = ap (λ (l : List (Option Node)). l ++ node_of e n ∷ []) (nodes_same n) ∙ ap (λ (o : Option Node). first_nodes d n ++ o ∷ []) (node_same n)
+  nodes_same (suc n) = ap (λ (l : List (Option Node)). l ++ node_of v e n ∷ []) (nodes_same n) ∙ ap (λ (o : Option Node). first_nodes v d n ++ o ∷ []) (node_same n)
 
-  pub tree_same : tree_in e ≡ tree_in d
+  pub tree_same : tree_in v e ≡ tree_in v d
   tree_same =
-      let nodes : first_nodes e (sizes_of e).ninodes ≡ first_nodes d (sizes_of d).ninodes = ap (λ (z : Super). first_nodes e z.ninodes) f.sizes ∙ nodes_same (sizes_of d).ninodes in
+      let nodes : first_nodes v e (sizes_of e).ninodes ≡ first_nodes v d (sizes_of d).ninodes = ap (λ (z : Super). first_nodes v e z.ninodes) f.sizes ∙ nodes_same (sizes_of d).ninodes in
       ap at_rest nodes
 
 pub freed_nodes_leave_images : FreedNodesLeaveImages
-freed_nodes_leave_images old new i orphan freed well = (well_formed old new i orphan freed well, tree_same old new i orphan freed well)
+freed_nodes_leave_images v old new i orphan freed well = (well_formed v old new i orphan freed well, tree_same v old new i orphan freed well)

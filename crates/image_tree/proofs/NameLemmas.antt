@@ -1,116 +1,98 @@
--- The numbers of names: no two names have one.
-use Rattle.image_tree.proofs.Vocabulary.{◌≡◌, ◌≢◌, ◌↔◌, ◌∙◌, ap, sym, refl, subst, ℕ, zero, suc, ◌+◌, ◌-◌, ◌*◌, ◌^◌, ◌<◌, ◌≤◌, Bool, true, IsTrue, eqb, List, [], ◌∷◌, length, drop, get_or, map, arith, ◌&&◌, nat_lt, nat_le, All, AllByRecursion, AllPairs, list_all, IsStrictlyIncreasing, IsNonDecreasing, IsPermutation, pow-suc, pow-le-pow_right, drop_more, drop_all, get_or_default, get_or-map, length-map, recursion_from_All, AllPass-from_list_all, IsPermutation-sym, IsDistinct-IsPermutation, IsStrictlyIncreasing-from_distinct, AllPairs-from_IsDistinct, IsDistinct-from_AllPairs, and_parts, nat_tests, Decides-eqb, IsName, is_name_byte, IsOnce, name_key, IsKeyed}
+-- Names behind references: once where all differ, in any order, and where neighbours differ in a sorted list.
+use Rattle.image_tree.proofs.Vocabulary.{◌≡◌, ◌≢◌, ◌⊎◌, ◌∙◌, ap, sym, refl, inl, inr, ℕ, ◌+◌, ◌<◌, Bool, true, false, List, [], ◌∷◌, length, get_or, map, arith, cases_eq, get_or-map, length-map, IsPermutation, IsPermutation-sym, IsOnce}
+use Rattle.std.proofs.Common.{Bor, Equal, Greater, IsSorted, Less, Ordering, bytes_eq, is_eq, is_lt, nat_cmp, swap}
+use Rattle.std.proofs.lemmas.Cmp.{nat_list_cmp_total, on_total}
+use Rattle.std.proofs.lemmas.List.Edits.{Swapped, length-swap, swapped_from_swap}
+use Rattle.std.proofs.lemmas.List.Sorted.{IsPermutation-keeps, IsPermutation-map}
+use Rattle.std.proofs.lemmas.Map.Keys.{Less-from_sorted, sorted_from_all_adjacent}
+use Rattle.std.proofs.lemmas.Map.Text.{is_eq-slice_cmp}
+use Rattle.std.proofs.lemmas.Slice.Eq.{bytes_eq-Decides}
+use Rattle.std.specs.Cmp.Lexicographic.{slice_cmp}
+use Rattle.std.specs.Ordering.{ordering_reverse}
 
-pub key_none : (xs : List ℕ) (n : ℕ) → length xs ≤ n → name_key (drop n xs) ≡ 0
-unfolding name_key
-key_none xs n h = ap name_key (drop_all n xs h)
+abbrev pub Name : Type 0
+Name = Bor (List ℕ)
 
-pub key_step : (xs : List ℕ) (i b key : ℕ) → i < length xs → b ≡ get_or xs i 0 → key ≡ name_key (drop (i + 1) xs) → key * 256 + b ≡ name_key (drop i xs)
-unfolding name_key
-key_step xs i b key h is before =
-    let e : key * 256 + b ≡ b + 256 * key = omega arith in
-    e ∙ ap (λ (k : ℕ). b + 256 * k) before ∙ ap (λ (x : ℕ). x + 256 * name_key (drop (i + 1) xs)) is ∙ ap name_key (sym (drop_more xs i 0 h))
+abbrev pub texts : List Name → List (List ℕ)
+texts names = map (λ n. n.now) names
 
-key_below : (xs : List ℕ) → AllByRecursion (λ b. b < 256) xs → name_key xs < 256 ^ length xs
-unfolding name_key
-key_below [] h = omega arith
-key_below (b ∷ bs) h =
-    let ih = key_below bs h.1 in
-    let first = h.0 in
-    let e = pow-suc 256 (length bs) in
-    omega arith
+-- the names at i and j differ
+abbrev pub DifferAt : List Name → ℕ → ℕ → Type 0
+DifferAt names i j = (d : Name) → bytes_eq (get_or names i d).now (get_or names j d).now ≡ false
 
--- there is room for one more byte
-pub key_room : (xs : List ℕ) (key : ℕ) → All (λ b. b < 256) xs → length xs ≤ 13 → key ≡ name_key xs → key < 256 ^ 13
-key_room xs key all short is =
-    let below = key_below xs (recursion_from_All (λ b. b < 256) xs all) in
-    let more : 256 ^ length xs ≤ 256 ^ 13 = pow-le-pow_right (omega arith) short in
-    omega arith
+other_text : (a b : List ℕ) → bytes_eq a b ≡ false → a ≢ b
+other_text a b other e = let same = (bytes_eq-Decides a b).1 e in cc
 
-key_same : (xs ys : List ℕ) → AllByRecursion (λ b. (0 < b) × (b < 256)) xs → AllByRecursion (λ b. (0 < b) × (b < 256)) ys → name_key xs ≡ name_key ys → xs ≡ ys
-unfolding name_key
-key_same [] [] h k e = refl
-key_same [] (c ∷ cs) h k e = absurd (let p = k.0.0 in omega arith)
-key_same (b ∷ bs) [] h k e = absurd (let p = h.0.0 in omega arith)
-key_same (b ∷ bs) (c ∷ cs) h k e =
-    let p = h.0.1 in
-    let q = k.0.1 in
-    let first : b ≡ c = omega arith in
-    let rest : name_key bs ≡ name_key cs = omega arith in
-    ap (λ (x : ℕ). x ∷ bs) first ∙ ap (λ (zs : List ℕ). c ∷ zs) (key_same bs cs h.1 k.1 rest)
+tested : (a b : List ℕ) (t : Bool) → bytes_eq a b ≡ t → a ≢ b → t ≡ false
+tested a b true e other = absurd (other ((bytes_eq-Decides a b).0 e))
+tested a b false e other = refl
 
-name_byte : (b : ℕ) → is_name_byte b ≡ true → 0 < b
-name_byte b h = grind (arith, nat_tests)
-
-pub keyed_name : (name : List ℕ) → IsName name → All (λ b. b < 256) name → IsKeyed name
-keyed_name name h fits =
-    let bytes = AllPass-from_list_all is_name_byte name (and_parts (nat_lt 0 (length name) && nat_le (length name) 14) (list_all is_name_byte name) h).1 in
-    record { digits = recursion_from_All (λ b. (0 < b) × (b < 256)) name (λ k d l. (name_byte (get_or name k d) (bytes k d l), fits k d l)) }
-
-pub short_name : (name : List ℕ) → IsName name → length name ≤ 14
-short_name name h =
-    let p = and_parts (nat_lt 0 (length name) && nat_le (length name) 14) (list_all is_name_byte name) h in
-    let q = (and_parts (nat_lt 0 (length name)) (nat_le (length name) 14) p.0).1 in
-    grind (arith, nat_tests)
-
--- names stand once just where their numbers do
-keys_once : (names : List (List ℕ)) → All IsKeyed names → IsOnce names → IsOnce (map name_key names)
-keys_once names keyed once = record {
-  apart = λ i j d p q e.
-      let l : length (map name_key names) ≡ length names = length-map names name_key in
-      let qq : j < length names = omega arith in
-      let pp : i < length names = omega arith in
-      let same : name_key (get_or names i []) ≡ name_key (get_or names j []) =
-      sym (get_or-map name_key names i [] d pp) ∙ e ∙ get_or-map name_key names j [] d qq in
-      once.apart i j [] p qq (key_same (get_or names i []) (get_or names j []) (keyed i [] pp).digits (keyed j [] qq).digits same);
+pub once_from_places : (names : List Name) → ((i j : ℕ) → i < j → j < length names → DifferAt names i j) → IsOnce (texts names)
+once_from_places [] h = record { apart = λ i j d less within e. omega arith }
+once_from_places (n ∷ ns) h = record {
+  apart = λ i j d less within e.
+      let all = n ∷ ns in
+      let inside : j < length all = omega (arith, length-map all (λ (x : Name). x.now)) in
+      other_text _ _ (h i j less inside n) (sym (get_or-map (λ x. x.now) all i n d (omega arith)) ∙ e ∙ get_or-map (λ x. x.now) all j n d inside);
 }
 
-names_once : (names : List (List ℕ)) → IsOnce (map name_key names) → IsOnce names
-names_once names once = record {
-  apart = λ i j d p q e.
-      let l : length (map name_key names) ≡ length names = length-map names name_key in
-      let pp : i < length names = omega arith in
-      once.apart i j 0 p (omega arith) (get_or-map name_key names i d 0 pp ∙ ap name_key e ∙ sym (get_or-map name_key names j d 0 q));
+pub differ_once : (names : List Name) (i j : ℕ) → IsOnce (texts names) → i < j → j < length names → DifferAt names i j
+differ_once names i j once less within d =
+    let inside : j < length (texts names) = omega (arith, length-map names (λ (x : Name). x.now)) in
+    tested (get_or names i d).now (get_or names j d).now _ refl
+    (λ e. once.apart i j [] less inside (get_or-map (λ x. x.now) names i d [] (omega arith) ∙ e ∙ sym (get_or-map (λ x. x.now) names j d [] within)))
+
+-- ---- another order
+
+one_place : (xs : List (List ℕ)) → IsOnce xs → (i j : ℕ) (d : List ℕ) → i < length xs → j < length xs → get_or xs i d ≡ get_or xs j d → i ≡ j
+one_place xs once i j d p q e =
+    let not_below : i < j → ⊥ = λ less. once.apart i j d less q e in
+    let not_above : j < i → ⊥ = λ less. once.apart j i d less p (sym e) in
+    omega arith
+
+-- where a swap of a and b took the element at m from
+abbrev From : ℕ → ℕ → ℕ → ℕ → Type 0
+From a b m k = ((m ≡ a) × (k ≡ b)) ⊎ (((m ≡ b) × (k ≡ a)) ⊎ ((m ≢ a) × (m ≢ b) × (k ≡ m)))
+
+origin : {X : Type 0} (f g : ℕ → X) (a b m : ℕ) → Swapped f g a b → (m ≡ a) ⊎ (m ≢ a) → (m ≡ b) ⊎ (m ≢ b) → (k : ℕ) × From a b m k × (g m ≡ f k)
+origin f g a b m s (inl e) y = (b, inl (e, refl), ap g e ∙ s.0)
+origin f g a b m s (inr n) (inl e) = (a, inr (inl (e, refl)), ap g e ∙ s.1)
+origin f g a b m s (inr n) (inr o) = (m, inr (inr (n, o, refl)), s.2 m n o)
+
+once_swapped : (xs : List (List ℕ)) (a b : ℕ) → a < length xs → b < length xs → IsOnce xs → IsOnce (swap xs a b)
+once_swapped xs a b p q once = record {
+  apart = λ i j d less within e.
+      let len = length-swap xs a b in
+      let s = swapped_from_swap xs (swap xs a b) a b d p q refl in
+      let x = origin _ _ a b i s (cases_eq i a) (cases_eq i b) in
+      let y = origin _ _ a b j s (cases_eq j a) (cases_eq j b) in
+      let same = one_place xs once x.0 y.0 d (omega (arith, x.1)) (omega (arith, y.1)) (sym x.2 ∙ e ∙ y.2) in
+      omega (arith, x.1, y.1);
 }
 
-pub names_told : (told : Bool) (keys : List ℕ) (names : List (List ℕ)) → keys ≡ map name_key names → All IsKeyed names
-    → (IsTrue told ↔ IsOnce keys) → IsTrue told ↔ IsOnce names
-names_told told keys names is keyed says = (
-  λ yes. names_once names (subst IsOnce is (says.0 yes)),
-  λ once. says.1 (subst IsOnce (sym is) (keys_once names keyed once)),
-)
+pub once_moved : (old new : List Name) → IsPermutation old new → IsOnce (texts old) → IsOnce (texts new)
+once_moved old new moved once = IsPermutation-keeps (texts old) IsOnce once once_swapped (texts new) (IsPermutation-map (λ n. n.now) old new moved)
 
--- numbers stand once just where they increase strictly once sorted
-increasing_below : (xs : List ℕ) → IsStrictlyIncreasing xs → (i n : ℕ) → i + suc n < length xs → get_or xs i 0 < get_or xs (i + suc n) 0
-increasing_below xs h i zero l =
-    let e : i + 1 ≡ i + suc zero = omega arith in
-    subst (λ (k : ℕ). get_or xs i 0 < get_or xs k 0) e (h i (omega arith))
-increasing_below xs h i (suc n) l =
-    let ih = increasing_below xs h i n (omega arith) in
-    let step = h (i + suc n) (omega arith) in
-    let e : i + suc n + 1 ≡ i + suc (suc n) = omega arith in
-    let last : get_or xs (i + suc n + 1) 0 ≡ get_or xs (i + suc (suc n)) 0 = ap (λ (k : ℕ). get_or xs k 0) e in
-    omega arith
+pub once_moved_back : (old new : List Name) → IsPermutation old new → IsOnce (texts new) → IsOnce (texts old)
+once_moved_back old new moved = once_moved new old (IsPermutation-sym old new moved)
 
-increasing_once : (xs : List ℕ) → IsStrictlyIncreasing xs → AllPairs (λ x y. x ≢ y) xs
-increasing_once xs h =
-    λ i j d p q e.
-    let k : i + suc (j - i - 1) ≡ j = omega arith in
-    let less : get_or xs i 0 < get_or xs j 0 =
-    subst (λ (m : ℕ). get_or xs i 0 < get_or xs m 0) k (increasing_below xs h i (j - i - 1) (omega arith)) in
-    let f : get_or xs i 0 ≡ get_or xs j 0 = get_or_default xs i 0 d (omega arith) ∙ e ∙ get_or_default xs j d 0 q in
-    omega arith
+-- ---- a sorted list
 
-flips : (x y : ℕ) → eqb x y ≡ eqb y x
-flips x y = grind (arith, nat_tests)
+abbrev pub name_cmp : Name → Name → Ordering
+name_cmp a b = slice_cmp nat_cmp a.now b.now
 
-pub distinct_told : (told : Bool) (keys sorted shown : List ℕ) → IsPermutation keys sorted → IsNonDecreasing sorted → shown ≡ sorted
-    → (IsTrue told ↔ IsStrictlyIncreasing shown) → IsTrue told ↔ IsOnce keys
-distinct_told told keys sorted shown same order is says = (
-  λ yes.
-      let once = IsDistinct-from_AllPairs Decides-eqb sorted (increasing_once sorted (subst IsStrictlyIncreasing is (says.0 yes))) in
-      record { apart = AllPairs-from_IsDistinct Decides-eqb keys (IsDistinct-IsPermutation eqb flips sorted keys (IsPermutation-sym keys sorted same) once) },
-  λ once.
-      let apart = IsDistinct-IsPermutation eqb flips keys sorted same (IsDistinct-from_AllPairs Decides-eqb keys once.apart) in
-      says.1 (subst IsStrictlyIncreasing (sym is) (IsStrictlyIncreasing-from_distinct sorted order apart)),
-)
+only_less : (o p : Ordering) → o ≡ ordering_reverse p → is_lt p ≡ false → is_eq o ≡ false → o ≡ Less
+only_less o Less e p q = cc
+only_less o Equal e p q = let tie = ap is_eq (sym e) ∙ q in cc
+only_less o Greater e p q = e
+
+-- neighbours that are in order and differ rise strictly, and so do all pairs
+pub differ_sorted : (names : List Name) → IsSorted name_cmp names → ((k : ℕ) → k + 1 < length names → DifferAt names k (k + 1))
+    → (i j : ℕ) → i < j → j < length names → DifferAt names i j
+differ_sorted names sorted neighbours i j less within d =
+    let total = on_total (λ (n : Name). n.now) nat_list_cmp_total in
+    let rises : (k : ℕ) → k + 1 < length names → name_cmp (get_or names k d) (get_or names (k + 1) d) ≡ Less =
+    λ k h. let x = get_or names k d in let y = get_or names (k + 1) d in
+    only_less (name_cmp x y) (name_cmp y x) (total.antisymm x y) (sorted k d (omega arith) h) (is_eq-slice_cmp x.now y.now ∙ neighbours k h d) in
+    let below = Less-from_sorted name_cmp names i j d (sorted_from_all_adjacent total names d rises) less within in
+    sym (is_eq-slice_cmp (get_or names i d).now (get_or names j d).now) ∙ ap is_eq below

@@ -1,39 +1,43 @@
 -- Two blocks that are put through an empty log.
-use Rattle.image_tree.proofs.Vocabulary.{◌≡◌, ◌≢◌, ◌⊎◌, inl, inr, ℕ, zero, suc, ◌+◌, ◌^◌, ◌<◌, ◌≤◌, List, [], ◌∷◌, length, get_or, set, Result, Ok, Err, OnOk, OnErr, refl, sym, ◌∙◌, ap, subst, arith, All, recursion_from_All, block_at, block_at-set_same, block_at-set_other, Super, overwrite, spell_log_head, sizes_of, logged, log_head_at, recovered, IsOutsideLog, sizes_of-set, logged-set, logged-written, recovered-empty, recovered-copy, recovered-own, IsFirstCopy, IsOnce, UpToLog, IsGoodSuper, IsViewOf, IsPut}
+use Rattle.image_tree.proofs.Vocabulary.{Version, ◌≡◌, ◌≢◌, ◌⊎◌, inl, inr, ℕ, zero, suc, ◌+◌, ◌^◌, ◌<◌, ◌≤◌, List, [], ◌∷◌, length, get_or, set, Result, Ok, Err, OnOk, OnErr, refl, sym, ◌∙◌, ap, subst, arith, All, recursion_from_All, block_at, block_at-set_same, block_at-set_other, Super, overwrite, spell_log_head, sizes_of, logged, log_head_at, recovered, IsOutsideLog, sizes_of-set, logged-set, logged-written, recovered-empty, recovered-copy, recovered-own, IsFirstCopy, IsOnce, UpToLog, IsGoodSuper, IsViewOf, IsPut, Layout, IsLayout}
 use Rattle.image_tree.proofs.Logs.{names_keep, empty_keeps}
 
-pub good_super : (d : List (List ℕ)) → UpToLog d → IsGoodSuper (sizes_of d)
-good_super d good = good.0.0.1.1
+pub good_super : (v : Version) (d : List (List ℕ)) → UpToLog v d → IsGoodSuper (sizes_of d)
+good_super v d good = good.0.0.1.1
 
 apart_from : (s : Super) (b c : ℕ) → IsOutsideLog s b → s.logstart ≤ c → c < s.logstart + s.nlog → b ≢ c
 apart_from s b c out from to e = elim out [ inl lt ↦ omega (arith, lt, from, e) | inr le ↦ omega (arith, le, to, e) ]
 
 -- ---- a copy in the log
 
-module _ (d e : List (List ℕ)) (c : ℕ) (v : List ℕ) (good : UpToLog d) (none : logged d ≡ []) (low : (sizes_of d).logstart < c) (high : c ≤ (sizes_of d).logstart + 2) where
-  copied_set : IsViewOf d (set d c v) × (logged (set d c v) ≡ [])
+module _ (v : Version) (d e : List (List ℕ)) (c : ℕ) (block : List ℕ) (good : UpToLog v d) (none : logged d ≡ []) (low : (sizes_of d).logstart < c) (high : c ≤ (sizes_of d).logstart + 2) where
+  copied_set : IsViewOf v d (set d c block) × (logged (set d c block) ≡ [])
   copied_set =
-      let g = good_super d good in
+      let g = good_super v d good in
       let ne : c ≢ 1 = (λ x. let p = g.logstart in absurd (omega (arith, p, low, x))) in
       let other : c ≢ (sizes_of d).logstart = (λ x. absurd (omega (arith, low, x))) in
-      let empty : logged (set d c v) ≡ [] = logged-set d c v ne other ∙ none in
+      let empty : logged (set d c block) ≡ [] = logged-set d c block ne other ∙ none in
       let inside : c < (sizes_of d).logstart + (sizes_of d).nlog = (let n = g.nlog in omega (arith, n, high)) in (
         record {
-          sizes = sizes_of-set d c v ne;
-          good = empty_keeps d good c v ne empty;
-          same = λ b out. recovered-empty (set d c v) b empty ∙ block_at-set_other d c b v (apart_from (sizes_of d) b c out (omega (arith, low)) inside) ∙ sym (recovered-empty d b none);
+          sizes = sizes_of-set d c block ne;
+          good = empty_keeps v d good c block ne empty;
+          same = λ b out. recovered-empty (set d c block) b empty ∙ block_at-set_other d c b block (apart_from (sizes_of d) b c out (omega (arith, low)) inside) ∙ sym (recovered-empty d b none);
         },
         empty,
       )
 
-  same_view : IsViewOf d d
+  same_view : IsViewOf v d d
   same_view = record { sizes = refl; good = good; same = λ b out. refl }
 
-  pub copied : (e ≡ d) ⊎ (e ≡ set d c v) → IsViewOf d e × (logged e ≡ [])
+  pub copied : (e ≡ d) ⊎ (e ≡ set d c block) → IsViewOf v d e × (logged e ≡ [])
   copied may = elim may [
-    | inl is ↦ subst (λ (x : List (List ℕ)). IsViewOf d x × (logged x ≡ [])) (sym is) (same_view, none)
-    | inr is ↦ subst (λ (x : List (List ℕ)). IsViewOf d x × (logged x ≡ [])) (sym is) copied_set
+    | inl is ↦ subst (λ (x : List (List ℕ)). IsViewOf v d x × (logged x ≡ [])) (sym is) (same_view, none)
+    | inr is ↦ subst (λ (x : List (List ℕ)). IsViewOf v d x × (logged x ≡ [])) (sym is) copied_set
   ]
+
+-- an empty log stays the one of the layout
+pub layout_stays : (d e : List (List ℕ)) (layout : Layout) → IsLayout d layout → logged d ≡ [] → IsViewOf layout.version d e → logged e ≡ [] → IsLayout e layout
+layout_stays d e layout is none view empty = record { sizes = is.sizes ∙ sym view.sizes; blocks = is.blocks ∙ none ∙ sym empty; good = view.good }
 
 -- ---- the head that names both
 
@@ -56,43 +60,43 @@ two_once a b ne = record { apart = λ j k z lt below. at j k z lt below }
     at (suc j) (suc zero) z lt below = absurd (omega (arith, lt))
     at (suc j) (suc (suc k)) z lt below = absurd (omega (arith, below))
 
-module _ (d : List (List ℕ)) (home : ℕ) (v fresh : List ℕ) (good : UpToLog d) (none : logged d ≡ []) (low : (sizes_of d).inodestart ≤ home) (high : home < (sizes_of d).bmapstart)
-    (spelled : v ≡ overwrite fresh 0 (spell_log_head ((sizes_of d).bmapstart ∷ home ∷ []))) where
+module _ (v : Version) (d : List (List ℕ)) (home : ℕ) (block fresh : List ℕ) (good : UpToLog v d) (none : logged d ≡ []) (low : (sizes_of d).inodestart ≤ home) (high : home < (sizes_of d).bmapstart)
+    (spelled : block ≡ overwrite fresh 0 (spell_log_head ((sizes_of d).bmapstart ∷ home ∷ []))) where
   abbrev head : ℕ
   head = (sizes_of d).logstart
 
   abbrev written : List (List ℕ)
-  written = set d head v
+  written = set d head block
 
   abbrev both : List ℕ
   both = (sizes_of d).bmapstart ∷ home ∷ []
 
   no_super : head ≢ 1
-  no_super x = (let g = good_super d good in let p = g.logstart in absurd (omega (arith, p, x)))
+  no_super x = (let g = good_super v d good in let p = g.logstart in absurd (omega (arith, p, x)))
 
   sizes_same : sizes_of written ≡ sizes_of d
-  sizes_same = sizes_of-set d head v no_super
+  sizes_same = sizes_of-set d head block no_super
 
   on_disk : head < length d
-  on_disk = (let g = good_super d good in let w = good.0.1 in let n = g.nlog in let l = g.log in let i = g.inodes in let b = g.bitmap in omega (arith, w, n, l, i, b))
+  on_disk = (let g = good_super v d good in let w = good.0.1 in let n = g.nlog in let l = g.log in let i = g.inodes in let b = g.bitmap in omega (arith, w, n, l, i, b))
 
   pub names_both : logged written ≡ both
   names_both =
-      let g = good_super d good in let s = g.size in let b = g.bitmap in
-      let at : log_head_at written ≡ v = ap (λ (s : Super). block_at written s.logstart) sizes_same ∙ block_at-set_same d head v on_disk in
+      let g = good_super v d good in let s = g.size in let b = g.bitmap in
+      let at : log_head_at written ≡ block = ap (λ (s : Super). block_at written s.logstart) sizes_same ∙ block_at-set_same d head block on_disk in
       logged-written written both fresh (at ∙ spelled) (omega arith)
       (recursion_from_All (λ n. n < 2 ^ 32) both (all_two (λ n. n < 2 ^ 32) (sizes_of d).bmapstart home (omega (arith, s, b)) (omega (arith, s, b, high))))
 
-  pub written_good : UpToLog written
+  pub written_good : UpToLog v written
   written_good =
-      let g = good_super d good in let b = g.bitmap in
-      names_keep d good head v both no_super names_both (omega arith)
+      let g = good_super v d good in let b = g.bitmap in
+      names_keep v d good head block both no_super names_both (omega arith)
       (all_two (λ b. ((sizes_of d).inodestart ≤ b) × (b < (sizes_of d).size)) (sizes_of d).bmapstart home (omega (arith, low, high), omega (arith, b)) (low, omega (arith, high, b)))
       (two_once (sizes_of d).bmapstart home (λ x. absurd (omega (arith, high, x))))
 
   -- another block than the head's
   others_stay : (b : ℕ) → b ≢ head → block_at written b ≡ block_at d b
-  others_stay b ne = block_at-set_other d head b v ne
+  others_stay b ne = block_at-set_other d head b block ne
 
   first_named : IsFirstCopy (logged written) (sizes_of d).bmapstart 0
   first_named = subst (λ (l : List ℕ). IsFirstCopy l (sizes_of d).bmapstart 0) (sym names_both) (record { within = omega arith; is = refl; before = λ k lt. absurd (omega (arith, lt)) })
@@ -104,7 +108,7 @@ module _ (d : List (List ℕ)) (home : ℕ) (v fresh : List ℕ) (good : UpToLog
       at zero lt = λ x. absurd (omega (arith, high, x))
       at (suc k) lt = absurd (omega (arith, lt))
 
-  pub head_put : IsPut d written home (block_at d ((sizes_of d).logstart + 1)) (block_at d ((sizes_of d).logstart + 2))
+  pub head_put : IsPut v d written home (block_at d ((sizes_of d).logstart + 1)) (block_at d ((sizes_of d).logstart + 2))
   head_put = record {
     sizes = sizes_same;
     good = written_good;
@@ -120,7 +124,7 @@ module _ (d : List (List ℕ)) (home : ℕ) (v fresh : List ℕ) (good : UpToLog
         ∙ ap (block_at d) (let e : (sizes_of d).logstart + 1 + 1 ≡ (sizes_of d).logstart + 2 = omega arith in e);
     others = λ c out nb nh.
         recovered-own written c (λ k lt is. unnamed c nb nh k (subst (λ (l : List ℕ). k < length l) names_both lt) (sym (ap (λ (l : List ℕ). get_or l k 0) names_both) ∙ is))
-        ∙ others_stay c (apart_from (sizes_of d) c (sizes_of d).logstart out (omega arith) (let g = good_super d good in let n = g.nlog in omega (arith, n)))
+        ∙ others_stay c (apart_from (sizes_of d) c (sizes_of d).logstart out (omega arith) (let g = good_super v d good in let n = g.nlog in omega (arith, n)))
         ∙ sym (recovered-empty d c none);
   }
     where
@@ -131,33 +135,33 @@ module _ (d : List (List ℕ)) (home : ℕ) (v fresh : List ℕ) (good : UpToLog
 
 -- ---- one after the other
 
-pub view_then : (a b c : List (List ℕ)) → IsViewOf a b → IsViewOf b c → IsViewOf a c
-view_then a b c v w = record {
-  sizes = w.sizes ∙ v.sizes;
-  good = w.good;
-  same = λ x out. w.same x (subst (λ (s : Super). IsOutsideLog s x) (sym v.sizes) out) ∙ v.same x out;
+pub view_then : (v : Version) (a b c : List (List ℕ)) → IsViewOf v a b → IsViewOf v b c → IsViewOf v a c
+view_then v a b c first second = record {
+  sizes = second.sizes ∙ first.sizes;
+  good = second.good;
+  same = λ x out. second.same x (subst (λ (s : Super). IsOutsideLog s x) (sym first.sizes) out) ∙ first.same x out;
 }
 
 -- blocks behind the log
-pub behind_log : (d : List (List ℕ)) (b : ℕ) → UpToLog d → (sizes_of d).inodestart ≤ b → IsOutsideLog (sizes_of d) b
-behind_log d b good le = inr (let g = good_super d good in let l = g.log in omega (arith, l, le))
+pub behind_log : (v : Version) (d : List (List ℕ)) (b : ℕ) → UpToLog v d → (sizes_of d).inodestart ≤ b → IsOutsideLog (sizes_of d) b
+behind_log v d b good le = inr (let g = good_super v d good in let l = g.log in omega (arith, l, le))
 
-pub put_between : (a b c e : List (List ℕ)) (home : ℕ) (x y : List ℕ) → UpToLog a → (sizes_of a).inodestart ≤ home
-    → IsViewOf a b → IsPut b c home x y → IsViewOf c e → IsPut a e home x y
-put_between a b c e home x y good le v p w =
-    let all : sizes_of c ≡ sizes_of a = p.sizes ∙ v.sizes in
+pub put_between : (v : Version) (a b c e : List (List ℕ)) (home : ℕ) (x y : List ℕ) → UpToLog v a → (sizes_of a).inodestart ≤ home
+    → IsViewOf v a b → IsPut v b c home x y → IsViewOf v c e → IsPut v a e home x y
+put_between v a b c e home x y good le first p last =
+    let all : sizes_of c ≡ sizes_of a = p.sizes ∙ first.sizes in
     let out : (z : ℕ) → IsOutsideLog (sizes_of a) z → IsOutsideLog (sizes_of c) z = (λ z o. subst (λ (s : Super). IsOutsideLog s z) (sym all) o) in
-    let bm : (sizes_of b).bmapstart ≡ (sizes_of a).bmapstart = ap (λ (s : Super). s.bmapstart) v.sizes in
-    let low : (sizes_of a).inodestart ≤ (sizes_of a).bmapstart = (let g = good_super a good in let i = g.inodes in omega (arith, i)) in
+    let bm : (sizes_of b).bmapstart ≡ (sizes_of a).bmapstart = ap (λ (s : Super). s.bmapstart) first.sizes in
+    let low : (sizes_of a).inodestart ≤ (sizes_of a).bmapstart = (let g = good_super v a good in let i = g.inodes in omega (arith, i)) in
     record {
-      sizes = w.sizes ∙ all;
-      good = w.good;
-      bitmap_is = w.same (sizes_of a).bmapstart (out (sizes_of a).bmapstart (behind_log a (sizes_of a).bmapstart good low)) ∙ ap (recovered c) (sym bm) ∙ p.bitmap_is;
-      inodes_are = w.same home (out home (behind_log a home good le)) ∙ p.inodes_are;
+      sizes = last.sizes ∙ all;
+      good = last.good;
+      bitmap_is = last.same (sizes_of a).bmapstart (out (sizes_of a).bmapstart (behind_log v a (sizes_of a).bmapstart good low)) ∙ ap (recovered c) (sym bm) ∙ p.bitmap_is;
+      inodes_are = last.same home (out home (behind_log v a home good le)) ∙ p.inodes_are;
       others = λ z o nb nh.
-          w.same z (out z o)
-          ∙ p.others z (subst (λ (s : Super). IsOutsideLog s z) (sym v.sizes) o) (λ q. nb (q ∙ bm)) nh
-          ∙ v.same z o;
+          last.same z (out z o)
+          ∙ p.others z (subst (λ (s : Super). IsOutsideLog s z) (sym first.sizes) o) (λ q. nb (q ∙ bm)) nh
+          ∙ first.same z o;
     }
 
 -- ---- what a write leaves, whatever it answers
@@ -171,37 +175,37 @@ on_ok (Ok x) P Q f p = f p
 on_ok (Err x) P Q f p = tt
 
 -- the head as the code writes it
-module _ (d e : List (List ℕ)) (s : Super) (home : ℕ) (v fresh : List ℕ) (good : UpToLog d) (none : logged d ≡ []) (is : s ≡ sizes_of d)
-    (low : s.inodestart ≤ home) (high : home < s.bmapstart) (spelled : v ≡ overwrite fresh 0 (spell_log_head (s.bmapstart ∷ home ∷ []))) where
-  pub head_is : e ≡ set d s.logstart v → IsPut d e home (block_at d (s.logstart + 1)) (block_at d (s.logstart + 2))
+module _ (v : Version) (d e : List (List ℕ)) (s : Super) (home : ℕ) (block fresh : List ℕ) (good : UpToLog v d) (none : logged d ≡ []) (is : s ≡ sizes_of d)
+    (low : s.inodestart ≤ home) (high : home < s.bmapstart) (spelled : block ≡ overwrite fresh 0 (spell_log_head (s.bmapstart ∷ home ∷ []))) where
+  pub head_is : e ≡ set d s.logstart block → IsPut v d e home (block_at d (s.logstart + 1)) (block_at d (s.logstart + 2))
   head_is new =
-      subst (λ (z : Super). IsPut d e home (block_at d (z.logstart + 1)) (block_at d (z.logstart + 2))) (sym is)
-      (subst (λ (x : List (List ℕ)). IsPut d x home (block_at d ((sizes_of d).logstart + 1)) (block_at d ((sizes_of d).logstart + 2)))
-      (sym (new ∙ ap (λ (z : Super). set d z.logstart v) is))
-      (head_put d home v fresh good none (subst (λ (z : Super). z.inodestart ≤ home) is low) (subst (λ (z : Super). home < z.bmapstart) is high)
+      subst (λ (z : Super). IsPut v d e home (block_at d (z.logstart + 1)) (block_at d (z.logstart + 2))) (sym is)
+      (subst (λ (x : List (List ℕ)). IsPut v d x home (block_at d ((sizes_of d).logstart + 1)) (block_at d ((sizes_of d).logstart + 2)))
+      (sym (new ∙ ap (λ (z : Super). set d z.logstart block) is))
+      (head_put v d home block fresh good none (subst (λ (z : Super). z.inodestart ≤ home) is low) (subst (λ (z : Super). home < z.bmapstart) is high)
       (spelled ∙ ap (λ (z : Super). overwrite fresh 0 (spell_log_head (z.bmapstart ∷ home ∷ []))) is)))
 
 -- ---- the whole transaction
 
 -- from the disk that a transaction begins on, through the copies, the head and what is left, where the copies are these blocks
-module _ (a b c : List (List ℕ)) (s : Super) (home : ℕ) (x y : List ℕ) (good : UpToLog a) (is : s ≡ sizes_of a) (low : s.inodestart ≤ home) (view : IsViewOf a b)
-    (first : block_at b (s.logstart + 1) ≡ x) (second : block_at b (s.logstart + 2) ≡ y) (put : IsPut b c home (block_at b (s.logstart + 1)) (block_at b (s.logstart + 2))) where
-  pub through : (e : List (List ℕ)) → IsViewOf c e → IsPut a e home x y
+module _ (v : Version) (a b c : List (List ℕ)) (s : Super) (home : ℕ) (x y : List ℕ) (good : UpToLog v a) (is : s ≡ sizes_of a) (low : s.inodestart ≤ home) (view : IsViewOf v a b)
+    (first : block_at b (s.logstart + 1) ≡ x) (second : block_at b (s.logstart + 2) ≡ y) (put : IsPut v b c home (block_at b (s.logstart + 1)) (block_at b (s.logstart + 2))) where
+  pub through : (e : List (List ℕ)) → IsViewOf v c e → IsPut v a e home x y
   through e rest =
-      subst (λ (v : List ℕ). IsPut a e home v y) first
-      (subst (λ (w : List ℕ). IsPut a e home (block_at b (s.logstart + 1)) w) second
-      (put_between a b c e home (block_at b (s.logstart + 1)) (block_at b (s.logstart + 2)) good (subst (λ (z : Super). z.inodestart ≤ home) is low) view put rest))
+      subst (λ (block : List ℕ). IsPut v a e home block y) first
+      (subst (λ (w : List ℕ). IsPut v a e home (block_at b (s.logstart + 1)) w) second
+      (put_between v a b c e home (block_at b (s.logstart + 1)) (block_at b (s.logstart + 2)) good (subst (λ (z : Super). z.inodestart ≤ home) is low) view put rest))
 
-  pub named : IsPut a c home x y
+  pub named : IsPut v a c home x y
   named = through c (record { sizes = refl; good = put.good; same = λ z out. refl })
 
 -- where the head's write failed
-pub head_failed : (a b c : List (List ℕ)) (s : Super) (home : ℕ) (x y : List ℕ) → UpToLog a → s ≡ sizes_of a → s.inodestart ≤ home → IsViewOf a b
-    → block_at b (s.logstart + 1) ≡ x → block_at b (s.logstart + 2) ≡ y → (c ≡ b) ⊎ IsPut b c home (block_at b (s.logstart + 1)) (block_at b (s.logstart + 2))
-    → IsViewOf a c ⊎ IsPut a c home x y
-head_failed a b c s home x y good is low view first second may = elim may [
-  | inl same ↦ inl (subst (λ (z : List (List ℕ)). IsViewOf a z) (sym same) view)
-  | inr put ↦ inr (named a b c s home x y good is low view first second put)
+pub head_failed : (v : Version) (a b c : List (List ℕ)) (s : Super) (home : ℕ) (x y : List ℕ) → UpToLog v a → s ≡ sizes_of a → s.inodestart ≤ home → IsViewOf v a b
+    → block_at b (s.logstart + 1) ≡ x → block_at b (s.logstart + 2) ≡ y → (c ≡ b) ⊎ IsPut v b c home (block_at b (s.logstart + 1)) (block_at b (s.logstart + 2))
+    → IsViewOf v a c ⊎ IsPut v a c home x y
+head_failed v a b c s home x y good is low view first second may = elim may [
+  | inl same ↦ inl (subst (λ (z : List (List ℕ)). IsViewOf v a z) (sym same) view)
+  | inr put ↦ inr (named v a b c s home x y good is low view first second put)
 ]
 
 pub on_ok_any : {X E : Type 0} (r : Result X E) (P : Type 0) → P → OnOk r P

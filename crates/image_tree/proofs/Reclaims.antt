@@ -1,12 +1,12 @@
 -- A node without a name, freed by a put of two blocks; and one such node after the other.
-use Rattle.image_tree.proofs.Vocabulary.{◌≡◌, ◌≢◌, ◌⊎◌, inl, inr, ℕ, ◌+◌, ◌/◌, ◌%◌, ◌<◌, ◌≤◌, ◌&&◌, not, nat_lt, pos, Bool, true, false, if◌then◌else◌, List, [], refl, sym, ◌∙◌, ap, subst, arith, All, cases_eq, and_parts, false≢true, Super, Dinode, bit_of, dinode_at, sizes_of, recovered, nat_tests, inode_of, is_free, is_live, is_node, numbers_by, numbers_of, HasGoodNumbers, IsData, is_marked, UpToLog, IsWellFormed, is_orphan, tree_in, IsViewOf, AreNamed, IsFreed, IsPut, IsReclaimed}
+use Rattle.image_tree.proofs.Vocabulary.{Version, ◌≡◌, ◌≢◌, ◌⊎◌, inl, inr, ℕ, ◌+◌, ◌/◌, ◌%◌, ◌<◌, ◌≤◌, ◌&&◌, not, nat_lt, pos, Bool, true, false, if◌then◌else◌, List, [], refl, sym, ◌∙◌, ap, subst, arith, All, cases_eq, and_parts, false≢true, Super, Dinode, bit_of, dinode_at, sizes_of, recovered, nat_tests, inode_of, is_free, is_live, is_node, numbers_by, numbers_of, HasGoodNumbers, IsData, is_marked, UpToLog, IsWellFormed, is_orphan, tree_in, IsViewOf, AreNamed, IsFreed, IsPut, IsReclaimed}
 use Rattle.image_tree.proofs.Nodes.{both_from, node_is}
 use Rattle.image_tree.proofs.Views.{checks_see_recovered, trees_see_recovered, inode_same, node_same}
 use Rattle.image_tree.proofs.Contents.{pick, InRange, ranged, used_good, numbers_same}
 use Rattle.image_tree.proofs.Freed.{freed_nodes_leave_images, by_same, orphan_other, orphan_gone}
 use Rattle.image_tree.proofs.Puts.{good_super, behind_log}
 
-module _ (d e : List (List ℕ)) (i : ℕ) (bitmap inodes : List ℕ) (put : IsPut d e ((sizes_of d).inodestart + i / 16) bitmap inodes) (good : UpToLog d) (bound : i < (sizes_of d).ninodes) where
+module _ (v : Version) (d e : List (List ℕ)) (i : ℕ) (bitmap inodes : List ℕ) (put : IsPut v d e ((sizes_of d).inodestart + i / 16) bitmap inodes) (good : UpToLog v d) (bound : i < (sizes_of d).ninodes) where
   home : ℕ
   home = (sizes_of d).inodestart + i / 16
 
@@ -14,7 +14,7 @@ module _ (d e : List (List ℕ)) (i : ℕ) (bitmap inodes : List ℕ) (put : IsP
       → j ≢ i → j < (sizes_of d).ninodes → inode_of e j ≡ inode_of d j
   unfolding inode_of
   kept_inode j others ne lt =
-      let g = good_super d good in let n = g.inodes in
+      let g = good_super v d good in let n = g.inodes in
       ap (λ (s : Super). dinode_at (j % 16) (recovered e (s.inodestart + j / 16))) put.sizes
       ∙ elim (cases_eq (j / 16) (i / 16)) [
         | inl q ↦
@@ -25,18 +25,18 @@ module _ (d e : List (List ℕ)) (i : ℕ) (bitmap inodes : List ℕ) (put : IsP
             ∙ ap (λ (b : ℕ). dinode_at (j % 16) (recovered d b)) (sym block)
         | inr apart ↦
             ap (λ (bytes : List ℕ). dinode_at (j % 16) bytes)
-            (put.others ((sizes_of d).inodestart + j / 16) (behind_log d ((sizes_of d).inodestart + j / 16) good (omega arith))
+            (put.others ((sizes_of d).inodestart + j / 16) (behind_log v d ((sizes_of d).inodestart + j / 16) good (omega arith))
             (λ x. absurd (omega (arith, x, n, lt))) (λ x. apart (omega (arith, x))))
       ]
 
   kept_data : (b : ℕ) → (b ≡ 0) ⊎ IsData (sizes_of d) b → recovered e b ≡ recovered d b
   kept_data b which =
-      let g = good_super d good in let n = g.inodes in let s = g.logstart in let l = g.log in
+      let g = good_super v d good in let n = g.inodes in let s = g.logstart in let l = g.log in
       elim which [
         | inl z ↦ put.others b (inl (omega (arith, z, s))) (λ x. absurd (omega (arith, x, z, n, s, l))) (λ x. absurd (omega (arith, x, z, s, l)))
         | inr is ↦
             let past = is.0 in
-            put.others b (behind_log d b good (omega (arith, past, n))) (λ x. absurd (omega (arith, x, past))) (λ x. absurd (omega (arith, x, past, n, bound)))
+            put.others b (behind_log v d b good (omega (arith, past, n))) (λ x. absurd (omega (arith, x, past))) (λ x. absurd (omega (arith, x, past, n, bound)))
       ]
 
   marked_by : (b : ℕ) → is_marked e b ≡ bit_of bitmap b
@@ -50,7 +50,7 @@ module _ (d e : List (List ℕ)) (i : ℕ) (bitmap inodes : List ℕ) (put : IsP
       → ((q : ℕ) → q < 16 → q ≢ i % 16 → dinode_at q inodes ≡ dinode_at q (recovered d ((sizes_of d).inodestart + i / 16)))
       → All (λ b. b ≢ 0 → bit_of bitmap b ≡ false) (numbers_by d i)
       → ((b : ℕ) → All (λ c. c ≢ 0 → c ≢ b) (numbers_by d i) → bit_of bitmap b ≡ is_marked d b)
-      → ((b : ℕ) → is_marked d b ≡ false → bit_of bitmap b ≡ false) → IsFreed d e i
+      → ((b : ℕ) → is_marked d b ≡ false → bit_of bitmap b ≡ false) → IsFreed v d e i
   freed_put kind others cleared kept fewer = record {
     sizes = put.sizes;
     good = put.good;
@@ -65,15 +65,15 @@ module _ (d e : List (List ℕ)) (i : ℕ) (bitmap inodes : List ℕ) (put : IsP
 -- ---- what a disk is after a call
 
 -- well formed, with these sizes and this tree
-pub record IsImageOf (d e : List (List ℕ)) : Type 0 where
+pub record IsImageOf (v : Version) (d e : List (List ℕ)) : Type 0 where
   pub sizes : sizes_of e ≡ sizes_of d
-  pub well : IsWellFormed e
-  pub tree : tree_in e ≡ tree_in d
+  pub well : IsWellFormed v e
+  pub tree : tree_in v e ≡ tree_in v d
 
-pub either_image : (d e : List (List ℕ)) (i : ℕ) → IsWellFormed d → is_orphan d i ≡ true → IsViewOf d e ⊎ IsFreed d e i → IsImageOf d e
-either_image d e i well orphan may = elim may [
-  | inl view ↦ record { sizes = view.sizes; well = checks_see_recovered d e view well; tree = trees_see_recovered d e view well }
-  | inr freed ↦ let both = freed_nodes_leave_images d e i orphan freed well in record { sizes = freed.sizes; well = both.0; tree = both.1 }
+pub either_image : (v : Version) (d e : List (List ℕ)) (i : ℕ) → IsWellFormed v d → is_orphan d i ≡ true → IsViewOf v d e ⊎ IsFreed v d e i → IsImageOf v d e
+either_image v d e i well orphan may = elim may [
+  | inl view ↦ record { sizes = view.sizes; well = checks_see_recovered v d e view well; tree = trees_see_recovered v d e view well }
+  | inr freed ↦ let both = freed_nodes_leave_images v d e i orphan freed well in record { sizes = freed.sizes; well = both.0; tree = both.1 }
 ]
 
 -- ---- the inodes below one have been seen to
@@ -92,9 +92,9 @@ reclaimed_first d = record {
   same = λ all. refl;
 }
 
-pub reclaimed_next : (d e n : List (List ℕ)) (i : ℕ) → sizes_of e ≡ sizes_of d → IsWellFormed e → 1 ≤ i → i < (sizes_of d).ninodes
-    → ReclaimedTo d e i → IsReclaimed e n i → ReclaimedTo d n (i + 1)
-reclaimed_next d e n i sizes well low high to done = elim done [
+pub reclaimed_next : (v : Version) (d e n : List (List ℕ)) (i : ℕ) → sizes_of e ≡ sizes_of d → IsWellFormed v e → 1 ≤ i → i < (sizes_of d).ninodes
+    → ReclaimedTo d e i → IsReclaimed v e n i → ReclaimedTo d n (i + 1)
+reclaimed_next v d e n i sizes well low high to done = elim done [
   | inl was ↦ subst (λ (x : List (List ℕ)). ReclaimedTo d x (i + 1)) (sym was.1) (record {
     none = λ k lo lt. elim (cases_eq k i) [ inl q ↦ ap (is_orphan e) q ∙ was.0 | inr ne ↦ to.none k lo (omega (arith, lt, ne)) ];
     freed = λ k lo lt orphan. elim (cases_eq k i) [
@@ -110,8 +110,8 @@ reclaimed_next d e n i sizes well low high to done = elim done [
       let in_e : (k : ℕ) → k < (sizes_of d).ninodes → k < (sizes_of e).ninodes = (λ k lt. subst (λ (s : Super). k < s.ninodes) (sym sizes) lt) in
       record {
         none = λ k lo lt. elim (cases_eq k i) [
-          | inl q ↦ ap (is_orphan n) q ∙ orphan_gone e n i was.0 f well
-          | inr ne ↦ orphan_other e n i was.0 f well k ne (in_e k (omega (arith, lt, high))) ∙ to.none k lo (omega (arith, lt, ne))
+          | inl q ↦ ap (is_orphan n) q ∙ orphan_gone v e n i was.0 f well
+          | inr ne ↦ orphan_other v e n i was.0 f well k ne (in_e k (omega (arith, lt, high))) ∙ to.none k lo (omega (arith, lt, ne))
         ];
         freed = λ k lo lt orphan. elim (cases_eq k i) [
           | inl q ↦ subst (λ (j : ℕ). All (λ b. b ≢ 0 → is_marked n b ≡ false) (numbers_by d j)) (sym q) (subst (λ (l : List ℕ). All (λ b. b ≢ 0 → is_marked n b ≡ false) l) here.1 f.cleared)
@@ -120,8 +120,8 @@ reclaimed_next d e n i sizes well low high to done = elim done [
         rest = λ k le lt.
             let was_rest = to.rest k (omega (arith, le)) lt in
             let ne : k ≢ i = (λ q. absurd (omega (arith, le, q))) in (
-              orphan_other e n i was.0 f well k ne (in_e k lt) ∙ was_rest.0,
-              by_same e n i was.0 f well k (record { low = omega (arith, low, le); high = in_e k lt }) ne ∙ was_rest.1,
+              orphan_other v e n i was.0 f well k ne (in_e k lt) ∙ was_rest.0,
+              by_same v e n i was.0 f well k (record { low = omega (arith, low, le); high = in_e k lt }) ne ∙ was_rest.1,
             );
         same = λ all. absurd (false≢true (sym (all i low (omega arith)) ∙ sym here.0 ∙ was.0));
       }
@@ -138,27 +138,27 @@ orphan_is d i x e low high =
     ∙ sym (ap (λ (t : Bool). (t && not (is_free (inode_of d i))) && not (is_live (inode_of d i))) (both_from (nat_lt 0 i) (nat_lt i (sizes_of d).ninodes) a b))
 
 -- a block of inodes lies between the first one and the bitmap
-pub home_low : (d : List (List ℕ)) (s : Super) (i : ℕ) → UpToLog d → s ≡ sizes_of d → i < s.ninodes → s.inodestart + i / 16 < s.bmapstart
-home_low d s i good is lt =
-    let g : (sizes_of d).inodestart + ((sizes_of d).ninodes + 15) / 16 ≤ (sizes_of d).bmapstart = (good_super d good).inodes in
+pub home_low : (v : Version) (d : List (List ℕ)) (s : Super) (i : ℕ) → UpToLog v d → s ≡ sizes_of d → i < s.ninodes → s.inodestart + i / 16 < s.bmapstart
+home_low v d s i good is lt =
+    let g : (sizes_of d).inodestart + ((sizes_of d).ninodes + 15) / 16 ≤ (sizes_of d).bmapstart = (good_super v d good).inodes in
     let n : s.inodestart + (s.ninodes + 15) / 16 ≤ s.bmapstart = subst (λ (z : Super). z.inodestart + (z.ninodes + 15) / 16 ≤ z.bmapstart) (sym is) g in
     omega (arith, n, lt)
 
 -- what the code put, after reads that left the disk
-pub freed_by : (d d1 d2 d3 e : List (List ℕ)) (s : Super) (i : ℕ) (bitmap inodes shown numbers : List ℕ) → d1 ≡ d → d2 ≡ d1 → d3 ≡ d2 → s ≡ sizes_of d → UpToLog d → i < s.ninodes
+pub freed_by : (v : Version) (d d1 d2 d3 e : List (List ℕ)) (s : Super) (i : ℕ) (bitmap inodes shown numbers : List ℕ) → d1 ≡ d → d2 ≡ d1 → d3 ≡ d2 → s ≡ sizes_of d → UpToLog v d → i < s.ninodes
     → shown ≡ numbers → numbers ≡ numbers_by d i → (dinode_at (i % 16) inodes).kind ≡ pos 0
     → ((q : ℕ) → q < 16 → q ≢ i % 16 → dinode_at q inodes ≡ dinode_at q (recovered d2 ((sizes_of d2).inodestart + i / 16)))
     → All (λ b. b ≢ 0 → bit_of bitmap b ≡ false) shown
     → ((b : ℕ) → All (λ c. c ≢ 0 → c ≢ b) shown → bit_of bitmap b ≡ is_marked d1 b)
     → ((b : ℕ) → is_marked d1 b ≡ false → bit_of bitmap b ≡ false)
-    → IsPut d3 e (s.inodestart + i / 16) bitmap inodes → IsFreed d e i
-freed_by d d1 d2 d3 e s i bitmap inodes shown numbers same1 same2 same3 is good bound view named kind others cleared kept fewer put =
+    → IsPut v d3 e (s.inodestart + i / 16) bitmap inodes → IsFreed v d e i
+freed_by v d d1 d2 d3 e s i bitmap inodes shown numbers same1 same2 same3 is good bound view named kind others cleared kept fewer put =
     let two : d2 ≡ d = same2 ∙ same1 in
     let three : d3 ≡ d = same3 ∙ two in
     let all : shown ≡ numbers_by d i = view ∙ named in
-    let at_d : IsPut d e ((sizes_of d).inodestart + i / 16) bitmap inodes =
-    subst (λ (z : Super). IsPut d e (z.inodestart + i / 16) bitmap inodes) is (subst (λ (z : List (List ℕ)). IsPut z e (s.inodestart + i / 16) bitmap inodes) three put) in
-    freed_put d e i bitmap inodes at_d good (subst (λ (z : Super). i < z.ninodes) is bound) kind
+    let at_d : IsPut v d e ((sizes_of d).inodestart + i / 16) bitmap inodes =
+    subst (λ (z : Super). IsPut v d e (z.inodestart + i / 16) bitmap inodes) is (subst (λ (z : List (List ℕ)). IsPut v z e (s.inodestart + i / 16) bitmap inodes) three put) in
+    freed_put v d e i bitmap inodes at_d good (subst (λ (z : Super). i < z.ninodes) is bound) kind
     (subst (λ (z : List (List ℕ)). (q : ℕ) → q < 16 → q ≢ i % 16 → dinode_at q inodes ≡ dinode_at q (recovered z ((sizes_of z).inodestart + i / 16))) two others)
     (subst (λ (l : List ℕ). All (λ b. b ≢ 0 → bit_of bitmap b ≡ false) l) all cleared)
     (subst (λ (l : List ℕ). (b : ℕ) → All (λ c. c ≢ 0 → c ≢ b) l → bit_of bitmap b ≡ is_marked d b) all
@@ -167,12 +167,12 @@ freed_by d d1 d2 d3 e s i bitmap inodes shown numbers same1 same2 same3 is good 
 
 -- ---- the steps of the code
 
-pub either_after : (d d1 e : List (List ℕ)) (i : ℕ) (told : Bool) → d1 ≡ d → IsWellFormed d → told ≡ is_orphan d i → told ≡ true → IsViewOf d1 e ⊎ IsFreed d1 e i → IsImageOf d e
-either_after d d1 e i told same well is yes_ may =
-    either_image d e i well (sym is ∙ yes_) (subst (λ (z : List (List ℕ)). IsViewOf z e ⊎ IsFreed z e i) same may)
+pub either_after : (v : Version) (d d1 e : List (List ℕ)) (i : ℕ) (told : Bool) → d1 ≡ d → IsWellFormed v d → told ≡ is_orphan d i → told ≡ true → IsViewOf v d1 e ⊎ IsFreed v d1 e i → IsImageOf v d e
+either_after v d d1 e i told same well is yes_ may =
+    either_image v d e i well (sym is ∙ yes_) (subst (λ (z : List (List ℕ)). IsViewOf v z e ⊎ IsFreed v z e i) same may)
 
-pub image_next : (d e n : List (List ℕ)) → IsImageOf d e → sizes_of n ≡ sizes_of e → IsWellFormed n → tree_in n ≡ tree_in e → IsImageOf d n
-image_next d e n image sizes well tree = record { sizes = sizes ∙ image.sizes; well = well; tree = tree ∙ image.tree }
+pub image_next : (v : Version) (d e n : List (List ℕ)) → IsImageOf v d e → sizes_of n ≡ sizes_of e → IsWellFormed v n → tree_in v n ≡ tree_in v e → IsImageOf v d n
+image_next v d e n image sizes well tree = record { sizes = sizes ∙ image.sizes; well = well; tree = tree ∙ image.tree }
 
 -- where each node has a name, nothing is changed at one more inode, whatever comes of it
 pub same_next : (d e n : List (List ℕ)) (i : ℕ) → ReclaimedTo d e i → 1 ≤ i → i < (sizes_of d).ninodes → (is_orphan e i ≡ false → n ≡ e)
@@ -199,28 +199,28 @@ all_freed d e i to end k is = let r = orphan_range d k is in let bound = r.high 
 
 -- ---- after a recovery
 
-module _ (d e : List (List ℕ)) (view : IsViewOf d e) (well : IsWellFormed d) where
+module _ (v : Version) (d e : List (List ℕ)) (view : IsViewOf v d e) (well : IsWellFormed v d) where
   pub orphans_seen : (i : ℕ) → is_orphan e i ≡ is_orphan d i
   orphans_seen i =
-      ap (λ (t : Bool). t && not (is_live (inode_of e i))) (node_same d e view well i)
-      ∙ ap (λ (x : Dinode). is_node d i && not (is_live x)) (inode_same d e view well i)
+      ap (λ (t : Bool). t && not (is_live (inode_of e i))) (node_same v d e view well i)
+      ∙ ap (λ (x : Dinode). is_node d i && not (is_live x)) (inode_same v d e view well i)
 
   good_numbers : HasGoodNumbers d
   good_numbers = (let a = well.0 in let b = a.0 in let c = b.0 in let f = c.0 in let g = f.0 in let h = g.0 in h.1)
 
-  log : UpToLog d
+  log : UpToLog v d
   log = (let a = well.0 in let b = a.0 in let c = b.0 in let f = c.0 in let g = f.0 in let h = g.0 in let i = h.0 in let j = i.0 in j.0)
 
   data_seen : (b : ℕ) → (b ≡ 0) ⊎ IsData (sizes_of d) b → recovered e b ≡ recovered d b
   data_seen b which =
-      let g = good_super d log in let n = g.inodes in let s = g.logstart in
-      view.same b (elim which [ inl z ↦ inl (omega (arith, z, s)) | inr is ↦ let past = is.0 in behind_log d b log (omega (arith, past, n)) ])
+      let g = good_super v d log in let n = g.inodes in let s = g.logstart in
+      view.same b (elim which [ inl z ↦ inl (omega (arith, z, s)) | inr is ↦ let past = is.0 in behind_log v d b log (omega (arith, past, n)) ])
 
   pub numbers_seen : (i : ℕ) → is_orphan d i ≡ true → numbers_by e i ≡ numbers_by d i
   unfolding numbers_by
   numbers_seen i is =
       let node = node_is d i (and_parts (is_node d i) (not (is_live (inode_of d i))) is).0 in
-      ap (λ (x : Dinode). if is_free x then [] else numbers_of e x) (inode_same d e view well i)
+      ap (λ (x : Dinode). if is_free x then [] else numbers_of e x) (inode_same v d e view well i)
       ∙ ap (λ (t : Bool). if t then [] else numbers_of e (inode_of d i)) node.used
       ∙ numbers_same d e data_seen (inode_of d i) (used_good d good_numbers i (record { low = node.low; high = node.bound }) node.used)
       ∙ ap (λ (t : Bool). if t then [] else numbers_of d (inode_of d i)) (sym node.used)
@@ -232,12 +232,12 @@ module _ (d e : List (List ℕ)) (view : IsViewOf d e) (well : IsWellFormed d) w
   pub named_seen : AreNamed d → AreNamed e
   named_seen all i = orphans_seen i ∙ all i
 
-  pub image_seen : (n : List (List ℕ)) → IsImageOf e n → IsImageOf d n
+  pub image_seen : (n : List (List ℕ)) → IsImageOf v e n → IsImageOf v d n
   image_seen n image = record {
     sizes = image.sizes ∙ view.sizes;
     well = image.well;
-    tree = image.tree ∙ trees_see_recovered d e view well;
+    tree = image.tree ∙ trees_see_recovered v d e view well;
   }
 
-  pub well_seen : IsWellFormed e
-  well_seen = checks_see_recovered d e view well
+  pub well_seen : IsWellFormed v e
+  well_seen = checks_see_recovered v d e view well

@@ -1,5 +1,5 @@
 -- The checks see the recovered blocks outside the log alone.
-use Rattle.image_tree.proofs.Vocabulary.{◌≡◌, ◌≢◌, inl, inr, ℕ, zero, suc, ◌+◌, ◌-◌, ◌/◌, ◌%◌, ◌<◌, ◌≤◌, ◌==◌, nat_lt, ◌&&◌, not, ℤ, pos, negsuc, ◌<ℤ◌, Bool, true, false, if◌then◌else◌, List, [], ◌∷◌, ◌++◌, length, slice_index, slice_index_or, take, drop, filter, Option, Some, None, map, refl, sym, ◌∙◌, ap, subst, arith, length-append, All, cases_eq, cases_lt, and_parts, eqb-true, ltb-true, get_or_append_left, get_or_past, Super, Dinode, Dirent, bit_of, numbers_in, dinode_at, dirent_at, inodes_per_block, dirents_per_block, dirent_len, recovered, sizes_of, IsOutsideLog, IsOnce, gathered, times, inode_of, is_number, is_free, is_directory, is_live, is_node, is_live_directory, direct, numbers_of, block_number, content_block, numbers_by, named_by, is_block, front_blocks, content_of, blocks_for, slot_at, first_slots, slots_of, slots_in, slot_numbers, number_in, up, names_of, further_names_of, proper_names_of, children_of, Reaches, IsGoodType, IsData, is_marked, IsGoodSize, AreGoodSlots, IsOneTree, IsGoodCount, HasMarks, HasGoodTypes, HasRoot, HasGoodNumbers, NamesOnce, HasGoodSizes, HasGoodSlots, HasGoodCounts, IsWellFormed, UpToLog, IsViewOf, ChecksSeeRecovered, TreesSeeRecovered, NodeKind, Directory, File, Device, Node, at_rest, slot_of, is_file, kind_of, count_of, node_of, first_nodes, tree_in}
+use Rattle.image_tree.proofs.Vocabulary.{Version, ◌≡◌, ◌≢◌, inl, inr, ℕ, zero, suc, ◌+◌, ◌-◌, ◌/◌, ◌%◌, ◌<◌, ◌≤◌, ◌==◌, nat_lt, ◌&&◌, not, ℤ, pos, negsuc, ◌<ℤ◌, Bool, true, false, if◌then◌else◌, List, [], ◌∷◌, ◌++◌, length, slice_index, slice_index_or, take, drop, filter, Option, Some, None, map, refl, sym, ◌∙◌, ap, subst, arith, length-append, All, cases_eq, cases_lt, and_parts, eqb-true, ltb-true, get_or_append_left, get_or_past, Super, Dinode, Dirent, bit_of, numbers_in, dinode_at, dirent_at, inodes_per_block, dirents_per_block_of, dirent_len_of, recovered, sizes_of, IsOutsideLog, IsOnce, gathered, times, inode_of, is_number, is_free, is_directory, is_live, is_node, is_live_directory, direct, numbers_of, block_number, content_block, numbers_by, named_by, is_block, front_blocks, content_of, blocks_for, slot_at, first_slots, slots_of, slots_in, slot_numbers, number_in, up, names_of, further_names_of, proper_names_of, children_of, Reaches, IsGoodType, IsData, is_marked, IsGoodSize, AreGoodSlots, IsOneTree, IsGoodCount, HasMarks, HasGoodTypes, HasRoot, HasGoodNumbers, NamesOnce, HasGoodSizes, HasGoodSlots, HasGoodCounts, IsWellFormed, UpToLog, IsViewOf, ChecksSeeRecovered, TreesSeeRecovered, NodeKind, Directory, File, Device, Node, at_rest, slot_of, is_file, kind_of, count_of, node_of, first_nodes, tree_in}
 
 pub pick : (t : Bool) (P : Bool → Type 0) → (t ≡ true → P true) → (t ≡ false → P false) → P t
 pick true P yes_ no_ = yes_ refl
@@ -44,11 +44,11 @@ ranged s i t is =
 abbrev a_node : NodeKind → Dinode → Node
 a_node k x = record { count = count_of x.nlink; kind = k }
 
-module _ (d e : List (List ℕ)) (view : IsViewOf d e) (well : IsWellFormed d) where
+module _ (v : Version) (d e : List (List ℕ)) (view : IsViewOf v d e) (well : IsWellFormed v d) where
   same_at : (b : ℕ) → IsOutsideLog (sizes_of d) b → recovered e b ≡ recovered d b
   same_at b out = view.same b out
 
-  log : UpToLog d
+  log : UpToLog v d
   log = (let a = well.0 in let b = a.0 in let c = b.0 in let f = c.0 in let g = f.0 in let h = g.0 in let i = h.0 in let j = i.0 in j.0)
 
   good_numbers : HasGoodNumbers d
@@ -129,14 +129,14 @@ module _ (d e : List (List ℕ)) (view : IsViewOf d e) (well : IsWellFormed d) w
         ap (λ (l : List ℕ). recovered e (block_number l k)) numbers_same
         ∙ same_at (block_number (numbers_of d x) k) (outside_at (if nat_lt k direct then k else k + 1))
 
-    slot_same : (n : ℕ) → slot_at e x n ≡ slot_at d x n
+    slot_same : (n : ℕ) → slot_at v e x n ≡ slot_at v d x n
     unfolding slot_at
-    slot_same n = ap (λ (bytes : List ℕ). dirent_at (n % dirents_per_block) bytes) (content_same (n / dirents_per_block))
+    slot_same n = ap (λ (bytes : List ℕ). dirent_at v (n % dirents_per_block_of v) bytes) (content_same (n / dirents_per_block_of v))
 
-    pub slots_same : (n : ℕ) → first_slots e x n ≡ first_slots d x n
+    pub slots_same : (n : ℕ) → first_slots v e x n ≡ first_slots v d x n
     unfolding first_slots
     slots_same zero = refl
-    slots_same (suc n) = ap (λ (l : List (Option Dirent)). l ++ slot_at e x n ∷ []) (slots_same n) ∙ ap (λ (o : Option Dirent). first_slots d x n ++ o ∷ []) (slot_same n)
+    slots_same (suc n) = ap (λ (l : List (Option Dirent)). l ++ slot_at v e x n ∷ []) (slots_same n) ∙ ap (λ (o : Option Dirent). first_slots v d x n ++ o ∷ []) (slot_same n)
 
     pub front_same : (n : ℕ) → front_blocks e x n ≡ front_blocks d x n
     unfolding front_blocks
@@ -150,32 +150,32 @@ module _ (d e : List (List ℕ)) (view : IsViewOf d e) (well : IsWellFormed d) w
       ∙ pick (is_free (inode_of d i)) (λ t. is_free (inode_of d i) ≡ t → (if t then [] else numbers_of e (inode_of d i)) ≡ (if t then [] else numbers_of d (inode_of d i)))
       (λ _ _. refl) (λ _ isnt. numbers_same (inode_of d i) (used_good i range isnt)) refl
 
-  slots_in_same : (i : ℕ) → slots_in e i ≡ slots_in d i
+  slots_in_same : (i : ℕ) → slots_in v e i ≡ slots_in v d i
   unfolding slots_in
   slots_in_same i =
-      ap (λ (t : Bool). if t then slots_of e (inode_of e i) else []) (live_same i)
-      ∙ pick (is_live_directory d i) (λ t. is_live_directory d i ≡ t → (if t then slots_of e (inode_of e i) else []) ≡ (if t then slots_of d (inode_of d i) else []))
-      (λ _ is. ap (λ (x : Dinode). slots_of e x) (inode_same i) ∙ slots_same (inode_of d i) (live_good i is) ((inode_of d i).size / dirent_len)) (λ _ _. refl) refl
+      ap (λ (t : Bool). if t then slots_of v e (inode_of e i) else []) (live_same i)
+      ∙ pick (is_live_directory d i) (λ t. is_live_directory d i ≡ t → (if t then slots_of v e (inode_of e i) else []) ≡ (if t then slots_of v d (inode_of d i) else []))
+      (λ _ is. ap (λ (x : Dinode). slots_of v e x) (inode_same i) ∙ slots_same (inode_of d i) (live_good i is) ((inode_of d i).size / dirent_len_of v)) (λ _ _. refl) refl
 
   nodes : is_node e ≡ is_node d
   nodes = λ j i. node_same i j
 
-  slots : slots_in e ≡ slots_in d
+  slots : slots_in v e ≡ slots_in v d
   slots = λ j i. slots_in_same i j
 
-  ups : up e ≡ up d
+  ups : up v e ≡ up v d
   ups = λ j i. number_in (slice_index_or (slots j i) 1 None)
 
-  all_names : names_of e ≡ names_of d
+  all_names : names_of v e ≡ names_of v d
   all_names = λ j i. times i (gathered (λ n. slot_numbers (slots j n)) ((view.sizes j).ninodes - 1))
 
-  all_further : further_names_of e ≡ further_names_of d
+  all_further : further_names_of v e ≡ further_names_of v d
   all_further = λ j i. times i (gathered (λ n. slot_numbers (drop 2 (slots j n))) ((view.sizes j).ninodes - 1))
 
-  all_proper : proper_names_of e ≡ proper_names_of d
+  all_proper : proper_names_of v e ≡ proper_names_of v d
   all_proper = λ j i. times i (gathered (λ n. filter (λ m. ups j m == n) (slot_numbers (drop 2 (slots j n)))) ((view.sizes j).ninodes - 1))
 
-  all_children : children_of e ≡ children_of d
+  all_children : children_of v e ≡ children_of v d
   all_children = λ j i. times i (gathered (λ n. filter (λ m. not (m == n)) (ups j n ∷ [])) ((view.sizes j).ninodes - 1))
 
   marked : is_marked e ≡ is_marked d
@@ -209,19 +209,19 @@ module _ (d e : List (List ℕ)) (view : IsViewOf d e) (well : IsWellFormed d) w
         (subst (λ (l : List ℕ). All (λ b. b ≢ 0 → is_marked d b ≡ true) l) (sym (by_same i (range i lo hi))) (h.named i lo (high_in i hi)));
   }
 
-  sizes : HasGoodSizes d → HasGoodSizes e
+  sizes : HasGoodSizes v d → HasGoodSizes v e
   sizes h i is =
       let node : is_node d i ≡ true = sym (node_same i) ∙ is in
       let old = h i node in
-      subst (λ (x : Dinode). IsGoodSize e x) (sym (inode_same i))
+      subst (λ (x : Dinode). IsGoodSize v e x) (sym (inode_same i))
       (record { fits = old.fits; named = λ k lt. subst (λ (l : List ℕ). block_number l k ≢ 0) (sym (numbers_same (inode_of d i) (node_good i node))) (old.named k lt) })
 
-  good_slots : HasGoodSlots d → HasGoodSlots e
+  good_slots : HasGoodSlots v d → HasGoodSlots v e
   good_slots h i is =
-      subst (λ (f : ℕ → Bool). AreGoodSlots f i (slots_in e i)) (sym nodes)
+      subst (λ (f : ℕ → Bool). AreGoodSlots f i (slots_in v e i)) (sym nodes)
       (subst (λ (l : List (Option Dirent)). AreGoodSlots (is_node d) i l) (sym (slots_in_same i)) (h i (sym (live_same i) ∙ is)))
 
-  one_tree : IsOneTree d → IsOneTree e
+  one_tree : IsOneTree v d → IsOneTree v e
   one_tree h = record {
     root = ap (λ (f : ℕ → ℕ). f 1) ups ∙ h.root;
     root_unnamed = ap (λ (f : ℕ → ℕ). f 1) all_further ∙ h.root_unnamed;
@@ -230,50 +230,50 @@ module _ (d e : List (List ℕ)) (view : IsViewOf d e) (well : IsWellFormed d) w
     reaches = λ i is. subst (λ (f : ℕ → ℕ). Reaches f i) (sym ups) (h.reaches i (sym (live_same i) ∙ is));
   }
 
-  good_counts : HasGoodCounts d → HasGoodCounts e
+  good_counts : HasGoodCounts v d → HasGoodCounts v e
   good_counts h i is =
-      subst (λ (x : Dinode). IsGoodCount x (names_of e i) (further_names_of e i) (children_of e i)) (sym (inode_same i))
-      (subst (λ (f : ℕ → ℕ). IsGoodCount (inode_of d i) (f i) (further_names_of e i) (children_of e i)) (sym all_names)
-      (subst (λ (f : ℕ → ℕ). IsGoodCount (inode_of d i) (names_of d i) (f i) (children_of e i)) (sym all_further)
-      (subst (λ (f : ℕ → ℕ). IsGoodCount (inode_of d i) (names_of d i) (further_names_of d i) (f i)) (sym all_children)
+      subst (λ (x : Dinode). IsGoodCount x (names_of v e i) (further_names_of v e i) (children_of v e i)) (sym (inode_same i))
+      (subst (λ (f : ℕ → ℕ). IsGoodCount (inode_of d i) (f i) (further_names_of v e i) (children_of v e i)) (sym all_names)
+      (subst (λ (f : ℕ → ℕ). IsGoodCount (inode_of d i) (names_of v d i) (f i) (children_of v e i)) (sym all_further)
+      (subst (λ (f : ℕ → ℕ). IsGoodCount (inode_of d i) (names_of v d i) (further_names_of v d i) (f i)) (sym all_children)
       (h i (sym (node_same i) ∙ is)))))
 
-  pub transfers : IsWellFormed e
+  pub transfers : IsWellFormed v e
   transfers =
       (let tree = well.0 in let slot = tree.0 in let size = slot.0 in let mark = size.0 in let one = mark.0 in let range = one.0 in let root_ = range.0 in let type_ = root_.0 in
       (((((((((view.good, types type_.1), root root_.1), named range.1), once one.1), marks mark.1), sizes size.1), good_slots slot.1), one_tree tree.1), good_counts well.1))
 
   -- ---- the tree
 
-  kind_same : (x : Dinode) → Good x → kind_of e x ≡ kind_of d x
+  kind_same : (x : Dinode) → Good x → kind_of v e x ≡ kind_of v d x
   unfolding kind_of
   kind_same x good =
-      ap (λ (l : List (Option Dirent)). if is_directory x then Directory (map slot_of l) else (if is_file x then File (content_of e x) else Device x.major x.minor x.size)) (slots_same x good (x.size / dirent_len))
-      ∙ ap (λ (l : List ℕ). if is_directory x then Directory (map slot_of (slots_of d x)) else (if is_file x then File (take x.size l) else Device x.major x.minor x.size)) (front_same x good (blocks_for x.size))
+      ap (λ (l : List (Option Dirent)). if is_directory x then Directory (map slot_of l) else (if is_file x then File (content_of e x) else Device x.major x.minor x.size)) (slots_same x good (x.size / dirent_len_of v))
+      ∙ ap (λ (l : List ℕ). if is_directory x then Directory (map slot_of (slots_of v d x)) else (if is_file x then File (take x.size l) else Device x.major x.minor x.size)) (front_same x good (blocks_for x.size))
 
-  node_of_same : (i : ℕ) → node_of e i ≡ node_of d i
+  node_of_same : (i : ℕ) → node_of v e i ≡ node_of v d i
   unfolding node_of
   node_of_same i =
-      ap (λ (t : Bool). if t && is_live (inode_of e i) then Some (a_node (kind_of e (inode_of e i)) (inode_of e i)) else None) (node_same i)
-      ∙ pick (is_node d i) (λ t. is_node d i ≡ t → (if t && is_live (inode_of e i) then Some (a_node (kind_of e (inode_of e i)) (inode_of e i)) else None)
-      ≡ (if t && is_live (inode_of d i) then Some (a_node (kind_of d (inode_of d i)) (inode_of d i)) else None))
+      ap (λ (t : Bool). if t && is_live (inode_of e i) then Some (a_node (kind_of v e (inode_of e i)) (inode_of e i)) else None) (node_same i)
+      ∙ pick (is_node d i) (λ t. is_node d i ≡ t → (if t && is_live (inode_of e i) then Some (a_node (kind_of v e (inode_of e i)) (inode_of e i)) else None)
+      ≡ (if t && is_live (inode_of d i) then Some (a_node (kind_of v d (inode_of d i)) (inode_of d i)) else None))
       (λ _ is.
-      ap (λ (x : Dinode). if is_live x then Some (a_node (kind_of e x) x) else None) (inode_same i)
+      ap (λ (x : Dinode). if is_live x then Some (a_node (kind_of v e x) x) else None) (inode_same i)
       ∙ ap (λ (k : NodeKind). if is_live (inode_of d i) then Some (a_node (k) (inode_of d i)) else None) (kind_same (inode_of d i) (node_good i is)))
       (λ _ _. refl) refl
 
-  nodes_same : (n : ℕ) → first_nodes e n ≡ first_nodes d n
+  nodes_same : (n : ℕ) → first_nodes v e n ≡ first_nodes v d n
   unfolding first_nodes
   nodes_same zero = refl
-  nodes_same (suc n) = ap (λ (l : List (Option Node)). l ++ node_of e n ∷ []) (nodes_same n) ∙ ap (λ (o : Option Node). first_nodes d n ++ o ∷ []) (node_of_same n)
+  nodes_same (suc n) = ap (λ (l : List (Option Node)). l ++ node_of v e n ∷ []) (nodes_same n) ∙ ap (λ (o : Option Node). first_nodes v d n ++ o ∷ []) (node_of_same n)
 
-  pub tree_same : tree_in e ≡ tree_in d
+  pub tree_same : tree_in v e ≡ tree_in v d
   tree_same =
-      let nodes : first_nodes e (sizes_of e).ninodes ≡ first_nodes d (sizes_of d).ninodes = ap (λ (z : Super). first_nodes e z.ninodes) view.sizes ∙ nodes_same (sizes_of d).ninodes in
+      let nodes : first_nodes v e (sizes_of e).ninodes ≡ first_nodes v d (sizes_of d).ninodes = ap (λ (z : Super). first_nodes v e z.ninodes) view.sizes ∙ nodes_same (sizes_of d).ninodes in
       ap at_rest nodes
 
 pub trees_see_recovered : TreesSeeRecovered
-trees_see_recovered old new view well = tree_same old new view well
+trees_see_recovered v old new view well = tree_same v old new view well
 
 pub checks_see_recovered : ChecksSeeRecovered
-checks_see_recovered old new view well = transfers old new view well
+checks_see_recovered v old new view well = transfers v old new view well

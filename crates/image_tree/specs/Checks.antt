@@ -1,14 +1,15 @@
 -- What is checked of an image, each check as it passes. Their order stands in Damage.
 use Rattle.std.specs.Prelude.{◌≡◌, ◌≢◌, ℕ, ◌+◌, ◌-◌, ◌*◌, ◌/◌, ◌%◌, ◌<◌, ◌≤◌, pos, Bool, true, false, ◌≤ℤ◌, ◌<ℤ◌, List, [], ◌∷◌, slice_index_or, All, Option, Some, None}
-use Rattle.image_tree.specs.Vocabulary.{Super, Dinode, Dirent, Free, Used, u32_at, bit_of, block_len, dirent_len, inodes_per_block, log_head_len, magic, super_block, super_magic_at, block_at, sizes_of, log_count, logged, recovered}
+use Rattle.image_tree.specs.Vocabulary.{Version, dirent_len_of, magic_of, Super, Dinode, Dirent, Free, Used, u32_at, bit_of, block_len, inodes_per_block, log_head_len, most_disk_blocks, super_block, super_magic_at, block_at, sizes_of, log_count, logged, recovered}
+pub use Rattle.image_versions.specs.Shared.{largest_size}
 use Rattle.image_tree.specs.Lists.{IsOnce, gathered}
 use Rattle.image_tree.specs.Inodes.{inode_of, last, is_directory, is_live, is_node, is_live_directory, numbers_of, numbers_by, named_by, block_number}
 use Rattle.image_tree.specs.Links.{slots_in, slot_numbers, slot_names, up, names_of, further_names_of, proper_names_of, children_of, Reaches}
 
--- ---- 52: the superblock
+-- ---- 52: the superblock, with the magic number of this version
 
 pub record IsGoodSuper (s : Super) : Type 0 where
-  pub size : s.size ≤ 8191
+  pub size : s.size ≤ most_disk_blocks
   pub logstart : 2 ≤ s.logstart
   pub nlog : 11 ≤ s.nlog
   pub log : s.logstart + s.nlog ≤ s.inodestart
@@ -17,8 +18,8 @@ pub record IsGoodSuper (s : Super) : Type 0 where
   pub inodes : s.inodestart + (s.ninodes + (inodes_per_block - 1)) / inodes_per_block ≤ s.bmapstart
   pub bitmap : s.bmapstart + 1 ≤ s.size
 
-abbrev pub HasSuper : List (List ℕ) → Type 0
-HasSuper disk = (u32_at (block_at disk super_block) super_magic_at ≡ magic) × IsGoodSuper (sizes_of disk)
+abbrev pub HasSuper : Version → List (List ℕ) → Type 0
+HasSuper v disk = (u32_at (block_at disk super_block) super_magic_at ≡ magic_of v) × IsGoodSuper (sizes_of disk)
 
 -- ---- 53: the log's head
 
@@ -67,21 +68,17 @@ pub record HasMarks (disk : List (List ℕ)) : Type 0 where
 
 -- ---- 58: sizes
 
--- the greatest size of a node: 268 blocks
-abbrev pub largest_size : ℕ
-largest_size = 268 * block_len
-
-pub record IsFittingSize (d : Dinode) : Type 0 where
+pub record IsFittingSize (v : Version) (d : Dinode) : Type 0 where
   pub limit : d.size ≤ largest_size
   -- a live directory has whole slots, and its first two
-  pub slots : is_directory d ≡ true → is_live d ≡ true → (2 * dirent_len ≤ d.size) × (d.size % dirent_len ≡ 0)
+  pub slots : is_directory d ≡ true → is_live d ≡ true → (2 * dirent_len_of v ≤ d.size) × (d.size % dirent_len_of v ≡ 0)
 
-pub record IsGoodSize (disk : List (List ℕ)) (d : Dinode) : Type 0 where
-  pub fits : IsFittingSize d
+pub record IsGoodSize (v : Version) (disk : List (List ℕ)) (d : Dinode) : Type 0 where
+  pub fits : IsFittingSize v d
   pub named : (k : ℕ) → block_len * k < d.size → block_number (numbers_of disk d) k ≢ 0
 
-abbrev pub HasGoodSizes : List (List ℕ) → Type 0
-HasGoodSizes disk = (i : ℕ) → is_node disk i ≡ true → IsGoodSize disk (inode_of disk i)
+abbrev pub HasGoodSizes : Version → List (List ℕ) → Type 0
+HasGoodSizes v disk = (i : ℕ) → is_node disk i ≡ true → IsGoodSize v disk (inode_of disk i)
 
 -- ---- 59: the slots of live directories
 
@@ -106,18 +103,18 @@ pub record AreGoodSlots (is_node : ℕ → Bool) (i : ℕ) (slots : List (Option
   pub nodes : All (λ n. is_node n ≡ true) (slot_numbers slots)
   pub names : IsOnce (slot_names slots)
 
-abbrev pub HasGoodSlots : List (List ℕ) → Type 0
-HasGoodSlots disk = (i : ℕ) → is_live_directory disk i ≡ true → AreGoodSlots (is_node disk) i (slots_in disk i)
+abbrev pub HasGoodSlots : Version → List (List ℕ) → Type 0
+HasGoodSlots v disk = (i : ℕ) → is_live_directory disk i ≡ true → AreGoodSlots (is_node disk) i (slots_in v disk i)
 
 -- ---- 60: one tree
 
-pub record IsOneTree (disk : List (List ℕ)) : Type 0 where
-  pub root : up disk 1 ≡ 1
-  pub root_unnamed : further_names_of disk 1 ≡ 0
+pub record IsOneTree (v : Version) (disk : List (List ℕ)) : Type 0 where
+  pub root : up v disk 1 ≡ 1
+  pub root_unnamed : further_names_of v disk 1 ≡ 0
   -- exactly one slot past the first two names it, and that one stands in its ".."
-  pub named : (i : ℕ) → is_live_directory disk i ≡ true → i ≢ 1 → further_names_of disk i ≡ 1
-  pub proper : (i : ℕ) → is_live_directory disk i ≡ true → i ≢ 1 → proper_names_of disk i ≡ 1
-  pub reaches : (i : ℕ) → is_live_directory disk i ≡ true → Reaches (up disk) i
+  pub named : (i : ℕ) → is_live_directory disk i ≡ true → i ≢ 1 → further_names_of v disk i ≡ 1
+  pub proper : (i : ℕ) → is_live_directory disk i ≡ true → i ≢ 1 → proper_names_of v disk i ≡ 1
+  pub reaches : (i : ℕ) → is_live_directory disk i ≡ true → Reaches (up v disk) i
 
 -- ---- 61: counts
 
@@ -127,6 +124,6 @@ pub record IsGoodCount (d : Dinode) (names further children : ℕ) : Type 0 wher
   pub directory : is_directory d ≡ true → is_live d ≡ true → d.nlink ≡ pos (1 + children)
   pub dead : is_directory d ≡ true → is_live d ≡ false → further ≡ 0
 
-abbrev pub HasGoodCounts : List (List ℕ) → Type 0
-HasGoodCounts disk =
-    (i : ℕ) → is_node disk i ≡ true → IsGoodCount (inode_of disk i) (names_of disk i) (further_names_of disk i) (children_of disk i)
+abbrev pub HasGoodCounts : Version → List (List ℕ) → Type 0
+HasGoodCounts v disk =
+    (i : ℕ) → is_node disk i ≡ true → IsGoodCount (inode_of disk i) (names_of v disk i) (further_names_of v disk i) (children_of v disk i)

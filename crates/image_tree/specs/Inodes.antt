@@ -1,6 +1,7 @@
 -- The inodes of an image: their fields, the blocks that they name, the slots of a directory, the content of a file.
 use Rattle.std.specs.Prelude.{ℕ, zero, suc, ◌+◌, ◌-◌, ◌/◌, ◌%◌, ◌==◌, nat_lt, ◌&&◌, not, ℤ, pos, negsuc, Bool, false, if◌then◌else◌, List, [], ◌∷◌, ◌++◌, take, filter, slice_index, Option}
-use Rattle.image_tree.specs.Vocabulary.{Dinode, Dirent, numbers_in, block_len, inodes_per_block, dirents_per_block, dirent_len, dinode_at, dirent_at, recovered, sizes_of}
+use Rattle.image_tree.specs.Vocabulary.{Version, dirent_len_of, dirents_per_block_of, Dinode, Dirent, numbers_in, block_len, inodes_per_block, dinode_at, dirent_at, recovered, sizes_of}
+pub use Rattle.image_versions.specs.Shared.{direct}
 
 unfoldable pub inode_of : List (List ℕ) → ℕ → Dinode
 inode_of disk i = dinode_at (i % inodes_per_block) (recovered disk ((sizes_of disk).inodestart + i / inodes_per_block))
@@ -37,10 +38,6 @@ unfoldable pub is_live_directory : List (List ℕ) → ℕ → Bool
 is_live_directory disk i = (nat_lt 0 i && nat_lt i (sizes_of disk).ninodes) && (is_directory (inode_of disk i) && is_live (inode_of disk i))
 
 -- ---- the blocks that it names
-
--- how many block numbers stand in the inode itself; that of the indirect block comes behind them
-abbrev pub direct : ℕ
-direct = 12
 
 -- the numbers in its indirect block, if there is one
 abbrev pub indirect_numbers : List (List ℕ) → Dinode → List ℕ
@@ -86,13 +83,13 @@ abbrev pub content_of : List (List ℕ) → Dinode → List ℕ
 content_of disk d = take d.size (front_blocks disk d (blocks_for d.size))
 
 -- slot s of a directory: None where its bytes are no entry
-unfoldable pub slot_at : List (List ℕ) → Dinode → ℕ → Option Dirent
-slot_at disk d s = dirent_at (s % dirents_per_block) (content_block disk d (s / dirents_per_block))
+unfoldable pub slot_at : Version → List (List ℕ) → Dinode → ℕ → Option Dirent
+slot_at v disk d s = dirent_at v (s % dirents_per_block_of v) (content_block disk d (s / dirents_per_block_of v))
 
-unfoldable pub first_slots : List (List ℕ) → Dinode → ℕ → List (Option Dirent)
-first_slots disk d zero = []
-first_slots disk d (suc n) = first_slots disk d n ++ slot_at disk d n ∷ []
+unfoldable pub first_slots : Version → List (List ℕ) → Dinode → ℕ → List (Option Dirent)
+first_slots v disk d zero = []
+first_slots v disk d (suc n) = first_slots v disk d n ++ slot_at v disk d n ∷ []
 
 -- the slots of a directory
-abbrev pub slots_of : List (List ℕ) → Dinode → List (Option Dirent)
-slots_of disk d = first_slots disk d (d.size / dirent_len)
+abbrev pub slots_of : Version → List (List ℕ) → Dinode → List (Option Dirent)
+slots_of v disk d = first_slots v disk d (d.size / dirent_len_of v)

@@ -7,4 +7,4 @@ use Rattle.image_tree.specs.Damage.{UpToLog}
 pub record IsLayout (disk : List (List ℕ)) (layout : Layout) : Type 0 where
   pub sizes : layout.sizes ≡ sizes_of disk
   pub blocks : layout.head.blocks.items ≡ logged disk
-  pub good : UpToLog disk
+  pub good : UpToLog layout.version disk

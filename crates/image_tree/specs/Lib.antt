@@ -9,8 +9,9 @@ pub mod Shape
 pub mod Trees
 pub mod Layout
 pub mod Marks
-pub mod Names
+pub mod Versions
 pub mod Reads
 pub mod Recovery
 pub mod Views
 pub mod Freeing
+pub mod VersionOne

@@ -1,19 +1,19 @@
 -- What the checks see of a disk.
 use Rattle.std.specs.Prelude.{◌≡◌, ℕ, List}
-use Rattle.image_tree.specs.Vocabulary.{sizes_of, SameRecovered}
+use Rattle.image_tree.specs.Vocabulary.{Version, sizes_of, SameRecovered}
 use Rattle.image_tree.specs.Damage.{UpToLog, IsWellFormed}
 use Rattle.image_tree.specs.Trees.{tree_in}
 
 -- the disk passes the checks up to the log's, has its sizes, and recovery leaves the same outside the log
-pub record IsViewOf (old new : List (List ℕ)) : Type 0 where
+pub record IsViewOf (v : Version) (old new : List (List ℕ)) : Type 0 where
   pub sizes : sizes_of new ≡ sizes_of old
-  pub good : UpToLog new
+  pub good : UpToLog v new
   pub same : SameRecovered old new
 
 -- two disks on which recovery leaves the same outside the log are both well formed or neither, where both have a good superblock and log
 abbrev pub ChecksSeeRecovered : Type 0
-ChecksSeeRecovered = (old new : List (List ℕ)) → IsViewOf old new → IsWellFormed old → IsWellFormed new
+ChecksSeeRecovered = (v : Version) (old new : List (List ℕ)) → IsViewOf v old new → IsWellFormed v old → IsWellFormed v new
 
 -- and then they hold the same tree
 abbrev pub TreesSeeRecovered : Type 0
-TreesSeeRecovered = (old new : List (List ℕ)) → IsViewOf old new → IsWellFormed old → tree_in new ≡ tree_in old
+TreesSeeRecovered = (v : Version) (old new : List (List ℕ)) → IsViewOf v old new → IsWellFormed v old → tree_in v new ≡ tree_in v old

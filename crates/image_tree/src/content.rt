@@ -34,7 +34,7 @@ pub fn load_content<D: Device>(
     requires numbers { numbers.now ≡ numbers_of (D.contents device.old) inode.now }
     requires good { All (λ b. b ≢ 0 → IsData (sizes_of (D.contents device.old)) b) numbers.now }
     ensures content { IfOk result (λ bytes. bytes.items ≡ content_of (D.contents device.old) inode.now) }
-    ensures err { IfErr result (JudgesFault (D.contents device.old)) }
+    ensures err { IfErr result (JudgesFault layout.now.version (D.contents device.old)) }
     ensures device { OnlyReads D.contents D.failures (faults_with result) device.old device.new }
     ensures calls { ComesByCalls D.Called device.old device.new }
 {

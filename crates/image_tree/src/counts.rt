@@ -37,13 +37,13 @@ fn has_good_count<D: Device>(
     i: u32,
 ) -> Result<bool, Fault>
     requires layout { IsLayout (D.contents device.old) layout.now }
-    requires links { IsLinks (D.contents device.old) links.now }
+    requires links { IsLinks layout.now.version (D.contents device.old) links.now }
     requires low { 1 ≤ i }
     requires bound { i < layout.now.sizes.ninodes }
     ensures good { IfOk result (λ good. IsTrue good
         ↔ (is_node (D.contents device.old) i ≡ true
-        → IsGoodCount (inode_of (D.contents device.old) i) (names_of (D.contents device.old) i) (further_names_of (D.contents device.old) i)
-        (children_of (D.contents device.old) i))) }
+        → IsGoodCount (inode_of (D.contents device.old) i) (names_of layout.now.version (D.contents device.old) i)
+        (further_names_of layout.now.version (D.contents device.old) i) (children_of layout.now.version (D.contents device.old) i))) }
     ensures device { OnlyReads D.contents D.failures (faults_after result) device.old device.new }
     ensures calls { ComesByCalls D.Called device.old device.new }
 {
@@ -67,8 +67,8 @@ pub fn has_good_counts<D: Device>(
     links: &Links,
 ) -> Result<bool, Fault>
     requires layout { IsLayout (D.contents device.old) layout.now }
-    requires links { IsLinks (D.contents device.old) links.now }
-    ensures good { IfOk result (λ good. IsTrue good ↔ HasGoodCounts (D.contents device.old)) }
+    requires links { IsLinks layout.now.version (D.contents device.old) links.now }
+    ensures good { IfOk result (λ good. IsTrue good ↔ HasGoodCounts layout.now.version (D.contents device.old)) }
     ensures device { OnlyReads D.contents D.failures (faults_after result) device.old device.new }
     ensures calls { ComesByCalls D.Called device.old device.new }
 {

@@ -8,10 +8,12 @@ ghost use Rattle.image_tree.specs.Reads.{OnlyReads};
 use block_device::{Device, Fault};
 use fs_layout::widths::{BLOCK_LEN, Block, INODES_PER_BLOCK};
 use fs_layout::{Dinode, LogHead, Super, read_dinode};
+use image_versions::Version;
 
-/// The superblock and the head of the log.
+/// The version of an image, its superblock and the head of its log.
 #[derive(Drop)]
 pub struct Layout {
+    pub version: Version,
     pub sizes: Super,
     pub head: LogHead,
 }

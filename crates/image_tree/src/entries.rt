@@ -121,7 +121,7 @@ fn node_table<D: Device>(
 ) -> Result<Vec<bool>, MountFault>
     requires layout { IsLayout (D.contents device.old) layout.now }
     ensures table { IfOk result (λ nodes. IsNodeTable (D.contents device.old) nodes.items) }
-    ensures err { IfErr result (JudgesFault (D.contents device.old)) }
+    ensures err { IfErr result (JudgesFault layout.now.version (D.contents device.old)) }
     ensures device { OnlyReads D.contents D.failures (faults_with result) device.old device.new }
     ensures calls { ComesByCalls D.Called device.old device.new }
 {
@@ -142,8 +142,8 @@ pub fn has_good_slots<D: Device>(
 ) -> Result<bool, MountFault>
     requires layout { IsLayout (D.contents device.old) layout.now }
     requires numbers { HasGoodNumbers (D.contents device.old) }
-    ensures good { IfOk result (λ good. IsTrue good ↔ HasGoodSlots (D.contents device.old)) }
-    ensures err { IfErr result (JudgesFault (D.contents device.old)) }
+    ensures good { IfOk result (λ good. IsTrue good ↔ HasGoodSlots layout.now.version (D.contents device.old)) }
+    ensures err { IfErr result (JudgesFault layout.now.version (D.contents device.old)) }
     ensures device { OnlyReads D.contents D.failures (faults_with result) device.old device.new }
     ensures calls { ComesByCalls D.Called device.old device.new }
 {
@@ -172,8 +172,8 @@ fn has_good_slots_at<D: Device>(
     requires table { IsNodeTable (D.contents device.old) nodes.now }
     ensures good { IfOk result (λ good. IsTrue good
         ↔ (is_live_directory (D.contents device.old) i ≡ true
-        → AreGoodSlots (is_node (D.contents device.old)) i (slots_in (D.contents device.old) i))) }
-    ensures err { IfErr result (JudgesFault (D.contents device.old)) }
+        → AreGoodSlots (is_node (D.contents device.old)) i (slots_in layout.now.version (D.contents device.old) i))) }
+    ensures err { IfErr result (JudgesFault layout.now.version (D.contents device.old)) }
     ensures device { OnlyReads D.contents D.failures (faults_with result) device.old device.new }
     ensures calls { ComesByCalls D.Called device.old device.new }
 {

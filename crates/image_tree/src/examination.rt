@@ -20,16 +20,22 @@ use crate::shape::{Shape, find_shape};
 use crate::sizes::has_good_sizes;
 use crate::types::{has_good_types, has_root};
 use block_device::Device;
+use image_versions::Version;
 use std::alloc::Global;
 
 /// The checks of what inodes say alone, and of the blocks that they name.
-fn examine_blocks<D: Device>(alloc: Global, device: &mut D) -> Result<Layout, MountFault>
-    ensures judges { JudgesWith (λ layout. IsLayout (D.contents device.old) layout × UpToOnce (D.contents device.old))
+fn examine_blocks<D: Device>(
+    alloc: Global,
+    device: &mut D,
+    version: Version,
+) -> Result<Layout, MountFault>
+    ensures judges { JudgesWith version
+        (λ layout. IsLayout (D.contents device.old) layout × (layout.version ≡ version) × UpToOnce version (D.contents device.old))
         (D.contents device.old) result }
     ensures device { OnlyReads D.contents D.failures (faults_with result) device.old device.new }
     ensures calls { ComesByCalls D.Called device.old device.new }
 {
-    let layout = find_layout(device)?;
+    let layout = find_layout(device, version)?;
     if !has_good_types(device, &layout)? {
         return Err(MountFault::Damaged(Damage::BadType));
     }
@@ -46,13 +52,18 @@ fn examine_blocks<D: Device>(alloc: Global, device: &mut D) -> Result<Layout, Mo
 }
 
 /// The checks up to those of the slots of directories.
-fn examine_slots<D: Device>(alloc: Global, device: &mut D) -> Result<Layout, MountFault>
-    ensures judges { JudgesWith (λ layout. IsLayout (D.contents device.old) layout × UpToSlots (D.contents device.old))
+fn examine_slots<D: Device>(
+    alloc: Global,
+    device: &mut D,
+    version: Version,
+) -> Result<Layout, MountFault>
+    ensures judges { JudgesWith version
+        (λ layout. IsLayout (D.contents device.old) layout × (layout.version ≡ version) × UpToSlots version (D.contents device.old))
         (D.contents device.old) result }
     ensures device { OnlyReads D.contents D.failures (faults_with result) device.old device.new }
     ensures calls { ComesByCalls D.Called device.old device.new }
 {
-    let layout = examine_blocks(alloc, device)?;
+    let layout = examine_blocks(alloc, device, version)?;
     if !has_marks(device, &layout)? {
         return Err(MountFault::Damaged(Damage::BlockUnmarked));
     }
@@ -66,13 +77,18 @@ fn examine_slots<D: Device>(alloc: Global, device: &mut D) -> Result<Layout, Mou
 }
 
 /// All checks, in their order. Where none fails it tells where the parts of the image lie.
-pub fn examine_layout<D: Device>(alloc: Global, device: &mut D) -> Result<Layout, MountFault>
-    ensures judges { JudgesWith (λ layout. IsLayout (D.contents device.old) layout × IsWellFormed (D.contents device.old))
+pub fn examine_layout<D: Device>(
+    alloc: Global,
+    device: &mut D,
+    version: Version,
+) -> Result<Layout, MountFault>
+    ensures judges { JudgesWith version
+        (λ layout. IsLayout (D.contents device.old) layout × (layout.version ≡ version) × IsWellFormed version (D.contents device.old))
         (D.contents device.old) result }
     ensures device { OnlyReads D.contents D.failures (faults_with result) device.old device.new }
     ensures calls { ComesByCalls D.Called device.old device.new }
 {
-    let layout = examine_slots(alloc, device)?;
+    let layout = examine_slots(alloc, device, version)?;
     let links = find_links(alloc, device, &layout)?;
     if !is_one_tree(alloc, &links)? {
         return Err(MountFault::Damaged(Damage::NotATree));
@@ -83,15 +99,20 @@ pub fn examine_layout<D: Device>(alloc: Global, device: &mut D) -> Result<Layout
     Ok(layout)
 }
 
-/// Examines an image as recovery would leave it, and reads alone. A damage is the first check that fails, in the order in
+/// Examines an image of this version as recovery would leave it, and reads alone. A damage is the first check that fails, in the order in
 /// which `Damage` has them; memory that is refused and a device that fails end the examination wherever it is.
-pub fn examine<D: Device>(alloc: Global, device: &mut D) -> Result<Shape, MountFault>
-    ensures judges { JudgesWith (λ shape. IsWellFormed (D.contents device.old) × (shape ≡ shape_of (D.contents device.old)))
+pub fn examine<D: Device>(
+    alloc: Global,
+    device: &mut D,
+    version: Version,
+) -> Result<Shape, MountFault>
+    ensures judges { JudgesWith version
+        (λ shape. IsWellFormed version (D.contents device.old) × (shape ≡ shape_of (D.contents device.old)))
         (D.contents device.old) result }
     ensures device { OnlyReads D.contents D.failures (faults_with result) device.old device.new }
     ensures calls { ComesByCalls D.Called device.old device.new }
 {
-    let layout = examine_layout(alloc, device)?;
+    let layout = examine_layout(alloc, device, version)?;
     let shape = find_shape(device, &layout)?;
     Ok(shape)
 }

@@ -10,7 +10,7 @@ use std::alloc::AllocError;
 pub enum Damage {
     /// The device has fewer than 2 blocks, or fewer than the superblock says.
     TooShort = 51,
-    /// The superblock has another magic number, or sizes that don't fit together.
+    /// The superblock has another magic number than its version's, or sizes that don't fit together.
     BadSuper = 52,
     /// The log's head names too many blocks, one outside inodes, bitmap and data, or one twice.
     BadLog = 53,

@@ -17,6 +17,7 @@ use arrayvec::ArrayVec;
 use block_device::{Device, Fault};
 use fs_layout::widths::{ADDRESSES, BLOCK_LEN, Block, INODES_PER_BLOCK};
 use fs_layout::{Dinode, LogHead, Super, clear_bit, read_dinode, write_dinode};
+use image_versions::Version;
 
 /// The type of an inode that is free.
 const KIND_FREE: i16 = 0;
@@ -26,12 +27,12 @@ pub fn freed_nodes_leave_images()
     ensures { FreedNodesLeaveImages }
 {}
 
-/// Frees each node with count 0, in rising number: the blocks that it names are marked free, and its type becomes 0, in a
-/// transaction of its own. The device has an empty log. It takes no memory.
+/// Frees each node of an image of this version with count 0, in rising number: the blocks that it names are marked free,
+/// and its type becomes 0, in a transaction of its own. The device has an empty log. It takes no memory.
 ///
 /// Wherever it stops, also in the middle of a write, the image is well formed, and recovery leaves the same tree.
-pub fn reclaim<D: Device>(device: &mut D, sizes: Super) -> Result<(), Fault>
-    requires well { IsWellFormed (D.contents device.old) }
+pub fn reclaim<D: Device>(device: &mut D, version: Version, sizes: Super) -> Result<(), Fault>
+    requires well { IsWellFormed version (D.contents device.old) }
     requires empty { logged (D.contents device.old) ≡ [] }
     requires sizes { sizes ≡ sizes_of (D.contents device.old) }
     ensures faults { D.failures device.new ≡ faults_after result (D.failures device.old) }
@@ -39,8 +40,8 @@ pub fn reclaim<D: Device>(device: &mut D, sizes: Super) -> Result<(), Fault>
 
     // Whatever it answers, the image stays well formed, with the same tree.
     ensures sizes { sizes_of (D.contents device.new) ≡ sizes_of (D.contents device.old) }
-    ensures well { IsWellFormed (D.contents device.new) }
-    ensures tree { tree_in (D.contents device.new) ≡ tree_in (D.contents device.old) }
+    ensures well { IsWellFormed version (D.contents device.new) }
+    ensures tree { tree_in version (D.contents device.new) ≡ tree_in version (D.contents device.old) }
 
     // Afterwards each node has a name, the blocks of those that had none are free, and the log is empty.
     ensures named { OnOk result (AreNamed (D.contents device.new)) }
@@ -52,6 +53,7 @@ pub fn reclaim<D: Device>(device: &mut D, sizes: Super) -> Result<(), Fault>
     ensures same { AreNamed (D.contents device.old) → D.contents device.new ≡ D.contents device.old }
 {
     let layout = Layout {
+        version,
         sizes,
         head: LogHead {
             blocks: ArrayVec::new(),
@@ -67,16 +69,16 @@ pub fn reclaim<D: Device>(device: &mut D, sizes: Super) -> Result<(), Fault>
 fn reclaim_at<D: Device>(device: &mut D, layout: &Layout, i: u32) -> Result<(), Fault>
     requires layout { IsLayout (D.contents device.old) layout.now }
     requires empty { logged (D.contents device.old) ≡ [] }
-    requires well { IsWellFormed (D.contents device.old) }
+    requires well { IsWellFormed layout.now.version (D.contents device.old) }
     requires low { 1 ≤ i }
     requires bound { i < layout.now.sizes.ninodes }
     ensures faults { D.failures device.new ≡ faults_after result (D.failures device.old) }
     ensures calls { ComesByCalls D.Called device.old device.new }
     ensures sizes { sizes_of (D.contents device.new) ≡ sizes_of (D.contents device.old) }
-    ensures well { IsWellFormed (D.contents device.new) }
-    ensures tree { tree_in (D.contents device.new) ≡ tree_in (D.contents device.old) }
+    ensures well { IsWellFormed layout.now.version (D.contents device.new) }
+    ensures tree { tree_in layout.now.version (D.contents device.new) ≡ tree_in layout.now.version (D.contents device.old) }
     ensures empty { OnOk result (logged (D.contents device.new) ≡ []) }
-    ensures done { OnOk result (IsReclaimed (D.contents device.old) (D.contents device.new) i) }
+    ensures done { OnOk result (IsReclaimed layout.now.version (D.contents device.old) (D.contents device.new) i) }
     ensures same { is_orphan (D.contents device.old) i ≡ false → D.contents device.new ≡ D.contents device.old }
 {
     let nameless = is_nameless(device, layout, i)?;
@@ -122,22 +124,22 @@ fn is_live(inode: &Dinode) -> bool
 fn free<D: Device>(device: &mut D, layout: &Layout, i: u32) -> Result<(), Fault>
     requires layout { IsLayout (D.contents device.old) layout.now }
     requires empty { logged (D.contents device.old) ≡ [] }
-    requires well { IsWellFormed (D.contents device.old) }
+    requires well { IsWellFormed layout.now.version (D.contents device.old) }
     requires low { 1 ≤ i }
     requires bound { i < layout.now.sizes.ninodes }
     requires nameless { is_orphan (D.contents device.old) i ≡ true }
     ensures faults { D.failures device.new ≡ faults_after result (D.failures device.old) }
     ensures calls { ComesByCalls D.Called device.old device.new }
-    ensures either { IsViewOf (D.contents device.old) (D.contents device.new)
-        ⊎ IsFreed (D.contents device.old) (D.contents device.new) i }
+    ensures either { IsViewOf layout.now.version (D.contents device.old) (D.contents device.new)
+        ⊎ IsFreed layout.now.version (D.contents device.old) (D.contents device.new) i }
     ensures empty { OnOk result (logged (D.contents device.new) ≡ []) }
-    ensures freed { OnOk result (IsFreed (D.contents device.old) (D.contents device.new) i) }
+    ensures freed { OnOk result (IsFreed layout.now.version (D.contents device.old) (D.contents device.new) i) }
 {
     let numbers = numbers_at(device, layout, i)?;
     let bitmap = freed_bitmap(device, layout, numbers.as_slice())?;
     let inodes = freed_inodes(device, layout, i)?;
     let home = layout.sizes.inodestart + i / INODES_PER_BLOCK as u32;
-    put_both(device, layout.sizes, home, &bitmap, &inodes)
+    put_both(device, layout, home, &bitmap, &inodes)
 }
 
 /// The bitmap, with these blocks free.

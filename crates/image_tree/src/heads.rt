@@ -1,25 +1,26 @@
 //! The superblock and the log's head.
-ghost use Rattle.std.specs.Prelude.{◌≡◌, ◌≢◌, ◌<◌, ◌≤◌, ◌↔◌, length, All, Err, IsFalse, IsTrue};
-ghost use Rattle.image_tree.specs.Vocabulary.{ComesByCalls, sizes_of, logged};
-ghost use Rattle.image_tree.specs.Checks.{IsGoodSuper, HasSuper, HasGoodLog};
+ghost use Rattle.std.specs.Prelude.{◌≡◌, ◌≢◌, ◌<◌, ◌≤◌, ◌↔◌, length, All, Err, IfOk, IsFalse, IsTrue};
+ghost use Rattle.image_tree.specs.Vocabulary.{faults_after, ComesByCalls, sizes_of};
+ghost use Rattle.image_tree.specs.Checks.{IsGoodSuper, HasSuper};
 ghost use Rattle.image_tree.specs.Damage.{JudgesWith, UpToShort, UpToSize, faults_with};
 ghost use Rattle.image_tree.specs.Layout.{IsLayout};
 ghost use Rattle.image_tree.specs.Lists.{IsOnce};
 ghost use Rattle.image_tree.specs.Reads.{OnlyReads};
+ghost use Rattle.image_tree.specs.Versions.{SupersTellVersions, version_of};
 
 use crate::disk::Layout;
 use crate::fault::{Damage, MountFault};
-use crate::limits::{
-    FEWEST_INODES, FIRST_LOG_BLOCK, MOST_BLOCKS, MOST_INODES, SHORTEST_LOG, SUPER_BLOCK,
-};
-use block_device::Device;
+use crate::limits::{FEWEST_INODES, FIRST_LOG_BLOCK, MOST_INODES, SHORTEST_LOG, SUPER_BLOCK};
+use block_device::{Device, Fault};
 use fs_layout::widths::{BLOCK_LEN, INODES_PER_BLOCK};
-use fs_layout::{LogHead, Super, read_log_head, read_super};
+use fs_layout::{Super, read_log_head, read_super, read_version};
+use image_versions::Version;
+use image_versions::widths::MOST_DISK_BLOCKS;
 
 fn is_good(s: &Super) -> bool
     ensures { IsTrue result ↔ IsGoodSuper s.now }
 {
-    s.size <= MOST_BLOCKS
+    s.size <= MOST_DISK_BLOCKS
         && s.ninodes >= FEWEST_INODES
         && s.ninodes <= MOST_INODES
         && s.logstart >= FIRST_LOG_BLOCK
@@ -30,9 +31,9 @@ fn is_good(s: &Super) -> bool
         && s.bmapstart < s.size
 }
 
-fn find_super<D: Device>(device: &mut D) -> Result<Super, MountFault>
+fn find_super<D: Device>(device: &mut D, version: Version) -> Result<Super, MountFault>
     requires { UpToShort (D.contents device.old) }
-    ensures judges { JudgesWith (λ s. (s ≡ sizes_of (D.contents device.old)) × HasSuper (D.contents device.old))
+    ensures judges { JudgesWith version (λ s. (s ≡ sizes_of (D.contents device.old)) × HasSuper version (D.contents device.old))
         (D.contents device.old) result }
     ensures memory { result ≢ Err MountFault.NoMemory }
     ensures device { OnlyReads D.contents D.failures (faults_with result) device.old device.new }
@@ -40,7 +41,7 @@ fn find_super<D: Device>(device: &mut D) -> Result<Super, MountFault>
 {
     let mut block = [0; BLOCK_LEN];
     device.read(SUPER_BLOCK, &mut block)?;
-    let Some(sizes) = read_super(&block) else {
+    let Some(sizes) = read_super(version, &block) else {
         return Err(MountFault::Damaged(Damage::BadSuper));
     };
     if !is_good(&sizes) {
@@ -71,10 +72,11 @@ fn are_between(numbers: &[u32], low: u32, high: u32) -> bool
     true
 }
 
-fn find_log<D: Device>(device: &mut D, sizes: &Super) -> Result<LogHead, MountFault>
-    requires sizes { sizes.now ≡ sizes_of (D.contents device.old) }
-    requires passed { UpToSize (D.contents device.old) }
-    ensures judges { JudgesWith (λ head. (head.blocks.items ≡ logged (D.contents device.old)) × HasGoodLog (D.contents device.old))
+/// What the log holds, and so the whole layout, of a disk with this superblock.
+fn find_log<D: Device>(device: &mut D, version: Version, sizes: Super) -> Result<Layout, MountFault>
+    requires sizes { sizes ≡ sizes_of (D.contents device.old) }
+    requires passed { UpToSize version (D.contents device.old) }
+    ensures judges { JudgesWith version (λ layout. IsLayout (D.contents device.old) layout × (layout.version ≡ version))
         (D.contents device.old) result }
     ensures memory { result ≢ Err MountFault.NoMemory }
     ensures device { OnlyReads D.contents D.failures (faults_with result) device.old device.new }
@@ -95,12 +97,18 @@ fn find_log<D: Device>(device: &mut D, sizes: &Super) -> Result<LogHead, MountFa
     if has_repeat(blocks) {
         return Err(MountFault::Damaged(Damage::BadLog));
     }
-    Ok(head)
+    Ok(Layout {
+        version,
+        sizes,
+        head,
+    })
 }
 
-/// Finds the parts of a disk: its superblock, and the blocks that its log holds. It takes no memory (xv6: `readsb`, `read_head`).
-pub fn find_layout<D: Device>(device: &mut D) -> Result<Layout, MountFault>
-    ensures judges { JudgesWith (IsLayout (D.contents device.old)) (D.contents device.old) result }
+/// Finds the parts of an image of this version: its superblock, and the blocks that its log holds. It takes no memory
+/// (xv6: `readsb`, `read_head`).
+pub fn find_layout<D: Device>(device: &mut D, version: Version) -> Result<Layout, MountFault>
+    ensures judges { JudgesWith version (λ layout. IsLayout (D.contents device.old) layout × (layout.version ≡ version))
+        (D.contents device.old) result }
     ensures memory { result ≢ Err MountFault.NoMemory }
     ensures device { OnlyReads D.contents D.failures (faults_with result) device.old device.new }
     ensures calls { ComesByCalls D.Called device.old device.new }
@@ -109,10 +117,29 @@ pub fn find_layout<D: Device>(device: &mut D) -> Result<Layout, MountFault>
     if blocks <= SUPER_BLOCK {
         return Err(MountFault::Damaged(Damage::TooShort));
     }
-    let sizes = find_super(device)?;
+    let sizes = find_super(device, version)?;
     if blocks < sizes.size {
         return Err(MountFault::Damaged(Damage::TooShort));
     }
-    let head = find_log(device, &sizes)?;
-    Ok(Layout { sizes, head })
+    find_log(device, version, sizes)
 }
+
+/// The version whose magic number an image begins with, and the first where it is of none: whether it is an image is for its
+/// examination to say. A disk without a superblock is not read.
+pub fn find_version<D: Device>(device: &mut D) -> Result<Version, Fault>
+    ensures version { IfOk result (λ version. version ≡ version_of (D.contents device.old)) }
+    ensures device { OnlyReads D.contents D.failures (faults_after result) device.old device.new }
+    ensures calls { ComesByCalls D.Called device.old device.new }
+{
+    if device.blocks() <= SUPER_BLOCK {
+        return Ok(Version::One);
+    }
+    let mut block = [0; BLOCK_LEN];
+    device.read(SUPER_BLOCK, &mut block)?;
+    Ok(read_version(&block).unwrap_or(Version::One))
+}
+
+/// The version that is found is that of the image. The function does nothing: it carries the law.
+pub fn supers_tell_versions()
+    ensures { SupersTellVersions }
+{}

@@ -1,11 +1,8 @@
-//! The limits that an image keeps. Those of sizes are in bytes.
-use fs_layout::widths::{ADDRESSES, NUMBERS_PER_BLOCK};
+//! The limits that an image of any version keeps, beside those of `image_versions`.
+use image_versions::widths::{ADDRESSES, NUMBERS_PER_BLOCK};
 
 /// The block of the superblock.
 pub const SUPER_BLOCK: u32 = 1;
-
-/// The most blocks that a disk can have.
-pub const MOST_BLOCKS: u32 = 8191;
 
 /// The fewest inodes: inode 0, which is none, and the root.
 pub const FEWEST_INODES: u32 = 2;
@@ -22,14 +19,8 @@ pub const SHORTEST_LOG: u32 = 11;
 /// The inode of the root.
 pub const ROOT: u32 = 1;
 
-/// How many block numbers stand in the inode itself. That of the indirect block comes behind them.
-pub const DIRECT: usize = 12;
-
 /// How many block numbers an inode can have, in itself and in its indirect block.
 pub const NUMBERS: usize = ADDRESSES + NUMBERS_PER_BLOCK;
-
-/// The greatest size of a node: that of 268 blocks.
-pub const LARGEST_SIZE: u32 = 274_432;
 
 /// The types of inodes.
 pub const KIND_FREE: i16 = 0;

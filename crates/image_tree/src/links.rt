@@ -54,8 +54,8 @@ fn find_ups<D: Device>(
 ) -> Result<Vec<u16>, MountFault>
     requires layout { IsLayout (D.contents device.old) layout.now }
     requires numbers { HasGoodNumbers (D.contents device.old) }
-    ensures table { IfOk result (λ ups. IsUpTable (D.contents device.old) ups.items) }
-    ensures err { IfErr result (JudgesFault (D.contents device.old)) }
+    ensures table { IfOk result (λ ups. IsUpTable layout.now.version (D.contents device.old) ups.items) }
+    ensures err { IfErr result (JudgesFault layout.now.version (D.contents device.old)) }
     ensures device { OnlyReads D.contents D.failures (faults_with result) device.old device.new }
     ensures calls { ComesByCalls D.Called device.old device.new }
 {
@@ -80,14 +80,17 @@ fn count_names<D: Device>(
 ) -> Result<(), MountFault>
     requires layout { IsLayout (D.contents device.old) layout.now }
     requires numbers { HasGoodNumbers (D.contents device.old) }
-    requires ups { IsUpTable (D.contents device.old) ups.now }
+    requires ups { IsUpTable layout.now.version (D.contents device.old) ups.now }
     requires names { Tallies names.old [] }
     requires further { Tallies further.old [] }
     requires proper { Tallies proper.old [] }
-    ensures names { OnOk result (Tallies names.new (gathered (named_in (D.contents device.old)) (last (D.contents device.old)))) }
-    ensures further { OnOk result (Tallies further.new (gathered (further_in (D.contents device.old)) (last (D.contents device.old)))) }
-    ensures proper { OnOk result (Tallies proper.new (gathered (proper_in (D.contents device.old)) (last (D.contents device.old)))) }
-    ensures err { IfErr result (JudgesFault (D.contents device.old)) }
+    ensures names { OnOk result (Tallies names.new
+        (gathered (named_in layout.now.version (D.contents device.old)) (last (D.contents device.old)))) }
+    ensures further { OnOk result (Tallies further.new
+        (gathered (further_in layout.now.version (D.contents device.old)) (last (D.contents device.old)))) }
+    ensures proper { OnOk result (Tallies proper.new
+        (gathered (proper_in layout.now.version (D.contents device.old)) (last (D.contents device.old)))) }
+    ensures err { IfErr result (JudgesFault layout.now.version (D.contents device.old)) }
     ensures device { OnlyReads D.contents D.failures (faults_with result) device.old device.new }
     ensures calls { ComesByCalls D.Called device.old device.new }
 {
@@ -136,8 +139,8 @@ pub fn find_links<D: Device>(
 ) -> Result<Links, MountFault>
     requires layout { IsLayout (D.contents device.old) layout.now }
     requires numbers { HasGoodNumbers (D.contents device.old) }
-    ensures links { IfOk result (IsLinks (D.contents device.old)) }
-    ensures err { IfErr result (JudgesFault (D.contents device.old)) }
+    ensures links { IfOk result (IsLinks layout.now.version (D.contents device.old)) }
+    ensures err { IfErr result (JudgesFault layout.now.version (D.contents device.old)) }
     ensures device { OnlyReads D.contents D.failures (faults_with result) device.old device.new }
     ensures calls { ComesByCalls D.Called device.old device.new }
 {

@@ -1,82 +1,57 @@
 //! That no name stands twice in a directory.
-ghost use Rattle.std.specs.Prelude.{◌≡◌, ◌+◌, ◌*◌, ◌<◌, ◌≤◌, ◌++◌, ◌↔◌, ℕ, List, length, map, IfOk, OnOk, IsTrue};
-ghost use Rattle.std.specs.List.{All};
-ghost use Rattle.image_tree.specs.Vocabulary.{IsStrictlyIncreasing};
+ghost use Rattle.std.specs.Prelude.{◌≡◌, ◌++◌, ◌↔◌, map, IfOk, OnOk, IsSorted, IsTrue};
+ghost use Rattle.std.specs.Ordering.{nat_cmp};
+ghost use Rattle.std.specs.Cmp.Lexicographic.{slice_cmp};
 ghost use Rattle.image_tree.specs.Links.{slot_name, slot_names};
 ghost use Rattle.image_tree.specs.Lists.{IsOnce};
-ghost use Rattle.image_tree.specs.Names.{IsKeyed, name_key};
 
-use fs_layout::{Dirent, Name};
+use fs_layout::Dirent;
 use std::alloc::{AllocError, Global};
 
-/// How many bytes there are.
-const BYTES: u128 = 256;
-
-/// The bytes as digits, the first the lowest.
-fn key_of(bytes: &[u8]) -> u128
-    requires { length bytes.now ≤ 14 }
-    ensures key { result ≡ name_key bytes.now }
-    ensures fits { All (λ b. b < 256) bytes.now }
-{
-    let mut key: u128 = 0;
-    for k in 0..bytes.len() {
-        key = key * BYTES + u128::from(bytes[bytes.len() - 1 - k]);
-    }
-    key
-}
-
-/// A number that no other name has.
-fn name_key(name: &Name) -> u128
-    ensures key { result ≡ name_key name.now }
-    ensures keyed { IsKeyed name.now }
-{
-    key_of(name.as_bytes())
-}
-
-fn push_key(keys: &mut Vec<u128>, slot: &Option<Dirent>) -> Result<(), AllocError>
-    ensures keys { OnOk result (keys.new.items ≡ keys.old.items ++ map name_key (slot_name slot.now)) }
-    ensures keyed { OnOk result (All IsKeyed (slot_name slot.now)) }
+fn push_name<'a>(names: &mut Vec<&'a [u8]>, slot: &'a Option<Dirent>) -> Result<(), AllocError>
+    ensures { OnOk result (map (λ n. n.now) names.new.items ≡ map (λ n. n.now) names.old.items ++ slot_name slot.now) }
 {
     if let Some(Dirent::Used { name, .. }) = slot {
-        keys.push(name_key(name))?;
+        names.push(name.as_bytes())?;
     }
     Ok(())
 }
 
-/// The number of each name in the slots.
-fn name_keys(alloc: Global, slots: &[Option<Dirent>]) -> Result<Vec<u128>, AllocError>
-    ensures keys { IfOk result (λ keys. keys.items ≡ map name_key (slot_names slots.now)) }
-    ensures keyed { IfOk result (λ _. All IsKeyed (slot_names slots.now)) }
+/// Each name in the slots.
+fn names_in(alloc: Global, slots: &[Option<Dirent>]) -> Result<Vec<&[u8]>, AllocError>
+    ensures { IfOk result (λ names. map (λ n. n.now) names.items ≡ slot_names slots.now) }
 {
-    let mut keys = Vec::new(alloc);
+    let mut names = Vec::new(alloc);
     for s in 0..slots.len() {
-        push_key(&mut keys, &slots[s])?;
+        push_name(&mut names, &slots[s])?;
     }
-    Ok(keys)
+    Ok(names)
 }
 
-fn are_increasing(keys: &[u128]) -> bool
-    ensures { IsTrue result ↔ IsStrictlyIncreasing keys.now }
+fn neighbours_differ(names: &[&[u8]]) -> bool
+    requires { IsSorted (λ a b. slice_cmp nat_cmp a.now b.now) names.now }
+    ensures { IsTrue result ↔ IsOnce (map (λ n. n.now) names.now) }
 {
-    for k in 1..keys.len() {
-        if keys[k - 1] >= keys[k] {
+    for k in 1..names.len() {
+        if names[k - 1] == names[k] {
             return false;
         }
     }
     true
 }
 
-fn are_distinct(mut keys: Vec<u128>) -> bool
-    ensures { IsTrue result ↔ IsOnce keys.items }
+/// It may change their order.
+fn are_distinct(names: &mut [&[u8]]) -> bool
+    ensures { IsTrue result ↔ IsOnce (map (λ n. n.now) names.old) }
 {
-    keys.sort_unstable();
-    are_increasing(keys.as_slice())
+    names.sort_unstable();
+    neighbours_differ(names)
 }
 
 /// Whether no name stands in two of the slots.
 pub fn are_names_once(alloc: Global, slots: &[Option<Dirent>]) -> Result<bool, AllocError>
     ensures { IfOk result (λ once. IsTrue once ↔ IsOnce (slot_names slots.now)) }
 {
-    let keys = name_keys(alloc, slots)?;
-    Ok(are_distinct(keys))
+    let mut names = names_in(alloc, slots)?;
+    Ok(are_distinct(&mut names))
 }

@@ -2,7 +2,7 @@
 ghost use Rattle.std.specs.Prelude.{◌≡◌, ◌≢◌, ◌<◌, ◌≤◌, ◌++◌, ◌+◌, ◌∷◌, ◌↔◌, [], ℕ, Bool, List, length, filter, slice_index, IfOk, IfErr, All, IsTrue};
 ghost use Rattle.image_tree.specs.Vocabulary.{faults_after, ComesByCalls, sizes_of};
 ghost use Rattle.image_tree.specs.Checks.{IsData, HasGoodNumbers, NamesOnce};
-ghost use Rattle.image_tree.specs.Inodes.{numbers_of, numbers_by, is_block};
+ghost use Rattle.image_tree.specs.Inodes.{direct, numbers_of, numbers_by, is_block};
 ghost use Rattle.image_tree.specs.Damage.{JudgesFault, faults_with};
 ghost use Rattle.image_tree.specs.Layout.{IsLayout};
 ghost use Rattle.image_tree.specs.Marks.{Marks};
@@ -12,11 +12,12 @@ ghost use Rattle.image_tree.specs.Reads.{OnlyReads};
 use crate::disk::{Layout, load, load_inode};
 use crate::fault::MountFault;
 use crate::inodes::is_free;
-use crate::limits::{DIRECT, NUMBERS};
+use crate::limits::NUMBERS;
 use arrayvec::ArrayVec;
 use block_device::{Device, Fault};
 use fs_layout::widths::BLOCK_LEN;
 use fs_layout::{Dinode, Super, read_numbers};
+use image_versions::widths::DIRECT;
 use std::alloc::Global;
 
 fn is_good(sizes: &Super, b: u32) -> bool
@@ -43,7 +44,7 @@ pub fn load_numbers<D: Device>(
     inode: &Dinode,
 ) -> Result<ArrayVec<u32, NUMBERS>, Fault>
     requires layout { IsLayout (D.contents device.old) layout.now }
-    requires bound { slice_index inode.now.addrs 12 < length (D.contents device.old) }
+    requires bound { slice_index inode.now.addrs direct < length (D.contents device.old) }
     ensures numbers { IfOk result (λ v. v.items ≡ numbers_of (D.contents device.old) inode.now) }
     ensures device { OnlyReads D.contents D.failures (faults_after result) device.old device.new }
     ensures calls { ComesByCalls D.Called device.old device.new }

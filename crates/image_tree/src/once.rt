@@ -60,7 +60,7 @@ pub fn names_once<D: Device>(
     requires layout { IsLayout (D.contents device.old) layout.now }
     requires numbers { HasGoodNumbers (D.contents device.old) }
     ensures once { IfOk result (λ once. IsTrue once ↔ NamesOnce (D.contents device.old)) }
-    ensures err { IfErr result (JudgesFault (D.contents device.old)) }
+    ensures err { IfErr result (JudgesFault layout.now.version (D.contents device.old)) }
     ensures device { OnlyReads D.contents D.failures (faults_with result) device.old device.new }
     ensures calls { ComesByCalls D.Called device.old device.new }
 {

@@ -1,5 +1,6 @@
 //! That the live directories are one tree.
 ghost use Rattle.std.specs.Prelude.{◌≡◌, ◌≢◌, ◌+◌, ◌<◌, ◌≤◌, ◌↔◌, ℕ, List, length, map, slice_index, IfOk, IsTrue};
+ghost use Rattle.image_tree.specs.Vocabulary.{Version};
 ghost use Rattle.image_tree.specs.Links.{Reaches};
 ghost use Rattle.image_tree.specs.Checks.{HasGoodSlots, IsOneTree};
 ghost use Rattle.image_tree.specs.Marks.{IsLinks};
@@ -68,10 +69,10 @@ fn reach_root(alloc: Global, ups: &[u16]) -> Result<bool, AllocError>
 
 /// Whether the live directories of an image with these tables are one tree.
 pub fn is_one_tree(alloc: Global, links: &Links) -> Result<bool, AllocError>
-    requires links { (disk : List (List ℕ)) × IsLinks disk links.now }
+    requires links { (v : Version) × (disk : List (List ℕ)) × IsLinks v disk links.now }
     requires size { length links.now.ups.items ≤ 65536 }
-    ensures { IfOk result (λ one. (disk : List (List ℕ)) → IsLinks disk links.now → HasGoodSlots disk
-        → IsTrue one ↔ IsOneTree disk) }
+    ensures { IfOk result (λ one. (v : Version) (disk : List (List ℕ)) → IsLinks v disk links.now → HasGoodSlots v disk
+        → IsTrue one ↔ IsOneTree v disk) }
 {
     let ups = links.ups.as_slice();
     let further = links.further.as_slice();

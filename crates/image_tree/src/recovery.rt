@@ -12,14 +12,15 @@ use crate::disk::Layout;
 use crate::fault::MountFault;
 use crate::heads::find_layout;
 use block_device::{BLOCK_LEN, Device, Fault};
+use image_versions::Version;
 
-/// Copies the logged blocks home, and then clears the log's head (the xv6 book, chapter "File system", "Logging
+/// Copies the logged blocks of an image of this version home, and then clears the log's head (the xv6 book, chapter "File system", "Logging
 /// layer"). Where nothing is logged it writes nothing. It takes no memory.
 ///
 /// Wherever it stops, also in the middle of a write, recovery may be run again and makes the same disk (xv6: `recover_from_log`).
-pub fn recover<D: Device>(device: &mut D) -> Result<(), MountFault>
+pub fn recover<D: Device>(device: &mut D, version: Version) -> Result<(), MountFault>
     // Superblock and log are good, or the answer is their first damage; then nothing was written.
-    ensures judges { JudgesWith (λ _. UpToLog (D.contents device.old)) (D.contents device.old) result }
+    ensures judges { JudgesWith version (λ _. UpToLog version (D.contents device.old)) (D.contents device.old) result }
     ensures memory { result ≢ Err MountFault.NoMemory }
     ensures unwritten { OnDamage result (D.contents device.new ≡ D.contents device.old) }
     ensures empty { logged (D.contents device.old) ≡ [] → D.contents device.new ≡ D.contents device.old }
@@ -29,18 +30,19 @@ pub fn recover<D: Device>(device: &mut D) -> Result<(), MountFault>
     // Whatever it answers, recovery would make the same disk as before.
     ensures kept { SameRecovered (D.contents device.old) (D.contents device.new) }
     ensures sizes { sizes_of (D.contents device.new) ≡ sizes_of (D.contents device.old) }
-    ensures good { UpToLog (D.contents device.old) → UpToLog (D.contents device.new) }
+    ensures good { UpToLog version (D.contents device.old) → UpToLog version (D.contents device.new) }
 
     // So what was well formed stays so, with the same tree.
-    ensures well { IsWellFormed (D.contents device.old) → IsWellFormed (D.contents device.new) }
-    ensures tree { IsWellFormed (D.contents device.old) → tree_in (D.contents device.new) ≡ tree_in (D.contents device.old) }
+    ensures well { IsWellFormed version (D.contents device.old) → IsWellFormed version (D.contents device.new) }
+    ensures tree { IsWellFormed version (D.contents device.old)
+        → tree_in version (D.contents device.new) ≡ tree_in version (D.contents device.old) }
 
     // Afterwards the disk is the recovered one, and its log is empty.
     ensures home { OnOk result ((b : ℕ) → IsOutsideLog (sizes_of (D.contents device.old)) b
         → block_at (D.contents device.new) b ≡ recovered (D.contents device.old) b) }
     ensures cleared { OnOk result (logged (D.contents device.new) ≡ []) }
 {
-    let layout = find_layout(device)?;
+    let layout = find_layout(device, version)?;
     install(device, &layout)?;
     Ok(())
 }
@@ -52,7 +54,7 @@ fn install<D: Device>(device: &mut D, layout: &Layout) -> Result<(), Fault>
     ensures calls { ComesByCalls D.Called device.old device.new }
     ensures kept { SameRecovered (D.contents device.old) (D.contents device.new) }
     ensures sizes { sizes_of (D.contents device.new) ≡ sizes_of (D.contents device.old) }
-    ensures good { UpToLog (D.contents device.new) }
+    ensures good { UpToLog layout.now.version (D.contents device.new) }
     ensures home { OnOk result ((b : ℕ) → IsOutsideLog (sizes_of (D.contents device.old)) b
         → block_at (D.contents device.new) b ≡ recovered (D.contents device.old) b) }
     ensures cleared { OnOk result (logged (D.contents device.new) ≡ []) }

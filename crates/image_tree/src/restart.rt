@@ -9,19 +9,25 @@ use crate::fault::MountFault;
 use crate::recovery::recover;
 use crate::trees::tree_of;
 use block_device::Device;
+use image_versions::Version;
 use plain_tree::Tree;
 use std::alloc::Global;
 
-/// Recovers an image, and gives the tree that it holds. Of a well-formed image the tree is the one that it held before,
+/// Recovers an image of this version, and gives the tree that it holds. Of a well-formed image the tree is the one that it held before,
 /// and no damage is found; wherever recovery stops the image stays well formed, with the same tree.
-pub fn recovered_tree<D: Device>(alloc: Global, device: &mut D) -> Result<Tree, MountFault>
-    ensures tree { IsWellFormed (D.contents device.old) → IfOk result (λ tree. tree ≡ tree_in (D.contents device.old)) }
-    ensures undamaged { IsWellFormed (D.contents device.old) → (damage : Damage) → result ≢ Err (MountFault.Damaged damage) }
-    ensures well { IsWellFormed (D.contents device.old) → IsWellFormed (D.contents device.new) }
-    ensures same { IsWellFormed (D.contents device.old) → tree_in (D.contents device.new) ≡ tree_in (D.contents device.old) }
+pub fn recovered_tree<D: Device>(
+    alloc: Global,
+    device: &mut D,
+    version: Version,
+) -> Result<Tree, MountFault>
+    ensures tree { IsWellFormed version (D.contents device.old) → IfOk result (λ tree. tree ≡ tree_in version (D.contents device.old)) }
+    ensures undamaged { IsWellFormed version (D.contents device.old) → (damage : Damage) → result ≢ Err (MountFault.Damaged damage) }
+    ensures well { IsWellFormed version (D.contents device.old) → IsWellFormed version (D.contents device.new) }
+    ensures same { IsWellFormed version (D.contents device.old)
+        → tree_in version (D.contents device.new) ≡ tree_in version (D.contents device.old) }
     ensures faults { D.failures device.new ≡ faults_with result (D.failures device.old) }
     ensures calls { ComesByCalls D.Called device.old device.new }
 {
-    recover(device)?;
-    tree_of(alloc, device)
+    recover(device, version)?;
+    tree_of(alloc, device, version)
 }

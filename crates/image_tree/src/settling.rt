@@ -12,20 +12,21 @@ use crate::freeing::reclaim;
 use crate::putting::install;
 use block_device::{Device, Fault};
 use fs_layout::Super;
+use image_versions::Version;
 
-/// Recovers a well-formed image, and then frees each node with count 0, as [`reclaim`] does. It takes no memory.
+/// Recovers a well-formed image of this version, and then frees each node with count 0, as [`reclaim`] does. It takes no memory.
 ///
 /// Wherever it stops, also in the middle of a write, the image is well formed, with the same tree, and it may be run again.
-pub fn settle<D: Device>(device: &mut D, sizes: Super) -> Result<(), Fault>
-    requires well { IsWellFormed (D.contents device.old) }
+pub fn settle<D: Device>(device: &mut D, version: Version, sizes: Super) -> Result<(), Fault>
+    requires well { IsWellFormed version (D.contents device.old) }
     requires sizes { sizes ≡ sizes_of (D.contents device.old) }
     ensures faults { D.failures device.new ≡ faults_after result (D.failures device.old) }
     ensures calls { ComesByCalls D.Called device.old device.new }
 
     // Whatever it answers, the image stays well formed, with the same tree.
     ensures sizes { sizes_of (D.contents device.new) ≡ sizes_of (D.contents device.old) }
-    ensures well { IsWellFormed (D.contents device.new) }
-    ensures tree { tree_in (D.contents device.new) ≡ tree_in (D.contents device.old) }
+    ensures well { IsWellFormed version (D.contents device.new) }
+    ensures tree { tree_in version (D.contents device.new) ≡ tree_in version (D.contents device.old) }
 
     // Afterwards each node has a name, the blocks of those that had none are free, and the log is empty. Where each had one,
     // the disk is the recovered one.
@@ -36,6 +37,6 @@ pub fn settle<D: Device>(device: &mut D, sizes: Super) -> Result<(), Fault>
     ensures home { AreNamed (D.contents device.old) → OnOk result ((b : ℕ) → IsOutsideLog (sizes_of (D.contents device.old)) b
         → block_at (D.contents device.new) b ≡ recovered (D.contents device.old) b) }
 {
-    install(device)?;
-    reclaim(device, sizes)
+    install(device, version)?;
+    reclaim(device, version, sizes)
 }

@@ -8,11 +8,12 @@ ghost use Rattle.image_tree.specs.Reads.{OnlyReads};
 
 use crate::disk::{Layout, load_inode};
 use crate::inodes::{is_free, is_live_directory};
-use crate::limits::{DIRECT, LARGEST_SIZE};
 use crate::numbers::load_numbers;
 use block_device::{Device, Fault};
 use fs_layout::Dinode;
-use fs_layout::widths::{BLOCK_LEN, DIRENT_LEN};
+use fs_layout::widths::BLOCK_LEN;
+use image_versions::Version;
+use image_versions::widths::{DIRECT, LARGEST_SIZE};
 
 /// The number of block k among the numbers of an inode: 0 where there is none.
 pub fn block_number(numbers: &[u32], k: usize) -> u32
@@ -41,12 +42,13 @@ fn has_blocks(numbers: &[u32], size: u32) -> bool
 }
 
 /// Whether the size is one that a node of this inode's kind can have.
-fn is_fitting(inode: &Dinode) -> bool
-    ensures { IsTrue result ↔ IsFittingSize inode.now }
+fn is_fitting(version: Version, inode: &Dinode) -> bool
+    ensures { IsTrue result ↔ IsFittingSize version inode.now }
 {
     let size = inode.size as usize;
-    inode.size <= LARGEST_SIZE
-        && (!is_live_directory(inode) || (2 * DIRENT_LEN <= size && size % DIRENT_LEN == 0))
+    size <= LARGEST_SIZE
+        && (!is_live_directory(inode)
+            || (version.new_directory_size() <= size && size % version.dirent_len() == 0))
 }
 
 fn has_good_size<D: Device>(device: &mut D, layout: &Layout, i: u32) -> Result<bool, Fault>
@@ -55,7 +57,8 @@ fn has_good_size<D: Device>(device: &mut D, layout: &Layout, i: u32) -> Result<b
     requires bound { i < layout.now.sizes.ninodes }
     requires numbers { HasGoodNumbers (D.contents device.old) }
     ensures good { IfOk result (λ good. IsTrue good
-        ↔ (is_node (D.contents device.old) i ≡ true → IsGoodSize (D.contents device.old) (inode_of (D.contents device.old) i))) }
+        ↔ (is_node (D.contents device.old) i ≡ true
+        → IsGoodSize layout.now.version (D.contents device.old) (inode_of (D.contents device.old) i))) }
     ensures device { OnlyReads D.contents D.failures (faults_after result) device.old device.new }
     ensures calls { ComesByCalls D.Called device.old device.new }
 {
@@ -63,7 +66,7 @@ fn has_good_size<D: Device>(device: &mut D, layout: &Layout, i: u32) -> Result<b
     if is_free(&inode) {
         return Ok(true);
     }
-    if !is_fitting(&inode) {
+    if !is_fitting(layout.version, &inode) {
         return Ok(false);
     }
     let numbers = load_numbers(device, layout, &inode)?;
@@ -74,7 +77,7 @@ fn has_good_size<D: Device>(device: &mut D, layout: &Layout, i: u32) -> Result<b
 pub fn has_good_sizes<D: Device>(device: &mut D, layout: &Layout) -> Result<bool, Fault>
     requires layout { IsLayout (D.contents device.old) layout.now }
     requires numbers { HasGoodNumbers (D.contents device.old) }
-    ensures good { IfOk result (λ good. IsTrue good ↔ HasGoodSizes (D.contents device.old)) }
+    ensures good { IfOk result (λ good. IsTrue good ↔ HasGoodSizes layout.now.version (D.contents device.old)) }
     ensures device { OnlyReads D.contents D.failures (faults_after result) device.old device.new }
     ensures calls { ComesByCalls D.Called device.old device.new }
 {

@@ -1,6 +1,6 @@
 //! The slots of a directory.
 ghost use Rattle.std.specs.Prelude.{◌≡◌, ◌≢◌, ◌+◌, ◌*◌, ◌/◌, ◌%◌, ◌<◌, ◌≤◌, ℕ, List, length, IfOk, IfErr, All};
-ghost use Rattle.image_tree.specs.Vocabulary.{faults_after, ComesByCalls, dirent_at, recovered, sizes_of};
+ghost use Rattle.image_tree.specs.Vocabulary.{faults_after, ComesByCalls, dirent_at, dirents_per_block_of, recovered, sizes_of};
 ghost use Rattle.image_tree.specs.Inodes.{block_number, numbers_of, slots_of};
 ghost use Rattle.image_tree.specs.Links.{slots_in};
 ghost use Rattle.image_tree.specs.Checks.{HasGoodNumbers, IsData};
@@ -15,7 +15,7 @@ use crate::numbers::numbers_at;
 use crate::rows::push;
 use crate::sizes::block_number;
 use block_device::{Device, Fault};
-use fs_layout::widths::{BLOCK_LEN, DIRENT_LEN, DIRENTS_PER_BLOCK};
+use fs_layout::widths::BLOCK_LEN;
 use fs_layout::{Dinode, Dirent, read_dirent};
 use std::alloc::Global;
 
@@ -29,14 +29,16 @@ fn load_slot<D: Device>(
     requires layout { IsLayout (D.contents device.old) layout.now }
     requires good { All (λ b. b ≢ 0 → IsData (sizes_of (D.contents device.old)) b) numbers.now }
     requires bound { s < 4294967296 }
-    ensures slot { IfOk result (λ slot. slot ≡ dirent_at (s % 64) (recovered (D.contents device.old) (block_number numbers.now (s / 64)))) }
+    ensures slot { IfOk result (λ slot. slot ≡ dirent_at layout.now.version (s % dirents_per_block_of layout.now.version)
+        (recovered (D.contents device.old) (block_number numbers.now (s / dirents_per_block_of layout.now.version)))) }
     ensures device { OnlyReads D.contents D.failures (faults_after result) device.old device.new }
     ensures calls { ComesByCalls D.Called device.old device.new }
 {
     let mut block = [0; BLOCK_LEN];
-    let b = block_number(numbers, s / DIRENTS_PER_BLOCK);
+    let slots = layout.version.dirents_per_block();
+    let b = block_number(numbers, s / slots);
     load(device, layout, b, &mut block)?;
-    Ok(read_dirent(&block, s % DIRENTS_PER_BLOCK))
+    Ok(read_dirent(layout.version, &block, s % slots))
 }
 
 /// All slots of a directory with these block numbers.
@@ -50,13 +52,13 @@ pub fn load_slots<D: Device>(
     requires layout { IsLayout (D.contents device.old) layout.now }
     requires numbers { numbers.now ≡ numbers_of (D.contents device.old) inode.now }
     requires good { All (λ b. b ≢ 0 → IsData (sizes_of (D.contents device.old)) b) numbers.now }
-    ensures slots { IfOk result (λ slots. slots.items ≡ slots_of (D.contents device.old) inode.now) }
-    ensures err { IfErr result (JudgesFault (D.contents device.old)) }
+    ensures slots { IfOk result (λ slots. slots.items ≡ slots_of layout.now.version (D.contents device.old) inode.now) }
+    ensures err { IfErr result (JudgesFault layout.now.version (D.contents device.old)) }
     ensures device { OnlyReads D.contents D.failures (faults_with result) device.old device.new }
     ensures calls { ComesByCalls D.Called device.old device.new }
 {
     let mut slots = Vec::new(alloc);
-    for s in 0..inode.size as usize / DIRENT_LEN {
+    for s in 0..inode.size as usize / layout.version.dirent_len() {
         let slot = load_slot(device, layout, numbers, s)?;
         push(&mut slots, slot)?;
     }
@@ -74,8 +76,8 @@ pub fn slots_at<D: Device>(
     requires low { 1 ≤ i }
     requires bound { i < layout.now.sizes.ninodes }
     requires numbers { HasGoodNumbers (D.contents device.old) }
-    ensures slots { IfOk result (λ slots. slots.items ≡ slots_in (D.contents device.old) i) }
-    ensures err { IfErr result (JudgesFault (D.contents device.old)) }
+    ensures slots { IfOk result (λ slots. slots.items ≡ slots_in layout.now.version (D.contents device.old) i) }
+    ensures err { IfErr result (JudgesFault layout.now.version (D.contents device.old)) }
     ensures device { OnlyReads D.contents D.failures (faults_with result) device.old device.new }
     ensures calls { ComesByCalls D.Called device.old device.new }
 {

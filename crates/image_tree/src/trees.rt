@@ -19,6 +19,7 @@ use crate::rows::push;
 use crate::slots::load_slots;
 use block_device::Device;
 use fs_layout::{Dinode, Dirent, Name};
+use image_versions::Version;
 use plain_tree::{Bytes, Node, NodeKind, Slot, Slots, Tree};
 use std::alloc::{AllocError, Global};
 
@@ -75,8 +76,8 @@ fn load_kind<D: Device>(
     requires numbers { HasGoodNumbers (D.contents device.old) }
     requires inode { inode.now ≡ inode_of (D.contents device.old) i }
     requires used { is_free inode.now ≡ false }
-    ensures kind { IfOk result (λ kind. kind ≡ kind_of (D.contents device.old) inode.now) }
-    ensures err { IfErr result (JudgesFault (D.contents device.old)) }
+    ensures kind { IfOk result (λ kind. kind ≡ kind_of layout.now.version (D.contents device.old) inode.now) }
+    ensures err { IfErr result (JudgesFault layout.now.version (D.contents device.old)) }
     ensures device { OnlyReads D.contents D.failures (faults_with result) device.old device.new }
     ensures calls { ComesByCalls D.Called device.old device.new }
 {
@@ -119,8 +120,8 @@ fn load_node<D: Device>(
     requires low { 1 ≤ i }
     requires bound { i < layout.now.sizes.ninodes }
     requires numbers { HasGoodNumbers (D.contents device.old) }
-    ensures node { IfOk result (λ node. node ≡ node_of (D.contents device.old) i) }
-    ensures err { IfErr result (JudgesFault (D.contents device.old)) }
+    ensures node { IfOk result (λ node. node ≡ node_of layout.now.version (D.contents device.old) i) }
+    ensures err { IfErr result (JudgesFault layout.now.version (D.contents device.old)) }
     ensures device { OnlyReads D.contents D.failures (faults_with result) device.old device.new }
     ensures calls { ComesByCalls D.Called device.old device.new }
 {
@@ -145,8 +146,9 @@ fn load_nodes<D: Device>(
 ) -> Result<Vec<Option<Node>>, MountFault>
     requires layout { IsLayout (D.contents device.old) layout.now }
     requires numbers { HasGoodNumbers (D.contents device.old) }
-    ensures nodes { IfOk result (λ nodes. nodes.items ≡ first_nodes (D.contents device.old) (sizes_of (D.contents device.old)).ninodes) }
-    ensures err { IfErr result (JudgesFault (D.contents device.old)) }
+    ensures nodes { IfOk result (λ nodes. nodes.items
+        ≡ first_nodes layout.now.version (D.contents device.old) (sizes_of (D.contents device.old)).ninodes) }
+    ensures err { IfErr result (JudgesFault layout.now.version (D.contents device.old)) }
     ensures device { OnlyReads D.contents D.failures (faults_with result) device.old device.new }
     ensures calls { ComesByCalls D.Called device.old device.new }
 {
@@ -159,15 +161,20 @@ fn load_nodes<D: Device>(
     Ok(nodes)
 }
 
-/// The tree that an image holds as recovery would leave it: its live nodes with their contents. The image is examined
+/// The tree that an image of this version holds as recovery would leave it: its live nodes with their contents. The image is examined
 /// first, with the answers of [`examine`](crate::examine).
-pub fn tree_of<D: Device>(alloc: Global, device: &mut D) -> Result<Tree, MountFault>
-    ensures judges { JudgesWith (λ tree. IsWellFormed (D.contents device.old) × (tree ≡ tree_in (D.contents device.old)))
+pub fn tree_of<D: Device>(
+    alloc: Global,
+    device: &mut D,
+    version: Version,
+) -> Result<Tree, MountFault>
+    ensures judges { JudgesWith version
+        (λ tree. IsWellFormed version (D.contents device.old) × (tree ≡ tree_in version (D.contents device.old)))
         (D.contents device.old) result }
     ensures device { OnlyReads D.contents D.failures (faults_with result) device.old device.new }
     ensures calls { ComesByCalls D.Called device.old device.new }
 {
-    let layout = examine_layout(alloc, device)?;
+    let layout = examine_layout(alloc, device, version)?;
     let nodes = load_nodes(alloc, device, &layout)?;
     Ok(Tree::of_nodes(alloc, nodes))
 }

@@ -3,13 +3,13 @@ ghost use Rattle.std.specs.Prelude.{◌≡◌, ◌<◌};
 ghost use Rattle.inode_data.specs.Addresses.{address, IsPlace};
 ghost use Rattle.inode_data.specs.Widths.{most_blocks};
 
-use fs_layout::widths::{ADDRESSES, NUMBERS_PER_BLOCK};
+use image_versions::widths;
 
 /// How many block numbers stand in the inode itself; that of the indirect block comes behind them.
-pub const DIRECT: usize = ADDRESSES - 1;
+pub const DIRECT: usize = widths::DIRECT;
 
 /// How many blocks a content has at most.
-pub const MOST_BLOCKS: usize = DIRECT + NUMBERS_PER_BLOCK;
+pub const MOST_BLOCKS: usize = widths::MOST_CONTENT_BLOCKS;
 
 /// Where the number of a block stands.
 #[derive(Clone, Copy, PartialEq, Eq, Debug)]

@@ -1,5 +1,5 @@
 -- Chdir is right, whatever the other harts do.
-use Rattle.inode_machine.proofs.Vocabulary.{◌≡◌, ◌≢◌, ◌⊎◌, inl, inr, ℕ, ◌+◌, ◌-◌, ◌*◌, ◌<◌, ◌≤◌, Bool, true, false, ◌==◌, ◌||◌, List, [], ◌∷◌, length, Option, Some, None, refl, sym, ◌∙◌, ap, subst, arith, if◌then◌else◌, Do, unmarked, own, onto, Fine, Safe, Wp, Begun, Ends, IsBeginning, NoEntry, NotDirectory, Reply, Call, Node, NodeKind, Directory, File, Device, Action, Chdir, Inherit, StepAnswer, Done, Failed, next_of, reply_of, had_room, hart_count, descriptor_count, Name, Tree, put, elements, is_absolute, is_directory, is_live, live_directory, look, settle, start_of, node_at, node_or, place_of, refusal_with, IsInPlace, Row, row_of, settle_again, one_if, either, eq_is, eq_not, eq_self, same_or, put_same, put_other, look_live, look_same, Deed, Walk, Move, Stage, Step, IsNext, MayEnd, begins, Begin, Look, Desk, Note, World, stage_of, UpStart, SetDirectory, OfDirectory, face_of, is_directory_face, is_directory_type, type_of, type_of_kind, counted_up, is_at, with_walk, Made, acts, begun, made_by, marked, new_id, places, Held, Own, own_names, own_of, Idle, Inv, machine, ThisP as P, WalkStop, NoMemory, done, drop, failed, give_up, makes, start, stopped, tail, walk, walk_step, chdir_at, chdir_program, limit, covered_calls}
+use Rattle.inode_machine.proofs.Vocabulary.{◌≡◌, ◌≢◌, ◌⊎◌, inl, inr, ℕ, ◌+◌, ◌-◌, ◌*◌, ◌<◌, ◌≤◌, Bool, true, false, ◌==◌, ◌||◌, List, [], ◌∷◌, length, Option, Some, None, refl, sym, ◌∙◌, ap, subst, arith, if◌then◌else◌, Do, unmarked, own, onto, Fine, Safe, Wp, Begun, Ends, IsBeginning, NoEntry, NotDirectory, Reply, Call, Node, NodeKind, Directory, File, Device, Action, Chdir, Inherit, StepAnswer, Done, Failed, next_of, reply_of, had_room, hart_count, descriptor_count, Name, Tree, put, elements, is_absolute, is_directory, is_live, live_directory, look, settle, start_of, node_at, node_or, place_of, refusal_with, refusal_by, IsInPlace, Row, row_of, settle_again, one_if, either, eq_is, eq_not, eq_self, same_or, put_same, put_other, look_live, look_same, Deed, Walk, Move, Stage, Step, IsNext, MayEnd, begins, Begin, Look, Desk, Note, World, stage_of, UpStart, SetDirectory, OfDirectory, face_of, is_directory_face, is_directory_type, type_of, type_of_kind, counted_up, is_at, with_walk, Made, acts, begun, made_by, marked, new_id, places, Held, Own, own_names, own_of, Idle, Inv, machine, ThisP as P, WalkStop, NoMemory, done, drop, failed, give_up, makes, start, stopped, tail, walk, walk_step, chdir_at, chdir_program, limit, covered_calls}
 use Rattle.plain_tree.specs.declared.call.Call.TheVariants as calls
 use Rattle.inode_machine.proofs.Basics.{AllNames, Fair, fair, fair_then, has_inode, has_node, live_typed, locked_held, my_refs, noted_type, s-take, type_there, below_is, moves_good, own_walk, stage_walk, walk_did, s-join, s-drop, KeepsHold, MoveFine, mends, note_of, times, one_at, one_else, listed_among, listed_beside, type_of_directory, At, Gone, Lost, On, Ready, Stays, names_stay, stays_same, s-arrive, s-walk, Finder, Finding, finding, found_world, last_made, last_takes, refused_made, start_made, start_takes, MayRest, Walked, back_at, face_type, follows_begin, follows_look, follows_lost, follows_quit, gone_at, home, home_is, joined_own, looks, may_rest, may_stay, missed, names_plain, ready_at, times_none, s-ends, s-lost, tells, walked_begun, walked_tells}
 use Rattle.inode_machine.proofs.Beginnings.{Begun as StartsAt, s-begin, s-start}
@@ -33,7 +33,7 @@ unfolding place_of
 chdir_place t h path lt = rw (below_is h hart_count lt) refl
 
 chdir_missing : (t : Tree) (h : ℕ) (path : List ℕ) (par : Option (ℕ × Name)) → refusal_with t h (Chdir path) None par ≡ Some NoEntry
-unfolding refusal_with
+unfolding refusal_by
 chdir_missing t h path par = refl
 
 -- Types.

@@ -1,24 +1,24 @@
 -- A change of directory: the tree's step, what is taken back of it, and the hart's own.
-use Rattle.inode_machine.proofs.Vocabulary.{◌≡◌, inl, inr, ℕ, ◌+◌, ◌<◌, Bool, true, false, ◌==◌, ◌||◌, List, [], Option, Some, None, refl, sym, ◌∙◌, ap, subst, arith, Do, unmarked, P, Fine, Safe, Wp, NotDirectory, Node, NodeKind, Directory, File, Device, Chdir, Done, Failed, hart_count, Name, Tree, put, is_directory, hold_names, settle, node_at, node_or, answer_with, effect_with, place_of, refusal_with, StepWith, key_names, row_of, one_if, either, eq_is, or_right, put_same, put_other, well_chdir, Step, Desk, World, SetDirectory, OfDirectory, type_of, type_of_kind, is_at, unlocked, with_directory, with_walk, child_of, acts, mended, unheld, unmoved, unopened, Own, Held, key_in, left_or, own_names, own_of, file_tables_of, Inv, IsReached, machine}
+use Rattle.inode_machine.proofs.Vocabulary.{◌≡◌, inl, inr, ℕ, ◌+◌, ◌<◌, Bool, true, false, ◌==◌, ◌||◌, List, [], Option, Some, None, refl, sym, ◌∙◌, ap, subst, arith, Do, unmarked, P, Fine, Safe, Wp, NotDirectory, Node, NodeKind, Directory, File, Device, Chdir, Done, Failed, hart_count, Name, Tree, put, is_directory, hold_names, settle, node_at, node_or, answer_by, effect_by, place_of, refusal_with, refusal_by, StepWith, key_names, row_of, one_if, either, eq_is, or_right, put_same, put_other, well_chdir, Step, Desk, World, SetDirectory, OfDirectory, type_of, type_of_kind, is_at, unlocked, with_directory, with_walk, child_of, acts, mended, unheld, unmoved, unopened, Own, Held, key_in, left_or, own_names, own_of, file_tables_of, Inv, IsReached, machine}
 use Rattle.inode_machine.proofs.Basics.{file_tables_same, directory_named, HartStep, Fair, fair, fair_then, has_inode, s-owned, quiet, locks_it, my_refs, below_is, gives, walk_named_did, own_walk, with_new, Flagging, desk_changes, names_less, KeepsHold, unheld_is, type_of_directory, Mending}
 
 -- The tree's step.
 
 chdir_goes : (t : Tree) (h j : ℕ) (path : List ℕ) (par : Option (ℕ × Name)) → is_directory (node_at t j).kind ≡ true → refusal_with t h (Chdir path) (Some j) par ≡ None
-unfolding refusal_with
+unfolding refusal_by
 chdir_goes t h j path par e = rw e refl
 
 chdir_refused : (t : Tree) (h j : ℕ) (path : List ℕ) (par : Option (ℕ × Name)) → is_directory (node_at t j).kind ≡ false → refusal_with t h (Chdir path) (Some j) par ≡ Some NotDirectory
-unfolding refusal_with
+unfolding refusal_by
 chdir_refused t h j path par e = rw e refl
 
 pub chdir_made : (t : Tree) (h j new id : ℕ) (path : List ℕ) (par : Option (ℕ × Name)) → is_directory (node_at t j).kind ≡ true
     → acts t h (Chdir path) (Some j) par new id ≡ record { all = record t { cwd = put t.cwd h j }; walk = None; found = Some j; opened = None; entered = None; left = Some (t.cwd h); told = Some (record { act = record { step = Chdir path; answer = Done }; new = new }) }
-unfolding effect_with answer_with
+unfolding effect_by answer_by
 chdir_made t h j new id path par e = rw (chdir_goes t h j path par e) refl
 
 pub chdir_step : (t : Tree) (h j id : ℕ) (path : List ℕ) (par : Option (ℕ × Name)) → h < hart_count → is_directory (node_at t j).kind ≡ true → StepWith t h (Chdir path) (Some j) par Done 0 id (settle (record t { cwd = put t.cwd h j }))
-unfolding effect_with answer_with place_of
+unfolding effect_by answer_by place_of
 chdir_step t h j id path par lt e = (chdir_goes t h j path par e, refl, record { node = λ z. absurd cc; file = λ z. absurd cc }, refl, rw (below_is h hart_count lt) refl)
 
 pub chdir_refused_step : (t : Tree) (h j id : ℕ) (path : List ℕ) (par : Option (ℕ × Name)) → h < hart_count → is_directory (node_at t j).kind ≡ false → (refusal_with t h (Chdir path) (Some j) par ≡ Some NotDirectory) × StepWith t h (Chdir path) (Some j) par (Failed NotDirectory) 0 id t

@@ -1,5 +1,5 @@
 -- Close: a descriptor goes, and with the last one its open file, whose reference is the hart's then.
-use Rattle.inode_machine.proofs.Vocabulary.{◌≡◌, ◌≢◌, ◌⊎◌, inl, inr, ℕ, ◌+◌, ◌-◌, ◌<◌, ◌≤◌, Bool, true, false, ◌==◌, ◌&&◌, nat_lt, List, [], ◌∷◌, Option, Some, None, refl, sym, ◌∙◌, ap, subst, arith, if◌then◌else◌, Do, P, own, onto, Good, Safe, Wp, BadDescriptor, OpenFile, Close, Done, hart_count, descriptor_count, Name, Tree, put, fd_names, file_names, settle, resolve, parent, file_at, refusal_with, effect_with, answer_with, place_of, IsInPlace, has_fd, closed, Row, key_at, key_of, row_of, with_open, NamesLess, settle_less, file_settled, sum_below, one_if, eq_self, eq_is, eq_isnt, either, same_or, put_same, put_other, sum_same, sum_changed, one_no, one_yes, well_closed, Walk, Stage, Step, PlaysStep, OwnMove, is_at, file_count, with_refs, with_walk, slot_at, entry_at, close_at, close_if, close_less, close_last, Mine, Entry, Desk, World, stage_of, places, with_mark, made_by, new_id, Shut, Own, file_tables_of, number_is, users, own_names, own_of, IsAlone, Inv, machine, nothing, reference_limit, HasType, own_step}
+use Rattle.inode_machine.proofs.Vocabulary.{◌≡◌, ◌≢◌, ◌⊎◌, inl, inr, ℕ, ◌+◌, ◌-◌, ◌<◌, ◌≤◌, Bool, true, false, ◌==◌, ◌&&◌, nat_lt, List, [], ◌∷◌, Option, Some, None, refl, sym, ◌∙◌, ap, subst, arith, if◌then◌else◌, Do, P, own, onto, Good, Safe, Wp, BadDescriptor, OpenFile, Close, Done, hart_count, descriptor_count, Name, Tree, put, fd_names, file_names, settle, resolve, parent, file_at, refusal_with, refusal_by, effect_with, effect_by, answer_with, answer_by, place_of, IsInPlace, has_fd, closed, Row, key_at, key_of, row_of, with_open, NamesLess, settle_less, file_settled, sum_below, one_if, eq_self, eq_is, eq_isnt, either, same_or, put_same, put_other, sum_same, sum_changed, one_no, one_yes, well_closed, Walk, Stage, Step, PlaysStep, OwnMove, is_at, file_count, with_refs, with_walk, slot_at, entry_at, close_at, close_if, close_less, close_last, Mine, Entry, Desk, World, stage_of, places, with_mark, made_by, new_id, Shut, Own, file_tables_of, number_is, users, own_names, own_of, IsAlone, Inv, machine, nothing, reference_limit, HasType, own_step}
 use Rattle.inode_machine.proofs.Basics.{bond_of, put_elim, stands_on, Fair, fair, has_none, one_refs, s-owned, my_refs, each_refs, here_refs, walks_refs, total_same, total_changed, opens_slots, locks_none, below_is, refs_walk, stage_walk, moves_good, with_fd, users_put, users_fd, Changes, changes, changed_file_tables, tied_closed, kept_open, sells_did, own_takes, names_less, Behind, behind, behind_none, Refused, fails, refused_good, renewed, renewed_slots, renewed_at, renewed_same, SameRow, SameDesk, less_is, not_one, renewed_types, same_desk}
 
 -- The tree without the descriptor.
@@ -14,23 +14,23 @@ abbrev pub without_fd : Tree → ℕ → ℕ → Tree
 without_fd t h fd = with_open t (fewer t h fd) (left_open t h fd)
 
 close_goes : (t : Tree) (h fd : ℕ) (f : OpenFile) (res : Option ℕ) (par : Option (ℕ × Name)) → file_at t h fd ≡ Some f → refusal_with t h (Close fd) res par ≡ None
-unfolding refusal_with
+unfolding refusal_by
 close_goes t h fd f res par e = rw e refl
 
 close_refused : (t : Tree) (h fd : ℕ) (res : Option ℕ) (par : Option (ℕ × Name)) → file_at t h fd ≡ None → refusal_with t h (Close fd) res par ≡ Some BadDescriptor
-unfolding refusal_with
+unfolding refusal_by
 close_refused t h fd res par e = rw e refl
 
 close_effect : (t : Tree) (h fd new id : ℕ) (res : Option ℕ) (par : Option (ℕ × Name)) → effect_with t h (Close fd) res par new id ≡ without_fd t h fd
-unfolding effect_with
+unfolding effect_by
 close_effect t h fd new id res par = refl
 
 close_effect_settled : (t : Tree) (h fd new id : ℕ) (res : Option ℕ) (par : Option (ℕ × Name)) → effect_with (settle t) h (Close fd) res par new id ≡ with_open (settle t) (fewer t h fd) (left_open t h fd)
-unfolding effect_with settle has_fd
+unfolding effect_by settle has_fd
 close_effect_settled t h fd new id res par = refl
 
 close_answer : (t : Tree) (h fd id : ℕ) (res : Option ℕ) (par : Option (ℕ × Name)) → answer_with t h (Close fd) res par id ≡ Done
-unfolding answer_with
+unfolding answer_by
 close_answer t h fd id res par = refl
 
 close_place : (t : Tree) (h fd : ℕ) → h < hart_count → IsInPlace t h (Close fd)

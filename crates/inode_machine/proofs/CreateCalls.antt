@@ -1,5 +1,5 @@
 -- An open that may make its file is right, whatever the other harts do: what is there is opened, what isn't is made.
-use Rattle.inode_machine.proofs.Vocabulary.{◌≡◌, ◌≢◌, ◌⊎◌, inl, inr, ℕ, ◌+◌, ◌*◌, ◌<◌, ◌≤◌, Bool, true, false, ◌==◌, nat_lt, List, [], ◌∷◌, length, Option, Some, None, refl, sym, ◌∙◌, ap, subst, arith, if◌then◌else◌, own, onto, Fine, Safe, Wp, Begun, Ends, Cause, NoEntry, Full, Descriptors, DiskInodes, MemInodes, Reply, Call, Node, Action, Opened, Failed, NoRoom, next_of, Key, Row, key_is, IsLeastUnused, creates, has_room, is_file, lowest, makes_node, node_at, node_or, open_kind, refusal_with, effect_with, answer_with, StepWith, Name, Tree, put, look, elements, is_live, live_directory, settle, hart_count, descriptor_count, settle_again, one_if, look_live, either, eq_not, same_or, put_same, put_other, live_some, look_same, Walk, Stage, Step, Look, GiveUpWalk, Desk, Mark, Note, World, stage_of, Take, OfFile, InodeType, AtName, face_of, seen_in, is_live_face, open_refusal, type_of, type_of_kind, with_walk, acts, look_made, looked, made_by, marked, mended, new_id, places, Held, Own, own_names, own_of, nothing, Idle, Inv, machine, ThisP as P, failed, full, give_up, is_some, is_there, looks_if, looks_where, makes, tail, create_found, create_in, file_for, open_at, open_new, open_old, open_program, in_parent, path_cost, rest_cost, covered_calls}
+use Rattle.inode_machine.proofs.Vocabulary.{◌≡◌, ◌≢◌, ◌⊎◌, inl, inr, ℕ, ◌+◌, ◌*◌, ◌<◌, ◌≤◌, Bool, true, false, ◌==◌, nat_lt, List, [], ◌∷◌, length, Option, Some, None, refl, sym, ◌∙◌, ap, subst, arith, if◌then◌else◌, own, onto, Fine, Safe, Wp, Begun, Ends, Cause, NoEntry, Full, Descriptors, DiskInodes, MemInodes, Reply, Call, Node, Action, Opened, Failed, NoRoom, next_of, Key, Row, key_is, IsLeastUnused, creates, has_room, is_file, lowest, makes_node, node_at, node_or, open_kind, refusal_with, refusal_by, effect_by, answer_by, StepWith, Name, Tree, put, look, elements, is_live, live_directory, settle, hart_count, descriptor_count, settle_again, one_if, look_live, either, eq_not, same_or, put_same, put_other, live_some, look_same, Walk, Stage, Step, Look, GiveUpWalk, Desk, Mark, Note, World, stage_of, Take, OfFile, InodeType, AtName, face_of, seen_in, is_live_face, open_refusal, type_of, type_of_kind, with_walk, acts, look_made, looked, made_by, marked, mended, new_id, places, Held, Own, own_names, own_of, nothing, Idle, Inv, machine, ThisP as P, failed, full, give_up, is_some, is_there, looks_if, looks_where, makes, tail, create_found, create_in, file_for, open_at, open_new, open_old, open_program, in_parent, path_cost, rest_cost, covered_calls}
 use Rattle.plain_tree.specs.declared.call.Call.TheVariants as calls
 use Rattle.plain_tree.specs.declared.step.Action.TheVariants as steps
 use Rattle.inode_machine.proofs.Basics.{AllNames, Fair, fair, fair_same, fair_then, has_inode, has_node, locked_held, my_refs, noted_type, quiet, s-up, one_most, own_walk, stage_walk, walk_did, lowest_same, Flagging, not_at, KeepsHold, MoveFine, live_face, mends, note_of, noting, quit_good, s-take-then, spoilt, times, one_at, one_else, listed_held, At, Mending, On, Ready, Stays, names_stay, stays_same, known_there, on_refers, Finding, finding, found_world, refused_made, Walked, home, joined_own, may_rest, ready_at, Opening, fresh_id, opened_row, opened_tree, opened_world, opening, row_back, unopened_row, claimed_held, mended_own, s-claim, act_good_to, told_step, Holding, HasJoined, holding_on, holding_same, holding_set, holding_to, mendable, stays_mended, unlisted, s-give-end, s-give-up-in, Follows, begun_refused, quit_step, walking_quit, walking_told, written_by}
@@ -13,7 +13,7 @@ use Rattle.inode_machine.proofs.Namings.{s-naming}
 -- What the step asks of its tree, where the name is there.
 
 there_kind : (t : Tree) (h j : ℕ) (path : List ℕ) (flags d : ℕ) (e : Name) (res : Option ℕ) → creates flags ≡ true → look t.nodes d e ≡ Some j → refusal_with t h (steps.Open path flags) res (Some (d, e)) ≡ open_kind flags (node_at t j).kind
-unfolding refusal_with
+unfolding refusal_by
 there_kind t h j path flags d e res flag is = rw (flag, is) refl
 
 there_makes : (t : Tree) (path : List ℕ) (flags d j : ℕ) (e : Name) → creates flags ≡ true → look t.nodes d e ≡ Some j → makes_node t (steps.Open path flags) (Some (d, e)) ≡ false
@@ -29,12 +29,12 @@ there_made : (t : Tree) (h j id : ℕ) (path : List ℕ) (flags d : ℕ) (e : Na
       left = None;
       told = Some (record { act = record { step = steps.Open path flags; answer = Opened (lowest (t.fds h)) id (is_file (node_at t j).kind) }; new = 0 });
     }
-unfolding effect_with answer_with
+unfolding effect_by answer_by
 there_made t h j id path flags d e flag is goes room = rw (there_kind t h j path flags d e (Some j) flag is ∙ goes) (rw (flag, is, room) refl)
 
 there_step : (t : Tree) (h j id : ℕ) (path : List ℕ) (flags d : ℕ) (e : Name) → h < hart_count → creates flags ≡ true → look t.nodes d e ≡ Some j → open_kind flags (node_at t j).kind ≡ None → has_room (t.fds h) ≡ true → IsLeastUnused t id
     → StepWith t h (steps.Open path flags) (Some j) (Some (d, e)) (Opened (lowest (t.fds h)) id (is_file (node_at t j).kind)) 0 id (settle (opened_tree t h (lowest (t.fds h)) id j flags))
-unfolding effect_with answer_with
+unfolding effect_by answer_by
 there_step t h j id path flags d e lt flag is goes room least = (
   there_kind t h j path flags d e (Some j) flag is ∙ goes,
   rw (flag, is, room) refl,
@@ -45,11 +45,11 @@ there_step t h j id path flags d e lt flag is goes room least = (
 
 there_full : (t : Tree) (h j id : ℕ) (path : List ℕ) (flags d : ℕ) (e : Name) → creates flags ≡ true → look t.nodes d e ≡ Some j → open_kind flags (node_at t j).kind ≡ None → has_room (t.fds h) ≡ false
     → acts t h (steps.Open path flags) (Some j) (Some (d, e)) 0 id ≡ record { all = t; walk = None; found = Some j; opened = None; entered = None; left = None; told = Some (record { act = record { step = steps.Open path flags; answer = NoRoom Descriptors }; new = 0 }) }
-unfolding effect_with answer_with
+unfolding effect_by answer_by
 there_full t h j id path flags d e flag is goes room = rw (there_kind t h j path flags d e (Some j) flag is ∙ goes) (rw (flag, is, room) refl)
 
 no_parent : (t : Tree) (h : ℕ) (path : List ℕ) (flags : ℕ) (res : Option ℕ) → creates flags ≡ true → refusal_with t h (steps.Open path flags) res None ≡ Some NoEntry
-unfolding refusal_with
+unfolding refusal_by
 no_parent t h path flags res flag = rw flag refl
 
 comes_first : (path : List ℕ) (flags : ℕ) → next_of (calls.Open path flags) [] ≡ Some (steps.Open path flags)

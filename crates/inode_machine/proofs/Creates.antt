@@ -1,30 +1,30 @@
 -- The act of an open that makes its file: at the entry's put the file is there, under its name, and open; or the hart has no descriptor left, and the file stays.
-use Rattle.inode_machine.proofs.Vocabulary.{◌≡◌, ◌≢◌, inl, ℕ, ◌+◌, ◌<◌, ◌≤◌, Bool, true, false, ◌&&◌, nat_lt, List, [], ◌∷◌, Option, Some, None, refl, sym, ◌∙◌, ap, subst, arith, if◌then◌else◌, nat_tests, Do, P, Safe, Descriptors, Node, Open, Opened, NoRoom, hart_count, descriptor_count, Name, Tree, put, look, live_directory, settle, is_directory, node_or, with_nodes, new_file, IsNewNode, creates, has_room, lowest, refusal_with, effect_with, answer_with, is_absent, place_of, IsInPlace, key_is, IsWellFormed, look_same, well_file, absent_slot, and_true, Walk, Step, Look, Note, World, Mark, EntryResult, InPlace, NoBlock, NoSlot, Enter, Mends, with_entry, Made, made_by, look_made, looked, new_id, file_for, Own, Held, own_of, Inv, machine, IsName, makes}
+use Rattle.inode_machine.proofs.Vocabulary.{◌≡◌, ◌≢◌, inl, ℕ, ◌+◌, ◌<◌, ◌≤◌, Bool, true, false, ◌&&◌, nat_lt, List, [], ◌∷◌, Option, Some, None, refl, sym, ◌∙◌, ap, subst, arith, if◌then◌else◌, nat_tests, Do, P, Safe, Descriptors, Node, Open, Opened, NoRoom, hart_count, descriptor_count, Name, Tree, put, look, live_directory, settle, is_directory, node_or, with_nodes, new_file, IsNewNode, creates, has_room, lowest, refusal_with, refusal_by, effect_with, effect_by, answer_with, answer_by, is_absent, place_of, IsInPlace, key_is, IsWellFormed, look_same, well_file, absent_slot, and_true, Walk, Step, Look, Note, World, Mark, EntryResult, InPlace, NoBlock, NoSlot, Enter, Mends, with_entry, Made, made_by, look_made, looked, new_id, file_for, Own, Held, own_of, Inv, machine, IsName, makes}
 use Rattle.inode_machine.proofs.Basics.{fair, fair_then, has_node, my_refs, refs_walk, stage_walk, Mendable, mended_own, acts_gone, act_good, no_walk, of_range, told_step, lowest_same, not_at, Fresh, fresh_id, Opening, opened_row, opened_tree, opened_world, opening}
 use Rattle.inode_machine.proofs.Addings.{Adding, added_nodes, added_world, adding}
 use Rattle.inode_machine.proofs.Enters.{EnterFine, s-enter-with}
 use Rattle.inode_machine.proofs.Opens.{dirties, moves_full}
 
 open_goes : (t : Tree) (h d flags : ℕ) (e : Name) (path : List ℕ) → creates flags ≡ true → look t.nodes d e ≡ None → refusal_with t h (Open path flags) None (Some (d, e)) ≡ None
-unfolding refusal_with
+unfolding refusal_by
 open_goes t h d flags e path c absent = rw (c, absent) refl
 
 open_effect : (t : Tree) (h d i id flags : ℕ) (e : Name) (path : List ℕ) → creates flags ≡ true → look t.nodes d e ≡ None → has_room (t.fds h) ≡ true
     → effect_with t h (Open path flags) None (Some (d, e)) i id ≡ opened_tree (with_nodes t (added_nodes t.nodes d i (with_entry e i (node_or (t.nodes d))) new_file)) h (lowest (t.fds h)) id i flags
-unfolding effect_with
+unfolding effect_by
 open_effect t h d i id flags e path c absent room = rw (c, absent, room) refl
 
 full_effect : (t : Tree) (h d i id flags : ℕ) (e : Name) (path : List ℕ) → creates flags ≡ true → look t.nodes d e ≡ None → has_room (t.fds h) ≡ false
     → effect_with t h (Open path flags) None (Some (d, e)) i id ≡ with_nodes t (added_nodes t.nodes d i (with_entry e i (node_or (t.nodes d))) new_file)
-unfolding effect_with
+unfolding effect_by
 full_effect t h d i id flags e path c absent room = rw (c, absent, room) refl
 
 open_answer : (t : Tree) (h d id flags : ℕ) (e : Name) (path : List ℕ) → creates flags ≡ true → look t.nodes d e ≡ None → has_room (t.fds h) ≡ true → answer_with t h (Open path flags) None (Some (d, e)) id ≡ Opened (lowest (t.fds h)) id true
-unfolding answer_with
+unfolding answer_by
 open_answer t h d id flags e path c absent room = rw (room, c, absent) refl
 
 full_answer : (t : Tree) (h d id flags : ℕ) (e : Name) (path : List ℕ) → has_room (t.fds h) ≡ false → answer_with t h (Open path flags) None (Some (d, e)) id ≡ NoRoom Descriptors
-unfolding answer_with
+unfolding answer_by
 full_answer t h d id flags e path room = rw room refl
 
 open_place : (t : Tree) (h flags : ℕ) (path : List ℕ) → h < hart_count → IsInPlace t h (Open path flags)

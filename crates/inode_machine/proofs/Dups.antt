@@ -1,5 +1,5 @@
 -- A descriptor's open file, a refused step, want of room, and one more descriptor.
-use Rattle.inode_machine.proofs.Vocabulary.{◌≡◌, ◌≢◌, ◌⊎◌, inl, inr, ℕ, ◌+◌, ◌<◌, Bool, true, false, ◌==◌, ◌&&◌, ◌||◌, nat_lt, List, [], ◌∷◌, Option, Some, None, refl, sym, ◌∙◌, ap, subst, arith, if◌then◌else◌, nat_tests, Do, unmarked, P, own, onto, Good, Fine, Safe, Wp, Cause, BadDescriptor, OpenFile, Action, Dup, Inherit, NewFd, Failed, hart_count, descriptor_count, Name, Tree, put, fd_names, and_then, settle, resolve, parent, hold_names, no_fd as is_nothing, path_of, follows_path, file_at, lowest, has_room, refusal_with, effect_with, answer_with, makes_node, place_of, refused, IsInPlace, holds_raised, Row, key_at, row_of, key_names, with_open, NamesLess, settle_less, file_settled, sum_below, one_if, IsWellFormed, eq_self, eq_not, same_or, put_same, put_other, sum_same, one_no, one_yes, well_dup, Stage, Step, OwnMove, is_at, file_count, with_walk, slot_at, entry_at, doubled, double_at, double_if, with_joined, child_of, places, with_mark, with_made, made_by, found_by, refused_all, new_id, Mine, Entry, Desk, World, Note, dups, Double, Join, Leave, Say, Own, file_tables_of, FileTables, IsTied, id_at, number_is, users, own_names, own_of, Inv, machine, Held, key_in, Stands, view, IsReached, HasType, KeepsFiles, InodeType, type_of}
+use Rattle.inode_machine.proofs.Vocabulary.{◌≡◌, ◌≢◌, ◌⊎◌, inl, inr, ℕ, ◌+◌, ◌<◌, Bool, true, false, ◌==◌, ◌&&◌, ◌||◌, nat_lt, List, [], ◌∷◌, Option, Some, None, refl, sym, ◌∙◌, ap, subst, arith, if◌then◌else◌, nat_tests, Do, unmarked, P, own, onto, Good, Fine, Safe, Wp, Cause, BadDescriptor, OpenFile, Action, Dup, Inherit, NewFd, Failed, hart_count, descriptor_count, Name, Tree, put, fd_names, and_then, settle, resolve, parent, hold_names, no_fd as is_nothing, path_of, follows_path, file_at, lowest, has_room, refusal_with, refusal_by, effect_with, effect_by, answer_with, answer_by, makes_node, place_of, refused, IsInPlace, holds_raised, Row, key_at, row_of, key_names, with_open, NamesLess, settle_less, file_settled, sum_below, one_if, IsWellFormed, eq_self, eq_not, same_or, put_same, put_other, sum_same, one_no, one_yes, well_dup, Stage, Step, OwnMove, is_at, file_count, with_walk, slot_at, entry_at, doubled, double_at, double_if, with_joined, child_of, places, with_mark, with_made, made_by, found_by, refused_all, new_id, Mine, Entry, Desk, World, Note, dups, Double, Join, Leave, Say, Own, file_tables_of, FileTables, IsTied, id_at, number_is, users, own_names, own_of, Inv, machine, Held, key_in, Stands, view, IsReached, HasType, KeepsFiles, InodeType, type_of}
 use Rattle.inode_machine.proofs.Frame.{bond_of, put_elim, stands_on, Fair, fair, fair_same, kept_here}
 use Rattle.inode_machine.proofs.Rules.{s-owned, quiet, UnlocksAll, locks_none, s-owned-from}
 use Rattle.inode_machine.proofs.Rows.{below_is}
@@ -325,27 +325,27 @@ not_one a b ne = one_no (a == b) (eq_not a b ne)
 -- Dup.
 
 dup_goes : (t : Tree) (h fd : ℕ) (f : OpenFile) (res : Option ℕ) (par : Option (ℕ × Name)) → file_at t h fd ≡ Some f → refusal_with t h (Dup fd) res par ≡ None
-unfolding refusal_with
+unfolding refusal_by
 dup_goes t h fd f res par e = rw e refl
 
 dup_refused : (t : Tree) (h fd : ℕ) (res : Option ℕ) (par : Option (ℕ × Name)) → file_at t h fd ≡ None → refusal_with t h (Dup fd) res par ≡ Some BadDescriptor
-unfolding refusal_with
+unfolding refusal_by
 dup_refused t h fd res par e = rw e refl
 
 dup_effect : (t : Tree) (h fd new id f : ℕ) (x : Option ℕ) (res : Option ℕ) (par : Option (ℕ × Name)) → lowest (t.fds h) ≡ f → t.fds h fd ≡ x → effect_with t h (Dup fd) res par new id ≡ with_open t (put t.fds h (put (t.fds h) f x)) t.files
-unfolding effect_with
+unfolding effect_by
 dup_effect t h fd new id f x res par e q = λ i. record t { fds = put t.fds h (put (t.fds h) (e i) (q i)) }
 
 dup_effect_settled : (t : Tree) (h fd new id f : ℕ) (x : Option ℕ) (res : Option ℕ) (par : Option (ℕ × Name)) → lowest (t.fds h) ≡ f → t.fds h fd ≡ x → effect_with (settle t) h (Dup fd) res par new id ≡ with_open (settle t) (put t.fds h (put (t.fds h) f x)) t.files
-unfolding effect_with settle
+unfolding effect_by settle
 dup_effect_settled t h fd new id f x res par e q = λ i. record (settle t) { fds = put t.fds h (put (t.fds h) (e i) (q i)) }
 
 dup_answer : (t : Tree) (h fd id f : ℕ) (res : Option ℕ) (par : Option (ℕ × Name)) → lowest (t.fds h) ≡ f → answer_with t h (Dup fd) res par id ≡ NewFd f
-unfolding answer_with
+unfolding answer_by
 dup_answer t h fd id f res par e = ap (λ (z : ℕ). NewFd z) e
 
 dup_answer_settled : (t : Tree) (h fd id f : ℕ) (res : Option ℕ) (par : Option (ℕ × Name)) → lowest (t.fds h) ≡ f → answer_with (settle t) h (Dup fd) res par id ≡ NewFd f
-unfolding answer_with settle
+unfolding answer_by settle
 dup_answer_settled t h fd id f res par e = ap (λ (z : ℕ). NewFd z) e
 
 dup_place : (t : Tree) (h fd : ℕ) → h < hart_count → ((file_at t h fd ≡ None) ⊎ (has_room (t.fds h) ≡ true)) → IsInPlace (settle t) h (Dup fd)

@@ -1,5 +1,5 @@
 -- A file that the hart keeps is emptied, behind a descriptor of its own.
-use Rattle.inode_machine.proofs.Vocabulary.{◌≡◌, ℕ, ◌+◌, ◌<◌, true, List, [], ◌∷◌, Option, Some, None, refl, sym, ◌∙◌, ap, subst, Do, P, own, onto, Fine, Safe, Wp, Node, NodeKind, Directory, File, Device, OpenFile, Truncate, Done, hart_count, Name, Tree, put, is_live, settle, resolve, parent, answer_with, effect_with, emptied, file_at, is_file, node_at, node_or, place_of, refusal_with, with_nodes, IsInPlace, StepWith, Key, Behind, behind, settle_again, settled_step, IsWellFormed, effect_well, Stage, Step, OwnMove, World, Empty, type_of, type_of_kind, changed_record, with_no_bytes, with_walk, acts, made_by, own_made, marked, new_id, places, Own, own_of, Inv, machine, own_step}
+use Rattle.inode_machine.proofs.Vocabulary.{◌≡◌, ℕ, ◌+◌, ◌<◌, true, List, [], ◌∷◌, Option, Some, None, refl, sym, ◌∙◌, ap, subst, Do, P, own, onto, Fine, Safe, Wp, Node, NodeKind, Directory, File, Device, OpenFile, Truncate, Done, hart_count, Name, Tree, put, is_live, settle, resolve, parent, answer_by, effect_with, effect_by, emptied, file_at, is_file, node_at, node_or, place_of, refusal_with, refusal_by, with_nodes, IsInPlace, StepWith, Key, Behind, behind, settle_again, settled_step, IsWellFormed, effect_well, Stage, Step, OwnMove, World, Empty, type_of, type_of_kind, changed_record, with_no_bytes, with_walk, acts, made_by, own_made, marked, new_id, places, Own, own_of, Inv, machine, own_step}
 use Rattle.inode_machine.proofs.Basics.{fair, fair_then, s-owned, has_disk, has_node, locked_held, locks_it, below_is, moves_good, own_walk, stage_walk, walk_did, own_takes}
 use Rattle.inode_machine.proofs.Writings.{Changing, changed_world, changing}
 
@@ -12,12 +12,12 @@ empty_step fd = record { move = OwnMove (Truncate fd) 0; told = Some (record { a
 -- The tree's step.
 
 pub trunc_effect : (t : Tree) (h fd new id j : ℕ) (f : OpenFile) (v : Node) (res : Option ℕ) (par : Option (ℕ × Name)) → file_at t h fd ≡ Some f → f.number ≡ j → t.nodes j ≡ Some v → effect_with t h (Truncate fd) res par new id ≡ with_nodes t (put t.nodes j (Some (emptied_node v)))
-unfolding effect_with
+unfolding effect_by
 trunc_effect t h fd new id j f v res par is number there = rw is ((λ z. with_nodes t (put t.nodes (number z) (Some (emptied_node (node_at t (number z)))))) ∙ (λ z. with_nodes t (put t.nodes j (Some (emptied_node (node_or (there z)))))))
 
 pub trunc_made : (t : Tree) (h fd new id j : ℕ) (f : OpenFile) (v : Node) (res : Option ℕ) (par : Option (ℕ × Name)) → file_at t h fd ≡ Some f → f.number ≡ j → t.nodes j ≡ Some v
     → own_made (refusal_with t h (Truncate fd) res par) t h (Truncate fd) (acts t h (Truncate fd) res par new id) ≡ record { all = with_nodes t (put t.nodes j (Some (emptied_node v))); walk = None; found = None; opened = None; entered = None; left = None; told = Some (record { act = record { step = Truncate fd; answer = Done }; new = new }) }
-unfolding refusal_with answer_with
+unfolding refusal_by answer_by
 trunc_made t h fd new id j f v res par is number there = λ z. record { all = trunc_effect t h fd new id j f v res par is number there z; walk = None; found = None; opened = None; entered = None; left = None; told = Some (record { act = record { step = Truncate fd; answer = Done }; new = new }) }
 
 pub trunc_place : (t : Tree) (h fd j : ℕ) (f : OpenFile) (v : Node) → h < hart_count → file_at t h fd ≡ Some f → f.number ≡ j → t.nodes j ≡ Some v → is_file v.kind ≡ true → place_of t h (Truncate fd) ≡ true
@@ -25,12 +25,12 @@ unfolding place_of
 trunc_place t h fd j f v lt is number there isf = rw is ((λ z. is_file (node_or (t.nodes (number z))).kind) ∙ (λ z. is_file (node_or (there z)).kind) ∙ isf)
 
 trunc_goes : (t : Tree) (h fd : ℕ) (res : Option ℕ) (par : Option (ℕ × Name)) → refusal_with t h (Truncate fd) res par ≡ None
-unfolding refusal_with
+unfolding refusal_by
 trunc_goes t h fd res par = refl
 
 -- It asks for nothing that a path leads to.
 pub trunc_settled : (t T : Tree) (h fd id : ℕ) (res : Option ℕ) (par : Option (ℕ × Name)) → settle T ≡ settle (effect_with t h (Truncate fd) None None 0 id) → IsInPlace t h (Truncate fd) → StepWith (settle t) h (Truncate fd) res par Done 0 id (settle (settle T))
-unfolding refusal_with effect_with answer_with
+unfolding refusal_by effect_by answer_by
 trunc_settled t T h fd id res par same place =
     let y = settled_step t h (Truncate fd) None None Done 0 id (settle T) (record { node = λ n q. absurd cc; directory = λ q e. absurd cc; child = λ q n e r. absurd cc }) (refl, refl, record { node = λ z. absurd cc; file = λ z. absurd cc }, same, place) in
     (y.0, y.1, record { node = λ z. absurd cc; file = λ z. absurd cc }, y.3, y.4)

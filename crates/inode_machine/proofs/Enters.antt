@@ -1,5 +1,5 @@
 -- A name is entered: without room for it nothing is; and mkdir's act, which is at that moment.
-use Rattle.inode_machine.proofs.Vocabulary.{◌≡◌, ◌≢◌, ℕ, ◌+◌, ◌<◌, ◌≤◌, Bool, true, false, nat_lt, List, [], ◌∷◌, Option, Some, None, refl, sym, ◌∙◌, ap, subst, arith, nat_tests, Do, Ran, ExecResult, P, own, onto, Good, Fine, Safe, Wp, Node, Mkdir, Done, hart_count, count_limit, Name, Tree, put, look, is_directory, live_directory, settle, node_or, node_at, with_nodes, raised, new_directory, IsNewNode, refusal_with, effect_with, answer_with, place_of, IsInPlace, IsWellFormed, and_true, put_same, put_other, look_same, effect_well, Step, Look, Note, World, Mark, Outside, Room, RoomFor, Picks, EntryResult, InPlace, NoBlock, NoSlot, Enter, Mends, with_entry, enter_if, enter_in, is_full_directory, Made, new_id, marked, places, with_mark, Own, Held, own_of, Inv, machine, IsName, makes}
+use Rattle.inode_machine.proofs.Vocabulary.{◌≡◌, ◌≢◌, ℕ, ◌+◌, ◌<◌, ◌≤◌, Bool, true, false, nat_lt, List, [], ◌∷◌, Option, Some, None, refl, sym, ◌∙◌, ap, subst, arith, nat_tests, Do, Ran, ExecResult, P, own, onto, Good, Fine, Safe, Wp, Node, Mkdir, Done, hart_count, count_limit, Name, Tree, put, look, is_directory, live_directory, settle, node_or, node_at, with_nodes, raised, new_directory, IsNewNode, refusal_with, refusal_by, effect_with, effect_by, answer_with, answer_by, place_of, IsInPlace, IsWellFormed, and_true, put_same, put_other, look_same, effect_well, Step, Look, Note, World, Mark, Outside, Room, RoomFor, Picks, EntryResult, InPlace, NoBlock, NoSlot, Enter, Mends, with_entry, enter_if, enter_in, is_full_directory, Made, new_id, marked, places, with_mark, Own, Held, own_of, Inv, machine, IsName, makes}
 use Rattle.inode_machine.proofs.Basics.{s-owned, locks_it, has_disk, has_node, stage_walk, Mendable, mended_own, mend_fine, acts_gone, act_good, no_walk, of_range, told_step, two_put}
 use Rattle.inode_machine.proofs.Addings.{Adding, added_world, adding}
 
@@ -41,11 +41,11 @@ abbrev pub made_nodes : (ℕ → Option Node) → Node → ℕ → Name → ℕ 
 made_nodes ns x d e i = put (put ns d (Some (raised (with_entry e i x)))) i (Some (new_directory i d))
 
 mkdir_goes : (t : Tree) (h d : ℕ) (e : Name) (path : List ℕ) → look t.nodes d e ≡ None → nat_lt (node_at t d).count count_limit ≡ true → refusal_with t h (Mkdir path) None (Some (d, e)) ≡ None
-unfolding refusal_with
+unfolding refusal_by
 mkdir_goes t h d e path absent few = rw (absent, few) refl
 
 mkdir_effect : (t : Tree) (h d i id : ℕ) (e : Name) (path : List ℕ) → i ≢ d → effect_with t h (Mkdir path) None (Some (d, e)) i id ≡ with_nodes t (made_nodes t.nodes (node_or (t.nodes d)) d e i)
-unfolding effect_with
+unfolding effect_by
 mkdir_effect t h d i id e path ne = λ r. with_nodes t (turned r)
   where
     x : Node
@@ -72,7 +72,7 @@ unfolding place_of
 mkdir_placed t h path = refl
 
 mkdir_answer : (t : Tree) (h id : ℕ) (path : List ℕ) (res : Option ℕ) (par : Option (ℕ × Name)) → answer_with t h (Mkdir path) res par id ≡ Done
-unfolding answer_with
+unfolding answer_by
 mkdir_answer t h id path res par = refl
 
 -- The entry is put: at this moment the directory is there, under its name. z: the new inode, with its two entries.

@@ -1,5 +1,5 @@
 -- A hart's hold changes in the tree, alone or with an inode that it keeps: what that leaves, and the steps of link that it makes.
-use Rattle.inode_machine.proofs.Vocabulary.{◌≡◌, ◌⊎◌, inl, inr, ℕ, ◌<◌, Bool, true, false, ◌==◌, ◌||◌, nat_lt, [], Option, Some, None, refl, sym, ◌∙◌, ap, subst, if◌then◌else◌, TooManyLinks, Node, Hold, Action, Bump, Unbump, StepAnswer, Done, Failed, AsksForWhatStays, count_limit, hart_count, Name, Tree, put, hold_names, is_live, settle, resolve, parent, answer_with, at_hold, bump_refusal, drop_hold, effect_with, holds_raised, lowered, makes_node, node_or, opens_one, place_of, raise_hold, raised, refusal_with, IsInPlace, StepWith, key_names, row_of, settle_again, settled_step, IsWellFormed, raised_at, either, put_same, put_other, not_raised, well_hold, effect_well, OwnMove, World, type_of, is_at, act_left, acts, found_by, made_by, new_id, own_made, Own, Held, key_in, own_of, file_tables_of, view, is_hart, Found, IsReached, Inv}
+use Rattle.inode_machine.proofs.Vocabulary.{◌≡◌, ◌⊎◌, inl, inr, ℕ, ◌<◌, Bool, true, false, ◌==◌, ◌||◌, nat_lt, [], Option, Some, None, refl, sym, ◌∙◌, ap, subst, if◌then◌else◌, TooManyLinks, Node, Hold, Action, Bump, Unbump, StepAnswer, Done, Failed, AsksForWhatStays, count_limit, hart_count, Name, Tree, put, hold_names, is_live, settle, resolve, parent, answer_with, answer_by, at_hold, bump_refusal, drop_hold, effect_with, effect_by, holds_raised, lowered, makes_node, node_or, opens_one, place_of, raise_hold, raised, refusal_with, refusal_by, IsInPlace, StepWith, key_names, row_of, settle_again, settled_step, IsWellFormed, raised_at, either, put_same, put_other, not_raised, well_hold, effect_well, OwnMove, World, type_of, is_at, act_left, acts, found_by, made_by, new_id, own_made, Own, Held, key_in, own_of, file_tables_of, view, is_hart, Found, IsReached, Inv}
 use Rattle.inode_machine.proofs.Frame.{file_tables_same, put_elim, ours_some, kept_here, HartStep, Fair, fair, own_inodes, has_inode, stands_in, type_on}
 use Rattle.inode_machine.proofs.Rows.{below_is}
 use Rattle.inode_machine.proofs.Acting.{acts_gone}
@@ -153,11 +153,11 @@ in_place t h s lt placed = rw (below_is h hart_count lt) placed
 -- Bump.
 
 pub bump_cause : (t : Tree) (h j : ℕ) (b : Bool) (X : Node) (res : Option ℕ) (par : Option (ℕ × Name)) → t.holds h ≡ Some (low j) → t.nodes j ≡ Some X → nat_lt X.count count_limit ≡ b → refusal_with t h Bump res par ≡ (if b then None else Some TooManyLinks)
-unfolding refusal_with
+unfolding refusal_by
 bump_cause t h j b X res par held there few = (λ z. bump_refusal t (held z)) ∙ (λ z. if nat_lt (node_or (there z)).count count_limit then None else Some TooManyLinks) ∙ (λ z. if few z then None else Some TooManyLinks)
 
 bump_effect : (t : Tree) (h j id : ℕ) (X : Node) (res : Option ℕ) (par : Option (ℕ × Name)) → t.holds h ≡ Some (low j) → t.nodes j ≡ Some X → effect_with t h Bump res par 0 id ≡ held_tree t (put t.nodes j (Some (raised X))) h (Some (high j))
-unfolding effect_with
+unfolding effect_by
 bump_effect t h j id X res par held there = (λ z. record (at_hold t (held z) raised) { holds = put t.holds h (raise_hold (held z)) }) ∙ (λ z. held_tree t (put t.nodes j (Some (raised (node_or (there z))))) h (Some (high j)))
 
 bump_placed : (t : Tree) (h j : ℕ) → t.holds h ≡ Some (low j) → place_of t h Bump ≡ true
@@ -166,30 +166,30 @@ bump_placed t h j held = λ z. holds_raised false (held z)
 
 bump_made : (t : Tree) (h j id : ℕ) (X : Node) (res : Option ℕ) (par : Option (ℕ × Name)) → t.holds h ≡ Some (low j) → t.nodes j ≡ Some X → nat_lt X.count count_limit ≡ true
     → own_made (refusal_with t h Bump res par) t h Bump (acts t h Bump res par 0 id) ≡ record { all = held_tree t (put t.nodes j (Some (raised X))) h (Some (high j)); walk = None; found = None; opened = None; entered = None; left = None; told = Some (record { act = record { step = Bump; answer = Done }; new = 0 }) }
-unfolding answer_with
+unfolding answer_by
 bump_made t h j id X res par held there few =
     (λ z. own_made (bump_cause t h j true X res par held there few z) t h Bump (acts t h Bump res par 0 id))
     ∙ gone_made t h Bump res par id (held_tree t (put t.nodes j (Some (raised X))) h (Some (high j))) (bump_cause t h j true X res par held there few) (bump_effect t h j id X res par held there) refl refl refl refl refl
 
 -- it asks for no path
 bump_settled : (t T : Tree) (h id : ℕ) (res : Option ℕ) (par : Option (ℕ × Name)) → refusal_with t h Bump None None ≡ None → settle T ≡ settle (effect_with t h Bump None None 0 id) → IsInPlace t h Bump → StepWith (settle t) h Bump res par Done 0 id (settle (settle T))
-unfolding refusal_with effect_with answer_with
+unfolding refusal_by effect_by answer_by
 bump_settled t T h id res par goes same place =
     let y = settled_step t h Bump None None Done 0 id (settle T) (asks_nothing t) (goes, refl, record { node = λ z. absurd cc; file = λ z. absurd cc }, same, place) in
     (y.0, y.1, record { node = λ z. absurd cc; file = λ z. absurd cc }, y.3, y.4)
 
 bump_stopped : (t : Tree) (h id : ℕ) (res : Option ℕ) (par : Option (ℕ × Name)) → refusal_with t h Bump None None ≡ Some TooManyLinks → IsInPlace t h Bump → StepWith (settle t) h Bump res par (Failed TooManyLinks) 0 id (settle (settle (drop_hold t h)))
-unfolding refusal_with
+unfolding refusal_by
 bump_stopped t h id res par stops place = let y = settled_step t h Bump None None (Failed TooManyLinks) 0 id (settle (drop_hold t h)) (asks_nothing t) (stops, refl, place) in (y.0, y.1, y.2)
 
 -- Unbump.
 
 unbump_goes : (t : Tree) (h : ℕ) (res : Option ℕ) (par : Option (ℕ × Name)) → refusal_with t h Unbump res par ≡ None
-unfolding refusal_with
+unfolding refusal_by
 unbump_goes t h res par = refl
 
 unbump_effect : (t : Tree) (h j id : ℕ) (X : Node) (res : Option ℕ) (par : Option (ℕ × Name)) → t.holds h ≡ Some (high j) → t.nodes j ≡ Some X → effect_with t h Unbump res par 0 id ≡ held_tree t (put t.nodes j (Some (lowered X))) h None
-unfolding effect_with
+unfolding effect_by
 unbump_effect t h j id X res par held there = (λ z. drop_hold (at_hold t (held z) lowered) h) ∙ (λ z. held_tree t (put t.nodes j (Some (lowered (node_or (there z))))) h None)
 
 unbump_placed : (t : Tree) (h j : ℕ) → t.holds h ≡ Some (high j) → place_of t h Unbump ≡ true
@@ -198,11 +198,11 @@ unbump_placed t h j held = λ z. holds_raised true (held z)
 
 unbump_made : (t : Tree) (h j id : ℕ) (X : Node) (res : Option ℕ) (par : Option (ℕ × Name)) → t.holds h ≡ Some (high j) → t.nodes j ≡ Some X
     → own_made (refusal_with t h Unbump res par) t h Unbump (acts t h Unbump res par 0 id) ≡ record { all = held_tree t (put t.nodes j (Some (lowered X))) h None; walk = None; found = None; opened = None; entered = None; left = None; told = Some (record { act = record { step = Unbump; answer = Done }; new = 0 }) }
-unfolding refusal_with answer_with
+unfolding refusal_by answer_by
 unbump_made t h j id X res par held there = gone_made t h Unbump res par id (held_tree t (put t.nodes j (Some (lowered X))) h None) (unbump_goes t h res par) (unbump_effect t h j id X res par held there) refl refl refl refl refl
 
 unbump_settled : (t T : Tree) (h id : ℕ) (res : Option ℕ) (par : Option (ℕ × Name)) → settle T ≡ settle (effect_with t h Unbump None None 0 id) → IsInPlace t h Unbump → StepWith (settle t) h Unbump res par Done 0 id (settle (settle T))
-unfolding refusal_with effect_with answer_with
+unfolding refusal_by effect_by answer_by
 unbump_settled t T h id res par same place =
     let y = settled_step t h Unbump None None Done 0 id (settle T) (asks_nothing t) (refl, refl, record { node = λ z. absurd cc; file = λ z. absurd cc }, same, place) in
     (y.0, y.1, record { node = λ z. absurd cc; file = λ z. absurd cc }, y.3, y.4)

@@ -1,5 +1,5 @@
 -- The rules of an inherit: each descriptor is handed on, then the directory, and then the child starts again.
-use Rattle.inode_machine.proofs.Vocabulary.{◌≡◌, ◌≢◌, inl, ℕ, ◌+◌, ◌<◌, not, ◌==◌, [], Option, Some, None, refl, sym, ◌∙◌, ap, subst, arith, Inherit, Done, AsksForWhatStays, hart_count, descriptor_count, Name, Tree, put, settle, resolve, parent, no_fd, refusal_with, effect_with, answer_with, place_of, IsInPlace, MayChoose, StepWith, settle_again, settled_step, one_if, eq_not, none_any, put_same, put_other, sum_same, well_inherit, Walk, Stage, Step, PlaysStep, OwnMove, Mine, Entry, Desk, World, stage_of, is_at, with_walk, slot_or, more_users, with_lent, serving, type_of, Made, made_by, new_id, Own, Rests, own_names, own_of, file_tables_of, id_at, Has, Inv, left_or}
+use Rattle.inode_machine.proofs.Vocabulary.{◌≡◌, ◌≢◌, inl, ℕ, ◌+◌, ◌<◌, not, ◌==◌, [], Option, Some, None, refl, sym, ◌∙◌, ap, subst, arith, Inherit, Done, AsksForWhatStays, hart_count, descriptor_count, Name, Tree, put, settle, resolve, parent, no_fd, refusal_with, refusal_by, effect_with, effect_by, answer_with, answer_by, place_of, IsInPlace, MayChoose, StepWith, settle_again, settled_step, one_if, eq_not, none_any, put_same, put_other, sum_same, well_inherit, Walk, Stage, Step, PlaysStep, OwnMove, Mine, Entry, Desk, World, stage_of, is_at, with_walk, slot_or, more_users, with_lent, serving, type_of, Made, made_by, new_id, Own, Rests, own_names, own_of, file_tables_of, id_at, Has, Inv, left_or}
 use Rattle.inode_machine.proofs.Basics.{FairTo, bond_of, stands_on, Fair, fair, has_none, below_is, refs_walk, stage_walk, sells_did, renewed_same, renewed_types, lent_desks, counted_more, tied_lent, HandsAll, tied_handed, both_world}
 use Rattle.inode_machine.proofs.Turnings.{Server, Kid, kid, Turns, turned_fair, turned_own, serving_child, serving_given, serving_none}
 
@@ -9,15 +9,15 @@ abbrev pub inherited_tree : Tree → ℕ → ℕ → Tree
 inherited_tree t h c = record t { fds = put t.fds c (t.fds h); cwd = put t.cwd c (t.cwd h) }
 
 inherit_goes : (t : Tree) (h c : ℕ) (res : Option ℕ) (par : Option (ℕ × Name)) → refusal_with t h (Inherit c) res par ≡ None
-unfolding refusal_with
+unfolding refusal_by
 inherit_goes t h c res par = refl
 
 inherit_effect : (t : Tree) (h c new id : ℕ) (res : Option ℕ) (par : Option (ℕ × Name)) → effect_with t h (Inherit c) res par new id ≡ inherited_tree t h c
-unfolding effect_with
+unfolding effect_by
 inherit_effect t h c new id res par = refl
 
 inherit_answer : (t : Tree) (h c id : ℕ) (res : Option ℕ) (par : Option (ℕ × Name)) → answer_with t h (Inherit c) res par id ≡ Done
-unfolding answer_with
+unfolding answer_by
 inherit_answer t h c id res par = refl
 
 settled_fds : (t : Tree) → (settle t).fds ≡ t.fds

@@ -1,5 +1,5 @@
 -- Link's name is entered: at this moment its hold goes, and the link stands.
-use Rattle.inode_machine.proofs.Vocabulary.{◌≡◌, ℕ, ◌+◌, ◌<◌, ◌≤◌, true, false, List, [], ◌∷◌, Option, Some, None, refl, sym, ◌∙◌, ap, subst, Do, P, Safe, Exists, NoEntry, Node, EnterStep, Done, hart_count, Name, Tree, put, is_directory, live_directory, look, settle, answer_with, drop_hold, effect_with, enter_hold, holds_raised, name_taken, node_or, place_of, refusal_with, IsInPlace, Row, IsWellFormed, and_true, put_same, look_same, effect_well, Step, Look, World, EntryResult, InPlace, NoBlock, NoSlot, Enter, InodeType, type_of, with_entry, with_walk, Made, new_id, Own, Held, own_of, Inv, machine, IsName, makes, enters}
+use Rattle.inode_machine.proofs.Vocabulary.{◌≡◌, ℕ, ◌+◌, ◌<◌, ◌≤◌, true, false, List, [], ◌∷◌, Option, Some, None, refl, sym, ◌∙◌, ap, subst, Do, P, Safe, Exists, NoEntry, Node, EnterStep, Done, hart_count, Name, Tree, put, is_directory, live_directory, look, settle, answer_with, answer_by, drop_hold, effect_with, effect_by, enter_hold, holds_raised, name_taken, node_or, place_of, refusal_with, refusal_by, IsInPlace, Row, IsWellFormed, and_true, put_same, look_same, effect_well, Step, Look, World, EntryResult, InPlace, NoBlock, NoSlot, Enter, InodeType, type_of, with_entry, with_walk, Made, new_id, Own, Held, own_of, Inv, machine, IsName, makes, enters}
 use Rattle.inode_machine.proofs.Basics.{Fair, fair, fair_then, has_node, below_is, Writes, writes, own_walk, stage_walk, walk_did, Mendable, mended_own, act_good, told_step, Turned, gone_made, held_tree, held_world, high, turned}
 use Rattle.inode_machine.proofs.Writings.{put_twice}
 use Rattle.inode_machine.proofs.Removes.{type_of_directory}
@@ -7,23 +7,23 @@ use Rattle.inode_machine.proofs.Enters.{EnterFine, s-enter-with}
 use Rattle.inode_machine.proofs.Namings.{Leads}
 
 enter_goes : (t : Tree) (h d : ℕ) (e : Name) (path : List ℕ) (res : Option ℕ) → look t.nodes d e ≡ None → refusal_with t h (EnterStep path) res (Some (d, e)) ≡ None
-unfolding refusal_with
+unfolding refusal_by
 enter_goes t h d e path res absent = λ z. name_taken (absent z)
 
 pub enter_taken : (t : Tree) (h d n : ℕ) (e : Name) (path : List ℕ) (res : Option ℕ) → look t.nodes d e ≡ Some n → refusal_with t h (EnterStep path) res (Some (d, e)) ≡ Some Exists
-unfolding refusal_with
+unfolding refusal_by
 enter_taken t h d n e path res there = λ z. name_taken (there z)
 
 enter_missing : (t : Tree) (h : ℕ) (path : List ℕ) (res : Option ℕ) → refusal_with t h (EnterStep path) res None ≡ Some NoEntry
-unfolding refusal_with
+unfolding refusal_by
 enter_missing t h path res = refl
 
 enter_effect : (t : Tree) (h d j id : ℕ) (X : Node) (e : Name) (path : List ℕ) (res : Option ℕ) → t.holds h ≡ Some (high j) → t.nodes d ≡ Some X → effect_with t h (EnterStep path) res (Some (d, e)) 0 id ≡ held_tree t (put t.nodes d (Some (with_entry e j X))) h None
-unfolding effect_with
+unfolding effect_by
 enter_effect t h d j id X e path res held there = (λ z. drop_hold (enter_hold t (Some (d, e)) (held z)) h) ∙ (λ z. held_tree t (put t.nodes d (Some (with_entry e j (node_or (there z))))) h None)
 
 enter_answer : (t : Tree) (h id : ℕ) (path : List ℕ) (res : Option ℕ) (par : Option (ℕ × Name)) → answer_with t h (EnterStep path) res par id ≡ Done
-unfolding answer_with
+unfolding answer_by
 enter_answer t h id path res par = refl
 
 enter_placed : (t : Tree) (h j : ℕ) (path : List ℕ) → t.holds h ≡ Some (high j) → place_of t h (EnterStep path) ≡ true

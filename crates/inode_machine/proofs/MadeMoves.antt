@@ -1,10 +1,11 @@
 -- A move that is played in a settled tree is the one that code makes.
-use Rattle.inode_machine.proofs.Vocabulary.{◌≡◌, inl, inr, ℕ, Bool, true, false, List, [], ◌∷◌, nat_lt, nat_tests, Option, Some, None, refl, sym, ◌∙◌, ap, subst, arith, if◌then◌else◌, Cause, Action, StepAnswer, Failed, Opened, Bytes, Status, NewFd, Done, NoRoom, Name, Tree, put, elements, look, start_of, resolve, parent, path_of, follows_path, has_room, opens_one, refused, refusal_with, effect_with, answer_with, creates, settle, IsLeastUnused, MayChoose, StepWith, either, same_or, Walk, Stage, Move, Deed, Acts, LookupLeadsTo, Begin, Look, GiveUpWalk, OwnMove, Made, act_entered, acts, begun, looked, look_made, made_by, own_made, refused_all}
+use Rattle.inode_machine.proofs.Vocabulary.{◌≡◌, inl, inr, ℕ, Bool, true, false, List, [], ◌∷◌, nat_lt, nat_tests, Option, Some, None, refl, sym, ◌∙◌, ap, subst, arith, if◌then◌else◌, Cause, Action, StepAnswer, Failed, Opened, Bytes, Status, NewFd, Done, NoRoom, Name, Tree, put, elements, look, start_of, resolve, parent, path_of, follows_path, has_room, opens_one, refused, refusal_with, effect_with, effect_by, answer_with, answer_by, creates, settle, IsLeastUnused, MayChoose, StepWith, either, same_or, Walk, Stage, Move, Deed, Acts, LookupLeadsTo, Begin, Look, GiveUpWalk, OwnMove, Made, act_entered, acts, begun, looked, look_made, made_by, own_made, refused_all}
 use Rattle.plain_tree.specs.declared.step.Action.TheVariants as steps
 use Rattle.tree_laws.specs.Moves.{GoesTo, StartLeadsTo, Plays}
-use Rattle.plain_tree.specs.Steps.{opened_at, opened_in, opened_new, refusal, with_file}
+use Rattle.plain_tree.specs.Steps.{opened_at, opened_in, opened_new, with_file}
 use Rattle.inode_machine.specs.Marks.{act_all, act_answer}
 use Rattle.inode_machine.specs.Making.{OpensLeast}
+use Rattle.plain_tree.specs.VersionOne.{refusal}
 
 -- ---- the least id that is unused
 
@@ -35,7 +36,7 @@ none_new t h i j flags new None full = refl
 none_new t h i j flags new (Some q) full = none_in t h i j flags q.0 new q.1 (look t.nodes q.0 q.1) full
 
 effect_any : (t : Tree) (h : ℕ) (s : Action) (res : Option ℕ) (par : Option (ℕ × Name)) (new i j : ℕ) → opens_one t h s ≡ false → effect_with t h s res par new i ≡ effect_with t h s res par new j
-unfolding effect_with
+unfolding effect_by
 effect_any t h (steps.Open path flags) res par new i j full = elim (either (creates flags)) [
   | inl y ↦ rw y (none_new t h i j flags new par full)
   | inr y ↦ rw y (none_at t h i j flags new res full)
@@ -56,7 +57,7 @@ effect_any t h (steps.Fstat fd) res par new i j full = refl
 effect_any t h (steps.Inherit child) res par new i j full = refl
 
 answer_any : (t : Tree) (h : ℕ) (s : Action) (res : Option ℕ) (par : Option (ℕ × Name)) (i j : ℕ) → opens_one t h s ≡ false → answer_with t h s res par i ≡ answer_with t h s res par j
-unfolding answer_with
+unfolding answer_by
 answer_any t h (steps.Open path flags) res par i j full = rw full refl
 answer_any t h (steps.Truncate fd) res par i j full = refl
 answer_any t h (steps.Read fd n) res par i j full = refl

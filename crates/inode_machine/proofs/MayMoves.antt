@@ -1,10 +1,10 @@
 -- A move that is played is one that the hart may make, and there is an id for a file that it opens.
 use Rattle.inode_machine.proofs.Vocabulary.{◌≡◌, ℕ, zero, suc, ◌<◌, ◌≤◌, ◌^◌, Bool, true, false, List, [], ◌∷◌, Option, Some, None, refl, sym, ◌∙◌, subst, arith, if◌then◌else◌, Cause, Action, StepAnswer, Failed, Opened, Bytes, Status, NewFd, Done, NoRoom, Name, Tree, elements, look, start_of, resolve, parent, path_of, opens_one, refusal_with, IsInPlace, IsLeastUnused, MayChoose, StepWith, Walk, Stage, Move, Deed, Acts, LookupLeadsTo, Begin, Look, GiveUpWalk, OwnMove, act_entered, acts, begun, looked, look_made}
-use Rattle.plain_tree.specs.Steps.{refusal}
 use Rattle.tree_laws.specs.Moves.{StartLeadsTo, Plays}
 use Rattle.inode_machine.specs.Making.{ActsSo, MayBegin, MayLook, MayLookOn, MayMove, OpensLeast}
 use Rattle.inode_machine.specs.MoveCalls.{IsOfRange}
 use Rattle.inode_machine.proofs.MadeMoves.{Takes, own_opened}
+use Rattle.plain_tree.specs.VersionOne.{refusal}
 
 -- ---- a step
 

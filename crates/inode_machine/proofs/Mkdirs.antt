@@ -1,5 +1,5 @@
 -- Mkdir is right, whatever the other harts do.
-use Rattle.inode_machine.proofs.Vocabulary.{◌≡◌, ◌≢◌, inl, inr, ℕ, ◌+◌, ◌*◌, ◌<◌, ◌≤◌, Bool, true, false, ◌==◌, nat_lt, List, [], ◌∷◌, length, Option, Some, None, refl, sym, ◌∙◌, ap, subst, arith, if◌then◌else◌, Do, unmarked, Safe, Begun, Ends, IsBeginning, Cause, NoEntry, TooManyLinks, Blocks, DiskInodes, MemInodes, DirectoryFull, Reply, Node, Mkdir, Done, Failed, hart_count, count_limit, Name, Tree, put, look, live_directory, elements, node_or, name_taken, new_directory, or_else, raised, refusal_with, Act, next_of, reply_of, had_room, one_if, eq_not, put_same, put_other, Step, MayEnd, Note, World, New, InPlace, Enter, Forget, OfDirectory, Face, face_of, face_or, blank, with_count, with_dots, with_entry, Held, Own, own_of, nothing, Idle, Inv, machine, IsName, ThisP as P, done, failed, full, give_up, tail, entered_file, unmake, is_refused, mkdir_in, mkdir_on, mkdir_other, mkdir_program, mkdir_refused, mkdir_with, name_directory, path_cost, rest_cost, covered_calls}
+use Rattle.inode_machine.proofs.Vocabulary.{◌≡◌, ◌≢◌, inl, inr, ℕ, ◌+◌, ◌*◌, ◌<◌, ◌≤◌, Bool, true, false, ◌==◌, nat_lt, List, [], ◌∷◌, length, Option, Some, None, refl, sym, ◌∙◌, ap, subst, arith, if◌then◌else◌, Do, unmarked, Safe, Begun, Ends, IsBeginning, Cause, NoEntry, TooManyLinks, Blocks, DiskInodes, MemInodes, DirectoryFull, Reply, Node, Mkdir, Done, Failed, hart_count, count_limit, Name, Tree, put, look, live_directory, elements, node_or, name_taken, new_directory, or_else, raised, refusal_with, refusal_by, Act, next_of, reply_of, had_room, one_if, eq_not, put_same, put_other, Step, MayEnd, Note, World, New, InPlace, Enter, Forget, OfDirectory, Face, face_of, face_or, blank, with_count, with_dots, with_entry, Held, Own, own_of, nothing, Idle, Inv, machine, IsName, ThisP as P, done, failed, full, give_up, tail, entered_file, unmake, is_refused, mkdir_in, mkdir_on, mkdir_other, mkdir_program, mkdir_refused, mkdir_with, name_directory, path_cost, rest_cost, covered_calls}
 use Rattle.plain_tree.specs.declared.call.Call.TheVariants as calls
 use Rattle.inode_machine.proofs.Basics.{AllNames, locked_held, live_face, Agrees, s-take-kept, one_at, On, stays_same, claimed_held, mended_own, s-claim, s-fill, s-store, told_step, Walked, joined_own, Holding, HasJoined, IsAnswerable, holding_on, holding_same, holding_set, mendable, stays_mended, unlisted, s-give-end, Follows, agrees_look, begun_by, quit_step, s-see, walking_quit, walking_told, written_by}
 use Rattle.inode_machine.proofs.Tables.{less_is}
@@ -25,7 +25,7 @@ follows : (path : List ℕ) → Follows (calls.Mkdir path) [] (Mkdir path)
 follows path = record { next = comes_first path; rest = λ k. []; reply = λ k. failed (calls.Mkdir path) k; fails = fails_end path }
 
 no_parent : (t : Tree) (h : ℕ) (path : List ℕ) (res : Option ℕ) → refusal_with t h (Mkdir path) res None ≡ Some NoEntry
-unfolding refusal_with
+unfolding refusal_by
 no_parent t h path res = refl
 
 leads : (h : ℕ) (path : List ℕ) (O0 : Own) → h < hart_count → Leads h (Mkdir path) O0
@@ -39,7 +39,7 @@ taken_or (Some n) g = refl
 
 -- as the tree has it, so the call sees it
 is_refusal : (t : Tree) (h : ℕ) (path : List ℕ) (res f : Option ℕ) (d : ℕ) (e : Name) (X : Node) → t.nodes d ≡ Some X → look t.nodes d e ≡ f → refusal_with t h (Mkdir path) res (Some (d, e)) ≡ mkdir_refused f (face_or (face_of (Some X)))
-unfolding refusal_with
+unfolding refusal_by
 is_refusal t h path res f d e X nd is = (λ z. or_else (name_taken (is z)) (if nat_lt (node_or (nd z)).count count_limit then None else Some TooManyLinks)) ∙ taken_or f (face_or (face_of (Some X)))
 
 refused_is : (o : Option Cause) → is_refused o ≡ true → (k : Cause) × (o ≡ Some k)

@@ -1,5 +1,5 @@
 -- The tree's step of an open without CREATE, and what it leaves where it acts.
-use Rattle.inode_machine.proofs.Vocabulary.{◌≡◌, inl, ℕ, ◌+◌, ◌-◌, ◌<◌, true, false, ◌==◌, List, [], ◌∷◌, Option, Some, None, refl, sym, ◌∙◌, ap, subst, arith, P, own, onto, Fine, Wp, Cause, NoEntry, Descriptors, Node, NodeKind, Directory, File, Device, Open, Failed, Opened, NoRoom, hart_count, Name, Tree, settle, IsLeastUnused, answer_with, creates, effect_with, has_room, is_file, lowest, makes_node, node_at, node_or, open_kind, place_of, refusal_with, IsInPlace, StepWith, eq_not, eq_self, Step, Move, World, InodeType, face_of, face_or, is_file_type, open_refusal, type_of, type_of_kind, Made, acts, with_made, Inv, Others, IsTied, file_tables_of, machine}
+use Rattle.inode_machine.proofs.Vocabulary.{◌≡◌, inl, ℕ, ◌+◌, ◌-◌, ◌<◌, true, false, ◌==◌, List, [], ◌∷◌, Option, Some, None, refl, sym, ◌∙◌, ap, subst, arith, P, own, onto, Fine, Wp, Cause, NoEntry, Descriptors, Node, NodeKind, Directory, File, Device, Open, Failed, Opened, NoRoom, hart_count, Name, Tree, settle, IsLeastUnused, answer_by, creates, effect_by, has_room, is_file, lowest, makes_node, node_at, node_or, open_kind, place_of, refusal_with, refusal_by, IsInPlace, StepWith, eq_not, eq_self, Step, Move, World, InodeType, face_of, face_or, is_file_type, open_refusal, type_of, type_of_kind, Made, acts, with_made, Inv, Others, IsTied, file_tables_of, machine}
 use Rattle.inode_machine.proofs.Basics.{Fair, fair, others, below_is, Finder, opened_tree}
 
 pub open_finder : (path : List ℕ) (flags : ℕ) → creates flags ≡ false → Finder (Open path flags)
@@ -10,11 +10,11 @@ unfolding place_of
 open_place t h path flags lt = rw (below_is h hart_count lt) refl
 
 pub open_missing : (t : Tree) (h : ℕ) (path : List ℕ) (flags : ℕ) (par : Option (ℕ × Name)) → creates flags ≡ false → refusal_with t h (Open path flags) None par ≡ Some NoEntry
-unfolding refusal_with
+unfolding refusal_by
 open_missing t h path flags par plain = rw plain refl
 
 pub open_kind_is : (t : Tree) (h j : ℕ) (path : List ℕ) (flags : ℕ) (par : Option (ℕ × Name)) → creates flags ≡ false → refusal_with t h (Open path flags) (Some j) par ≡ open_kind flags (node_at t j).kind
-unfolding refusal_with
+unfolding refusal_by
 open_kind_is t h j path flags par plain = rw plain refl
 
 pub open_refused_step : (t : Tree) (h j id : ℕ) (path : List ℕ) (flags : ℕ) (par : Option (ℕ × Name)) (k : Cause) → h < hart_count → creates flags ≡ false → open_kind flags (node_at t j).kind ≡ Some k → StepWith t h (Open path flags) (Some j) par (Failed k) 0 id t
@@ -32,12 +32,12 @@ pub open_made : (t : Tree) (h j new id : ℕ) (path : List ℕ) (flags : ℕ) (p
       left = None;
       told = Some (record { act = record { step = Open path flags; answer = Opened (lowest (t.fds h)) id (is_file (node_at t j).kind) }; new = new });
     }
-unfolding effect_with answer_with
+unfolding effect_by answer_by
 open_made t h j new id path flags par plain goes room = rw (open_kind_is t h j path flags par plain ∙ goes) (rw (plain, room) refl)
 
 pub open_step : (t : Tree) (h j id : ℕ) (path : List ℕ) (flags : ℕ) (par : Option (ℕ × Name)) → h < hart_count → creates flags ≡ false → open_kind flags (node_at t j).kind ≡ None → has_room (t.fds h) ≡ true → IsLeastUnused t id
     → StepWith t h (Open path flags) (Some j) par (Opened (lowest (t.fds h)) id (is_file (node_at t j).kind)) 0 id (settle (opened_tree t h (lowest (t.fds h)) id j flags))
-unfolding effect_with answer_with
+unfolding effect_by answer_by
 open_step t h j id path flags par lt plain goes room least = (
   open_kind_is t h j path flags par plain ∙ goes,
   rw (plain, room) refl,
@@ -49,7 +49,7 @@ open_step t h j id path flags par lt plain goes room least = (
 -- With none it finds no room, and nothing changes.
 pub open_full : (t : Tree) (h j new id : ℕ) (path : List ℕ) (flags : ℕ) (par : Option (ℕ × Name)) → creates flags ≡ false → open_kind flags (node_at t j).kind ≡ None → has_room (t.fds h) ≡ false
     → acts t h (Open path flags) (Some j) par new id ≡ record { all = t; walk = None; found = Some j; opened = None; entered = None; left = None; told = Some (record { act = record { step = Open path flags; answer = NoRoom Descriptors }; new = new }) }
-unfolding effect_with answer_with
+unfolding effect_by answer_by
 open_full t h j new id path flags par plain goes room = rw (open_kind_is t h j path flags par plain ∙ goes) (rw (plain, room) refl)
 
 -- The type tells the cause.

@@ -1,5 +1,5 @@
 -- Write: what a piece does to a tree, and how a descriptor's offset and its inode change.
-use Rattle.inode_machine.proofs.Vocabulary.{◌≡◌, inl, inr, ℕ, ◌+◌, ◌<◌, ◌≤◌, true, false, nat_lt, List, [], ◌∷◌, ◌++◌, take, length, Option, Some, None, refl, sym, ◌∙◌, ap, subst, arith, if◌then◌else◌, Bool, nat_tests, append-nil, take-append-drop, length-take, Cause, BadDescriptor, BadMode, BadOffset, TooBig, Node, NodeKind, Directory, File, Device, OpenFile, WritePart, Done, hart_count, largest_size, Name, Tree, put, and_then, is_directory, is_live, settle, node_or, node_at, file_at, refusal_with, effect_with, answer_with, place_of, IsInPlace, with_nodes, written, written_kind, wrote, write_kind, part_refusal, IsWellFormed, either, same_or, put_same, put_other, put_self, well_content, well_same, type_written, written_dir, InodeType, no_driver_for, type_of, type_of_kind, mode_refusal, with_bytes, write_refused, Entry, World, with_open, NamesLess, named_less, settle_nodes, settle_or, file_settled}
+use Rattle.inode_machine.proofs.Vocabulary.{◌≡◌, inl, inr, ℕ, ◌+◌, ◌<◌, ◌≤◌, true, false, nat_lt, List, [], ◌∷◌, ◌++◌, take, length, Option, Some, None, refl, sym, ◌∙◌, ap, subst, arith, if◌then◌else◌, Bool, nat_tests, append-nil, take-append-drop, length-take, Cause, BadDescriptor, BadMode, BadOffset, TooBig, Node, NodeKind, Directory, File, Device, OpenFile, WritePart, Done, hart_count, largest_size, Name, Tree, put, and_then, is_directory, is_live, settle, node_or, node_at, file_at, refusal_with, refusal_by, effect_with, effect_by, answer_with, answer_by, place_of, IsInPlace, with_nodes, written, written_kind, wrote, write_kind, part_refusal, IsWellFormed, either, same_or, put_same, put_other, put_self, well_content, well_same, type_written, written_dir, InodeType, no_driver_for, type_of, type_of_kind, mode_refusal, with_bytes, write_refused, Entry, World, with_open, NamesLess, named_less, settle_nodes, settle_or, file_settled}
 use Rattle.std.proofs.Common.{drop}
 use Rattle.plain_tree.specs.Steps.{moved}
 use Rattle.inode_machine.proofs.Basics.{below_is, Refused}
@@ -8,15 +8,15 @@ use Rattle.inode_machine.proofs.Readings.{offset_on}
 -- Refusals.
 
 write_none : (t : Tree) (h fd : ℕ) (b : List ℕ) (res : Option ℕ) (par : Option (ℕ × Name)) → file_at t h fd ≡ None → refusal_with t h (WritePart fd b) res par ≡ Some BadDescriptor
-unfolding refusal_with
+unfolding refusal_by
 write_none t h fd b res par e = rw e refl
 
 write_mode : (t : Tree) (h fd : ℕ) (b : List ℕ) (f : OpenFile) (res : Option ℕ) (par : Option (ℕ × Name)) → file_at t h fd ≡ Some f → f.writable ≡ false → refusal_with t h (WritePart fd b) res par ≡ Some BadMode
-unfolding refusal_with
+unfolding refusal_by
 write_mode t h fd b f res par e r = rw (e, r) refl
 
 pub write_by_kind : (t : Tree) (h fd : ℕ) (b : List ℕ) (f : OpenFile) (k : Option Cause) (res : Option ℕ) (par : Option (ℕ × Name)) → file_at t h fd ≡ Some f → f.writable ≡ true → write_kind (node_at t f.number).kind f.offset b ≡ k → refusal_with t h (WritePart fd b) res par ≡ k
-unfolding refusal_with
+unfolding refusal_by
 write_by_kind t h fd b f k res par e r q = rw (e, r) q
 
 pub write_place : (t : Tree) (h fd : ℕ) (b : List ℕ) → h < hart_count → IsInPlace t h (WritePart fd b)
@@ -135,11 +135,11 @@ unfolding settle
 wrote_settled t h fd id n b f x is at file number node = wrote_is (settle t) h fd id n b f x is at file number node
 
 pub write_effect : (t : Tree) (h fd new id : ℕ) (b : List ℕ) (res : Option ℕ) (par : Option (ℕ × Name)) → effect_with t h (WritePart fd b) res par new id ≡ wrote t h fd b
-unfolding effect_with
+unfolding effect_by
 write_effect t h fd new id b res par = refl
 
 pub write_answer : (t : Tree) (h fd id : ℕ) (b : List ℕ) (res : Option ℕ) (par : Option (ℕ × Name)) → answer_with t h (WritePart fd b) res par id ≡ Done
-unfolding answer_with
+unfolding answer_by
 write_answer t h fd id b res par = refl
 
 as_written : (t : Tree) (N : ℕ → Option Node) (F : ℕ → Option OpenFile) → with_written (settle t) N F ≡ with_nodes (with_open t t.fds F) N

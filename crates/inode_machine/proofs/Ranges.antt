@@ -1,5 +1,5 @@
 -- No step changes the range of a tree's numbers.
-use Rattle.inode_machine.proofs.Vocabulary.{◌≡◌, inl, inr, ℕ, List, [], ◌∷◌, length, Option, Some, None, refl, sym, ◌∙◌, ap, Action, StepAnswer, Failed, Opened, Bytes, Status, NewFd, Done, NoRoom, Node, OpenFile, Hold, Name, Tree, look, has_room, file_at, part, refused, effect_with, creates, settle, at_hold, raised, lowered, enter_hold, wrote, written, StepWith, either, Walk, Stage, Move, Deed, Acts, LookupLeadsTo, Begin, Look, GiveUpWalk, OwnMove, PlaysAny, Turn, Starts, Steps, Nothing, Told, Happens, Goings}
+use Rattle.inode_machine.proofs.Vocabulary.{◌≡◌, inl, inr, ℕ, List, [], ◌∷◌, length, Option, Some, None, refl, sym, ◌∙◌, ap, Action, StepAnswer, Failed, Opened, Bytes, Status, NewFd, Done, NoRoom, Node, OpenFile, Hold, Name, Tree, look, has_room, file_at, part, refused, effect_with, effect_by, creates, settle, at_hold, raised, lowered, enter_hold, wrote, written, StepWith, either, Walk, Stage, Move, Deed, Acts, LookupLeadsTo, Begin, Look, GiveUpWalk, OwnMove, PlaysAny, Turn, Starts, Steps, Nothing, Told, Happens, Goings}
 use Rattle.plain_tree.specs.declared.step.Action.TheVariants as steps
 use Rattle.plain_tree.specs.Steps.{at_dir, held, made, moved, opened_at, opened_in, opened_new, removed, removed_child, truncated, with_file}
 use Rattle.tree_laws.specs.Moves.{StartLeadsTo, Plays}
@@ -69,7 +69,7 @@ dir_range t h None = refl
 dir_range t h (Some n) = refl
 
 effect_range : (t : Tree) (h : ℕ) (s : Action) (res : Option ℕ) (par : Option (ℕ × Name)) (new id : ℕ) → (effect_with t h s res par new id).ninodes ≡ t.ninodes
-unfolding effect_with
+unfolding effect_by
 effect_range t h (steps.Open path flags) res par new id = elim (either (creates flags)) [
   | inl y ↦ rw y (new_range t h id flags new par)
   | inr y ↦ rw y (at_range t h id flags new res)

@@ -1,5 +1,5 @@
 -- Read: a descriptor's inode is locked, a part read at the offset, and the offset moves, with the lock given up.
-use Rattle.inode_machine.proofs.Vocabulary.{◌≡◌, inl, inr, ℕ, ◌+◌, ◌<◌, ◌≤◌, true, false, ◌==◌, ◌&&◌, nat_lt, List, [], ◌∷◌, take, length, Option, Some, None, refl, sym, ◌∙◌, ap, subst, arith, if◌then◌else◌, Bool, Do, Ran, ExecResult, P, own, onto, Good, Fine, Safe, Wp, Cause, BadDescriptor, BadMode, Node, NodeKind, Directory, File, Device, own_step, InodeType, no_driver_for, type_of, type_of_kind, OpenFile, Read, Bytes, hart_count, descriptor_count, Name, Tree, put, fd_names, file_names, and_then, settle, resolve, parent, node_or, node_at, content, part, no_driver, file_at, refusal_with, effect_with, answer_with, place_of, IsInPlace, Key, key_of, Row, key_at, row_of, key_is, key_from, with_open, NamesLess, settle_less, file_settled, IsWellFormed, same_or, put_same, put_other, sum_same, well_moved, Stage, Step, OwnMove, Mine, Entry, World, LockResult as Lockup, NotLocked, LocksIt, places, with_mark, made_by, new_id, with_made, refused_read, with_walk, slot_at, entry_at, entry_moved, part_of, entry_of, lock_at, offset_of, lock_if, locked, mode_refusal, read_at, read_refused, unlocked, with_offset, Own, own_names, Held, own_of, Inv, machine, EntryOut, asked_limit, KeepsFiles, StandsAt, LockFile, ReadFile}
+use Rattle.inode_machine.proofs.Vocabulary.{◌≡◌, inl, inr, ℕ, ◌+◌, ◌<◌, ◌≤◌, true, false, ◌==◌, ◌&&◌, nat_lt, List, [], ◌∷◌, take, length, Option, Some, None, refl, sym, ◌∙◌, ap, subst, arith, if◌then◌else◌, Bool, Do, Ran, ExecResult, P, own, onto, Good, Fine, Safe, Wp, Cause, BadDescriptor, BadMode, Node, NodeKind, Directory, File, Device, own_step, InodeType, no_driver_for, type_of, type_of_kind, OpenFile, Read, Bytes, hart_count, descriptor_count, Name, Tree, put, fd_names, file_names, and_then, settle, resolve, parent, node_or, node_at, content, part, no_driver, file_at, refusal_with, refusal_by, effect_with, effect_by, answer_with, answer_by, place_of, IsInPlace, Key, key_of, Row, key_at, row_of, key_is, key_from, with_open, NamesLess, settle_less, file_settled, IsWellFormed, same_or, put_same, put_other, sum_same, well_moved, Stage, Step, OwnMove, Mine, Entry, World, LockResult as Lockup, NotLocked, LocksIt, places, with_mark, made_by, new_id, with_made, refused_read, with_walk, slot_at, entry_at, entry_moved, part_of, entry_of, lock_at, offset_of, lock_if, locked, mode_refusal, read_at, read_refused, unlocked, with_offset, Own, own_names, Held, own_of, Inv, machine, EntryOut, asked_limit, KeepsFiles, StandsAt, LockFile, ReadFile}
 use Rattle.std.proofs.Common.{drop}
 use Rattle.plain_tree.specs.Steps.{moved}
 use Rattle.inode_machine.proofs.Basics.{Ours, ours_none, put_elim, Fair, fair, has_inode, s-owned, s-owned-from, quiet, has_disk, has_node, fine_after, is_out, locked_held, locking, locks_it, locks_none, after_unlock, gives, below_is, refs_walk, stage_walk, moves_good, Sells, sells_did, own_takes, Behind, behind, behind_none, Refused, renewed_slots, renewed_at, fails, refused_good, renewed_types}
@@ -9,15 +9,15 @@ use Rattle.inode_machine.proofs.Stats.{behind_opens, entry_is, node_settled}
 -- Refusals.
 
 read_none : (t : Tree) (h fd n : ℕ) (res : Option ℕ) (par : Option (ℕ × Name)) → file_at t h fd ≡ None → refusal_with t h (Read fd n) res par ≡ Some BadDescriptor
-unfolding refusal_with
+unfolding refusal_by
 read_none t h fd n res par e = rw e refl
 
 read_mode : (t : Tree) (h fd n : ℕ) (f : OpenFile) (res : Option ℕ) (par : Option (ℕ × Name)) → file_at t h fd ≡ Some f → f.readable ≡ false → refusal_with t h (Read fd n) res par ≡ Some BadMode
-unfolding refusal_with
+unfolding refusal_by
 read_mode t h fd n f res par e r = rw (e, r) refl
 
 read_kind : (t : Tree) (h fd n : ℕ) (f : OpenFile) (k : Option Cause) (res : Option ℕ) (par : Option (ℕ × Name)) → file_at t h fd ≡ Some f → f.readable ≡ true → no_driver (node_at t f.number).kind ≡ k → refusal_with t h (Read fd n) res par ≡ k
-unfolding refusal_with
+unfolding refusal_by
 read_kind t h fd n f k res par e r q = rw (e, r) q
 
 read_place : (t : Tree) (h fd n : ℕ) → h < hart_count → IsInPlace t h (Read fd n)
@@ -50,15 +50,15 @@ abbrev pub offset_on : OpenFile → ℕ → OpenFile
 offset_on f by = record f { offset = f.offset + by }
 
 read_effect : (t : Tree) (h fd n new id new_id : ℕ) (f : OpenFile) (b : List ℕ) (res : Option ℕ) (par : Option (ℕ × Name)) → t.fds h fd ≡ Some id → t.files id ≡ Some f → part t (file_at t h fd) n ≡ b → effect_with t h (Read fd n) res par new new_id ≡ with_open t t.fds (put t.files id (Some (offset_on f (length b))))
-unfolding effect_with
+unfolding effect_by
 read_effect t h fd n new id new_id f b res par e q p = (λ i. moved t (e i) (length (p i))) ∙ (λ i. record t { files = put t.files id (and_then (q i) (λ g. Some (record g { offset = g.offset + length b }))) })
 
 read_effect_settled : (t : Tree) (h fd n new id new_id : ℕ) (f : OpenFile) (b : List ℕ) (res : Option ℕ) (par : Option (ℕ × Name)) → t.fds h fd ≡ Some id → t.files id ≡ Some f → part (settle t) (file_at (settle t) h fd) n ≡ b → effect_with (settle t) h (Read fd n) res par new new_id ≡ with_open (settle t) t.fds (put t.files id (Some (offset_on f (length b))))
-unfolding effect_with settle
+unfolding effect_by settle
 read_effect_settled t h fd n new id new_id f b res par e q p = (λ i. moved (settle t) (e i) (length (p i))) ∙ (λ i. record (settle t) { files = put t.files id (and_then (q i) (λ g. Some (record g { offset = g.offset + length b }))) })
 
 read_answer : (t : Tree) (h fd n id : ℕ) (b : List ℕ) (res : Option ℕ) (par : Option (ℕ × Name)) → part t (file_at t h fd) n ≡ b → answer_with t h (Read fd n) res par id ≡ Bytes b
-unfolding answer_with
+unfolding answer_by
 read_answer t h fd n id b res par p = ap (λ (z : List ℕ). Bytes z) p
 
 part_is : (t : Tree) (h fd n : ℕ) (f : OpenFile) (x : Option Node) → file_at t h fd ≡ Some f → t.nodes f.number ≡ x → part t (file_at t h fd) n ≡ part_of x f.offset n

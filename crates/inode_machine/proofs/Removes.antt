@@ -1,5 +1,5 @@
 -- Unlink's act: a name is cleared, and what it named loses a link.
-use Rattle.inode_machine.proofs.Vocabulary.{◌≡◌, ◌≢◌, inl, inr, ℕ, ◌+◌, ◌-◌, ◌<◌, true, false, List, [], ◌∷◌, Option, Some, None, IsSome, refl, sym, ◌∙◌, ap, subst, arith, if◌then◌else◌, nat_tests, Do, P, own, onto, Fine, Safe, Wp, Node, NodeKind, Directory, File, Device, Unlink, Done, hart_count, Name, Tree, put, look, same_name, dot, dotdot, is_directory, slots_of, is_live, live_directory, settle, node_or, node_at, with_nodes, cleared, lowered, not_empty, refusal_with, effect_with, answer_with, place_of, IsInPlace, IsWellFormed, same_or, put_same, put_other, and_true, live_some, look_same, look_in, look_live, can_go, effect_well, Step, Look, World, Clear, InodeType, OfDirectory, type_of, type_of_kind, with_walk, without_entry, Made, new_id, marked, places, Own, Held, view, is_hart, if_kept, own_of, file_tables_of, Inv, machine, makes}
+use Rattle.inode_machine.proofs.Vocabulary.{◌≡◌, ◌≢◌, inl, inr, ℕ, ◌+◌, ◌-◌, ◌<◌, true, false, List, [], ◌∷◌, Option, Some, None, IsSome, refl, sym, ◌∙◌, ap, subst, arith, if◌then◌else◌, nat_tests, Do, P, own, onto, Fine, Safe, Wp, Node, NodeKind, Directory, File, Device, Unlink, Done, hart_count, Name, Tree, put, look, same_name, dot, dotdot, is_directory, slots_of, is_live, live_directory, settle, node_or, node_at, with_nodes, cleared, lowered, not_empty, refusal_with, refusal_by, effect_with, effect_by, answer_with, answer_by, place_of, IsInPlace, IsWellFormed, same_or, put_same, put_other, and_true, live_some, look_same, look_in, look_live, can_go, effect_well, Step, Look, World, Clear, InodeType, OfDirectory, type_of, type_of_kind, with_walk, without_entry, Made, new_id, marked, places, Own, Held, view, is_hart, if_kept, own_of, file_tables_of, Inv, machine, makes}
 use Rattle.inode_machine.proofs.Basics.{file_tables_same, stands_in, kept_here, fair, fair_then, has_inode, s-owned, locks_it, has_disk, has_node, Writes, writes, stage_walk, Fits, acts_did, acts_gone, act_good, told_step, two_put}
 
 -- The directory x without the name, and one link less where that was a directory's: z is what the name stood for.
@@ -10,12 +10,12 @@ abbrev pub cleared_nodes : (ℕ → Option Node) → Node → Node → ℕ → N
 cleared_nodes ns x z d e c = put (put ns d (Some (less x z e))) c (Some (lowered z))
 
 unlink_goes : (t : Tree) (h d c : ℕ) (e : Name) (path : List ℕ) → same_name e dot ≡ false → same_name e dotdot ≡ false → look t.nodes d e ≡ Some c → not_empty (node_at t c).kind ≡ None → refusal_with t h (Unlink path) (Some c) (Some (d, e)) ≡ None
-unfolding refusal_with
+unfolding refusal_by
 unlink_goes t h d c e path a b found empty = rw (a, b, found) empty
 
 unlink_effect : (t : Tree) (h d c new id : ℕ) (e : Name) (path : List ℕ) → c ≢ d → look t.nodes d e ≡ Some c
     → effect_with t h (Unlink path) (Some c) (Some (d, e)) new id ≡ with_nodes t (cleared_nodes t.nodes (node_or (t.nodes d)) (node_or (t.nodes c)) d e c)
-unfolding effect_with
+unfolding effect_by
 unlink_effect t h d c new id e path ne found =
     rw found (ap (λ (z : Option Node). with_nodes t (put (put t.nodes d (Some (less (node_or (t.nodes d)) (node_or (t.nodes c)) e))) c (Some (lowered (node_or z))))) (put_other t.nodes d (Some (less (node_or (t.nodes d)) (node_or (t.nodes c)) e)) c ne))
 
@@ -28,7 +28,7 @@ unfolding place_of
 unlink_placed t h path = refl
 
 unlink_answer : (t : Tree) (h id : ℕ) (path : List ℕ) (res : Option ℕ) (par : Option (ℕ × Name)) → answer_with t h (Unlink path) res par id ≡ Done
-unfolding answer_with
+unfolding answer_by
 unlink_answer t h id path res par = refl
 
 -- a live directory's type

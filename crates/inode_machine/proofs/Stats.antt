@@ -1,5 +1,5 @@
 -- Fstat: a descriptor's inode is locked, and its state told.
-use Rattle.inode_machine.proofs.Vocabulary.{◌≡◌, inl, inr, ℕ, ◌+◌, ◌<◌, List, [], ◌∷◌, Option, Some, None, refl, sym, ◌∙◌, ap, subst, arith, nat_tests, Do, ExecResult, P, own, onto, Good, Safe, Wp, BadDescriptor, Node, NodeKind, Directory, File, Device, OpenFile, Fstat, Status, hart_count, Name, Tree, put, settle, resolve, parent, node_or, node_at, stat_of, file_at, refusal_with, effect_with, answer_with, place_of, IsInPlace, file_settled, settle_or, settle_again, file_named, Deed, Stage, Step, OwnMove, World, Entry, Mark, Face, face_of, face_or, type_of, stat_of_face, Own, Opens, EntryOut, Inv, machine, own_of, own_step, entry_at, entry_of, lock_if, locked, slot_at, stat_at, with_walk, made_by, new_id, places, with_mark, StatFile}
+use Rattle.inode_machine.proofs.Vocabulary.{◌≡◌, inl, inr, ℕ, ◌+◌, ◌<◌, List, [], ◌∷◌, Option, Some, None, refl, sym, ◌∙◌, ap, subst, arith, nat_tests, Do, ExecResult, P, own, onto, Good, Safe, Wp, BadDescriptor, Node, NodeKind, Directory, File, Device, OpenFile, Fstat, Status, hart_count, Name, Tree, put, settle, resolve, parent, node_or, node_at, stat_of, file_at, refusal_with, refusal_by, effect_with, effect_by, answer_with, answer_by, place_of, IsInPlace, file_settled, settle_or, settle_again, file_named, Deed, Stage, Step, OwnMove, World, Entry, Mark, Face, face_of, face_or, type_of, stat_of_face, Own, Opens, EntryOut, Inv, machine, own_of, own_step, entry_at, entry_of, lock_if, locked, slot_at, stat_at, with_walk, made_by, new_id, places, with_mark, StatFile}
 use Rattle.inode_machine.proofs.Basics.{Locking, fine_after, is_out, locked_held, locking, locks_none, s-owned, moves_good, own_walk, stage_walk, walk_did, Behind, behind, behind_none, fails, refused_good, Refused, fair}
 
 -- an open file of the hart keeps its node where the tree settles
@@ -10,15 +10,15 @@ node_settled h fd v e s inv lt hit = elim (settle_or v.all e.file.number) [
 ]
 
 stat_goes : (t : Tree) (h fd : ℕ) (f : OpenFile) (res : Option ℕ) (par : Option (ℕ × Name)) → file_at t h fd ≡ Some f → refusal_with t h (Fstat fd) res par ≡ None
-unfolding refusal_with
+unfolding refusal_by
 stat_goes t h fd f res par e = rw e refl
 
 stat_effect : (t : Tree) (h fd new id : ℕ) (res : Option ℕ) (par : Option (ℕ × Name)) → effect_with t h (Fstat fd) res par new id ≡ t
-unfolding effect_with
+unfolding effect_by
 stat_effect t h fd new id res par = refl
 
 stat_is : (t : Tree) (h fd id n : ℕ) (f : OpenFile) (v : Node) (res : Option ℕ) (par : Option (ℕ × Name)) → file_at t h fd ≡ Some f → f.number ≡ n → t.nodes n ≡ Some v → answer_with t h (Fstat fd) res par id ≡ Status (stat_of n v)
-unfolding answer_with
+unfolding answer_by
 stat_is t h fd id n f v res par e q r = rw e ((λ i. Status (stat_of (q i) (node_at t (q i)))) ∙ (λ i. Status (stat_of n (node_or (r i)))))
 
 stat_place : (t : Tree) (h fd : ℕ) → h < hart_count → IsInPlace t h (Fstat fd)
@@ -26,7 +26,7 @@ unfolding place_of
 stat_place t h fd lt = grind (arith, nat_tests)
 
 stat_none : (t : Tree) (h fd : ℕ) (res : Option ℕ) (par : Option (ℕ × Name)) → file_at t h fd ≡ None → refusal_with t h (Fstat fd) res par ≡ Some BadDescriptor
-unfolding refusal_with
+unfolding refusal_by
 stat_none t h fd res par e = rw e refl
 
 stat_is_refused : (h fd : ℕ) (v : World) → h < hart_count → file_at v.all h fd ≡ None → Refused h (Fstat fd) BadDescriptor v

@@ -1,5 +1,5 @@
 -- Unlink is right, whatever the other harts do.
-use Rattle.inode_machine.proofs.Vocabulary.{◌≡◌, ◌≢◌, inl, inr, ℕ, ◌+◌, ◌-◌, ◌*◌, ◌<◌, ◌≤◌, Bool, true, false, ◌||◌, not, ◌==◌, List, [], ◌∷◌, length, Option, Some, None, refl, sym, ◌∙◌, ap, subst, arith, if◌then◌else◌, Do, unmarked, own, onto, Fine, Safe, Wp, Begun, Ends, IsBeginning, Cause, NoEntry, NotEmpty, DotName, MemInodes, Reply, Node, NodeKind, Directory, File, Device, Unlink, Done, Failed, hart_count, Name, Tree, put, look, same_name, dot, dotdot, is_directory, all_slots, is_live, live_directory, elements, node_or, node_at, lowered, not_empty, any_used, refusal_with, Act, next_of, reply_of, had_room, one_if, folders_of, links_in, raises, IsWellFormed, eq_not, same_or, put_same, put_other, or_none, live_is, look_live, look_folder, entry_found, entry_apart, look_bad, look_same, Step, MayEnd, Desk, World, Take, Store, face_of, face_or, seen_in, AtEntries, is_directory_type, is_live_face, type_of_kind, is_empty_kind, is_empty_node, with_count, without_entry, marked, places, Held, Own, own_of, nothing, Idle, Inv, machine, ThisP as P, done, failed, full, give_up, is_some, looks_if, tail, always, clear_name, is_missing, lower_parent, or_missing, unlink_child, unlink_dots, unlink_found, unlink_in, unlink_named, unlink_other, unlink_program, path_cost, rest_cost, covered_calls}
+use Rattle.inode_machine.proofs.Vocabulary.{◌≡◌, ◌≢◌, inl, inr, ℕ, ◌+◌, ◌-◌, ◌*◌, ◌<◌, ◌≤◌, Bool, true, false, ◌||◌, not, ◌==◌, List, [], ◌∷◌, length, Option, Some, None, refl, sym, ◌∙◌, ap, subst, arith, if◌then◌else◌, Do, unmarked, own, onto, Fine, Safe, Wp, Begun, Ends, IsBeginning, Cause, NoEntry, NotEmpty, DotName, MemInodes, Reply, Node, NodeKind, Directory, File, Device, Unlink, Done, Failed, hart_count, Name, Tree, put, look, same_name, dot, dotdot, is_directory, all_slots, is_live, live_directory, elements, node_or, node_at, lowered, not_empty, any_used, refusal_with, refusal_by, Act, next_of, reply_of, had_room, one_if, folders_of, links_in, raises, IsWellFormed, eq_not, same_or, put_same, put_other, or_none, live_is, look_live, look_folder, entry_found, entry_apart, look_bad, look_same, Step, MayEnd, Desk, World, Take, Store, face_of, face_or, seen_in, AtEntries, is_directory_type, is_live_face, type_of_kind, is_empty_kind, is_empty_node, with_count, without_entry, marked, places, Held, Own, own_of, nothing, Idle, Inv, machine, ThisP as P, done, failed, full, give_up, is_some, looks_if, tail, always, clear_name, is_missing, lower_parent, or_missing, unlink_child, unlink_dots, unlink_found, unlink_in, unlink_named, unlink_other, unlink_program, path_cost, rest_cost, covered_calls}
 use Rattle.std.proofs.Common.{drop}
 use Rattle.plain_tree.specs.declared.call.Call.TheVariants as calls
 use Rattle.inode_machine.proofs.Basics.{AllNames, fair_same, quiet, locked_held, has_node, s-up, live_face, s-take-then, look_refused_good, listed_held, times, one_at, one_else, On, stays_same, few_listed, Walked, joined_own, mend_fine, mended_own, s-store, told_step, Holding, IsWhole, HasJoined, IsAnswerable, holding_on, holding_set, holding_same, mendable, stays_mended, unlisted, unlisted_refs, s-give-end, s-give-up, Follows, agrees_look, begun_by, begun_refused, s-see, walking_quit, walking_told, written_by}
@@ -24,7 +24,7 @@ follows : (path : List ℕ) → Follows (calls.Unlink path) [] (Unlink path)
 follows path = record { next = comes_first path; rest = λ k. []; reply = λ k. failed (calls.Unlink path) k; fails = fails_end path }
 
 no_parent : (t : Tree) (h : ℕ) (path : List ℕ) (res : Option ℕ) → refusal_with t h (Unlink path) res None ≡ Some NoEntry
-unfolding refusal_with
+unfolding refusal_by
 no_parent t h path res = refl
 
 leads : (h : ℕ) (path : List ℕ) (O0 : Own) → h < hart_count → Leads h (Unlink path) O0
@@ -33,15 +33,15 @@ leads h path O0 lt = record { follows = refl; missing = λ b res. no_parent b h 
 -- Why it is refused.
 
 dot_name : (t : Tree) (h : ℕ) (path : List ℕ) (res : Option ℕ) (d : ℕ) (e : Name) → (same_name e dot || same_name e dotdot) ≡ true → refusal_with t h (Unlink path) res (Some (d, e)) ≡ Some DotName
-unfolding refusal_with
+unfolding refusal_by
 dot_name t h path res d e q = rw q refl
 
 is_absent : (t : Tree) (h : ℕ) (path : List ℕ) (res : Option ℕ) (d : ℕ) (e : Name) → (same_name e dot || same_name e dotdot) ≡ false → look t.nodes d e ≡ None → refusal_with t h (Unlink path) res (Some (d, e)) ≡ Some NoEntry
-unfolding refusal_with
+unfolding refusal_by
 is_absent t h path res d e q none = rw (q, none) refl
 
 has_entries : (t : Tree) (h : ℕ) (path : List ℕ) (res : Option ℕ) (d n : ℕ) (e : Name) → (same_name e dot || same_name e dotdot) ≡ false → look t.nodes d e ≡ Some n → not_empty (node_at t n).kind ≡ Some NotEmpty → refusal_with t h (Unlink path) res (Some (d, e)) ≡ Some NotEmpty
-unfolding refusal_with
+unfolding refusal_by
 has_entries t h path res d n e q is full = rw (q, is) full
 
 emptiness : (k : NodeKind) → not_empty k ≡ (if is_empty_kind k then None else Some NotEmpty)

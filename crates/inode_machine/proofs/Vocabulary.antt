@@ -1,7 +1,7 @@
 -- What this crate's proofs speak of: its own definitions, and what the crates below and the library call things.
-pub use Rattle.tree_laws.proofs.Vocabulary.{Act, Acts, Begin, BeginsNext, Bool, Busy, Deed, Event as Turn, Explains, Folders, Happens, History, IsForest, IsInPlace, IsLeastUnused, IsNewNode, IsNext, IsPlayed, IsStartBy, IsThere, IsWellFormed, List, Look, LookupLeadsTo, MayChoose, MayEnd, Move, MoveStep as Step, Name, None, Nothing, Option, Own as OwnMove, PlaysAny, GiveUpWalk, Shown, Some, Stage, Starts, StepWith, Steps, Tells, Tree, TreeData, Walk, World as Told, [], after, all_slots, and_then, ap, append_assoc, arith, at_hold, before, begins, climbing, closed, creates, descriptor_count, dot, dotdot, drop_hold, elements, emptied, empty_it, enter_hold, fail, false, fd_names, file_at, file_names, finishes, folder, folders_of, follows_path, hart_count, has, has_room, hold_names, holds_raised, if◌then◌else◌, inl, inr, is_absent, is_absolute, is_directory, is_file, is_live, is_nothing as no_fd, length, links_in, links_of, live_directory, lowered, lowest, makes_node, map, moves_on, name_taken, nat_lt, nat_tests, new_directory, new_file, next_piece, node_at, node_or, not, not_empty, opened, opens_one, or_else, parent, passes, path_of, piece, piece_count, raise_hold, raised, raised_at, refl, refused, resolve, root, shown_of, slots_of, start_of, starts, stepped, subst, suc, sym, told_by, trace_of, tree_of, true, walks_at, with_nodes, written, written_kind, wrote, zero, ℕ, ◌&&◌, ◌*◌, ◌++◌, ◌+◌, ◌-◌, ◌<◌, ◌==◌, ◌||◌, ◌∙◌, ◌∷◌, ◌≡◌, ◌≢◌, ◌≤◌, ◌⊎◌}
-unfoldable pub use Rattle.tree_laws.proofs.Vocabulary.{Alone as Lone, Chain, NoneClimbs as Calm, Runs as Goings, answer_with, any_below, any_used, cleared, effect_with, entries, file_in, first_cause, first_free, first_slot, follow, had_room, has_fd, is_named, last_cause, look, lowest_from, next_of, one_if, parent_from, parent_of, pieces, place_of, put, raises, refusal_with, reply_of, same_name, settle, sum_below}
-pub use Rattle.plain_tree.proofs.Vocabulary.{AsksForWhatStays, Key, bump_refusal, cause_of, content, count_limit, filter, is_empty, key_at, key_is, key_names, key_of, name_len, no_driver, open_kind, part, row_of, stat_of, take, take-append-drop, write_kind, ◌^◌}
+pub use Rattle.tree_laws.proofs.Vocabulary.{Act, Acts, Begin, BeginsNext, Bool, Busy, Deed, Event as Turn, Explains, Folders, Happens, History, IsForest, IsInPlace, IsLeastUnused, IsNewNode, IsNext, IsPlayed, IsStartBy, IsThere, IsWellFormed, List, Look, LookupLeadsTo, MayChoose, MayEnd, Move, MoveStep as Step, Name, None, Nothing, Option, Own as OwnMove, PlaysAny, GiveUpWalk, Shown, Some, Stage, Starts, StepWith, Steps, Tells, Tree, TreeData, Walk, World as Told, [], after, all_slots, and_then, ap, append_assoc, arith, at_hold, before, begins, climbing, closed, creates, descriptor_count, dot, dotdot, drop_hold, elements, emptied, empty_it, enter_hold, fail, false, fd_names, file_at, file_names, finishes, folder, folders_of, follows_path, hart_count, has, has_room, hold_names, holds_raised, if◌then◌else◌, inl, inr, is_absent, is_absolute, is_directory, is_file, is_live, is_nothing as no_fd, length, links_in, links_of, live_directory, lowered, lowest, makes_node, map, moves_on, name_taken, nat_lt, nat_tests, new_directory, new_file, next_piece, node_at, node_or, not, not_empty, opened, opens_one, or_else, parent, passes, path_of, piece, piece_count, raise_hold, raised, raised_at, refl, refused, resolve, root, shown_of, slots_of, start_of, starts, stepped, subst, suc, sym, told_by, trace_of, tree_of, true, walks_at, with_nodes, written, written_kind, wrote, zero, ℕ, ◌&&◌, ◌*◌, ◌++◌, ◌+◌, ◌-◌, ◌<◌, ◌==◌, ◌||◌, ◌∙◌, ◌∷◌, ◌≡◌, ◌≢◌, ◌≤◌, ◌⊎◌, Chain, answer_with, effect_with, entries, refusal_with}
+unfoldable pub use Rattle.tree_laws.proofs.Vocabulary.{Alone as Lone, NoneClimbs as Calm, Runs as Goings, answer_by, any_below, any_used, cleared, effect_by, entries_by, file_in, first_cause, first_free, first_slot, follow, had_room, has_fd, is_named, last_cause, look, lowest_from, next_of, one_if, parent_from, parent_of, pieces, place_of, put, raises, refusal_by, reply_of, same_name, settle, sum_below}
+pub use Rattle.plain_tree.proofs.Vocabulary.{AsksForWhatStays, Key, bump_refusal, cause_of, count_limit, filter, is_empty, key_at, key_is, key_names, key_of, no_driver, open_kind, row_of, take, take-append-drop, ◌^◌}
 pub use Rattle.inode_machine.specs.Vocabulary.{AllHonest, Began, Begins, Blocks, EventOutcome, ExecResult, DirectorySlots as DirectoryFull, DiskInodes, Do, Event, Exists, Full, IsWholeCall, Lawful, MemInodes, NotEmpty, OpenFiles, Prog, Ran, Refuses, Ret, Row, Run, Start, State, Step as StepOf, Stops, PlaysStep, Theory, Waits, fresh, next, piece_len, run, unmarked}
 pub use Rattle.atomic_programs.proofs.Vocabulary.{Begun, Ends, Fine, Goes, Good, Grown, HonestStep, IsBeginning, IsHonest, Laws, OfNext, OpWithAnswer, P, PlacesOne, Right, Safe, Sound, Wp, all_told, asks, busy_in, moved, oldest_first, onto, own, start_run, step_prog, step_run, step_unless, told, tried, unchanged, ◌/◌}
 pub use Rattle.inode_machine.specs.World.{Answer, ClaimResult, Desk, Entry, EntryResult, InPlace, JoinResult, Joined, Lent, LoanResult, LockResult, LocksIt, Mark, Mine, Moved, New, NoBlock, NoInode, NoPlace, NoSlot, NotJoined, NotLocked, Note, Op, Outside, Picks, Refused, Room, RoomFor, Short, Whole, World, Wrote, stage_of}
@@ -21,7 +21,7 @@ pub use Rattle.inode_machine.specs.World.Op.{CheckFile, Claim, Clear, Double, Do
 pub use Rattle.inode_machine.specs.Opening.{create_found, create_in, empties, entered_file, file_for, installed_on, installs, make_on, make_other, make_with, mends_unless_new, open_at, open_end, open_face, open_made, open_new, open_old, open_program, opened_reply, take_descriptor, truncates, unmake}
 pub use Rattle.inode_machine.specs.Programs.{limit, path_cost, piece_cost, program, rest_cost}
 pub use Rattle.inode_machine.specs.World.Mark.{Fills, Frees, Makes, Mends, Orphans, Spoils}
-pub use Rattle.plain_tree.proofs.SettledSteps.{settled_makes, settled_step}
+pub use Rattle.plain_tree.proofs.SettledSteps.{settled_makes}
 pub use Rattle.tree_laws.proofs.Kept.{absent_slot, effect_well, written_dir, type_written}
 pub use Rattle.inode_machine.specs.MoveCalls.{Alone, HasOneHistory, IsMoving, IsOfRange, MoveMachine, NoneClimbs, RunsFrom, StartsBy, TakesMove, climbs_at, machine_of, shown_by, shows, theory_of}
 pub use Rattle.tree_laws.proofs.Nodes.{cwd_named, dead_links, file_named, folder_dead, folders_put, hold_named, linked_live, live_is, live_some, map_put, no_node, put_self, settle_at, settled_well}
@@ -72,3 +72,5 @@ pub use Rattle.plain_tree.specs.declared.step.StepAnswer.TheVariants.{Bytes, Don
 pub use Rattle.plain_tree.specs.declared.trace.Placed.{Placed}
 pub use Rattle.plain_tree.specs.declared.tree.Hold.{Hold}
 pub use Rattle.plain_tree.specs.declared.tree.OpenFile.{OpenFile}
+pub use Rattle.plain_tree.specs.VersionOne.{content, name_len, part, stat_of, write_kind}
+pub use Rattle.plain_tree.proofs.VersionOne.{settled_step}

@@ -4,6 +4,8 @@ use Rattle.inode_machine.specs.Vocabulary.{Cause, BadDescriptor, BadMode, Direct
 use Rattle.inode_machine.specs.Inodes.{InodeType, OfDirectory, OfFile, OfDevice, Face, face_of, face_or, seen_in, no_driver_for}
 use Rattle.inode_machine.specs.World.{Mine, Entry, Desk, World, Op, Answer, ClaimResult, New, NoInode, NoPlace, EntryResult, InPlace, NoBlock, NoSlot, LockResult, NotLocked, LocksIt, JoinResult, NotJoined, Joined, Wrote, Whole, Refused, Short, LoanResult, Lent, Moved, Outside, Room, RoomFor, Picks}
 use Rattle.inode_machine.specs.World.Op.{Take, UnlockInode, UpStart, Up, WalkDown, Down, Free, Forget, Claim, Store, Fill, Enter, Clear, Empty, Slot, Install, StatFile, LockFile, ReadFile, CheckFile, JoinFile, LockOpen, WriteFile, Double, Shut, SetDirectory, Lend, LendDirectory, Release, Join, Leave, Say}
+use Rattle.image_versions.specs.Versions as versions
+use Rattle.image_versions.specs.declared.version.Version.TheVariants.{One}
 
 abbrev pub is_nothing : {A : Type 0} → Option A → Bool
 is_nothing None = true
@@ -132,7 +134,7 @@ fill_if n d w (RoomFor k) = Ran false w
 fill_if n d w (Picks k) = Ran false w
 
 abbrev pub slot_limit : ℕ
-slot_limit = 17152
+slot_limit = versions.most_slots_of One
 
 unfoldable pub all_used : List (Option DirectorySlot) → Bool
 all_used [] = true

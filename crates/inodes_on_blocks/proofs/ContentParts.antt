@@ -1,5 +1,5 @@
 -- The bytes of a content, as its blocks have them: what is read part by part, and what a node's content is.
-use Rattle.inodes_on_blocks.proofs.Vocabulary.{◌≡◌, ⊎_elim, ℕ, zero, suc, ◌+◌, ◌-◌, ◌*◌, ◌/◌, ◌%◌, ◌<◌, ◌≤◌, List, [], ◌++◌, length, take, drop, refl, sym, ap, ◌∙◌, arith, append_assoc, length-append, min, cases_lt, append-nil, take_all, drop_all, length-drop, take-take, overwrite, FilledMemory, filled_with, next_block, blocks_between, part_of, drop_of_take, front, part_then, none_between, some_between, next_between}
+use Rattle.inodes_on_blocks.proofs.Vocabulary.{◌≡◌, ⊎_elim, ℕ, zero, suc, ◌+◌, ◌-◌, ◌*◌, ◌/◌, ◌<◌, ◌≤◌, List, [], ◌++◌, length, take, drop, refl, sym, ap, ◌∙◌, arith, append_assoc, length-append, min, cases_lt, append-nil, take_all, drop_all, length-drop, take-take, overwrite, FilledMemory, filled_with, next_block, blocks_between, part_of, drop_of_take, front, part_then, none_between, some_between, next_between}
 use Rattle.std.proofs.lemmas.List.{length-take}
 use Rattle.inodes_on_blocks.proofs.ContentReads.{filled_from}
 

@@ -1,6 +1,5 @@
 -- A file's content is given back: the operation acts where its record is put without it.
 use Rattle.inodes_on_blocks.proofs.Vocabulary.{◌≡◌, ℕ, zero, suc, pos, ◌^◌, ◌<◌, ◌≤◌, ◌==◌, Bool, true, false, List, [], ◌∷◌, length, take, replicate, Option, Some, None, refl, sym, ◌∙◌, subst, arith, if◌then◌else◌, AllByRecursion, unwrap_or, none-some, same_Some, Super, Dinode, IsDinode, sizes_of, Node, NodeKind, Directory, File, Device, emptied, node_or, hart_count, HoldsAt, IsInode, NamesOwned, size_in, type_in, numbers_by_free, bind, once, Ran, Laws, Machine, P, Wp, Both, joined, Below, Lasts, Handover, ToAct, to_act, may_act, Stable, Wp-more, lock_holder, fetch, seen_of, free_block, table_of, free_numbers, free_indirect, free_in_table, without_content, direct, no_record, inode_block, Empty, with_record, with_no_bytes, Inv, Idle, more, World, log_of, tables_of, disk_of, inode_in, empty, Owns, KeepsRoom, KeepsInode, Kept, NothingMore, Had, Apart, Has, Emptied, Carry, record_had, IsLoaded, InHand, Base, Stands, below, Labels, labelled, Keeps, IsChanging, GivesRoom, Shows, record_in, put_record}
-use Rattle.std.proofs.Common.{All}
 use Rattle.plain_tree.specs.Steps.{is_file}
 use Rattle.inodes_on_blocks.proofs.Basics.{laid_before, node_held, empty_laid, empty_named, good_seen, kept_same, below_laws, hand_then, kept_disk, lent_then, untouched_same, through_then, given_order, order_owned, order_named, lock_range, TakesStep, s-here, AllBut, Ready, seen_dinode, untaken}
 use Rattle.inode_machine.specs.World as above

@@ -1,5 +1,5 @@
 -- A name entered acts where the directory's record is put, after its entry was written; or, where the directory has no slot left, where its last block is given back.
-use Rattle.inodes_on_blocks.proofs.Vocabulary.{◌≡◌, ℕ, zero, suc, ◌+◌, ◌-◌, ◌*◌, ◌/◌, ◌<◌, ◌≤◌, ◌==◌, ◌&&◌, nat_lt, Bool, true, false, List, [], length, drop, max, Option, Some, None, refl, sym, ◌∙◌, ap, subst, arith, if◌then◌else◌, slice_index, nat_tests, Found, slot_for, IsFirst, Unused, block_count, search, search_from, slot_count, found_from, Used, Dinode, Super, IsDirent, spell_dirent, length-spell_dirent, is_free, content_block, HoldsAt, size_in, slots_with, Slot, Node, NodeKind, Directory, File, Device, node_or, Name, hart_count, eq_not, eq_self, Ret, bind, Ran, Laws, Machine, P, Wp, Both, joined, Below, Lasts, Handover, ToAct, to_act, may_act, Wp-more, lock_holder, blocks_between, WriteResult, front_of, write_blocks, inode_block, Spent, size, with_contents, most_recorded, Enter, all_used, enter_if, is_full_directory, with_entry, with_record, marked, Inv, IsSpent, World, log_of, tables_of, disk_of, inode_in, enter, entered_to, put_grown, search_full, Acts, acts, Same, Kept, Carry, InHand, Stands, below, Labels, labelled, Keeps, IsChanging, HasSpent, Shows, record_in}
+use Rattle.inodes_on_blocks.proofs.Vocabulary.{◌≡◌, ℕ, zero, suc, ◌+◌, ◌-◌, ◌*◌, ◌/◌, ◌<◌, ◌≤◌, ◌==◌, ◌&&◌, nat_lt, Bool, true, false, List, [], length, drop, max, Option, Some, None, refl, sym, ◌∙◌, ap, subst, arith, if◌then◌else◌, slice_index, nat_tests, Found, slot_for, IsFirst, Unused, block_count, search, search_from, slot_count, found_from, Used, Dinode, Super, IsDirent, spell_dirent, length-spell_dirent, is_free, content_block, HoldsAt, size_in, slots_with, Slot, Node, NodeKind, Directory, File, Device, node_or, Name, hart_count, eq_not, eq_self, Ret, bind, Ran, Laws, Machine, P, Wp, Both, joined, Below, Lasts, Handover, ToAct, to_act, may_act, Wp-more, lock_holder, blocks_between, WriteResult, front_of, write_blocks, inode_block, Spent, size, with_contents, most_recorded, Enter, all_used, enter_if, is_full_directory, with_entry, with_record, marked, Inv, IsSpent, World, log_of, tables_of, disk_of, inode_in, enter, entered_to, put_grown, search_full, Acts, acts, Same, Kept, Carry, InHand, Stands, below, Labels, labelled, Keeps, IsChanging, HasSpent, Shows, record_in, One}
 use Rattle.directory.specs.Laws.{slot_at}
 use Rattle.plain_tree.specs.Steps.{first_free}
 use Rattle.plain_tree.specs.Tree as tree
@@ -141,7 +141,7 @@ module _ (sizes : Super) (l : Labels) (laws : Laws (labelled l)) (keeps : Keeps 
     dirent = entry_is q e may.1.2.0 (let few = shows.blocks.seen.good.many_inodes in let top = may.1.2.1 in let same = shows.size in omega (arith, few, top, same)) may.1.3
 
     long : length bytes ≡ 16
-    long = length-spell_dirent (Used q e) dirent
+    long = length-spell_dirent One (Used q e) dirent
 
     was_is : node ≡ directory_of node.count slots
     was_is = λ z. record { count = node.count; kind = directory.1 z }

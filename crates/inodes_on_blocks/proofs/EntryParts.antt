@@ -1,5 +1,5 @@
 -- Entries written as parts of a directory's content: one into its slot, and the two of a new directory at once.
-use Rattle.inodes_on_blocks.proofs.Vocabulary.{◌≡◌, ◌≢◌, ℕ, suc, ◌+◌, ◌-◌, ◌*◌, ◌/◌, ◌%◌, ◌<◌, ◌≤◌, List, [], ◌∷◌, length, length-append, max, Option, Some, refl, sym, ◌∙◌, ap, subst, arith, take_all, with_dirent, Dirent, Used, Dinode, overwrite, IsDirent, spell_dirent, recovered, length-spell_dirent, overwrite-overwrite, length-overwrite, largest_size, numbers_of, block_number, entry_of, IsPut, IsLaidOut, slots_with, Becomes, Slot, Node, Directory, dot, dotdot, front_of, with_part, World, log_of, disk_of, dots, Carry, log_with}
+use Rattle.inodes_on_blocks.proofs.Vocabulary.{◌≡◌, ◌≢◌, ℕ, suc, ◌+◌, ◌-◌, ◌*◌, ◌/◌, ◌%◌, ◌<◌, ◌≤◌, List, [], ◌∷◌, length, length-append, max, Option, Some, refl, sym, ◌∙◌, ap, subst, arith, take_all, with_dirent, Dirent, Used, Dinode, overwrite, IsDirent, spell_dirent, recovered, length-spell_dirent, overwrite-overwrite, length-overwrite, largest_size, numbers_of, block_number, entry_of, IsPut, IsLaidOut, slots_with, Becomes, Slot, Node, Directory, dot, dotdot, front_of, with_part, World, log_of, disk_of, dots, Carry, log_with, One}
 use Rattle.inodes_on_blocks.proofs.Changing.{owner_with}
 use Rattle.inodes_on_blocks.proofs.FreeSlots.{dot_name, entry_bytes}
 use Rattle.inodes_on_blocks.proofs.NumberPuts.{sized}
@@ -21,7 +21,7 @@ part_dirent : (slot : ℕ) (entry : Dirent) (old : List ℕ) → IsDirent entry 
 unfolding with_dirent
 part_dirent slot entry old is =
     let place : 16 * slot % 1024 ≡ 16 * (slot % 64) = omega arith in
-    ap (overwrite old (16 * slot % 1024)) (slot_front slot (spell_dirent entry) (length-spell_dirent entry is)) ∙ ap (λ (k : ℕ). overwrite old k (spell_dirent entry)) place
+    ap (overwrite old (16 * slot % 1024)) (slot_front slot (spell_dirent entry) (length-spell_dirent One entry is)) ∙ ap (λ (k : ℕ). overwrite old k (spell_dirent entry)) place
 
 pub entry_makes : (h n slot count : ℕ) (slots : List (Option Slot)) (x : Option Slot) (entry : Dirent) (c : Carry) (o : Option Node) → slot ≤ length slots → 16 * suc slot ≤ largest_size → entry_of x ≡ Some entry → IsDirent entry
     → MakesPart h n (slot / 64) (16 * length slots) (max (16 * length slots) (16 * suc slot)) (16 * slot) (spell_dirent entry) c o (directory_of count slots) (directory_of count (slots_with slots slot x))
@@ -46,8 +46,8 @@ dotdot_is n some small = (some, omega (arith, small), refl)
 
 pub dots_long : (n p : ℕ) → n ≢ 0 → n < 65536 → p ≢ 0 → p < 65536 → length (dots n p) ≡ 32
 dots_long n p some small some_p small_p =
-    let one = length-spell_dirent (Used n dot) (dot_is n some small) in
-    let two = length-spell_dirent (Used p dotdot) (dotdot_is p some_p small_p) in
+    let one = length-spell_dirent One (Used n dot) (dot_is n some small) in
+    let two = length-spell_dirent One (Used p dotdot) (dotdot_is p some_p small_p) in
     omega (arith, one, two, length-append (spell_dirent (Used n dot)) (spell_dirent (Used p dotdot)))
 
 abbrev slot_named : List ℕ → ℕ → Option Slot
@@ -69,7 +69,7 @@ module _ (h n p count b : ℕ) (d : Dinode) (old : List ℕ) (r : World) (some_n
   numbers = numbers_of disk (sized 0 d)
 
   long_one : length (spell_dirent (Used n dot)) ≡ 16
-  long_one = length-spell_dirent (Used n dot) (dot_is n some_n small_n)
+  long_one = length-spell_dirent One (Used n dot) (dot_is n some_n small_n)
 
   both : with_part 0 (dots n p) old ≡ overwrite one 16 (spell_dirent (Used p dotdot))
   both =
@@ -98,6 +98,6 @@ module _ (h n p count b : ℕ) (d : Dinode) (old : List ℕ) (r : World) (some_n
 pub dots_make : (h n p count : ℕ) (c : Carry) (o : Option Node) → n ≢ 0 → n < 65536 → p ≢ 0 → p < 65536
     → MakesPart h n 0 0 32 0 (dots n p) c o (directory_of count []) (directory_of count (slot_named dot n ∷ slot_named dotdot p ∷ []))
 dots_make h n p count c o some_n small_n some_p small_p d b old r g shows changing some number long are made =
-    let between = made.any (overwrite old 0 (spell_dirent (Used n dot))) (length-overwrite old (spell_dirent (Used n dot)) 0 (omega (arith, long, length-spell_dirent (Used n dot) (dot_is n some_n small_n))) ∙ long)
+    let between = made.any (overwrite old 0 (spell_dirent (Used n dot))) (length-overwrite old (spell_dirent (Used n dot)) 0 (omega (arith, long, length-spell_dirent One (Used n dot) (dot_is n some_n small_n))) ∙ long)
     (overwrite_bytes old (spell_dirent (Used n dot)) 0 are (entry_bytes n dot dot_name)) in
     makes h n p count b d old r some_n small_n some_p small_p long some number made changing.laid between.0 between.1 between.2

@@ -1,7 +1,8 @@
 -- The slot of a new name: what a search for a free slot finds is where the node has it; and the entry that is put there.
 use Rattle.inodes_on_blocks.proofs.Vocabulary.{◌≡◌, ℕ, zero, suc, ◌-◌, ◌==◌, ◌<◌, ◌≤◌, nat_lt, nat_le, ◌&&◌, not, Bool, true, false, List, [], ◌∷◌, ◌++◌, length, replicate, get_or, Option, Some, None, refl, sym, ◌∙◌, ap, arith, list_all, nat_tests, Found, IsFirst, Unused, Dirent, Used, IsBytes, u16_bytes, IsDirent, spell_dirent, entry_of, slots_with, Slot, Name, dot, dotdot, eq_not, all_used, IsName, IsText}
 use Rattle.directory.specs.Slots as sought
-use Rattle.fs_layout.specs.Name as layout
+use Rattle.fs_layout.specs.Name as names
+use Rattle.fs_layout.specs.VersionOne as layout
 use Rattle.plain_tree.specs.Steps.{first_free, is_used}
 use Rattle.inodes_on_blocks.proofs.Basics.{AreRead, append_bytes, u16s}
 use Rattle.inodes_on_blocks.proofs.SlotPuts.{zero_bytes}
@@ -88,7 +89,7 @@ module _ (slots : List (Option Slot)) (read : ℕ → Option Dirent) (are : AreR
 
 -- ---- the entry
 
-text_layout : (e : List ℕ) → IsText e → list_all layout.is_name_byte e ≡ true
+text_layout : (e : List ℕ) → IsText e → list_all names.is_name_byte e ≡ true
 text_layout [] t = refl
 text_layout (b ∷ bs) t =
     let low = t.0 in

@@ -1,7 +1,7 @@
 -- The inodes of a disk that holds nodes, and its tree.
-use Rattle.inodes_on_blocks.proofs.Vocabulary.{◌≡◌, ◌⊎◌, ℕ, zero, suc, true, false, pos, inl, inr, refl, sym, ◌∙◌, ap, subst, List, [], ◌∷◌, ◌++◌, map, Option, Some, None, nat_lt, false≢true, Dinode, Node, NodeKind, Directory, File, Device, inode_of, is_number, is_positive, is_free, is_directory, is_live, is_node, count_of, node_of, first_nodes, node_is, node_from, Slots, folder, links_of, either, folder_dead, dead_links, dead_no_directory, Nodes, type_in, size_in, IsDevice, IsInode, IsRecord, HasContent, entry_of, live_part, live_nodes}
+use Rattle.inodes_on_blocks.proofs.Vocabulary.{◌≡◌, ◌⊎◌, ℕ, zero, suc, true, false, pos, inl, inr, refl, sym, ◌∙◌, ap, subst, List, [], ◌∷◌, ◌++◌, map, Option, Some, None, nat_lt, false≢true, Dinode, Node, NodeKind, Directory, File, Device, inode_of, is_number, is_positive, is_free, is_directory, is_live, is_node, count_of, node_of, first_nodes, node_is, node_from, Slots, folder, links_of, either, folder_dead, dead_links, dead_no_directory, Nodes, type_in, size_in, IsDevice, IsInode, IsRecord, HasContent, entry_of, live_part, live_nodes, kind_by, first_nodes_by}
 use Rattle.plain_tree.specs.Tree as plain
-use Rattle.image_tree.specs.Trees.{kind_of}
+use Rattle.image_tree.specs.VersionOne.{kind_of}
 use Rattle.inodes_on_blocks.proofs.HeldParts.{HoldsRecords, HoldsContents}
 use Rattle.inodes_on_blocks.proofs.ImageSlots.{Entries, in_tree}
 use Rattle.inodes_on_blocks.proofs.Nodes.{no_node, dead_node, live_node, kind_of_directory}
@@ -62,7 +62,7 @@ entries_back (None ∷ slots) = ap (λ (ss : Slots). None ∷ ss) (entries_back 
 entries_back (Some s ∷ slots) = ap (λ (ss : Slots). Some s ∷ ss) (entries_back slots)
 
 kind_same : (disk : List (List ℕ)) (d : Dinode) (k : NodeKind) → d.kind ≡ pos (type_in k) → d.size ≡ size_in k → IsDevice d k → HasContent disk d k → kind_of disk d ≡ k
-unfolding kind_of
+unfolding kind_by
 kind_same disk d (Directory slots) kind size device content =
     kind_of_directory disk d (ap (is_number 1) kind) ∙ ap (λ (ss : Entries). Directory (in_tree ss)) content ∙ ap (λ (ss : Slots). Directory ss) (entries_back slots)
 kind_same disk d (File bytes) kind size device content =
@@ -129,7 +129,7 @@ module _ (disk : List (List ℕ)) (nodes : Nodes) (records : HoldsRecords disk n
 
     -- the nodes of the tree in a list
     pub nodes_listed : (n : ℕ) → first_nodes disk n ≡ live_nodes nodes n
-    unfolding first_nodes live_nodes
+    unfolding first_nodes_by live_nodes
     nodes_listed zero = refl
     nodes_listed (suc n) =
         ap (λ (xs : List (Option Node)). xs ++ node_of disk n ∷ []) (nodes_listed n) ∙ ap (λ (o : Option Node). live_nodes nodes n ++ o ∷ []) (node_same n)

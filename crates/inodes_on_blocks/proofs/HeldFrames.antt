@@ -1,5 +1,5 @@
 -- What an inode and its blocks say stays where these do.
-use Rattle.inodes_on_blocks.proofs.Vocabulary.{◌≡◌, ◌≢◌, ⊎_elim, ℕ, zero, suc, ◌+◌, ◌*◌, ◌/◌, ◌%◌, ◌<◌, ◌≤◌, false, inl, inr, refl, sym, ◌∙◌, ap, subst, arith, List, [], ◌∷◌, ◌++◌, length, take, get_or, slice_index, filter, Option, Some, None, nat_lt, if◌then◌else◌, All, Contains, cases_eq, Super, Dinode, Dirent, u32s_at, dirent_at, recovered, sizes_of, Node, NodeKind, Directory, File, Device, IsOnce, inode_of, is_free, is_block, numbers_of, numbers_by, block_number, content_block, blocks_for, front_blocks, slot_on as slot_at, first_slots, IsData, numbers_by_node, numbers_without, numbers_with, All-addrs, numbers_by_free, either, IsRecord, HasContent, HasContentOf, IsOwned, HoldsAt, NamesOwned, IsPut, IsUntouched, IsLaidOut, IsSpare, Becomes}
+use Rattle.inodes_on_blocks.proofs.Vocabulary.{◌≡◌, ◌≢◌, ⊎_elim, ℕ, zero, suc, ◌+◌, ◌*◌, ◌/◌, ◌%◌, ◌<◌, ◌≤◌, false, inl, inr, refl, sym, ◌∙◌, ap, subst, arith, List, [], ◌∷◌, ◌++◌, length, take, get_or, slice_index, filter, Option, Some, None, nat_lt, if◌then◌else◌, All, Contains, cases_eq, Super, Dinode, Dirent, u32s_at, dirent_at, recovered, sizes_of, Node, NodeKind, Directory, File, Device, IsOnce, inode_of, is_free, is_block, numbers_of, numbers_by, block_number, content_block, blocks_for, front_blocks, slot_on as slot_at, first_slots, IsData, numbers_by_node, numbers_without, numbers_with, All-addrs, numbers_by_free, either, IsRecord, HasContent, HasContentOf, IsOwned, HoldsAt, NamesOwned, IsPut, IsUntouched, IsLaidOut, IsSpare, Becomes, slot_by, first_slots_by}
 use Rattle.inodes_on_blocks.specs.Holds.{HasRoom}
 use Rattle.inodes_on_blocks.proofs.Held.{inode_used}
 use Rattle.inodes_on_blocks.proofs.ImageNodes.{at_index}
@@ -18,11 +18,11 @@ module _ (disk new : List (List ℕ)) (d e : Dinode) (size : e.size ≡ d.size) 
       ap (λ (xs : List ℕ). xs ++ content_block new e n) (front_same n (omega arith)) ∙ ap (λ (xs : List ℕ). front_blocks disk d n ++ xs) (blocks n (omega arith))
 
   slot_same : (s : ℕ) → s < d.size / 16 → slot_at new e s ≡ slot_at disk d s
-  unfolding slot_at
+  unfolding slot_by
   slot_same s h = ap (dirent_at (s % 64)) (blocks (s / 64) (omega arith))
 
   slots_same : (n : ℕ) → n ≤ d.size / 16 → first_slots new e n ≡ first_slots disk d n
-  unfolding first_slots
+  unfolding first_slots_by
   slots_same zero h = refl
   slots_same (suc n) h =
       ap (λ (xs : List (Option Dirent)). xs ++ slot_at new e n ∷ []) (slots_same n (omega arith))

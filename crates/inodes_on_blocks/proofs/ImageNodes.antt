@@ -1,8 +1,8 @@
 -- A well-formed image holds the nodes of its tree.
-use Rattle.inodes_on_blocks.proofs.Vocabulary.{get_or, ◌≡◌, ◌≢◌, ◌⊎◌, ⊎_elim, ℕ, zero, suc, ◌+◌, ◌*◌, ◌/◌, ◌<◌, ◌≤◌, true, false, ℤ, pos, negsuc, inl, inr, refl, sym, ◌∙◌, ap, subst, arith, List, [], ◌∷◌, length, length-append, map, slice_index, Option, Some, None, ints, nat_lt, ◌≤ℤ◌, if◌then◌else◌, All, false≢true, eqb-true, cases_lt, nat_tests, length-map, get_or_past, All-head, All-tail, Dinode, Free, Used, HasWholeBlocks, block_at, logged, recovered, sizes_of, length-logged, place_of_cases, Node, NodeKind, File, Device, tree_of, inode_of, is_number, is_positive, is_free, is_directory, is_live, is_node, is_live_directory, numbers_of, block_number, content_block, blocks_for, front_blocks, content_of, slot_on as slot_at, first_slots, slots_of, IsData, HasGoodNumbers, HasGoodTypes, HasGoodSizes, HasGoodSlots, UpToLog, IsWellFormed, slot_of, is_file, count_of, node_of, tree_in, node_is, node_from, directory_from, numbers_by_node, either, type_in, size_in, IsDevice, IsRecord, entry_of, HasContent, HasContentOf, Holds, AreNodesOf, live_part, owner_in}
+use Rattle.inodes_on_blocks.proofs.Vocabulary.{get_or, ◌≡◌, ◌≢◌, ◌⊎◌, ⊎_elim, ℕ, zero, suc, ◌+◌, ◌*◌, ◌/◌, ◌<◌, ◌≤◌, true, false, ℤ, pos, negsuc, inl, inr, refl, sym, ◌∙◌, ap, subst, arith, List, [], ◌∷◌, length, length-append, map, slice_index, Option, Some, None, ints, nat_lt, ◌≤ℤ◌, if◌then◌else◌, All, false≢true, eqb-true, cases_lt, nat_tests, length-map, get_or_past, All-head, All-tail, Dinode, Free, Used, HasWholeBlocks, block_at, logged, recovered, sizes_of, length-logged, place_of_cases, Node, NodeKind, File, Device, tree_of, inode_of, is_number, is_positive, is_free, is_directory, is_live, is_node, is_live_directory, numbers_of, block_number, content_block, blocks_for, front_blocks, content_of, slot_on as slot_at, first_slots, slots_of, IsData, HasGoodNumbers, HasGoodTypes, HasGoodSizes, HasGoodSlots, UpToLog, IsWellFormed, slot_of, is_file, count_of, node_of, tree_in, node_is, node_from, directory_from, numbers_by_node, either, type_in, size_in, IsDevice, IsRecord, entry_of, HasContent, HasContentOf, Holds, AreNodesOf, live_part, owner_in, first_slots_by, kind_by}
 use Rattle.std.proofs.lemmas.List.{length-take}
 use Rattle.fs_layout.specs.Recovered.{place_of}
-use Rattle.image_tree.specs.Trees.{kind_of}
+use Rattle.image_tree.specs.VersionOne.{kind_of}
 use Rattle.inodes_on_blocks.proofs.ImageSlots.{Entries, in_tree}
 use Rattle.inodes_on_blocks.proofs.Nodes.{no_node, dead_node, live_node, kind_of_directory, nodes_at, ninodes_are, slots_of_directory}
 use Rattle.inodes_on_blocks.proofs.Trees.{no_raises, there_is_node}
@@ -45,7 +45,7 @@ spelled_again (Some (Used number name) ∷ slots) all =
     ap (λ (es : Entries). Some (Used number name) ∷ es) (spelled_again slots (All-tail (λ slot. slot ≢ None) (Some (Used number name)) slots all))
 
 pub length_slots : (disk : List (List ℕ)) (d : Dinode) (n : ℕ) → length (first_slots disk d n) ≡ n
-unfolding first_slots
+unfolding first_slots_by
 length_slots disk d zero = refl
 length_slots disk d (suc n) = omega (arith, length-append (first_slots disk d n) (slot_at disk d n ∷ []), length_slots disk d n)
 
@@ -65,14 +65,14 @@ length_content disk d all =
 -- ---- kinds
 
 file_kind_of : (disk : List (List ℕ)) (d : Dinode) → d.kind ≡ pos 2 → kind_of disk d ≡ File (content_of disk d)
-unfolding kind_of
+unfolding kind_by
 file_kind_of disk d e =
     let no : is_directory d ≡ false = ap (is_number 1) e in
     let yes : is_file d ≡ true = ap (is_number 2) e in
     rw (no, yes) refl
 
 device_kind_of : (disk : List (List ℕ)) (d : Dinode) → d.kind ≡ pos 3 → kind_of disk d ≡ Device d.major d.minor d.size
-unfolding kind_of
+unfolding kind_by
 device_kind_of disk d e =
     let no : is_directory d ≡ false = ap (is_number 1) e in
     let not : is_file d ≡ false = ap (is_number 2) e in

@@ -1,5 +1,5 @@
 -- A directory's slot that is put, or one more behind its last.
-use Rattle.inodes_on_blocks.proofs.Vocabulary.{◌≡◌, ◌≢◌, ℕ, zero, suc, ◌+◌, ◌*◌, ◌/◌, ◌%◌, ◌<◌, ◌≤◌, inl, inr, refl, sym, ◌∙◌, ap, subst, arith, List, [], ◌∷◌, ◌++◌, length, length-append, length-take, take, drop, map, append_assoc, Option, Some, max, take_all, drop_all, take-append-le, drop-append-le, Dinode, Dirent, dirent_at, recovered, reads_back, others_stay, Slot, Node, Directory, numbers_of, block_number, content_block, slot_on as slot_at, first_slots, slots_of, largest_size, same_or, entry_of, IsSlotPut, IsLaidOut, slots_with, Becomes}
+use Rattle.inodes_on_blocks.proofs.Vocabulary.{◌≡◌, ◌≢◌, ℕ, zero, suc, ◌*◌, ◌/◌, ◌%◌, ◌<◌, ◌≤◌, inl, inr, refl, sym, ◌∙◌, ap, subst, arith, List, [], ◌∷◌, ◌++◌, length, length-append, length-take, take, drop, map, append_assoc, Option, Some, max, take_all, drop_all, take-append-le, drop-append-le, Dinode, Dirent, dirent_at, recovered, reads_back, others_stay, Slot, Node, Directory, numbers_of, block_number, content_block, slot_on as slot_at, first_slots, slots_of, largest_size, same_or, entry_of, IsSlotPut, IsLaidOut, slots_with, Becomes, slot_by, first_slots_by, One}
 use Rattle.std.proofs.Common.{length-drop}
 use Rattle.std.proofs.lemmas.List.{take_at}
 use Rattle.inodes_on_blocks.proofs.Basics.{length_slots, block_of, addrs_alone, block_alone}
@@ -8,16 +8,16 @@ use Rattle.inodes_on_blocks.proofs.LaidContent.{this_block, other_block, becomes
 -- ---- slots in a row
 
 slot_is : (disk : List (List ℕ)) (d : Dinode) (s : ℕ) → slot_at disk d s ≡ dirent_at (s % 64) (content_block disk d (s / 64))
-unfolding slot_at
+unfolding slot_by
 slot_is disk d s = refl
 
 one_more : (disk : List (List ℕ)) (d : Dinode) (n : ℕ) → first_slots disk d (suc n) ≡ first_slots disk d n ++ slot_at disk d n ∷ []
-unfolding first_slots
+unfolding first_slots_by
 one_more disk d n = refl
 
 -- the same slots of two inodes
 slots_by : (disk new : List (List ℕ)) (d e : Dinode) (n : ℕ) → ((s : ℕ) → s < n → slot_at new e s ≡ slot_at disk d s) → first_slots new e n ≡ first_slots disk d n
-unfolding first_slots
+unfolding first_slots_by
 slots_by disk new d e zero same = refl
 slots_by disk new d e (suc n) same =
     ap (λ (xs : List (Option Dirent)). xs ++ slot_at new e n ∷ []) (slots_by disk new d e n (λ s l. same s (omega arith)))
@@ -97,7 +97,7 @@ module _ (disk new : List (List ℕ)) (owner : ℕ → ℕ) (i s count : ℕ) (s
   block_now = this_block disk new owner i (s / 64) d was h put.some put.block
 
   this_slot : slot_at new d s ≡ Some entry
-  this_slot = slot_is new d s ∙ ap (dirent_at (s % 64)) block_now ∙ reads_back (recovered disk b) (recovered new b) (s % 64) entry put.room put.spelled put.written
+  this_slot = slot_is new d s ∙ ap (dirent_at (s % 64)) block_now ∙ reads_back One (recovered disk b) (recovered new b) (s % 64) entry put.room put.spelled put.written
 
   other_slot : (q : ℕ) → q ≢ s → slot_at new d q ≡ slot_at disk d q
   other_slot q ne = elim (same_or (q / 64) (s / 64)) [
@@ -106,7 +106,7 @@ module _ (disk new : List (List ℕ)) (owner : ℕ → ℕ) (i s count : ℕ) (s
         slot_is new d q
         ∙ ap (λ (k : ℕ). dirent_at (q % 64) (content_block new d k)) same
         ∙ ap (dirent_at (q % 64)) block_now
-        ∙ others_stay (recovered disk b) (recovered new b) (s % 64) (q % 64) entry put.room put.spelled (λ r. ne (omega (arith, same, r))) put.written
+        ∙ others_stay One (recovered disk b) (recovered new b) (s % 64) (q % 64) entry put.room put.spelled (λ r. ne (omega (arith, same, r))) put.written
         ∙ ap (dirent_at (q % 64)) (sym (block_of disk d (s / 64)))
         ∙ ap (λ (k : ℕ). dirent_at (q % 64) (content_block disk d k)) (sym same)
         ∙ sym (slot_is disk d q)

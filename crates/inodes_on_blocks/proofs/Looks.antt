@@ -1,5 +1,5 @@
 -- What a search of a directory's blocks finds is what its node has: under a name, and past its first two entries.
-use Rattle.inodes_on_blocks.proofs.Vocabulary.{◌≡◌, ⊎_elim, ℕ, zero, suc, ◌-◌, ◌*◌, ◌/◌, ◌<◌, ◌≤◌, nat_lt, ◌&&◌, ◌||◌, not, ℤ, pos, Bool, true, false, List, [], ◌∷◌, length, drop, get_or, Option, Some, None, is_some, refl, sym, ◌∙◌, ap, subst, arith, if◌then◌else◌, cases_lt, le-leb, get_or_append_left, get_or-append_right, get_or-map, Found, is_sought, number_of, IsFirst, Aim, Named, block_count, slot_count, is_used, found_from, found_first, Dinode, Dirent, block_len, inode_of, is_free, content_block, slot_on, first_slots, HoldsAt, HasContent, entry_of, size_in, type_in, Slot, Node, NodeKind, Directory, File, Device, any_used, Name, first_slot, live_directory, look, same_name, same_pointwise, is_empty_kind, is_empty_node, has_name, IsFirstNamed, IsKnown, number_found, learned}
+use Rattle.inodes_on_blocks.proofs.Vocabulary.{◌≡◌, ⊎_elim, ℕ, zero, suc, ◌-◌, ◌*◌, ◌/◌, ◌<◌, ◌≤◌, nat_lt, ◌&&◌, ◌||◌, not, ℤ, pos, Bool, true, false, List, [], ◌∷◌, length, drop, get_or, Option, Some, None, is_some, refl, sym, ◌∙◌, ap, subst, arith, if◌then◌else◌, cases_lt, le-leb, get_or_append_left, get_or-append_right, get_or-map, Found, is_sought, number_of, IsFirst, Aim, Named, block_count, slot_count, is_used, found_from, found_first, Dinode, Dirent, block_len, inode_of, is_free, content_block, slot_on, first_slots, HoldsAt, HasContent, entry_of, size_in, type_in, Slot, Node, NodeKind, Directory, File, Device, any_used, Name, first_slot, live_directory, look, same_name, same_pointwise, is_empty_kind, is_empty_node, has_name, IsFirstNamed, IsKnown, number_found, learned, first_slots_by, slot_by}
 use Rattle.directory.specs.Laws.{slot_at}
 use Rattle.directory.specs.Programs.{Entry, is_number, is_positive, is_directory, is_live_directory}
 use Rattle.directory.specs.Slots.{is_named}
@@ -115,7 +115,7 @@ past (x ∷ y ∷ slots) read (Some f) are is = ap not (sym (by f.slot is.0 is.1
 -- ---- an inode that holds a directory
 
 read_slots : (disk : List (List ℕ)) (d : Dinode) (n s : ℕ) (x : Option Dirent) → s < n → get_or (first_slots disk d n) s x ≡ slot_on disk d s
-unfolding first_slots
+unfolding first_slots_by
 read_slots disk d zero s x lt = absurd (omega (arith, lt))
 read_slots disk d (suc n) s x lt =
     let long = length_slots disk d n in
@@ -165,7 +165,7 @@ module _ (disk : List (List ℕ)) (owner : ℕ → ℕ) (i : ℕ) (v : Node) (ho
 
   -- its blocks show its slots
   pub shown : (slots : List (Option Slot)) → v.kind ≡ Directory slots → AreRead (slot_at content) slots × (slot_count d ≡ length slots)
-  unfolding slot_on
+  unfolding slot_by
   shown slots is =
       let size : d.size ≡ 16 * length slots = holds.inode.size ∙ ap size_in is in
       let has : HasContent disk d (Directory slots) = subst (HasContent disk d) is holds.content in

@@ -1,5 +1,5 @@
 -- What an operation above is marked with changes nothing that the machine below shows.
-use Rattle.inodes_on_blocks.proofs.Vocabulary.{inl, inr, ◌≡◌, ℕ, ◌<◌, Bool, true, false, List, [], ◌∷◌, Option, Some, None, refl, sym, ◌∙◌, ap, subst, if◌then◌else◌, Dinode, Cause, Node, Action, OpenStep as Open, Truncate, ReadStep as Read, WritePart, Find, Bump, EnterStep as Enter, Unbump, Unlink, Mkdir, Chdir, Dup, Close, Fstat, Inherit, Hold, OpenFile, Name, Tree, put, look, elements, resolve, parent, creates, has_room, lowest, file_at, effect_with, refusal, refusal_with, path_of, hart_count, any_same, either, Walk, Move, Begin, Look, GiveUpWalk, OwnMove as Own, Desk, Mark, Makes, Frees, Orphans, Fills, Mends, Spoils, type_of, is_at, is_dead, put_elim, marked, made_by, with_made, with_opened, with_noted, with_left, spoiled, act_all, new_id, unheld, unmoved, unopened, TablesState, descriptor, first, lent_by, place_with, loaded, Ghost, AreOnBlocks, log_of, tables_of, Shows, if_joined, ghost_of, on_blocks}
+use Rattle.inodes_on_blocks.proofs.Vocabulary.{inl, inr, ◌≡◌, ℕ, ◌<◌, Bool, true, false, List, [], ◌∷◌, Option, Some, None, refl, sym, ◌∙◌, ap, subst, if◌then◌else◌, Dinode, Cause, Node, Action, OpenStep as Open, Truncate, ReadStep as Read, WritePart, Find, Bump, EnterStep as Enter, Unbump, Unlink, Mkdir, Chdir, Dup, Close, Fstat, Inherit, Hold, OpenFile, Name, Tree, put, look, elements, resolve, parent, creates, has_room, lowest, file_at, effect_with, effect_by, refusal, refusal_with, path_of, hart_count, any_same, either, Walk, Move, Begin, Look, GiveUpWalk, OwnMove as Own, Desk, Mark, Makes, Frees, Orphans, Fills, Mends, Spoils, type_of, is_at, is_dead, put_elim, marked, made_by, with_made, with_opened, with_noted, with_left, spoiled, act_all, new_id, unheld, unmoved, unopened, TablesState, descriptor, first, lent_by, place_with, loaded, Ghost, AreOnBlocks, log_of, tables_of, Shows, if_joined, ghost_of, on_blocks}
 use Rattle.plain_tree.specs.Steps as plain
 use Rattle.inode_machine.specs.World.{World}
 use Rattle.inode_machine.specs.Marks as marks
@@ -70,7 +70,7 @@ dir_size t h None = refl
 dir_size t h (Some n) = refl
 
 effect_size : (t : Tree) (h : ℕ) (s : Action) (res : Option ℕ) (par : Option (ℕ × Name)) (new id : ℕ) → (effect_with t h s res par new id).ninodes ≡ t.ninodes
-unfolding effect_with
+unfolding effect_by
 effect_size t h (Open path flags) res par new id = elim (either (creates flags)) [ inl y ↦ rw y (opened_new_size t h id flags par new) | inr fails ↦ rw fails (opened_at_size t h id flags res new) ]
 effect_size t h (Truncate fd) res par new id = truncated_size t (file_at t h fd)
 effect_size t h (Read fd n) res par new id = moved_size t (t.fds h fd) _

@@ -1,5 +1,5 @@
 -- The content of an inode's node is the bytes that its blocks have.
-use Rattle.inodes_on_blocks.proofs.Vocabulary.{◌≡◌, ◌≢◌, ℕ, ℤ, zero, suc, ◌+◌, ◌-◌, ◌*◌, ◌/◌, ◌%◌, ◌<◌, ◌^◌, ◌==◌, ◌&&◌, Bool, true, false, List, [], ◌∷◌, ◌++◌, length, take, drop, get_or, replicate, Option, Some, None, refl, sym, ap, subst, ◌∙◌, arith, if◌then◌else◌, list_all, position_or_len, same_Some, none-some, drop-drop, length-drop, take-take, take-append-drop, Dinode, Free, Used, record_at, u16_at, u16_bytes, IsBytes, dirent_of, free_of, used_of, name_of, is_name, is_zero, spell-dirent_of, u16_at-lt, inode_of, is_free, content_block, blocks_for, front_blocks, HoldsAt, HasContent, entry_of, size_in, Slot, Node, NodeKind, Directory, File, Device, content, entries, entry_bytes, block_there, drop_of_take, front, length-front}
+use Rattle.inodes_on_blocks.proofs.Vocabulary.{◌≡◌, ◌≢◌, ℕ, ℤ, zero, suc, ◌+◌, ◌-◌, ◌*◌, ◌/◌, ◌%◌, ◌<◌, ◌^◌, ◌==◌, ◌&&◌, Bool, true, false, List, [], ◌∷◌, ◌++◌, length, take, drop, get_or, replicate, Option, Some, None, refl, sym, ap, subst, ◌∙◌, arith, if◌then◌else◌, list_all, position_or_len, same_Some, none-some, drop-drop, length-drop, take-take, take-append-drop, Dinode, Free, Used, record_at, u16_at, u16_bytes, IsBytes, dirent_of, free_of, used_of, name_of, is_name, is_zero, spell-dirent_of, u16_at-lt, inode_of, is_free, content_block, blocks_for, front_blocks, HoldsAt, HasContent, entry_of, size_in, Slot, Node, NodeKind, Directory, File, Device, content, entries, entries_by, entry_bytes, block_there, drop_of_take, front, length-front, One}
 use Rattle.std.proofs.lemmas.List.{length-take}
 use Rattle.inodes_on_blocks.proofs.Basics.{shown, take_bytes, drop_bytes}
 
@@ -30,15 +30,15 @@ entry_number bytes number name e = by (u16_at bytes 0 == 0) e
 
 -- bytes that are read as a slot are that slot's
 slot_bytes : (bytes : List ℕ) (o : Option Slot) → length bytes ≡ 16 → IsBytes bytes → dirent_of bytes ≡ entry_of o → bytes ≡ entry_bytes o
-slot_bytes bytes None long fits e = sym (spell-dirent_of bytes Free long fits e)
+slot_bytes bytes None long fits e = sym (spell-dirent_of One bytes Free long fits e)
 slot_bytes bytes (Some s) long fits e =
     let number = entry_number bytes s.number s.name e in
     let low : s.number < 2 ^ 16 = subst (λ (k : ℕ). k < 2 ^ 16) (sym number) (u16_at-lt bytes 0 fits) in
-    sym (spell-dirent_of bytes (Used s.number s.name) long fits e) ∙ ap (λ (xs : List ℕ). xs ++ (s.name ++ replicate (14 - length s.name) 0)) (u16_is s.number low)
+    sym (spell-dirent_of One bytes (Used s.number s.name) long fits e) ∙ ap (λ (xs : List ℕ). xs ++ (s.name ++ replicate (14 - length s.name) 0)) (u16_is s.number low)
 
 -- a list of so many slots' bytes
 entries_are : (slots : List (Option Slot)) (xs : List ℕ) → length xs ≡ 16 * length slots → ((s : ℕ) → s < length slots → take 16 (drop (16 * s) xs) ≡ entry_bytes (get_or slots s None)) → xs ≡ entries slots
-unfolding entries
+unfolding entries_by
 entries_are [] [] long each = refl
 entries_are [] (x ∷ xs) long each = absurd (omega (arith, long))
 entries_are (o ∷ slots) xs long each =

@@ -1,20 +1,20 @@
 -- The nodes of the tree that an image holds, and their slots.
-use Rattle.inodes_on_blocks.proofs.Vocabulary.{◌≡◌, ⊎_elim, ℕ, zero, suc, ◌<◌, ◌≤◌, true, false, ℤ, pos, negsuc, inl, inr, refl, sym, ◌∙◌, ap, arith, List, [], ◌∷◌, length, length-append, drop, get_or, Option, Some, None, nat_lt, false≢true, false_from_ne_true, cases_lt, get_or_past, get_or_append_left, get_or_at, Dinode, sizes_of, Node, NodeKind, Directory, tree_of, live_directory, times, inode_of, is_positive, is_live, is_node, is_live_directory, slots_in, slot_numbers, further_in, is_file, count_of, node_of, first_nodes, tree_in, node_is, node_from, directory_is, directory_from, Slots, folder, past, count_in, either, folder_dead, count_nil}
+use Rattle.inodes_on_blocks.proofs.Vocabulary.{◌≡◌, ⊎_elim, ℕ, zero, suc, ◌<◌, ◌≤◌, true, false, ℤ, pos, negsuc, inl, inr, refl, sym, ◌∙◌, ap, arith, List, [], ◌∷◌, length, length-append, drop, get_or, Option, Some, None, nat_lt, false≢true, false_from_ne_true, cases_lt, get_or_past, get_or_append_left, get_or_at, Dinode, sizes_of, Node, NodeKind, Directory, tree_of, live_directory, times, inode_of, is_positive, is_live, is_node, is_live_directory, slots_in, slot_numbers, further_in, is_file, count_of, node_of, first_nodes, tree_in, node_is, node_from, directory_is, directory_from, Slots, folder, past, count_in, either, folder_dead, count_nil, first_nodes_by, node_by, kind_by, slots_in_by, One}
 use Rattle.plain_tree.specs.Tree.{is_directory}
 use Rattle.image_tree.specs.Inodes as inodes
-use Rattle.image_tree.specs.Trees.{kind_of}
+use Rattle.image_tree.specs.VersionOne.{kind_of}
 use Rattle.inodes_on_blocks.proofs.ImageSlots.{Entries, in_tree, past_in_tree, counts_same}
 pub use Rattle.image_tree.proofs.SlotLemmas.{directory_kind}
 
 -- ---- the nodes by number
 
 length_first : (disk : List (List ℕ)) (n : ℕ) → length (first_nodes disk n) ≡ n
-unfolding first_nodes
+unfolding first_nodes_by
 length_first disk zero = refl
 length_first disk (suc n) = omega (arith, length-append (first_nodes disk n) (node_of disk n ∷ []), length_first disk n)
 
 first_at : (disk : List (List ℕ)) (n i : ℕ) → i < n → get_or (first_nodes disk n) i None ≡ node_of disk i
-unfolding first_nodes
+unfolding first_nodes_by
 first_at disk zero i l = absurd (omega arith)
 first_at disk (suc n) i l =
     let many : length (first_nodes disk n) ≡ n = length_first disk n in
@@ -26,11 +26,11 @@ first_at disk (suc n) i l =
     (cases_lt i n)
 
 pub no_node : (disk : List (List ℕ)) (i : ℕ) → is_node disk i ≡ false → node_of disk i ≡ None
-unfolding node_of
+unfolding node_by
 no_node disk i h = rw h refl
 
 pub dead_node : (disk : List (List ℕ)) (i : ℕ) → is_live (inode_of disk i) ≡ false → node_of disk i ≡ None
-unfolding node_of
+unfolding node_by
 dead_node disk i h = elim (either (is_node disk i)) [
   | inl y ↦ rw (y, h) refl
   | inr y ↦ rw y refl
@@ -38,7 +38,7 @@ dead_node disk i h = elim (either (is_node disk i)) [
 
 pub live_node : (disk : List (List ℕ)) (i : ℕ) → is_node disk i ≡ true → is_live (inode_of disk i) ≡ true
     → node_of disk i ≡ Some (record { count = count_of (inode_of disk i).nlink; kind = kind_of disk (inode_of disk i) })
-unfolding node_of
+unfolding node_by
 live_node disk i h l = rw (h, l) refl
 
 pub ninodes_are : (disk : List (List ℕ)) → (tree_of (tree_in disk)).ninodes ≡ (sizes_of disk).ninodes
@@ -63,12 +63,12 @@ directory_node disk i h =
     let is = directory_is disk i h in
     node_from disk i (record { low = is.low; bound = is.bound; used = directory_kind (inode_of disk i).kind is.directory })
 
-pub kind_of_directory : (disk : List (List ℕ)) (d : Dinode) → inodes.is_directory d ≡ true → kind_of disk d ≡ Directory (in_tree (inodes.slots_of disk d))
-unfolding kind_of
+pub kind_of_directory : (disk : List (List ℕ)) (d : Dinode) → inodes.is_directory d ≡ true → kind_of disk d ≡ Directory (in_tree (inodes.slots_of One disk d))
+unfolding kind_by
 kind_of_directory disk d h = rw h refl
 
 kind_of_other : (disk : List (List ℕ)) (d : Dinode) → inodes.is_directory d ≡ false → is_directory (kind_of disk d) ≡ false
-unfolding kind_of
+unfolding kind_by
 kind_of_other disk d h = elim (either (is_file d)) [
   | inl y ↦ rw (h, y) refl
   | inr y ↦ rw (h, y) refl
@@ -78,12 +78,12 @@ pub positive_count : (z : ℤ) → is_positive z ≡ true → nat_lt 0 (count_of
 positive_count (pos n) h = h
 positive_count (negsuc n) h = absurd (false≢true h)
 
-pub slots_of_directory : (disk : List (List ℕ)) (i : ℕ) → is_live_directory disk i ≡ true → slots_in disk i ≡ inodes.slots_of disk (inode_of disk i)
-unfolding slots_in
+pub slots_of_directory : (disk : List (List ℕ)) (i : ℕ) → is_live_directory disk i ≡ true → slots_in disk i ≡ inodes.slots_of One disk (inode_of disk i)
+unfolding slots_in_by
 slots_of_directory disk i h = rw h refl
 
 pub no_slots : (disk : List (List ℕ)) (i : ℕ) → is_live_directory disk i ≡ false → slots_in disk i ≡ []
-unfolding slots_in
+unfolding slots_in_by
 no_slots disk i h = rw h refl
 
 -- the node of a live directory

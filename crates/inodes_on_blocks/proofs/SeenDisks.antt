@@ -1,5 +1,5 @@
 -- The disk as it is seen.
-use Rattle.inodes_on_blocks.proofs.Vocabulary.{◌≡◌, ◌≢◌, ⊎_elim, ℕ, zero, suc, ◌+◌, ◌<◌, ◌≤◌, inl, inr, refl, sym, ◌∙◌, ap, subst, arith, List, [], ◌∷◌, ◌++◌, length, length-append, replicate, get_or, true, false, if◌then◌else◌, ◌⊎◌, nat_tests, All, cases_lt, get_or_past, get_or_append_left, length-replicate, All-nil, HasWholeBlocks, block_at, Super, u32_at, super_fields, log_head_at, log_count, logged, recovered, sizes_of, IsOutsideLog, logged-empty, recovered-empty, recovered-own, IsOnce, IsGoodSuper, HasGoodLog, UpToLog, IsWellFormed, tree_in, IsViewOf, once_nil, checks_see_recovered, trees_see_recovered, same_or, IsPut, is_in_log, seen_blocks, AreSeen, IsGoodSeen, AreSeenAlike, IsSeenPut, IsRecoveredSo}
+use Rattle.inodes_on_blocks.proofs.Vocabulary.{◌≡◌, ◌≢◌, ⊎_elim, ℕ, zero, suc, ◌+◌, ◌<◌, ◌≤◌, inl, inr, refl, sym, ◌∙◌, ap, subst, arith, List, [], ◌∷◌, ◌++◌, length, length-append, replicate, get_or, true, false, if◌then◌else◌, ◌⊎◌, nat_tests, All, cases_lt, get_or_past, get_or_append_left, length-replicate, All-nil, HasWholeBlocks, block_at, Super, u32_at, super_fields, log_head_at, log_count, logged, recovered, sizes_of, IsOutsideLog, logged-empty, recovered-empty, recovered-own, IsOnce, IsGoodSuper, HasGoodLog, UpToLog, IsWellFormed, tree_in, IsViewOf, once_nil, checks_see_recovered, trees_see_recovered, same_or, IsPut, is_in_log, seen_blocks, AreSeen, IsGoodSeen, AreSeenAlike, IsSeenPut, IsRecoveredSo, One}
 
 -- ---- its blocks
 
@@ -258,7 +258,7 @@ module _ (sizes : Super) (see : ℕ → List ℕ) (disk : List (List ℕ)) (thes
   }
 
   pub recovered_image : IsWellFormed old → IsWellFormed disk × (tree_in disk ≡ tree_in old)
-  recovered_image well = (checks_see_recovered old disk view well, trees_see_recovered old disk view well)
+  recovered_image well = (checks_see_recovered One old disk view well, trees_see_recovered One old disk view well)
 
   pub image_seen : IsWellFormed disk → IsWellFormed old × (tree_in old ≡ tree_in disk)
-  image_seen well = (checks_see_recovered disk old view_back well, trees_see_recovered disk old view_back well)
+  image_seen well = (checks_see_recovered One disk old view_back well, trees_see_recovered One disk old view_back well)

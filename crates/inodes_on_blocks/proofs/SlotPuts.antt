@@ -1,5 +1,5 @@
 -- An entry put into a slot of a directory that a hart is changing.
-use Rattle.inodes_on_blocks.proofs.Vocabulary.{◌≡◌, ◌≢◌, ℕ, zero, suc, ◌*◌, ◌/◌, ◌%◌, ◌<◌, ◌≤◌, true, false, List, [], ◌∷◌, length, replicate, Option, Some, None, refl, sym, ◌∙◌, ap, subst, arith, max, with_dirent, Dinode, Dirent, Free, overwrite, IsBytes, IsDirent, spell_dirent, recovered, length-spell_dirent, length-overwrite, largest_size, numbers_of, block_number, entry_of, IsPut, IsSlotPut, IsLaidOut, slots_with, Becomes, Slot, Directory, cleared, Name, same_name, IsFirstNamed}
+use Rattle.inodes_on_blocks.proofs.Vocabulary.{◌≡◌, ◌≢◌, ℕ, zero, suc, ◌*◌, ◌/◌, ◌%◌, ◌<◌, ◌≤◌, true, false, List, [], ◌∷◌, length, replicate, Option, Some, None, refl, sym, ◌∙◌, ap, subst, arith, max, with_dirent, Dinode, Dirent, Free, overwrite, IsBytes, IsDirent, spell_dirent, recovered, length-spell_dirent, length-overwrite, largest_size, numbers_of, block_number, entry_of, IsPut, IsSlotPut, IsLaidOut, slots_with, Becomes, Slot, Directory, cleared, Name, same_name, IsFirstNamed, One}
 use Rattle.inodes_on_blocks.proofs.LaidSlots.{slot_laid}
 use Rattle.inodes_on_blocks.proofs.Basics.{overwrite_bytes}
 
@@ -7,7 +7,7 @@ use Rattle.inodes_on_blocks.proofs.Basics.{overwrite_bytes}
 
 pub dirent_long : (place : ℕ) (entry : Dirent) (block : List ℕ) → place < 64 → IsDirent entry → length block ≡ 1024 → length (with_dirent place entry block) ≡ 1024
 unfolding with_dirent
-dirent_long place entry block lt is long = let spelled = length-spell_dirent entry is in length-overwrite block (spell_dirent entry) (16 * place) (omega (arith, spelled, long, lt)) ∙ long
+dirent_long place entry block lt is long = let spelled = length-spell_dirent One entry is in length-overwrite block (spell_dirent entry) (16 * place) (omega (arith, spelled, long, lt)) ∙ long
 
 pub dirent_bytes : (place : ℕ) (entry : Dirent) (block : List ℕ) → IsBytes block → IsBytes (spell_dirent entry) → IsBytes (with_dirent place entry block)
 unfolding with_dirent

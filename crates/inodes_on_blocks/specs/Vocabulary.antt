@@ -1,5 +1,7 @@
 -- What the crates below call things: the words that this crate's definitions and contracts use.
-pub use Rattle.image_tree.specs.Vocabulary.{IsOutsideLog, bit_of, block_at, block_len, dinode_at, dirent_len, dirents_per_block, inodes_per_block, magic, numbers_in, super_block, super_magic_at}
+pub use Rattle.image_tree.specs.Vocabulary.{IsOutsideLog, bit_of, block_at, block_len, dinode_at, inodes_per_block, numbers_in, super_block, super_magic_at}
+pub use Rattle.fs_layout.specs.VersionOne.{dirent_len, dirents_per_block, magic}
+pub use Rattle.image_versions.specs.declared.version.Version.TheVariants.{One}
 unfoldable pub use Rattle.image_tree.specs.Vocabulary.{logged, recovered, sizes_of, u32_at}
 pub use Rattle.fs_machine.specs.Vocabulary.{ExecResult, Do, HasRoom, IsHome, IsMember, Prog, Ran, Ret, SeatState, SlotState, Stops, Waits, count_of, has, holder_of, is_held_by, joined as joined_count, kept, once, option_map, seen_in, unmarked, unwrap_or}
 pub use Rattle.inode_data.specs.Vocabulary.{Answer, Counts, Dies, DroppedState, Freed, Held, Keeps, Put, bind, fetch, free_block, inode_block, numbers_per_block, overwrite, store as store_inode, take_block}
@@ -14,13 +16,12 @@ pub use Rattle.block_device.specs.Blocks.{HasBytes, HasWholeBlocks}
 pub use Rattle.fs_machine.specs.LogPart.{LogPart, Outside, put_block}
 pub use Rattle.inode_machine.specs.Rules.{Asks, Idle, Inv, KeepsFiles, if_kept, is_hart, more, own_of}
 pub use Rattle.fs_machine.specs.Shown.{seen_of}
-pub use Rattle.image_tree.specs.Damage.{IsWellFormed, UpToLog}
-pub use Rattle.image_tree.specs.Trees.{tree_in}
-unfoldable pub use Rattle.image_tree.specs.Trees.{node_of}
+pub use Rattle.image_tree.specs.VersionOne.{IsWellFormed, UpToLog, node_of, slots_of, tree_in}
+unfoldable pub use Rattle.image_tree.specs.Trees.{node_of as node_by}
 pub use Rattle.inode_machine.specs.World.Op.{CheckFile, Claim, Clear, Double, Down, Empty, Enter, Fill, Forget, Free, UnlockInode, Install, Join, JoinFile, Leave, Lend, LendDirectory, LockFile, LockOpen, ReadFile, Release, Say, SetDirectory, Shut, Slot, StatFile, Store, Take, Up, UpStart, WalkDown, WriteFile}
 pub use Rattle.atomic_programs.specs.Logic.{Wp}
 pub use Rattle.fs_machine.specs.Tables.{TablesState, file_named, holder_in, holder_of as lock_holder, place_of, references_in}
-pub use Rattle.image_tree.specs.Inodes.{block_number, content_of, direct, is_block, is_free, is_number, last, named_by, slots_of}
+pub use Rattle.image_tree.specs.Inodes.{block_number, content_of, direct, is_block, is_free, is_number, last, named_by}
 unfoldable pub use Rattle.image_tree.specs.Inodes.{inode_of, numbers_by, numbers_of}
 pub use Rattle.inode_machine.specs.Budget.{Spent, most_recorded, size, spent_after, unspent, with_bitmap, with_contents, with_record}
 pub use Rattle.inode_machine.specs.World.{Desk, Entry, Lent, LoanResult, LockResult, LocksIt, Moved, NotLocked, Refused as Stopped, Room, Short, Whole, World, Wrote}

@@ -14,7 +14,7 @@ use Rattle.inode_machine.specs.World as above
 use Rattle.inode_machine.specs.World.Op.{Empty, Enter, Forget, Install, Join, Leave, Release, SetDirectory, Store}
 use Rattle.plain_tree.specs.Calls.{piece_count}
 use Rattle.plain_tree.specs.Steps.{creates}
-use Rattle.plain_tree.specs.Tree.{Name, dot, dotdot, elements, same_name}
+use Rattle.plain_tree.specs.Tree.{Name, dot, dotdot, same_name}
 use Rattle.plain_tree.specs.declared.answer.Cause.{Cause}
 use Rattle.plain_tree.specs.declared.answer.Reply.{Reply}
 use Rattle.plain_tree.specs.declared.call.Call.{Call}
@@ -25,6 +25,7 @@ use Rattle.plain_tree.specs.declared.answer.Full.TheVariants.{Blocks, Descriptor
 use Rattle.plain_tree.specs.declared.step.Action.TheVariants as actions
 use Rattle.kept_histories.proofs.Hands.{Hands, TakesSo, counted, still, up}
 use Rattle.kept_histories.proofs.PathHands.{drop_so, give_up_so, say_so, tail_so, refused_so, path_so, parent_so, just_up}
+use Rattle.plain_tree.specs.VersionOne.{elements}
 
 -- ---- chdir
 

@@ -20,7 +20,6 @@ use Rattle.path_walk.specs.declared.walk.Goal.TheVariants as goal
 use Rattle.plain_tree.specs.declared.call.Call.TheVariants as calls
 use Rattle.plain_tree.specs.declared.step.Action.TheVariants as steps
 use Rattle.plain_tree.specs.Steps.{creates}
-use Rattle.plain_tree.specs.Tree.{elements}
 use Rattle.whole_calls.specs.Calls.{chdir_after, chdir_of, dup_of, stat_of, unlink_after, unlink_of}
 use Rattle.whole_calls.specs.Closes.{close_of, inherit_of}
 use Rattle.whole_calls.specs.Ends.{dropping_of, ending_of, freeing_of}
@@ -57,6 +56,7 @@ use Rattle.whole_calls.specs.declared.unlink.Unlink.TheVariants as unlink
 use Rattle.whole_calls.specs.declared.whole.Whole.{Whole}
 use Rattle.whole_calls.specs.declared.whole.Whole.TheVariants as whole
 use Rattle.whole_calls.specs.declared.writing.Write.{Write}
+use Rattle.plain_tree.specs.VersionOne.{elements}
 use Rattle.whole_calls.specs.declared.writing.Write.TheVariants as writing
 
 -- a mark for which no move is made

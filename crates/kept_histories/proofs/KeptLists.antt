@@ -14,7 +14,7 @@ use Rattle.hart_core.specs.Harts.{AreIdle, HartsOf}
 use Rattle.hart_core.specs.Worlds.{calls_of}
 use Rattle.hart_core.specs.declared.events.Came.{Came}
 use Rattle.hart_core.specs.declared.events.Event.{Event as HartEvent}
-use Rattle.image_tree.specs.Trees.{tree_in}
+use Rattle.image_tree.specs.VersionOne.{tree_in}
 use Rattle.inode_machine.specs.Kept.{kept, nothing_yet}
 use Rattle.plain_tree.specs.Tree.{tree_of}
 use Rattle.plain_tree.specs.TreeData.{TreeData}

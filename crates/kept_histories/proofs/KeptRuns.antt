@@ -18,7 +18,7 @@ use Rattle.hart_core.specs.Telling.{some_lacks_place}
 use Rattle.hart_core.specs.Worlds.{WorldOf}
 use Rattle.hart_core.specs.declared.events.Came.{Came}
 use Rattle.hart_core.specs.declared.events.Event.{Event as HartEvent}
-use Rattle.image_tree.specs.Trees.{tree_in}
+use Rattle.image_tree.specs.VersionOne.{tree_in}
 use Rattle.inode_machine.specs.Kept.{nothing_yet}
 use Rattle.path_walk.specs.declared.asks.Heard.{Heard}
 use Rattle.plain_tree.specs.Tree.{tree_of}
@@ -120,7 +120,6 @@ module _ {D : Type 0} (contents : D → List (List ℕ)) (failures : D → ℕ) 
       | inr e ↦ (λ clean. not_both _ clean e.short, λ none. known_not e.known none)
     ]
       where
-
         known_not : {X : Type 0} → (k.full ≡ true) ⊎ (some_lacks_place new ≡ true) → (k.full || some_lacks_place new) ≡ false → X
         known_not (inl full) none = not_both _ full (or_parts k.full (some_lacks_place new) none).0
         known_not (inr lacks) none = not_both _ lacks (or_parts k.full (some_lacks_place new) none).1

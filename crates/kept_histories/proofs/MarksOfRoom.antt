@@ -26,7 +26,6 @@ use Rattle.plain_tree.specs.declared.call.Call.TheVariants as calls
 use Rattle.plain_tree.specs.declared.step.Action.TheVariants as steps
 use Rattle.plain_tree.specs.Calls.{piece}
 use Rattle.plain_tree.specs.Steps.{creates, empty_it, has}
-use Rattle.plain_tree.specs.Tree.{elements}
 use Rattle.tree_laws.specs.Moves.{Move}
 use Rattle.tree_laws.specs.Moves.Move.{GiveUpWalk, Look}
 use Rattle.whole_calls.specs.Calls.{chdir_after, chdir_of, dup_of, stat_of, unlink_after, unlink_of}
@@ -69,6 +68,7 @@ use Rattle.whole_calls.specs.declared.whole.Whole.TheVariants as whole
 use Rattle.whole_calls.specs.declared.writing.Write.{Write}
 use Rattle.whole_calls.specs.declared.writing.Write.TheVariants as writing
 use Rattle.kept_histories.proofs.Roominess.{NoOpenAlone}
+use Rattle.plain_tree.specs.VersionOne.{elements}
 
 -- a mark whose move, if it makes one, is no open of its own
 abbrev pub OpensNone : Option above.Mark → Type 0

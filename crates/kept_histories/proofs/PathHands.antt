@@ -6,11 +6,12 @@ use Rattle.inode_machine.specs.Inodes.{is_directory_face}
 use Rattle.inode_machine.specs.Parts.{P, WalkStop, NotThere, NoMemory, drop, free_all, give_up, leave_directory, say, see_parent, start, start_on, tail, walk, walk_parent, walk_step, with_last}
 use Rattle.inode_machine.specs.World.Mark.{Frees}
 use Rattle.inode_machine.specs.World.Op.{Forget, Free, UnlockInode}
-use Rattle.plain_tree.specs.Tree.{Name, elements}
+use Rattle.plain_tree.specs.Tree.{Name}
 use Rattle.plain_tree.specs.declared.answer.Reply.{Reply}
 use Rattle.plain_tree.specs.declared.step.Action.{Action}
 use Rattle.tree_laws.proofs.Vocabulary.{nat_tests}
 use Rattle.kept_histories.proofs.Hands.{Hands, TakesSo, counted, one, started, still, uncounted, up}
+use Rattle.plain_tree.specs.VersionOne.{elements}
 
 -- ---- ends
 

@@ -9,7 +9,7 @@ use Rattle.calls_on_blocks.specs.History.{RunsOn, block_moves, first}
 use Rattle.calls_on_blocks.specs.Theory.{block_calls}
 use Rattle.run_laws.specs.Vocabulary.{sizes_of}
 use Rattle.fs_layout.specs.declared.superblock.Super.{Super}
-use Rattle.image_tree.specs.Trees.{tree_in}
+use Rattle.image_tree.specs.VersionOne.{tree_in}
 use Rattle.inode_machine.proofs.Kept.{clean_before}
 use Rattle.inode_machine.specs.Making.{MakesItsMoves}
 use Rattle.inode_machine.specs.MoveCalls.{MoveMachine}

@@ -7,11 +7,10 @@ use Rattle.inode_machine.specs.Rules.{Inv}
 use Rattle.inode_machine.specs.World as above
 use Rattle.inode_machine.specs.World.{stage_of}
 use Rattle.plain_tree.proofs.Maps.{either}
-use Rattle.plain_tree.proofs.SettledSteps.{settled_answer, settled_refusal}
 use Rattle.plain_tree.proofs.Settling.{settle_alive, settle_named, settle_or}
 use Rattle.plain_tree.specs.Laws.{AsksForWhatStays, Stays}
-use Rattle.plain_tree.specs.Steps.{answer_with, file_at, path_of, refusal, refusal_with, stat_answer}
-use Rattle.plain_tree.specs.Tree.{Name, Tree, elements, is_absolute, live_directory, look, parent, resolve, settle, start_of}
+use Rattle.plain_tree.specs.Steps.{answer_with as answer_by, file_at, path_of}
+use Rattle.plain_tree.specs.Tree.{Name, Tree, is_absolute, live_directory, look, settle, start_of}
 use Rattle.plain_tree.specs.Widths.{hart_count, root}
 use Rattle.plain_tree.specs.declared.answer.Cause.{Cause}
 use Rattle.plain_tree.specs.declared.tree.OpenFile.{OpenFile}
@@ -25,6 +24,8 @@ use Rattle.tree_laws.specs.Moves as moves
 use Rattle.tree_laws.specs.Moves.{Move, Stage}
 use Rattle.tree_laws.specs.Moves.Move.{Begin, GiveUpWalk, Look, Own}
 use Rattle.tree_laws.specs.WellFormed.{IsWellFormed}
+use Rattle.plain_tree.proofs.VersionOne.{settled_answer, settled_refusal}
+use Rattle.plain_tree.specs.VersionOne.{answer_with, refusal, refusal_with, stat_answer, elements, parent, resolve}
 
 -- an open acts in a walk, never alone
 abbrev pub NoOpenAlone : Move → Type 0
@@ -78,7 +79,7 @@ alive_stays t d live = elim (settle_or t d) [
 
 -- an open alone may answer that there is no room
 own_room : (t : Tree) (h : ℕ) (s : Action) (res : Option ℕ) (par : Option (ℕ × Name)) (new id : ℕ) → NoOpenAlone (Own s new) → has_answer_room (answer_with t h s res par id) ≡ true
-unfolding answer_with
+unfolding answer_by
 own_room t h (steps.Open path flags) res par new id alone = absurd alone
 own_room t h (steps.Truncate fd) res par new id alone = refl
 own_room t h (steps.Read fd n) res par new id alone = refl

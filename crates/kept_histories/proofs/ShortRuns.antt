@@ -15,7 +15,7 @@ use Rattle.hart_core.specs.Harts.{AreHarts, HartFits, HartsOf, shared_of}
 use Rattle.hart_core.specs.Telling.{some_lacks_place}
 use Rattle.hart_core.specs.declared.events.Came.{Came}
 use Rattle.hart_core.specs.declared.events.Event.{Event as HartEvent}
-use Rattle.image_tree.specs.Trees.{tree_in}
+use Rattle.image_tree.specs.VersionOne.{tree_in}
 use Rattle.inode_machine.specs.Kept.{kept_on}
 use Rattle.inode_machine.specs.MoveCalls.{MoveMachine}
 use Rattle.inode_machine.specs.Rules.{Inv}

@@ -7,7 +7,7 @@ use Rattle.hart_core.specs.Telling.{some_lacks_place}
 use Rattle.hart_core.specs.Worlds.{WorldOf}
 use Rattle.hart_core.specs.declared.events.Came.{Came}
 use Rattle.hart_core.specs.declared.events.Event.{Event}
-use Rattle.image_tree.specs.Trees.{tree_in}
+use Rattle.image_tree.specs.VersionOne.{tree_in}
 use Rattle.plain_tree.specs.declared.call.Call.{Call}
 use Rattle.run_laws.specs.OneList.{list_of}
 use Rattle.run_laws.specs.Vocabulary.{Outside}

@@ -14,6 +14,7 @@ use buffer_cache::{BUFFERS_OF_A_HART, Buffers, Cache, Got, HARTS};
 use fs_layout::{Super, write_super};
 use group_log::{AfterLeave, Log, Marks, Phase, Progress, Txn};
 use image_tree::{MountFault, find_layout, recover};
+use image_versions::Version;
 use std::alloc::{AllocError, Global};
 use std::process::Abort;
 use std::test::Fail;
@@ -35,7 +36,7 @@ const BLOCKS: usize = 64;
 fn disk(rt: &impl Abort, alloc: Global, sizes: &Super) -> Result<MemoryDisk, AllocError> {
     let mut disk = MemoryDisk::new(vec![in alloc; 0u8; BLOCKS * BLOCK_LEN]?);
     let mut block = [0; BLOCK_LEN];
-    write_super(&mut block, sizes);
+    write_super(Version::One, &mut block, sizes);
     assert!(rt; 1 < disk.blocks());
     assert!(rt; disk.write(1, &block) == Ok(()));
     Ok(disk)
@@ -87,8 +88,8 @@ fn recovered<D: Device>(device: &mut D) -> Result<Super, MountFault>
     ensures place { IfOk result (λ sizes. IsPlaced (D.contents device.new) sizes) }
     ensures empty { IfOk result (λ _. logged (D.contents device.new) ≡ []) }
 {
-    recover(device)?;
-    let layout = find_layout(device)?;
+    recover(device, Version::One)?;
+    let layout = find_layout(device, Version::One)?;
     let _ = device.blocks();
     Ok(layout.sizes)
 }
@@ -272,7 +273,7 @@ fn a_group_is_there_whole_or_not_at_all(rt: HostRuntime) -> Result<(), Fail> {
         }
         let (_ended, _slots, disk) = log.retire();
         let mut disk = disk.into_disk();
-        assert!(rt; recover(&mut disk) == Ok(()));
+        assert!(rt; recover(&mut disk, Version::One) == Ok(()));
         let bytes = disk.into_bytes();
         let byte = if writes < 4 { 0 } else { 9 };
         for b in 48..51 {
@@ -321,7 +322,7 @@ fn marks_say_which_commit_stands(rt: HostRuntime) -> Result<(), Fail> {
         assert!(rt; (marks.begun, marks.cut, marks.doubt) == (20, cut, doubt));
         let (_ended, _slots, disk) = log.retire();
         let mut disk = disk.into_disk();
-        assert!(rt; recover(&mut disk) == Ok(()));
+        assert!(rt; recover(&mut disk, Version::One) == Ok(()));
         let byte = if writes < 2 { 9 } else { 19 };
         holds(
             &rt,

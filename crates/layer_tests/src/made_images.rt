@@ -3,22 +3,23 @@ use crate::by_hand::{Change, FRESH, RICH, SMALL, fresh, with};
 use crate::told_images::holds;
 use block_device::{Device, Fused, MemoryDisk};
 use image_tree::{MountFault, Shape};
+use image_versions::Version;
 use plain_tree::{Node, NodeKind, Slot, Tree};
 use std::alloc::{AllocError, Global};
 use std::test::Fail;
 
 // Examines an image, once more where memory was refused: that changed nothing, so the answer is the same.
 pub fn examine<D: Device>(alloc: Global, device: &mut D) -> Result<Shape, MountFault> {
-    match image_tree::examine(alloc, device) {
-        Err(MountFault::NoMemory) => image_tree::examine(alloc, device),
+    match image_tree::examine(alloc, device, Version::One) {
+        Err(MountFault::NoMemory) => image_tree::examine(alloc, device, Version::One),
         examined => examined,
     }
 }
 
 // Makes an image's tree, once more where memory was refused.
 fn tree_of<D: Device>(alloc: Global, device: &mut D) -> Result<Tree, MountFault> {
-    match image_tree::tree_of(alloc, device) {
-        Err(MountFault::NoMemory) => image_tree::tree_of(alloc, device),
+    match image_tree::tree_of(alloc, device, Version::One) {
+        Err(MountFault::NoMemory) => image_tree::tree_of(alloc, device, Version::One),
         tree => tree,
     }
 }
@@ -255,7 +256,7 @@ fn trees_have_what_the_image_has(rt: HostRuntime) -> Result<(), Fail> {
 fn refused_memory_changes_nothing(rt: HostRuntime) -> Result<(), Fail> {
     let image = with(rt.alloc(), 64, &RICH)?;
     let mut disk = MemoryDisk::new(with(rt.alloc(), 64, &RICH)?);
-    let number = match image_tree::tree_of(rt.alloc(), &mut disk) {
+    let number = match image_tree::tree_of(rt.alloc(), &mut disk, Version::One) {
         Ok(_) => 0,
         Err(fault) => fault.number(),
     };

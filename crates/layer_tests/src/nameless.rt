@@ -1,13 +1,14 @@
 //! Nodes without a name that are freed, also by a call that is stopped at each call of the device in turn.
 ghost use Rattle.std.specs.Prelude.{◌≡◌, IfOk};
 ghost use Rattle.group_log.specs.Vocabulary.{sizes_of};
-ghost use Rattle.mkfs.specs.Vocabulary.{IsWellFormed};
+ghost use Rattle.image_tree.specs.VersionOne.{IsWellFormed};
 
 use crate::by_hand::{Change, fresh, with};
 use crate::made_images::examine;
 use crate::told_images::holds;
 use block_device::{Device, Fused, MemoryDisk};
 use image_tree::{Layout, MountFault, Shape, examine_layout, settle};
+use image_versions::Version;
 use std::alloc::Global;
 use std::test::Fail;
 
@@ -64,8 +65,8 @@ fn byte_at(bytes: &Vec<u8>, at: usize) -> Option<u8> {
 fn examined<D: Device>(alloc: Global, device: &mut D) -> Result<Layout, MountFault>
     ensures { IfOk result (λ layout. IsWellFormed (D.contents device.new) × (layout.sizes ≡ sizes_of (D.contents device.new))) }
 {
-    match examine_layout(alloc, device) {
-        Err(MountFault::NoMemory) => examine_layout(alloc, device),
+    match examine_layout(alloc, device, Version::One) {
+        Err(MountFault::NoMemory) => examine_layout(alloc, device, Version::One),
         layout => layout,
     }
 }
@@ -77,7 +78,7 @@ fn stopped(alloc: Global, disk: MemoryDisk, calls: u64) -> Result<(bool, MemoryD
         return Err(Fail::new("the image is refused"));
     };
     let mut device = Fused::new(disk, calls);
-    let done = settle(&mut device, layout.sizes).is_ok();
+    let done = settle(&mut device, Version::One, layout.sizes).is_ok();
     Ok((done, device.into_disk()))
 }
 

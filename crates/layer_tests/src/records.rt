@@ -1,10 +1,12 @@
 //! Bytes of images made elsewhere, read and written.
-use fs_layout::widths::{BLOCK_LEN, Block, NAME_LEN};
+use fs_layout::widths::{BLOCK_LEN, Block};
 use fs_layout::{
     Dinode, Dirent, Name, Super, bit, clear_bit, read_dinode, read_dirent, read_log_head,
     read_number, read_numbers, read_super, set_bit, write_dinode, write_dirent, write_log_head,
     write_number, write_numbers, write_super,
 };
+use image_versions::Version;
+use image_versions::one::NAME_LEN;
 
 /// The superblock of a fresh disk of 2000 blocks.
 const SUPERBLOCK: [u8; 32] = [
@@ -21,7 +23,7 @@ const HEAD: [u8; 16] = [3, 0, 0, 0, 0x2e, 0, 0, 0, 0x30, 0, 0, 0, 0x21, 0, 0, 0]
 #[test]
 fn superblock_of_a_fresh_disk(rt: HostRuntime) {
     let mut block = [0; BLOCK_LEN];
-    assert!(rt; read_super(&block).is_none());
+    assert!(rt; read_super(Version::One, &block).is_none());
     let fresh = Super {
         size: 2000,
         nblocks: 1953,
@@ -31,9 +33,9 @@ fn superblock_of_a_fresh_disk(rt: HostRuntime) {
         inodestart: 33,
         bmapstart: 46,
     };
-    write_super(&mut block, &fresh);
+    write_super(Version::One, &mut block, &fresh);
     assert!(rt; block.starts_with(&SUPERBLOCK));
-    assert!(rt; read_super(&block) == Some(fresh));
+    assert!(rt; read_super(Version::One, &block) == Some(fresh));
 }
 
 #[test]
@@ -72,14 +74,14 @@ fn inode_37_at_byte_320_with_extreme_counts(rt: HostRuntime) {
 /// The bytes of an entry in the last slot of a block of ones, where its name can be read back.
 fn entry_bytes(number: u16, name: &[u8]) -> Option<[u8; 16]> {
     let mut block = [0xff; BLOCK_LEN];
-    let name = Name::new(name)?;
+    let name = Name::new(Version::One, name)?;
     if number == 0 {
         return None;
     }
-    write_dirent(&mut block, 63, &Dirent::Used { number, name });
+    write_dirent(Version::One, &mut block, 63, &Dirent::Used { number, name });
     let mut bytes = [0; 16];
     bytes.copy_from_slice(&block[1008..]);
-    match read_dirent(&block, 63)? {
+    match read_dirent(Version::One, &block, 63)? {
         Dirent::Free => None,
         Dirent::Used { .. } => Some(bytes),
     }
@@ -91,20 +93,20 @@ fn names_of_1_13_and_14_bytes(rt: HostRuntime) {
     assert!(rt; entry_bytes(258, b"thirteenbytes") == Some(*b"\x02\x01thirteenbytes\0"));
     assert!(rt; entry_bytes(3, b"fourteen_bytes") == Some(*b"\x03\0fourteen_bytes"));
     for bad in [&b""[..], b"a/b", b"a\0b", b"fifteen_bytes__"] {
-        assert!(rt; Name::new(bad).is_none());
+        assert!(rt; Name::new(Version::One, bad).is_none());
     }
 }
 
 #[test]
 fn free_slot_and_no_entry(rt: HostRuntime) {
     let mut block = [0xff; BLOCK_LEN];
-    write_dirent(&mut block, 1, &Dirent::Free);
+    write_dirent(Version::One, &mut block, 1, &Dirent::Free);
     assert!(rt; &block[16..32] == [0; 16].as_slice());
-    assert!(rt; matches!(read_dirent(&block, 1), Some(Dirent::Free)));
+    assert!(rt; matches!(read_dirent(Version::One, &block, 1), Some(Dirent::Free)));
     block[31] = b'x';
-    assert!(rt; read_dirent(&block, 1).is_none());
+    assert!(rt; read_dirent(Version::One, &block, 1).is_none());
     let name: [u8; NAME_LEN] = [0xff; NAME_LEN];
-    match read_dirent(&block, 0) {
+    match read_dirent(Version::One, &block, 0) {
         Some(Dirent::Used { number, name: read }) => {
             assert!(rt; number == 0xffff);
             assert!(rt; read.as_bytes() == name.as_slice());

@@ -4,6 +4,7 @@ use crate::made_images::examine;
 use crate::told_images::holds;
 use block_device::{Device, Fused, MemoryDisk};
 use image_tree::{Damage, MountFault, Shape, recover, recovered_tree};
+use image_versions::Version;
 use plain_tree::{NodeKind, Tree};
 use std::alloc::{AllocError, Global};
 use std::test::Fail;
@@ -49,7 +50,12 @@ fn recovery_goes_on_where_it_stopped(rt: HostRuntime) -> Result<(), Fail> {
         } else {
             Ok(())
         };
-        holds(&rt, recover(&mut disk) == want, "after calls", calls);
+        holds(
+            &rt,
+            recover(&mut disk, Version::One) == want,
+            "after calls",
+            calls,
+        );
         let mut disk = disk.into_disk();
         holds(
             &rt,
@@ -57,7 +63,12 @@ fn recovery_goes_on_where_it_stopped(rt: HostRuntime) -> Result<(), Fail> {
             "after calls",
             calls,
         );
-        holds(&rt, recover(&mut disk) == Ok(()), "after calls", calls);
+        holds(
+            &rt,
+            recover(&mut disk, Version::One) == Ok(()),
+            "after calls",
+            calls,
+        );
         holds(
             &rt,
             examine(rt.alloc(), &mut disk) == Ok(shape),
@@ -82,8 +93,8 @@ fn recovery_goes_on_where_it_stopped(rt: HostRuntime) -> Result<(), Fail> {
 
 // Recovers, and makes the tree, once more where memory was refused.
 fn tree_after<D: Device>(alloc: Global, device: &mut D) -> Result<Tree, MountFault> {
-    match recovered_tree(alloc, device) {
-        Err(MountFault::NoMemory) => recovered_tree(alloc, device),
+    match recovered_tree(alloc, device, Version::One) {
+        Err(MountFault::NoMemory) => recovered_tree(alloc, device, Version::One),
         tree => tree,
     }
 }
@@ -121,7 +132,7 @@ fn recovery_writes_nothing_to_a_damaged_image(rt: HostRuntime) -> Result<(), Fai
         rt.alloc(),
         &[(HEAD, b"\x02\0\0\0\x2e\0\0\0\x20\0\0\0"), (COPIES, b"new")],
     )?;
-    assert!(rt; recover(&mut disk) == Err(MountFault::Damaged(Damage::BadLog)));
+    assert!(rt; recover(&mut disk, Version::One) == Err(MountFault::Damaged(Damage::BadLog)));
     let bytes = disk.into_bytes();
     assert!(rt; (byte_at(&bytes, HEAD), byte_at(&bytes, 47104)) == (Some(2), Some(0xff)));
     Ok(())

@@ -3,6 +3,7 @@
 use crate::by_hand::{RICH, with};
 use block_device::MemoryDisk;
 use image_tree::{examine, tree_of};
+use image_versions::Version;
 use mkfs::{NewFile, make};
 use std::test::Fail;
 
@@ -45,9 +46,9 @@ fn of_examine(rt: HostRuntime) -> Result<(), Fail> {
     let alloc = rt.alloc();
     let image = with(alloc, 64, &RICH)?;
     let mut disk = MemoryDisk::new(image.clone()?);
-    let wanted = examine(alloc, &mut disk);
+    let wanted = examine(alloc, &mut disk, Version::One);
     let _ = println!(rt; "call");
-    let came = examine(alloc, &mut disk);
+    let came = examine(alloc, &mut disk, Version::One);
     let _ = println!(rt; "done");
     let answer = match &came {
         Ok(_) => ANSWERED,
@@ -55,7 +56,7 @@ fn of_examine(rt: HostRuntime) -> Result<(), Fail> {
     };
     println!(rt; "answer {answer}")?;
     assert!(rt; came == wanted || answer == NO_MEMORY);
-    assert!(rt; examine(alloc, &mut disk) == wanted);
+    assert!(rt; examine(alloc, &mut disk, Version::One) == wanted);
     assert!(rt; disk.into_bytes().as_slice() == image.as_slice());
     Ok(())
 }
@@ -67,7 +68,7 @@ fn of_tree_of(rt: HostRuntime) -> Result<(), Fail> {
     let image = with(alloc, 64, &RICH)?;
     let mut disk = MemoryDisk::new(image.clone()?);
     let _ = println!(rt; "call");
-    let came = tree_of(alloc, &mut disk);
+    let came = tree_of(alloc, &mut disk, Version::One);
     let _ = println!(rt; "done");
     let answer = match came {
         Ok(_) => ANSWERED,
@@ -75,7 +76,7 @@ fn of_tree_of(rt: HostRuntime) -> Result<(), Fail> {
     };
     println!(rt; "answer {answer}")?;
     assert!(rt; answer == ANSWERED || answer == NO_MEMORY);
-    assert!(rt; tree_of(alloc, &mut disk).is_ok());
+    assert!(rt; tree_of(alloc, &mut disk, Version::One).is_ok());
     assert!(rt; disk.into_bytes().as_slice() == image.as_slice());
     Ok(())
 }

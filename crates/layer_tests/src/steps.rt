@@ -1,6 +1,7 @@
 //! The largest file, the named part of a tree that keeps nodes without names, and steps past the table.
 //! What finds no memory is tried once more.
 use crate::story::bytes;
+use image_versions::Version;
 use plain_tree::{
     Action, ApplyRefused, Cause, NoMemory, Node, NodeKind, Slot, Slots, StepAnswer, Tree, TreeStep,
 };
@@ -15,8 +16,8 @@ fn make(
 ) -> Result<StepAnswer, ApplyRefused> {
     let hart = 0;
     let step = TreeStep { hart, new, action };
-    match tree.apply(alloc, &step) {
-        Err(ApplyRefused::NoMemory) => tree.apply(alloc, &step),
+    match tree.apply(alloc, Version::One, &step) {
+        Err(ApplyRefused::NoMemory) => tree.apply(alloc, Version::One, &step),
         answer => answer,
     }
 }
@@ -29,7 +30,7 @@ fn write(alloc: Global, tree: &mut Tree, text: &[u8]) -> Result<StepAnswer, Appl
 /// A file takes 268 blocks, and no byte more.
 fn is_limited(alloc: Global) -> Result<bool, ApplyRefused> {
     let piece = [7; 3072];
-    let mut tree = Tree::new(alloc, 10)?;
+    let mut tree = Tree::new(alloc, Version::One, 10)?;
     let path = bytes(alloc, b"/f")?;
     let flags = 0x202;
     let _ = make(alloc, &mut tree, 2, Action::Open { path, flags })?;
@@ -133,7 +134,7 @@ fn changes_a_node_past_the_table(rt: HostRuntime) -> Result<(), Fail> {
 
 /// /d (2), where hart 0 stands, and file 3, which has a descriptor and no name.
 fn grown(alloc: Global) -> Result<Tree, ApplyRefused> {
-    let mut tree = Tree::new(alloc, 10)?;
+    let mut tree = Tree::new(alloc, Version::One, 10)?;
     let flags = 0x202;
     let path = bytes(alloc, b"d")?;
     let there = bytes(alloc, b"d")?;

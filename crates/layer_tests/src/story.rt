@@ -1,4 +1,5 @@
 //! A run told for a test: its calls, and a list of steps with their answers.
+use image_versions::Version;
 use plain_tree::{
     Action, Answer, Bytes, Call, Calls, Cause, NoMemory, Placed, Reply, StepAnswer, Trace,
     TracedCall, Tree, TreeStep, check,
@@ -222,11 +223,11 @@ impl Story {
             list: _list,
             events,
         } = self;
-        let tree = Tree::new(alloc, ninodes)?;
+        let tree = Tree::new(alloc, Version::One, ninodes)?;
         let calls = Calls::new(calls);
         let trace = Trace { calls, events };
         match find_history(alloc, &tree, &trace, &[])? {
-            Some(list) => check(alloc, &tree, &trace, &list),
+            Some(list) => check(alloc, Version::One, &tree, &trace, &list),
             None => Ok(false),
         }
     }
@@ -239,8 +240,8 @@ impl Story {
             list,
             events,
         } = self;
-        let tree = Tree::new(alloc, 200)?;
+        let tree = Tree::new(alloc, Version::One, 200)?;
         let calls = Calls::new(calls);
-        check(alloc, &tree, &Trace { calls, events }, &list)
+        check(alloc, Version::One, &tree, &Trace { calls, events }, &list)
     }
 }

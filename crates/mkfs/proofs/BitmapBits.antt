@@ -1,5 +1,5 @@
 -- The bits of the bitmap: just those of the first blocks are set.
-use Rattle.mkfs.proofs.Vocabulary.{◌≡◌, ℕ, ◌+◌, ◌-◌, ◌/◌, ◌%◌, ◌^◌, ◌<◌, ◌≤◌, Bool, true, false, eqb, nat_lt, List, [], ◌∷◌, ◌++◌, length, replicate, get_or, refl, ap, ◌∙◌, sym, ⊎_elim, arith, length-append, bit_at, cases_lt, lt-ltb, le-ltb, length-replicate, get_or_append_left, get_or-append_right, get_or_at, get_or-replicate, bit_at-zero, bit_at_ones, bit_at_ones_above, Super, bit_of, recovered, is_marked, data_start, bitmap_start, Node, bitmap, padded, used_by}
+use Rattle.mkfs.proofs.Vocabulary.{Version, ◌≡◌, ℕ, ◌+◌, ◌-◌, ◌/◌, ◌%◌, ◌^◌, ◌<◌, ◌≤◌, Bool, true, false, eqb, nat_lt, List, [], ◌∷◌, ◌++◌, length, replicate, get_or, refl, ap, ◌∙◌, sym, ⊎_elim, arith, length-append, bit_at, cases_lt, lt-ltb, le-ltb, length-replicate, get_or_append_left, get_or-append_right, get_or_at, get_or-replicate, bit_at-zero, bit_at_ones, bit_at_ones_above, Super, bit_of, recovered, is_marked, data_start, bitmap_start, Node, bitmap, padded, used_by}
 use Rattle.mkfs.proofs.Basics.{Fits, disk_of, sizes-there, recovered-there}
 use Rattle.mkfs.proofs.DataBlocks.{bitmap-there}
 
@@ -83,10 +83,10 @@ bits-of used b few =
     (cases_lt (used / 8) (b / 8)))
     (cases_lt (b / 8) (used / 8))
 
-pub marked-there : (size ninodes : ℕ) (nodes : List Node) (b : ℕ) → ninodes ≤ 65535 → Fits size ninodes nodes → b < 8192
-    → is_marked (disk_of size ninodes nodes) b ≡ nat_lt b (used_by (data_start ninodes) nodes)
-marked-there size ninodes nodes b n h few =
-    let disk : List (List ℕ) = disk_of size ninodes nodes in
-    ap (λ (s : Super). bit_of (recovered disk s.bmapstart) b) (sizes-there size ninodes nodes n h)
-    ∙ ap (λ (block : List ℕ). bit_of block b) (recovered-there size ninodes nodes (bitmap_start ninodes) n h ∙ bitmap-there size ninodes nodes h)
+pub marked-there : (v : Version) (size ninodes : ℕ) (nodes : List Node) (b : ℕ) → ninodes ≤ 65535 → Fits size ninodes nodes → b < 8192
+    → is_marked (disk_of v size ninodes nodes) b ≡ nat_lt b (used_by (data_start ninodes) nodes)
+marked-there v size ninodes nodes b n h few =
+    let disk : List (List ℕ) = disk_of v size ninodes nodes in
+    ap (λ (s : Super). bit_of (recovered disk s.bmapstart) b) (sizes-there v size ninodes nodes n h)
+    ∙ ap (λ (block : List ℕ). bit_of block b) (recovered-there v size ninodes nodes (bitmap_start ninodes) n h ∙ bitmap-there v size ninodes nodes h)
     ∙ bits-of (used_by (data_start ninodes) nodes) b few

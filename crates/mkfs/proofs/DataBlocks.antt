@@ -1,5 +1,5 @@
 -- The nodes' blocks and the bitmap of an image.
-use Rattle.mkfs.proofs.Vocabulary.{◌≡◌, ℕ, zero, suc, ◌+◌, ◌-◌, ◌*◌, ◌<◌, ◌≤◌, List, [], ◌∷◌, ◌++◌, length, take, drop, replicate, get_or, ap, ◌∙◌, sym, arith, append_assoc, length-append, take_at, drop_at, drop-drop, sum_by-cons, block_at, data_start, bitmap_start, inode_blocks, Node, front, inode_table, bitmap, data_from, used_by, image_with, node_bytes, blocks_of_node, blocks_before}
+use Rattle.mkfs.proofs.Vocabulary.{Version, ◌≡◌, ℕ, zero, suc, ◌+◌, ◌-◌, ◌*◌, ◌<◌, ◌≤◌, List, [], ◌∷◌, ◌++◌, length, take, drop, replicate, get_or, ap, ◌∙◌, sym, arith, append_assoc, length-append, take_at, drop_at, drop-drop, sum_by-cons, block_at, data_start, bitmap_start, inode_blocks, Node, front, inode_table, bitmap, data_from, used_by, image_with, node_bytes, blocks_of_node, blocks_before}
 use Rattle.mkfs.proofs.Basics.{AreNodes, Fits, length-front, length-table, length-bitmap, length-node, disk_of, block-at}
 
 in-data : (first : ℕ) (nodes : List Node) (i : ℕ) (d : Node) (rest : List ℕ) → AreNodes nodes → i < length nodes
@@ -31,42 +31,42 @@ in-data first (node ∷ nodes) (suc i) d rest h l =
 regroup : (f t b d e : List ℕ) → (((f ++ t) ++ b) ++ d) ++ e ≡ (f ++ t) ++ (b ++ (d ++ e))
 regroup f t b d e = simp append_assoc
 
-long-front : (size ninodes : ℕ) (nodes : List Node) → Fits size ninodes nodes
-    → length (front size ninodes ++ inode_table ninodes (data_start ninodes) nodes) ≡ 1024 * bitmap_start ninodes
-long-front size ninodes nodes h =
+long-front : (v : Version) (size ninodes : ℕ) (nodes : List Node) → Fits size ninodes nodes
+    → length (front v size ninodes ++ inode_table ninodes (data_start ninodes) nodes) ≡ 1024 * bitmap_start ninodes
+long-front v size ninodes nodes h =
     let t : List ℕ = inode_table ninodes (data_start ninodes) nodes in
     let many : 1 + length nodes ≤ 16 * inode_blocks ninodes = omega (arith, h.inodes) in
-    omega (arith, length-append (front size ninodes) t, length-front size ninodes, length-table ninodes (data_start ninodes) nodes many)
+    omega (arith, length-append (front v size ninodes) t, length-front v size ninodes, length-table ninodes (data_start ninodes) nodes many)
 
-pub bitmap-there : (size ninodes : ℕ) (nodes : List Node) → Fits size ninodes nodes
-    → block_at (disk_of size ninodes nodes) (bitmap_start ninodes) ≡ bitmap (used_by (data_start ninodes) nodes)
+pub bitmap-there : (v : Version) (size ninodes : ℕ) (nodes : List Node) → Fits size ninodes nodes
+    → block_at (disk_of v size ninodes nodes) (bitmap_start ninodes) ≡ bitmap (used_by (data_start ninodes) nodes)
 unfolding image_with
-bitmap-there size ninodes nodes h =
+bitmap-there v size ninodes nodes h =
     let first : ℕ = data_start ninodes in
     let used : ℕ = used_by first nodes in
     let t : List ℕ = inode_table ninodes first nodes in
     let e : List ℕ = replicate (1024 * (size - used)) 0 in
     let rest : List ℕ = data_from first nodes ++ e in
     let within : bitmap_start ninodes < size = omega (arith, h.room) in
-    block-at size ninodes nodes (bitmap_start ninodes) h within
-    ∙ ap (λ (xs : List ℕ). take 1024 (drop (1024 * bitmap_start ninodes) xs)) (regroup (front size ninodes) t (bitmap used) (data_from first nodes) e)
-    ∙ ap (take 1024) (drop_at (front size ninodes ++ t) (bitmap used ++ rest) (1024 * bitmap_start ninodes) (long-front size ninodes nodes h))
+    block-at v size ninodes nodes (bitmap_start ninodes) h within
+    ∙ ap (λ (xs : List ℕ). take 1024 (drop (1024 * bitmap_start ninodes) xs)) (regroup (front v size ninodes) t (bitmap used) (data_from first nodes) e)
+    ∙ ap (take 1024) (drop_at (front v size ninodes ++ t) (bitmap used ++ rest) (1024 * bitmap_start ninodes) (long-front v size ninodes nodes h))
     ∙ take_at (bitmap used) rest 1024 (length-bitmap used (omega (arith, h.room, h.few)))
 
-pub node-there : (size ninodes : ℕ) (nodes : List Node) (i : ℕ) (d : Node) → Fits size ninodes nodes → i < length nodes
-    → take (1024 * blocks_of_node (get_or nodes i d)) (drop (1024 * (data_start ninodes + blocks_before i nodes)) (image_with size ninodes nodes))
+pub node-there : (v : Version) (size ninodes : ℕ) (nodes : List Node) (i : ℕ) (d : Node) → Fits size ninodes nodes → i < length nodes
+    → take (1024 * blocks_of_node (get_or nodes i d)) (drop (1024 * (data_start ninodes + blocks_before i nodes)) (image_with v size ninodes nodes))
     ≡ node_bytes (data_start ninodes + blocks_before i nodes) (get_or nodes i d).content
 unfolding image_with
-node-there size ninodes nodes i d h l =
+node-there v size ninodes nodes i d h l =
     let first : ℕ = data_start ninodes in
     let used : ℕ = used_by first nodes in
     let t : List ℕ = inode_table ninodes first nodes in
     let e : List ℕ = replicate (1024 * (size - used)) 0 in
     let b : List ℕ = bitmap used in
-    let front_part : List ℕ = (front size ninodes ++ t) ++ b in
+    let front_part : List ℕ = (front v size ninodes ++ t) ++ b in
     let rest : List ℕ = data_from first nodes ++ e in
     let k : ℕ = 1024 * blocks_before i nodes in
-    let long : length front_part ≡ 1024 * first = omega (arith, length-append (front size ninodes ++ t) b, long-front size ninodes nodes h, length-bitmap used (omega (arith, h.room, h.few))) in
+    let long : length front_part ≡ 1024 * first = omega (arith, length-append (front v size ninodes ++ t) b, long-front v size ninodes nodes h, length-bitmap used (omega (arith, h.room, h.few))) in
     let place : 1024 * (first + blocks_before i nodes) ≡ 1024 * first + k = omega arith in
     ap (λ (n : ℕ). take (1024 * blocks_of_node (get_or nodes i d)) (drop n ((front_part ++ data_from first nodes) ++ e))) place
     ∙ ap (λ (xs : List ℕ). take (1024 * blocks_of_node (get_or nodes i d)) (drop (1024 * first + k) xs)) (append_assoc front_part (data_from first nodes) e)

@@ -1,9 +1,9 @@
 -- Which inodes of an image are nodes and directories.
-use Rattle.mkfs.proofs.Vocabulary.{◌≡◌, ◌≢◌, ◌⊎◌, inl, inr, ⊎_elim, ℕ, ◌+◌, ◌-◌, ◌<◌, ◌≤◌, true, false, List, [], length, map, Some, sym, ap, ◌∙◌, refl, arith, cases_lt, false≢true, false_from_ne_true, sizes_of, inode_of, is_number, is_positive, is_free, is_directory, is_live, is_node, is_live_directory, slots_in, node_is, node_from, directory_is, directory_from}
+use Rattle.mkfs.proofs.Vocabulary.{Version, ◌≡◌, ◌≢◌, ◌⊎◌, inl, inr, ⊎_elim, ℕ, ◌+◌, ◌-◌, ◌<◌, ◌≤◌, true, false, List, [], length, map, Some, sym, ap, ◌∙◌, refl, arith, cases_lt, false≢true, false_from_ne_true, sizes_of, inode_of, is_number, is_positive, is_free, is_directory, is_live, is_node, is_live_directory, slots_in, node_is, node_from, directory_is, directory_from}
 use Rattle.mkfs.proofs.Basics.{free_inode, all_entries}
 use Rattle.mkfs.proofs.FilesShown.{ShowsFiles}
 
-module _ (disk : List (List ℕ)) (ninodes : ℕ) (names contents : List (List ℕ)) (h : ShowsFiles disk ninodes names contents) where
+module _ (v : Version) (disk : List (List ℕ)) (ninodes : ℕ) (names contents : List (List ℕ)) (h : ShowsFiles v disk ninodes names contents) where
   -- the root
   pub root_directory : is_directory (inode_of disk 1) ≡ true
   root_directory = ap (is_number 1) h.root.kind
@@ -85,10 +85,10 @@ module _ (disk : List (List ℕ)) (ninodes : ℕ) (names contents : List (List �
 
   -- ---- the slots
 
-  pub root_slots_in : slots_in disk 1 ≡ map Some (all_entries names)
+  pub root_slots_in : slots_in v disk 1 ≡ map Some (all_entries v names)
   unfolding slots_in
   root_slots_in = rw root_is_live_directory h.slots
 
-  pub other_slots_in : (i : ℕ) → i ≢ 1 → slots_in disk i ≡ []
+  pub other_slots_in : (i : ℕ) → i ≢ 1 → slots_in v disk i ≡ []
   unfolding slots_in
   other_slots_in i other = rw (other_no_directory i other) refl

@@ -1,5 +1,7 @@
 -- What the disk of an image shows of the root and the files.
-use Rattle.mkfs.proofs.Vocabulary.{◌≡◌, ℕ, zero, suc, ◌+◌, ◌-◌, ◌*◌, ◌/◌, ◌%◌, ◌^◌, ◌<◌, ◌≤◌, pos, List, [], ◌∷◌, ◌++◌, length, take, drop, map, replicate, get_or, Some, refl, sym, ap, subst, ◌∙◌, arith, All, take-add, take_all, take_at, take-take, map_more, length-map, Dinode, Dirent, Free, Super, IsName, dirent_at, sizes_of, inode_of, content_block, front_blocks, content_of, slot_at, first_slots, slots_of, blocks_for, root_size, data_start, Node, padded, whole, inode_for, root_content, root_node, file_node, nodes_with, blocks_before, CanBeMade, HasGoodNames}
+use Rattle.mkfs.proofs.Vocabulary.{Version, dirent_len_of, dirents_per_block_of, ◌≡◌, ℕ, zero, suc, ◌+◌, ◌-◌, ◌*◌, ◌/◌, ◌%◌, ◌^◌, ◌<◌, ◌≤◌, pos, List, [], ◌∷◌, ◌++◌, length, take, drop, map, replicate, get_or, Some, refl, sym, ap, subst, ◌∙◌, arith, All, take-add, take_all, take_at, take-take, map_more, length-map, Dinode, Dirent, Free, Super, IsName, dirent_at, sizes_of, inode_of, content_block, front_blocks, content_of, slot_at, first_slots, slots_of, blocks_for, root_size, data_start, Node, padded, whole, inode_for, root_content, root_node, file_node, nodes_with, blocks_before, CanBeMade, HasGoodNames}
+use Rattle.image_versions.proofs.Places.{in_their_content}
+use Rattle.mkfs.proofs.RootSizes.{most-slots}
 use Rattle.mkfs.proofs.Wanted.{root_long}
 use Rattle.mkfs.proofs.Basics.{all_entries, good-entries, length-all, root-bytes, entry-there, Shows, free_inode}
 use Rattle.mkfs.proofs.ShownInodes.{inode-shown, file-at}
@@ -55,63 +57,65 @@ content-is disk d content size at =
 
 -- ---- the root's slots
 
-first-are : (disk : List (List ℕ)) (d : Dinode) (entries : List Dirent) (n : ℕ) → n ≤ length entries
-    → ((s : ℕ) → s < length entries → slot_at disk d s ≡ Some (get_or entries s Free)) → first_slots disk d n ≡ map Some (take n entries)
+first-are : (v : Version) (disk : List (List ℕ)) (d : Dinode) (entries : List Dirent) (n : ℕ) → n ≤ length entries
+    → ((s : ℕ) → s < length entries → slot_at v disk d s ≡ Some (get_or entries s Free)) → first_slots v disk d n ≡ map Some (take n entries)
 unfolding first_slots
-first-are disk d entries zero h at = refl
-first-are disk d entries (suc n) h at =
+first-are v disk d entries zero h at = refl
+first-are v disk d entries (suc n) h at =
     let count : n + 1 ≡ suc n = omega arith in
-    ap (λ xs. xs ++ slot_at disk d n ∷ []) (first-are disk d entries n (omega arith) at)
+    ap (λ xs. xs ++ slot_at v disk d n ∷ []) (first-are v disk d entries n (omega arith) at)
     ∙ ap (λ x. map Some (take n entries) ++ x ∷ []) (at n (omega arith))
     ∙ sym (map_more Some entries n Free (omega arith))
     ∙ ap (λ (k : ℕ). map Some (take k entries)) count
 
-slot-there : (disk : List (List ℕ)) (d : Dinode) (names : List (List ℕ)) (s : ℕ) → 2 + length names < 2 ^ 16 → All IsName names
-    → HasContent disk d (root_content names) → length (root_content names) ≡ root_size (length names) → s < length (all_entries names)
-    → slot_at disk d s ≡ Some (get_or (all_entries names) s Free)
+slot-there : (v : Version) (disk : List (List ℕ)) (d : Dinode) (names : List (List ℕ)) (s : ℕ) → 2 + length names < 2 ^ 16 → All (IsName v) names
+    → HasContent disk d (root_content v names) → length (root_content v names) ≡ root_size v (length names) → s < length (all_entries v names)
+    → slot_at v disk d s ≡ Some (get_or (all_entries v names) s Free)
 unfolding slot_at whole padded
-slot-there disk d names s few good at long l =
-    let root : List ℕ = root_content names in
+slot-there v disk d names s few good at long l =
+    let root : List ℕ = root_content v names in
     let rest : List ℕ = replicate (1024 * blocks_for (length root) - length root) 0 in
-    let within : 1024 * (s / 64) < length root = omega (arith, length-all names) in
-    ap (dirent_at (s % 64)) (at (s / 64) within ∙ ap (λ (xs : List ℕ). take 1024 (drop (1024 * (s / 64)) (xs ++ rest))) (root-bytes names few good))
-    ∙ entry-there (all_entries names) s Free rest (good-entries names few good) l
+    let block : ℕ = s / dirents_per_block_of v in
+    let below : s < root_size v (length names) / dirent_len_of v = subst (λ (n : ℕ). s < n) (length-all v names) l in
+    let within : 1024 * block < length root = subst (λ (n : ℕ). 1024 * block < n) (sym long) (in_their_content v s (root_size v (length names)) below).1 in
+    ap (dirent_at v (s % dirents_per_block_of v)) (at block within ∙ ap (λ (xs : List ℕ). take 1024 (drop (1024 * block) (xs ++ rest))) (root-bytes v names few good))
+    ∙ entry-there v (all_entries v names) s Free rest (good-entries v names few good) l
 
-slots-are : (disk : List (List ℕ)) (d : Dinode) (names : List (List ℕ)) → 2 + length names < 2 ^ 16 → All IsName names
-    → HasContent disk d (root_content names) → length (root_content names) ≡ root_size (length names) → d.size ≡ length (root_content names)
-    → slots_of disk d ≡ map Some (all_entries names)
-slots-are disk d names few good at long size =
-    let entries : List Dirent = all_entries names in
-    let count : d.size / 16 ≡ length entries = omega (arith, length-all names) in
+slots-are : (v : Version) (disk : List (List ℕ)) (d : Dinode) (names : List (List ℕ)) → 2 + length names < 2 ^ 16 → All (IsName v) names
+    → HasContent disk d (root_content v names) → length (root_content v names) ≡ root_size v (length names) → d.size ≡ length (root_content v names)
+    → slots_of v disk d ≡ map Some (all_entries v names)
+slots-are v disk d names few good at long size =
+    let entries : List Dirent = all_entries v names in
+    let count : d.size / dirent_len_of v ≡ length entries = ap (λ (n : ℕ). n / dirent_len_of v) (size ∙ long) ∙ sym (length-all v names) in
     let same : length entries ≤ length entries = omega arith in
-    ap (first_slots disk d) count
-    ∙ first-are disk d entries (length entries) same (λ s l. slot-there disk d names s few good at long l)
+    ap (first_slots v disk d) count
+    ∙ first-are v disk d entries (length entries) same (λ s l. slot-there v disk d names s few good at long l)
     ∙ ap (map Some) (take_all (length entries) entries same)
 
 -- ---- all of it
 
-pub record ShowsFiles (disk : List (List ℕ)) (ninodes : ℕ) (names contents : List (List ℕ)) : Type 0 where
-  pub good : HasGoodNames names
+pub record ShowsFiles (v : Version) (disk : List (List ℕ)) (ninodes : ℕ) (names contents : List (List ℕ)) : Type 0 where
+  pub good : HasGoodNames v names
   pub many : length names ≡ length contents
   pub count : (sizes_of disk).ninodes ≡ ninodes
   pub room : 1 + length contents < ninodes
-  pub root : IsInodeOf (inode_of disk 1) (root_node (root_content names))
-  pub slots : slots_of disk (inode_of disk 1) ≡ map Some (all_entries names)
+  pub root : IsInodeOf (inode_of disk 1) (root_node (root_content v names))
+  pub slots : slots_of v disk (inode_of disk 1) ≡ map Some (all_entries v names)
   -- file j is inode j + 2
   pub file : (j : ℕ) → j < length contents → IsInodeOf (inode_of disk (j + 2)) (file_node (get_or contents j []))
   pub content : (j : ℕ) → j < length contents → content_of disk (inode_of disk (j + 2)) ≡ get_or contents j []
   pub free : (i : ℕ) → 1 + length contents < i → i < ninodes → inode_of disk i ≡ free_inode
 
-pub shown_files : (disk : List (List ℕ)) (size ninodes : ℕ) (names contents : List (List ℕ)) → Shows disk size ninodes (nodes_with (root_content names) contents)
-    → length names ≡ length contents → CanBeMade size ninodes names contents → ShowsFiles disk ninodes names contents
-shown_files disk size ninodes names contents h many can =
-    let nodes : List Node = nodes_with (root_content names) contents in
+pub shown_files : (v : Version) (disk : List (List ℕ)) (size ninodes : ℕ) (names contents : List (List ℕ)) → Shows disk size ninodes (nodes_with (root_content v names) contents)
+    → length names ≡ length contents → CanBeMade v size ninodes names contents → ShowsFiles v disk ninodes names contents
+shown_files v disk size ninodes names contents h many can =
+    let nodes : List Node = nodes_with (root_content v names) contents in
     let none : Node = root_node [] in
     let long : length (map file_node contents) ≡ length contents = length-map contents file_node in
-    let few : 2 + length names < 2 ^ 16 = omega (arith, many, can.0.0.1.few) in
-    let each : All IsName names = λ i d l. (can.0.0.0.1.each i d l).0 in
-    let root : IsInodeOf (inode_of disk 1) (root_node (root_content names)) = shown-inode disk size ninodes nodes 0 none h (omega arith) in
-    let size_is = root_long size ninodes names contents many can ∙ ap root_size (sym many) in
+    let few : 2 + length names < 2 ^ 16 = omega (arith, many, can.0.0.1.few, most-slots v) in
+    let each : All (IsName v) names = λ i d l. (can.0.0.0.1.each i d l).0 in
+    let root : IsInodeOf (inode_of disk 1) (root_node (root_content v names)) = shown-inode disk size ninodes nodes 0 none h (omega arith) in
+    let size_is = root_long v size ninodes names contents many can ∙ ap (root_size v) (sym many) in
     let is : (j : ℕ) → j < length contents → get_or nodes (suc j) none ≡ file_node (get_or contents j []) = λ j l. file-at contents j none (omega arith) in
     let place : (j : ℕ) → suc j + 1 ≡ j + 2 = λ j. omega arith in
     let file : (j : ℕ) → j < length contents → IsInodeOf (inode_of disk (j + 2)) (file_node (get_or contents j [])) =
@@ -124,7 +128,7 @@ shown_files disk size ninodes names contents h many can =
       count = ap (λ (s : Super). s.ninodes) h.sizes;
       room = omega (arith, can.0.1, can.0.0.0.0.some_inodes);
       root = root;
-      slots = slots-are disk (inode_of disk 1) names few each (λ k l. h.content 0 k none (omega arith) l) size_is root.size;
+      slots = slots-are v disk (inode_of disk 1) names few each (λ k l. h.content 0 k none (omega arith) l) size_is root.size;
       file = file;
       content = λ j l.
           content-is disk (inode_of disk (j + 2)) (get_or contents j []) (file j l).size

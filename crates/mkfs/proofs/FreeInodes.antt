@@ -1,5 +1,5 @@
 -- The inodes of an image that no node has.
-use Rattle.mkfs.proofs.Vocabulary.{◌≡◌, ℕ, ◌+◌, ◌-◌, ◌*◌, ◌/◌, ◌%◌, ◌<◌, ◌≤◌, List, ◌++◌, length, take, drop, replicate, ap, ◌∙◌, sym, refl, arith, append_assoc, length-append, flat_map, drop_at, drop-drop, drop-append-le, drop-replicate, take-append-le, take-replicate, u16_at, u32_at, u32s_at, record_at, dinode_of, spell_dinode, inode_of, data_start, inode_blocks, Node, front, inodes_from, inode_table, bitmap, data_from, used_by, image_with}
+use Rattle.mkfs.proofs.Vocabulary.{Version, ◌≡◌, ℕ, ◌+◌, ◌-◌, ◌*◌, ◌/◌, ◌%◌, ◌<◌, ◌≤◌, List, ◌++◌, length, take, drop, replicate, ap, ◌∙◌, sym, refl, arith, append_assoc, length-append, flat_map, drop_at, drop-drop, drop-append-le, drop-replicate, take-append-le, take-replicate, u16_at, u32_at, u32s_at, record_at, dinode_of, spell_dinode, inode_of, data_start, inode_blocks, Node, front, inodes_from, inode_table, bitmap, data_from, used_by, image_with}
 use Rattle.mkfs.proofs.Basics.{Fits, length-front, length-zeros, length-inodes, disk_of, block-at, part-of-part, free_inode}
 use Rattle.mkfs.proofs.NodeInodes.{inode-at}
 
@@ -20,13 +20,13 @@ regroup : (f z i r b d e : List ℕ) → (((f ++ ((z ++ i) ++ r)) ++ b) ++ d) ++
 regroup f z i r b d e = simp append_assoc
 
 -- behind the nodes' inodes stand zeros
-zeros-at : (size ninodes : ℕ) (nodes : List Node) (i : ℕ) → length nodes < i → i < ninodes
-    → take 64 (drop (33792 + 64 * i) (image_with size ninodes nodes)) ≡ replicate 64 0
+zeros-at : (v : Version) (size ninodes : ℕ) (nodes : List Node) (i : ℕ) → length nodes < i → i < ninodes
+    → take 64 (drop (33792 + 64 * i) (image_with v size ninodes nodes)) ≡ replicate 64 0
 unfolding image_with inode_table
-zeros-at size ninodes nodes i h l =
+zeros-at v size ninodes nodes i h l =
     let first : ℕ = data_start ninodes in
     let used : ℕ = used_by first nodes in
-    let f : List ℕ = front size ninodes in
+    let f : List ℕ = front v size ninodes in
     let z : List ℕ = replicate 64 0 in
     let s : List ℕ = flat_map spell_dinode (inodes_from first nodes) in
     let n : ℕ = 64 * (16 * inode_blocks ninodes - (1 + length nodes)) in
@@ -35,7 +35,7 @@ zeros-at size ninodes nodes i h l =
     let before : ℕ = 33856 + 64 * length nodes in
     let k : ℕ = 64 * (i - (1 + length nodes)) in
     let long : length ((f ++ z) ++ s) ≡ before =
-    omega (arith, length-append (f ++ z) s, length-append f z, length-front size ninodes, length-zeros 64, length-inodes first nodes) in
+    omega (arith, length-append (f ++ z) s, length-append f z, length-front v size ninodes, length-zeros 64, length-inodes first nodes) in
     let place : 33792 + 64 * i ≡ before + k = omega arith in
     let within : k + 64 ≤ n = omega arith in
     ap (λ (xs : List ℕ). take 64 (drop (33792 + 64 * i) xs)) (regroup f z s (replicate n 0) (bitmap used) (data_from first nodes) e)
@@ -43,16 +43,16 @@ zeros-at size ninodes nodes i h l =
     ∙ ap (take 64) (sym (drop-drop k before (((f ++ z) ++ s) ++ (replicate n 0 ++ rest))) ∙ ap (drop k) (drop_at ((f ++ z) ++ s) (replicate n 0 ++ rest) before long))
     ∙ in-zeros n k rest within
 
-pub free-there : (size ninodes : ℕ) (nodes : List Node) (i : ℕ) → ninodes ≤ 65535 → Fits size ninodes nodes → length nodes < i → i < ninodes
-    → inode_of (disk_of size ninodes nodes) i ≡ free_inode
-free-there size ninodes nodes i n h low l =
+pub free-there : (v : Version) (size ninodes : ℕ) (nodes : List Node) (i : ℕ) → ninodes ≤ 65535 → Fits size ninodes nodes → length nodes < i → i < ninodes
+    → inode_of (disk_of v size ninodes nodes) i ≡ free_inode
+free-there v size ninodes nodes i n h low l =
     let q : ℕ = 33 + i / 16 in
     let r : ℕ = i % 16 in
-    let image : List ℕ = image_with size ninodes nodes in
+    let image : List ℕ = image_with v size ninodes nodes in
     let small : 64 * r + 64 ≤ 1024 = omega arith in
     let within : q < size = omega (arith, h.room) in
     let place : 1024 * q + 64 * r ≡ 33792 + 64 * i = omega arith in
-    inode-at size ninodes nodes i n h
-    ∙ ap (λ (block : List ℕ). dinode_of (record_at 64 r block)) (block-at size ninodes nodes q h within)
-    ∙ ap dinode_of (part-of-part image 64 (64 * r) 1024 (1024 * q) (33792 + 64 * i) small place ∙ zeros-at size ninodes nodes i low l)
+    inode-at v size ninodes nodes i n h
+    ∙ ap (λ (block : List ℕ). dinode_of (record_at 64 r block)) (block-at v size ninodes nodes q h within)
+    ∙ ap dinode_of (part-of-part image 64 (64 * r) 1024 (1024 * q) (33792 + 64 * i) small place ∙ zeros-at v size ninodes nodes i low l)
     ∙ zero-inode

@@ -1,5 +1,5 @@
 -- The first checks pass: of the superblock and the log, of types, of the root.
-use Rattle.mkfs.proofs.Vocabulary.{◌≡◌, ℕ, ◌+◌, ◌<◌, ◌≤◌, pos, List, [], length, get_or, ap, sym, refl, subst, ⊎_elim, arith, rules, All, ◌<ℤ◌, All-nil, Super, Dinode, sizes_of, IsOnce, IsGoodSuper, IsGoodType, HasSuper, HasGoodLog, HasGoodTypes, HasRoot, once_nil, data_start, super_for, Node, root_node, nodes_with, inode_for, blocks_before}
+use Rattle.mkfs.proofs.Vocabulary.{Version, magic_of, u32_at, block_at, ◌≡◌, ℕ, ◌+◌, ◌<◌, ◌≤◌, pos, List, [], length, get_or, ap, sym, refl, subst, ⊎_elim, arith, rules, All, ◌<ℤ◌, All-nil, Super, Dinode, sizes_of, IsOnce, IsGoodSuper, IsGoodType, HasSuper, HasGoodLog, HasGoodTypes, HasRoot, once_nil, data_start, super_for, Node, root_node, nodes_with, inode_for, blocks_before}
 use Rattle.mkfs.proofs.Basics.{Shows, free_inode, Fits}
 use Rattle.mkfs.proofs.ShownInodes.{IsKind, at-inodes, inode-shown}
 
@@ -17,10 +17,11 @@ good-super size ninodes nodes some few fits = record {
   bitmap = omega (arith, fits.room);
 }
 
-pub has_super : (disk : List (List ℕ)) (size ninodes : ℕ) (nodes : List Node) → Shows disk size ninodes nodes → 2 ≤ ninodes → ninodes ≤ 65535 → Fits size ninodes nodes
-    → HasSuper disk
-has_super disk size ninodes nodes shows some few fits =
-    (shows.magic, subst IsGoodSuper (sym shows.sizes) (good-super size ninodes nodes some few fits))
+pub has_super : (v : Version) (disk : List (List ℕ)) (size ninodes : ℕ) (nodes : List Node) → u32_at (block_at disk 1) 0 ≡ magic_of v
+    → Shows disk size ninodes nodes → 2 ≤ ninodes → ninodes ≤ 65535 → Fits size ninodes nodes
+    → HasSuper v disk
+has_super v disk size ninodes nodes magic shows some few fits =
+    (magic, subst IsGoodSuper (sym shows.sizes) (good-super size ninodes nodes some few fits))
 
 pub has_blocks : (disk : List (List ℕ)) (size ninodes : ℕ) (nodes : List Node) → Shows disk size ninodes nodes → (sizes_of disk).size ≤ length disk
 has_blocks disk size ninodes nodes shows =

@@ -1,5 +1,5 @@
 -- The parts of an image, as they are appended.
-use Rattle.mkfs.proofs.Vocabulary.{◌≡◌, ℕ, ◌+◌, ◌-◌, ◌*◌, suc, List, [], ◌∷◌, ◌++◌, length, map, replicate, sum_by, ap, ◌∙◌, sym, refl, arith, append_assoc, flat_map, sum_by-cons, spell_dinode, spell_super, node_blocks, file_blocks, inode_blocks, data_start, super_for, Node, padded, front, inode_for, inodes_from, inode_table, bitmap, data_from, used_by, image_with, nodes_with, root_node, file_node, blocks_of_node}
+use Rattle.mkfs.proofs.Vocabulary.{Version, ◌≡◌, ℕ, ◌+◌, ◌-◌, ◌*◌, suc, List, [], ◌∷◌, ◌++◌, length, map, replicate, sum_by, ap, ◌∙◌, sym, refl, arith, append_assoc, flat_map, sum_by-cons, spell_dinode, spell_super, node_blocks, file_blocks, inode_blocks, data_start, super_for, Node, padded, front, inode_for, inodes_from, inode_table, bitmap, data_from, used_by, image_with, nodes_with, root_node, file_node, blocks_of_node}
 
 pub sum-files : (contents : List (List ℕ)) → sum_by blocks_of_node (map file_node contents) ≡ file_blocks contents
 sum-files [] = refl
@@ -18,12 +18,12 @@ used-parts first root contents =
     let regroup : (a b c : ℕ) → a + b + c ≡ a + (b + c) = λ a b c. omega arith in
     regroup first n (file_blocks contents) ∙ ap (λ (k : ℕ). first + k) (sym sum)
 
-pub front-parts : (old : List ℕ) (size ninodes : ℕ)
-    → ((old ++ replicate 1024 0) ++ padded 1024 (spell_super (super_for size ninodes))) ++ replicate 31744 0 ≡ old ++ front size ninodes
+pub front-parts : (v : Version) (old : List ℕ) (size ninodes : ℕ)
+    → ((old ++ replicate 1024 0) ++ padded 1024 (spell_super v (super_for size ninodes))) ++ replicate 31744 0 ≡ old ++ front v size ninodes
 unfolding front
-front-parts old size ninodes =
+front-parts v old size ninodes =
     let a : List ℕ = replicate 1024 0 in
-    let b : List ℕ = padded 1024 (spell_super (super_for size ninodes)) in
+    let b : List ℕ = padded 1024 (spell_super v (super_for size ninodes)) in
     let c : List ℕ = replicate 31744 0 in
     ap (λ (xs : List ℕ). xs ++ c) (append_assoc old a b) ∙ append_assoc old (a ++ b) c
 
@@ -42,12 +42,12 @@ table-parts old ninodes first k node nodes h =
     ∙ append_assoc old (a ++ (b ++ c)) (replicate k 0)
     ∙ ap (λ (n : ℕ). old ++ ((a ++ (b ++ c)) ++ replicate n 0)) (h ∙ ap (λ (n : ℕ). 64 * (16 * inode_blocks ninodes - n)) count)
 
-pub image-parts : (old : List ℕ) (size ninodes used : ℕ) (nodes : List Node) → used ≡ used_by (data_start ninodes) nodes
-    → ((((old ++ front size ninodes) ++ inode_table ninodes (data_start ninodes) nodes) ++ bitmap used) ++ data_from (data_start ninodes) nodes) ++ replicate (1024 * (size - used)) 0
-    ≡ old ++ image_with size ninodes nodes
+pub image-parts : (v : Version) (old : List ℕ) (size ninodes used : ℕ) (nodes : List Node) → used ≡ used_by (data_start ninodes) nodes
+    → ((((old ++ front v size ninodes) ++ inode_table ninodes (data_start ninodes) nodes) ++ bitmap used) ++ data_from (data_start ninodes) nodes) ++ replicate (1024 * (size - used)) 0
+    ≡ old ++ image_with v size ninodes nodes
 unfolding image_with
-image-parts old size ninodes used nodes h =
-    let a : List ℕ = front size ninodes in
+image-parts v old size ninodes used nodes h =
+    let a : List ℕ = front v size ninodes in
     let b : List ℕ = inode_table ninodes (data_start ninodes) nodes in
     let d : List ℕ = data_from (data_start ninodes) nodes in
     let c : ℕ → List ℕ = λ n. bitmap n in

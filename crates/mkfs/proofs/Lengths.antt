@@ -1,19 +1,19 @@
 -- How long the parts of an image are.
-use Rattle.mkfs.proofs.Vocabulary.{◌≡◌, ℕ, suc, ◌+◌, ◌-◌, ◌*◌, ◌/◌, ◌<◌, ◌≤◌, ◌^◌, ◌%◌, Bool, false, cond, nat_lt, List, [], ◌∷◌, ◌++◌, length, take, drop, replicate, sum_by, get_or, ap, ◌∙◌, sym, refl, ⊎_elim, arith, length-append, length-drop, All, flat_map, range_with_len, length-replicate, length-take-le, All-cons, All-nil, length-range_with_len, sum_by-cons, cases_lt, le-ltb, lt-ltb, Dinode, spell_dinode, spell_super, super_numbers, magic, length-u32s_bytes, length-spell_dinode, blocks_for, node_blocks, inode_blocks, data_start, super_for, Node, padded, whole, front, inode_for, inodes_from, inode_table, bitmap, data_from, used_by, image_with, node_bytes, indirect_block, blocks_of_node}
+use Rattle.mkfs.proofs.Vocabulary.{Version, ◌≡◌, ℕ, suc, ◌+◌, ◌-◌, ◌*◌, ◌/◌, ◌<◌, ◌≤◌, ◌^◌, ◌%◌, Bool, false, cond, nat_lt, List, [], ◌∷◌, ◌++◌, length, take, drop, replicate, sum_by, get_or, ap, ◌∙◌, sym, refl, ⊎_elim, arith, length-append, length-drop, All, flat_map, range_with_len, length-replicate, length-take-le, All-cons, All-nil, length-range_with_len, sum_by-cons, cases_lt, le-ltb, lt-ltb, Dinode, spell_dinode, spell_super, super_numbers, magic_of, length-u32s_bytes, length-spell_dinode, blocks_for, node_blocks, inode_blocks, data_start, super_for, Node, padded, whole, front, inode_for, inodes_from, inode_table, bitmap, data_from, used_by, image_with, node_bytes, indirect_block, blocks_of_node}
 use Rattle.mkfs.proofs.Pieces.{AreLong, length-records, record-there}
 use Rattle.mkfs.proofs.Padding.{length-padded, length-whole, length-addrs, node_bytes-small, node_bytes-large}
 
 pub length-zeros : (n : ℕ) → length {A = ℕ} (replicate n 0) ≡ n
 length-zeros n = let none : ℕ = 0 in length-replicate n none
 
-pub length-super : (size ninodes : ℕ) → length (spell_super (super_for size ninodes)) ≡ 32
-length-super size ninodes = length-u32s_bytes (magic ∷ super_numbers (super_for size ninodes))
+pub length-super : (v : Version) (size ninodes : ℕ) → length (spell_super v (super_for size ninodes)) ≡ 32
+length-super v size ninodes = length-u32s_bytes (magic_of v ∷ super_numbers (super_for size ninodes))
 
-pub length-front : (size ninodes : ℕ) → length (front size ninodes) ≡ 33792
+pub length-front : (v : Version) (size ninodes : ℕ) → length (front v size ninodes) ≡ 33792
 unfolding front
-length-front size ninodes =
-    let block : List ℕ = padded 1024 (spell_super (super_for size ninodes)) in
-    let one : length block ≡ 1024 = length-padded 1024 (spell_super (super_for size ninodes)) (omega (arith, length-super size ninodes)) in
+length-front v size ninodes =
+    let block : List ℕ = padded 1024 (spell_super v (super_for size ninodes)) in
+    let one : length block ≡ 1024 = length-padded 1024 (spell_super v (super_for size ninodes)) (omega (arith, length-super v size ninodes)) in
     omega (arith, length-append (replicate 1024 0 ++ block) (replicate 31744 0), length-append (replicate 1024 0) block, one, length-zeros 1024, length-zeros 31744)
 
 count-inodes : (first : ℕ) (nodes : List Node) → length (inodes_from first nodes) ≡ length nodes
@@ -103,13 +103,13 @@ pub record Fits (size ninodes : ℕ) (nodes : List Node) : Type 0 where
   pub contents : AreNodes nodes
   pub room : used_by (data_start ninodes) nodes ≤ size
 
-pub length-image : (size ninodes : ℕ) (nodes : List Node) → Fits size ninodes nodes → length (image_with size ninodes nodes) ≡ 1024 * size
+pub length-image : (v : Version) (size ninodes : ℕ) (nodes : List Node) → Fits size ninodes nodes → length (image_with v size ninodes nodes) ≡ 1024 * size
 unfolding image_with
-length-image size ninodes nodes h =
+length-image v size ninodes nodes h =
     let first : ℕ = data_start ninodes in
     let used : ℕ = used_by first nodes in
     let sum : ℕ = sum_by blocks_of_node nodes in
-    let a : List ℕ = front size ninodes in
+    let a : List ℕ = front v size ninodes in
     let b : List ℕ = inode_table ninodes first nodes in
     let c : List ℕ = bitmap used in
     let d : List ℕ = data_from first nodes in
@@ -119,4 +119,4 @@ length-image size ninodes nodes h =
     let lb = length-table ninodes first nodes many in
     let lc = length-bitmap used (omega (arith, h.few)) in
     let ld = length-data first nodes h.contents in
-    omega (arith, length-append (((a ++ b) ++ c) ++ d) (replicate free 0), length-append ((a ++ b) ++ c) d, length-append (a ++ b) c, length-append a b, length-front size ninodes, lb, lc, ld, length-zeros free)
+    omega (arith, length-append (((a ++ b) ++ c) ++ d) (replicate free 0), length-append ((a ++ b) ++ c) d, length-append (a ++ b) c, length-append a b, length-front v size ninodes, lb, lc, ld, length-zeros free)

@@ -27,6 +27,7 @@ pub mod Ranges
 pub mod Readings
 pub mod Records
 pub mod RootBytes
+pub mod RootSizes
 pub mod ShownTrees
 pub mod ShownInodes
 pub mod SizeChecks

@@ -1,5 +1,5 @@
 -- An image is one tree, and its counts are good.
-use Rattle.mkfs.proofs.Vocabulary.{◌≡◌, ◌≢◌, ⊎_elim, ℕ, zero, suc, ◌+◌, ◌<◌, ◌≤◌, Bool, true, false, not, eqb, cond, pos, List, [], ◌∷◌, ◌++◌, length, drop, filter, get_or, None, Option, refl, sym, ap, subst, ◌∙◌, arith, range_with_len, cases_eq, eq-eqb, ne_eqb, false≢true, append-nil, sum_by-cons, sum_by-append, Dirent, gathered, times, inode_of, last, slot_numbers, named_in, further_in, parent_of, up, further_names_of, children_of, climb, IsOneTree, HasGoodCounts, IsGoodCount}
+use Rattle.mkfs.proofs.Vocabulary.{Version, ◌≡◌, ◌≢◌, ⊎_elim, ℕ, zero, suc, ◌+◌, ◌<◌, ◌≤◌, Bool, true, false, not, eqb, cond, pos, List, [], ◌∷◌, ◌++◌, length, drop, filter, get_or, None, Option, refl, sym, ap, subst, ◌∙◌, arith, range_with_len, cases_eq, eq-eqb, ne_eqb, false≢true, append-nil, sum_by-cons, sum_by-append, Dirent, gathered, times, inode_of, last, slot_numbers, named_in, further_in, parent_of, up, further_names_of, children_of, climb, IsOneTree, HasGoodCounts, IsGoodCount}
 use Rattle.image_tree.specs.Links.{number_in, names_of}
 use Rattle.mkfs.proofs.FilesShown.{ShowsFiles}
 use Rattle.mkfs.proofs.Directories.{IsFile, root_directory, root_live, root_bound, file_no_directory, which_node, one_directory, root_slots_in, other_slots_in}
@@ -51,30 +51,30 @@ range-within i a (suc n) low high =
 
 -- ---- of the image
 
-module _ (disk : List (List ℕ)) (ninodes : ℕ) (names contents : List (List ℕ)) (h : ShowsFiles disk ninodes names contents) where
+module _ (v : Version) (disk : List (List ℕ)) (ninodes : ℕ) (names contents : List (List ℕ)) (h : ShowsFiles v disk ninodes names contents) where
   some-last : 1 ≤ last disk
-  some-last = omega (arith, root_bound disk ninodes names contents h)
+  some-last = omega (arith, root_bound v disk ninodes names contents h)
 
-  up-root : up disk 1 ≡ 1
-  up-root = ap (λ (slots : List (Option Dirent)). number_in (get_or slots 1 None)) (root_slots_in disk ninodes names contents h)
+  up-root : up v disk 1 ≡ 1
+  up-root = ap (λ (slots : List (Option Dirent)). number_in (get_or slots 1 None)) (root_slots_in v disk ninodes names contents h)
 
-  up-other : (i : ℕ) → i ≢ 1 → up disk i ≡ 0
-  up-other i other = ap (λ (slots : List (Option Dirent)). number_in (get_or slots 1 None)) (other_slots_in disk ninodes names contents h i other)
+  up-other : (i : ℕ) → i ≢ 1 → up v disk i ≡ 0
+  up-other i other = ap (λ (slots : List (Option Dirent)). number_in (get_or slots 1 None)) (other_slots_in v disk ninodes names contents h i other)
 
-  all-named : gathered (named_in disk) (last disk) ≡ 1 ∷ 1 ∷ range_with_len 2 (length names)
+  all-named : gathered (named_in v disk) (last disk) ≡ 1 ∷ 1 ∷ range_with_len 2 (length names)
   all-named =
-      gathered-one (named_in disk) (last disk) some-last (λ i other. ap slot_numbers (other_slots_in disk ninodes names contents h i other))
-      ∙ ap slot_numbers (root_slots_in disk ninodes names contents h)
-      ∙ all-numbers names
+      gathered-one (named_in v disk) (last disk) some-last (λ i other. ap slot_numbers (other_slots_in v disk ninodes names contents h i other))
+      ∙ ap slot_numbers (root_slots_in v disk ninodes names contents h)
+      ∙ all-numbers v names
 
-  all-further : gathered (further_in disk) (last disk) ≡ range_with_len 2 (length names)
+  all-further : gathered (further_in v disk) (last disk) ≡ range_with_len 2 (length names)
   all-further =
-      gathered-one (further_in disk) (last disk) some-last (λ i other. ap (λ (slots : List (Option Dirent)). slot_numbers (drop 2 slots)) (other_slots_in disk ninodes names contents h i other))
-      ∙ ap (λ (slots : List (Option Dirent)). slot_numbers (drop 2 slots)) (root_slots_in disk ninodes names contents h)
-      ∙ further-numbers names
+      gathered-one (further_in v disk) (last disk) some-last (λ i other. ap (λ (slots : List (Option Dirent)). slot_numbers (drop 2 slots)) (other_slots_in v disk ninodes names contents h i other))
+      ∙ ap (λ (slots : List (Option Dirent)). slot_numbers (drop 2 slots)) (root_slots_in v disk ninodes names contents h)
+      ∙ further-numbers v names
 
   -- each file is named once
-  file-named : (j : ℕ) → j < length contents → names_of disk (j + 2) ≡ 1
+  file-named : (j : ℕ) → j < length contents → names_of v disk (j + 2) ≡ 1
   file-named j l =
       let i : ℕ = j + 2 in
       let numbers : List ℕ = range_with_len 2 (length names) in
@@ -84,59 +84,59 @@ module _ (disk : List (List ℕ)) (ninodes : ℕ) (names contents : List (List �
       ∙ omega (arith, sum_by-cons count 1 (1 ∷ numbers), sum_by-cons count 1 numbers, not, range-within i 2 (length names) (omega arith) (omega (arith, h.many)))
 
   -- the root is in no other directory, and no other is in it
-  root-unnamed : further_names_of disk 1 ≡ 0
+  root-unnamed : further_names_of v disk 1 ≡ 0
   root-unnamed = ap (times 1) all-further ∙ range-below 1 2 (length names) (omega arith)
 
   no-child : (b : Bool) → times 1 (cond b (0 ∷ []) []) ≡ 0
   no-child true = refl
   no-child false = refl
 
-  root-childless : children_of disk 1 ≡ 0
+  root-childless : children_of v disk 1 ≡ 0
   root-childless =
-      times-none (parent_of disk) 1 (last disk) (λ k.
+      times-none (parent_of v disk) 1 (last disk) (λ k.
       ⊎_elim
       (λ (e : k ≡ 1).
-      ap (λ (d : ℕ). times 1 (parent_of disk d)) e ∙ ap (λ (n : ℕ). times 1 (filter (λ m. not (eqb m 1)) (n ∷ []))) up-root)
+      ap (λ (d : ℕ). times 1 (parent_of v disk d)) e ∙ ap (λ (n : ℕ). times 1 (filter (λ m. not (eqb m 1)) (n ∷ []))) up-root)
       (λ (other : k ≡ 1 → ⊥).
       ap (λ (n : ℕ). times 1 (filter (λ m. not (eqb m k)) (n ∷ []))) (up-other k other) ∙ no-child (not (eqb 0 k)))
       (cases_eq k 1))
 
-  climb-none : climb (up disk) 0 1 ≡ 1
+  climb-none : climb (up v disk) 0 1 ≡ 1
   unfolding climb
   climb-none = refl
 
-  pub is_one_tree : IsOneTree disk
+  pub is_one_tree : IsOneTree v disk
   is_one_tree = record {
     root = up-root;
     root_unnamed = root-unnamed;
-    named = λ i live other. absurd (other (one_directory disk ninodes names contents h i live));
-    proper = λ i live other. absurd (other (one_directory disk ninodes names contents h i live));
+    named = λ i live other. absurd (other (one_directory v disk ninodes names contents h i live));
+    proper = λ i live other. absurd (other (one_directory v disk ninodes names contents h i live));
     reaches = λ i live.
-        record { steps = (0, ap (climb (up disk) 0) (one_directory disk ninodes names contents h i live) ∙ climb-none) };
+        record { steps = (0, ap (climb (up v disk) 0) (one_directory v disk ninodes names contents h i live) ∙ climb-none) };
   }
 
   abbrev HasGoodCount : ℕ → Type 0
-  HasGoodCount i = IsGoodCount (inode_of disk i) (names_of disk i) (further_names_of disk i) (children_of disk i)
+  HasGoodCount i = IsGoodCount (inode_of disk i) (names_of v disk i) (further_names_of v disk i) (children_of v disk i)
 
   root-count : HasGoodCount 1
   root-count = record {
-    file = λ not. absurd (false≢true (sym not ∙ root_directory disk ninodes names contents h));
+    file = λ not. absurd (false≢true (sym not ∙ root_directory v disk ninodes names contents h));
     directory = λ is live. h.root.count ∙ ap (λ (n : ℕ). pos (1 + n)) (sym root-childless);
-    dead = λ is not. absurd (false≢true (sym not ∙ root_live disk ninodes names contents h));
+    dead = λ is not. absurd (false≢true (sym not ∙ root_live v disk ninodes names contents h));
   }
 
   file-count : (j : ℕ) → j < length contents → HasGoodCount (j + 2)
   file-count j l =
-      let not = file_no_directory disk ninodes names contents h j l in
+      let not = file_no_directory v disk ninodes names contents h j l in
       record {
         file = λ _. (h.file j l).count ∙ ap pos (sym (file-named j l));
         directory = λ is live. absurd (false≢true (sym not ∙ is));
         dead = λ is dead. absurd (false≢true (sym not ∙ is));
       }
 
-  pub has_good_counts : HasGoodCounts disk
+  pub has_good_counts : HasGoodCounts v disk
   has_good_counts i node =
       ⊎_elim
       (λ (root : i ≡ 1). subst HasGoodCount (sym root) root-count)
-      (λ (file : IsFile disk ninodes names contents h i). subst HasGoodCount file.2 (file-count file.0 file.1))
-      (which_node disk ninodes names contents h i node)
+      (λ (file : IsFile v disk ninodes names contents h i). subst HasGoodCount file.2 (file-count file.0 file.1))
+      (which_node v disk ninodes names contents h i node)

@@ -1,24 +1,24 @@
 -- The blocks of a node, one by one.
-use Rattle.mkfs.proofs.Vocabulary.{◌≡◌, ℕ, ◌+◌, ◌-◌, ◌*◌, ◌<◌, ◌≤◌, Bool, cond, nat_lt, List, ◌++◌, length, take, drop, replicate, get_or, ap, ◌∙◌, sym, ⊎_elim, arith, append_assoc, length-append, length-drop, cases_lt, lt-ltb, le-ltb, take_at, drop_at, drop-drop, take-append-le, drop-append-le, take-append-drop, length-take-le, sum_by_more_le, recovered, blocks_for, data_start, Node, padded, whole, image_with, node_bytes, indirect_block, blocks_before, blocks_of_node}
+use Rattle.mkfs.proofs.Vocabulary.{Version, ◌≡◌, ℕ, ◌+◌, ◌-◌, ◌*◌, ◌<◌, ◌≤◌, Bool, cond, nat_lt, List, ◌++◌, length, take, drop, replicate, get_or, ap, ◌∙◌, sym, ⊎_elim, arith, append_assoc, length-append, length-drop, cases_lt, lt-ltb, le-ltb, take_at, drop_at, drop-drop, take-append-le, drop-append-le, take-append-drop, length-take-le, sum_by_more_le, recovered, blocks_for, data_start, Node, padded, whole, image_with, node_bytes, indirect_block, blocks_before, blocks_of_node}
 use Rattle.mkfs.proofs.Basics.{node_bytes-small, node_bytes-large, part-of-part, Fits, length-indirect_block, disk_of, block-at, recovered-there}
 use Rattle.mkfs.proofs.DataBlocks.{node-there}
 
 -- ---- in the image
 
-pub node-block : (size ninodes : ℕ) (nodes : List Node) (j m : ℕ) (n : Node) → ninodes ≤ 65535 → Fits size ninodes nodes → j < length nodes
+pub node-block : (v : Version) (size ninodes : ℕ) (nodes : List Node) (j m : ℕ) (n : Node) → ninodes ≤ 65535 → Fits size ninodes nodes → j < length nodes
     → m < blocks_of_node (get_or nodes j n)
-    → recovered (disk_of size ninodes nodes) (data_start ninodes + blocks_before j nodes + m)
+    → recovered (disk_of v size ninodes nodes) (data_start ninodes + blocks_before j nodes + m)
     ≡ take 1024 (drop (1024 * m) (node_bytes (data_start ninodes + blocks_before j nodes) (get_or nodes j n).content))
-node-block size ninodes nodes j m n few h l within =
+node-block v size ninodes nodes j m n few h l within =
     let first : ℕ = data_start ninodes + blocks_before j nodes in
     let count : ℕ = blocks_of_node (get_or nodes j n) in
     let there : first + m < size = omega (arith, h.room, sum_by_more_le blocks_of_node nodes j n l) in
     let inside : 1024 * m + 1024 ≤ 1024 * count = omega arith in
     let sum : 1024 * first + 1024 * m ≡ 1024 * (first + m) = omega arith in
-    recovered-there size ninodes nodes (first + m) few h
-    ∙ block-at size ninodes nodes (first + m) h there
-    ∙ sym (part-of-part (image_with size ninodes nodes) 1024 (1024 * m) (1024 * count) (1024 * first) (1024 * (first + m)) inside sum)
-    ∙ ap (λ (xs : List ℕ). take 1024 (drop (1024 * m) xs)) (node-there size ninodes nodes j n h l)
+    recovered-there v size ninodes nodes (first + m) few h
+    ∙ block-at v size ninodes nodes (first + m) h there
+    ∙ sym (part-of-part (image_with v size ninodes nodes) 1024 (1024 * m) (1024 * count) (1024 * first) (1024 * (first + m)) inside sum)
+    ∙ ap (λ (xs : List ℕ). take 1024 (drop (1024 * m) xs)) (node-there v size ninodes nodes j n h l)
 
 -- ---- in the bytes of a node with more than twelve blocks
 

@@ -1,5 +1,5 @@
 -- The numbers of a node's blocks, as its inode and the block of its numbers have them.
-use Rattle.mkfs.proofs.Vocabulary.{◌≡◌, ℕ, zero, suc, ◌+◌, ◌-◌, ◌<◌, ◌≤◌, ◌^◌, eqb, min, Bool, false, cond, List, [], ◌∷◌, ◌++◌, length, take, replicate, get_or, ap, ◌∙◌, sym, ⊎_elim, arith, append_assoc, All, range_with_len, cases_lt, ne_eqb, append-nil, get_or-append_right, get_or_append_left, get_or-replicate, length-range_with_len, get_or-range_with_len, sum_by-cons, sum_by_more_le, Dinode, numbers_in, spell_numbers, recovered, numbers_in-spell, inode_of, numbers_of, blocks_for, data_start, Node, padded, inode_for, inodes_from, blocks_before, blocks_of_node}
+use Rattle.mkfs.proofs.Vocabulary.{Version, ◌≡◌, ℕ, zero, suc, ◌+◌, ◌-◌, ◌<◌, ◌≤◌, ◌^◌, eqb, min, Bool, false, cond, List, [], ◌∷◌, ◌++◌, length, take, replicate, get_or, ap, ◌∙◌, sym, ⊎_elim, arith, append_assoc, All, range_with_len, cases_lt, ne_eqb, append-nil, get_or-append_right, get_or_append_left, get_or-replicate, length-range_with_len, get_or-range_with_len, sum_by-cons, sum_by_more_le, Dinode, numbers_in, spell_numbers, recovered, numbers_in-spell, inode_of, numbers_of, blocks_for, data_start, Node, padded, inode_for, inodes_from, blocks_before, blocks_of_node}
 use Rattle.mkfs.proofs.Basics.{length-padded, Fits, blocks-small, blocks-large, disk_of, IsRange, range-append}
 use Rattle.mkfs.proofs.Records.{IsNode, all-append, all-range, all-zeros}
 use Rattle.mkfs.proofs.NodeInodes.{inode-is}
@@ -16,11 +16,11 @@ inode-in first (node ∷ nodes) (suc j) n d h =
     let place : first + count + blocks_before j nodes ≡ first + blocks_before (suc j) (node ∷ nodes) = omega (arith, sum_by-cons blocks_of_node node (take j nodes)) in
     inode-in (first + count) nodes j n d (omega arith) ∙ ap (λ (i : ℕ). inode_for i (get_or nodes j n)) place
 
-pub inode-for-there : (size ninodes : ℕ) (nodes : List Node) (j : ℕ) (n : Node) → ninodes ≤ 65535 → Fits size ninodes nodes → All IsNode nodes → j < length nodes
-    → inode_of (disk_of size ninodes nodes) (j + 1) ≡ inode_for (data_start ninodes + blocks_before j nodes) (get_or nodes j n)
-inode-for-there size ninodes nodes j n few h all l =
+pub inode-for-there : (v : Version) (size ninodes : ℕ) (nodes : List Node) (j : ℕ) (n : Node) → ninodes ≤ 65535 → Fits size ninodes nodes → All IsNode nodes → j < length nodes
+    → inode_of (disk_of v size ninodes nodes) (j + 1) ≡ inode_for (data_start ninodes + blocks_before j nodes) (get_or nodes j n)
+inode-for-there v size ninodes nodes j n few h all l =
     let d : Dinode = inode_for 0 n in
-    inode-is size ninodes nodes j d few h all l ∙ inode-in (data_start ninodes) nodes j n d l
+    inode-is v size ninodes nodes j d few h all l ∙ inode-in (data_start ninodes) nodes j n d l
 
 -- ---- its addresses
 
@@ -103,18 +103,18 @@ read-numbers first count h few =
 
 -- ---- in an image
 
-pub numbers-there : (size ninodes : ℕ) (nodes : List Node) (j : ℕ) (n : Node) → ninodes ≤ 65535 → Fits size ninodes nodes → All IsNode nodes → j < length nodes
-    → IsRange (numbers_of (disk_of size ninodes nodes) (inode_of (disk_of size ninodes nodes) (j + 1)))
+pub numbers-there : (v : Version) (size ninodes : ℕ) (nodes : List Node) (j : ℕ) (n : Node) → ninodes ≤ 65535 → Fits size ninodes nodes → All IsNode nodes → j < length nodes
+    → IsRange (numbers_of (disk_of v size ninodes nodes) (inode_of (disk_of v size ninodes nodes) (j + 1)))
     (data_start ninodes + blocks_before j nodes) (blocks_of_node (get_or nodes j n))
-numbers-there size ninodes nodes j n few h all l =
-    let disk : List (List ℕ) = disk_of size ninodes nodes in
+numbers-there v size ninodes nodes j n few h all l =
+    let disk : List (List ℕ) = disk_of v size ninodes nodes in
     let first : ℕ = data_start ninodes + blocks_before j nodes in
     let node : Node = get_or nodes j n in
     let bytes : ℕ = length node.content in
     let count : ℕ = blocks_of_node node in
     let most : bytes ≤ 274432 = h.contents j n l in
     let room : first + count ≤ size = omega (arith, h.room, sum_by_more_le blocks_of_node nodes j n l) in
-    let inode = inode-for-there size ninodes nodes j n few h all l in
+    let inode = inode-for-there v size ninodes nodes j n few h all l in
     ⊎_elim
     (λ (more : 12288 < bytes).
     let blocks : count ≡ blocks_for bytes + 1 = blocks-large bytes more in
@@ -122,7 +122,7 @@ numbers-there size ninodes nodes j n few h all l =
     let rest : blocks_for bytes - 12 ≡ count - 13 = omega (arith, blocks) in
     let within : 12 < count = omega (arith, many) in
     let there : numbers_in (recovered disk (first + 12)) ≡ padded 256 (range_with_len (first + 13) (count - 13)) =
-    ap numbers_in (node-block size ninodes nodes j 12 n few h l within ∙ block-of-numbers first node.content more most)
+    ap numbers_in (node-block v size ninodes nodes j 12 n few h l within ∙ block-of-numbers first node.content more most)
     ∙ ap (λ (k : ℕ). numbers_in (spell_numbers (padded 256 (range_with_len (first + 13) k)))) rest
     ∙ read-numbers (first + 13) (count - 13) (omega (arith, room, h.few)) (omega (arith, blocks)) in
     let is : IsRange (numbers_of disk (inode_of disk (j + 1))) first count =

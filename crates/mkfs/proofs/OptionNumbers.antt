@@ -1,7 +1,8 @@
 -- A parse of the command line gives its numbers.
-use Rattle.mkfs.proofs.Vocabulary.{◌≡◌, ◌∙◌, ◌<◌, ◌==◌, ◌&&◌, ◌^◌, ℕ, Bool, true, false, true≢false, not, cond, zero, suc, refl, sym, ap, subst, arith, inl, inr, List, [], ◌∷◌, map, length, drop, Some, None, codes, option_map, ⊤, find, pos, slice_get, unwrap_or, Err, IfOk, IsErrAnd, Ok, Result, Bor, All, Any, list_any, slice_index_or, bytes_eq, IsNumeral, digits_value, starts_with_minus, without_leading_plus, ne_eqb, ints, All-get_or, Any-from_list_any, bytes_eq-Decides, digit_from_value, BuildsOrBreaks, BuildsTo, is_broken, Entry, EntryPasses, HasId, HasIn, IsParsed, MayBeEmpty, PassesArg, WantsDefault, args_of, groups_of, parser_of, parser_of_value, unwrap_or_range, without_minus, found_of, has_subcommand, matched_of, one_text, App, app_of, built, is_buildable, Accepts, IsSignedIn, reading_of, Rule, Text, action_of, is_empty, rule_of, texts, Count, Set, Arg, Command, out-Command, WithoutMinus, ValueParser, Signed, Error, ArgMatches, Found, MatchedArg, entry_by_id, is_false, is_nil, both, list_any-map, HasNumber, mkfs_line, number_in}
+use Rattle.mkfs.proofs.Vocabulary.{◌≡◌, ◌∙◌, ◌<◌, ◌≤◌, ◌==◌, ◌&&◌, ℕ, Bool, true, false, true≢false, not, cond, zero, suc, refl, sym, ap, subst, arith, inl, inr, List, [], ◌∷◌, map, length, drop, Some, None, codes, option_map, ⊤, find, pos, slice_get, unwrap_or, Err, IfOk, IsErrAnd, Ok, Result, Bor, All, Any, list_any, slice_index_or, bytes_eq, IsNumeral, digits_value, starts_with_minus, without_leading_plus, ne_eqb, ints, All-get_or, Any-from_list_any, bytes_eq-Decides, digit_from_value, BuildsOrBreaks, BuildsTo, is_broken, Entry, EntryPasses, HasId, HasIn, IsParsed, MayBeEmpty, PassesArg, WantsDefault, args_of, groups_of, parser_of, parser_of_value, unwrap_or_range, without_minus, found_of, has_subcommand, matched_of, one_text, App, app_of, built, is_buildable, Accepts, IsSignedIn, reading_of, Rule, Text, action_of, is_empty, rule_of, texts, Count, Set, Arg, Command, out-Command, WithoutMinus, ValueParser, Signed, Error, ArgMatches, Found, MatchedArg, entry_by_id, is_false, is_nil, both, list_any-map, HasNumber, HasVersion, mkfs_line, number_in}
+use Rattle.image_versions.proofs.Places.{between}
 
--- ---- the text of a u32
+-- ---- the text of a number
 
 without_minus-cond : (t : Text) → without_minus t ≡ cond (starts_with_minus t) (drop 1 t) t
 without_minus-cond [] = refl
@@ -17,54 +18,59 @@ no_plus (d ∷ ds) h =
     let plus : (d == 43) ≡ false = ne_eqb _ _ (λ e. omega (arith, digit_from_value d h.1.0)) in
     ap (λ (b : Bool). drop (cond b 1 0) (d ∷ ds)) plus
 
-abbrev IsNumber : Text → Type 0
-IsNumber t = IsNumeral 10 (without_leading_plus t) × (number_in t < 2 ^ 32)
+-- a number between these
+abbrev IsNumber : ℕ → ℕ → Text → Type 0
+IsNumber least greatest t = IsNumeral 10 (without_leading_plus t) × (least ≤ number_in t) × (number_in t ≤ greatest)
 
--- a text that passed the parser of a u32 is a number's, but for its minus
-number_text : (t : Text) → IsSignedIn (pos 0) (pos 4294967295) t → IsNumber (without_minus t)
-number_text t passed = subst IsNumber (sym (without_minus-cond t)) (go (starts_with_minus t) refl)
+-- a text that passed the parser of such a number is one's, but for its minus
+number_text : (least greatest : ℕ) (t : Text) → IsSignedIn (pos least) (pos greatest) t → IsNumber least greatest (without_minus t)
+number_text least greatest t passed = subst (IsNumber least greatest) (sym (without_minus-cond t)) (go (starts_with_minus t) refl)
   where
-    go : (b : Bool) → starts_with_minus t ≡ b → IsNumber (cond (starts_with_minus t) (drop 1 t) t)
+    go : (b : Bool) → starts_with_minus t ≡ b → IsNumber least greatest (cond (starts_with_minus t) (drop 1 t) t)
     go true minus =
         let low = rw minus at passed.2 in
+        let high = rw minus at passed.3 in
         let numeral : IsNumeral 10 (drop 1 t) = rw minus at passed.0 in
         let same = no_plus (drop 1 t) numeral in
-        let small : digits_value 10 (drop 1 t) < 2 ^ 32 = omega (arith, ints) in
-        rw (minus, same) (numeral, small)
+        let large : least ≤ digits_value 10 (drop 1 t) = omega (arith, ints) in
+        let small : digits_value 10 (drop 1 t) ≤ greatest = omega (arith, ints) in
+        rw (minus, same) (numeral, large, small)
     go false minus =
         let low = rw minus at passed.2 in
         let high = rw minus at passed.3 in
         let numeral : IsNumeral 10 (without_leading_plus t) = rw minus at passed.0 in
-        let small : number_in t < 2 ^ 32 = omega (arith, ints) in
-        rw minus (numeral, small)
+        let large : least ≤ number_in t = omega (arith, ints) in
+        let small : number_in t ≤ greatest = omega (arith, ints) in
+        rw minus (numeral, large, small)
 
 -- ---- the rules of an option with a number
 
--- a u32, of which each use has one value
-abbrev pub IsNumberRule : Rule → Type 0
-IsNumberRule r = (parser_of_value r.parser ≡ Signed (pos 0) (pos 4294967295)) × (action_of r ≡ Set)
+-- a number between these, of which each use has one value
+abbrev pub IsNumberRule : ℕ → ℕ → Rule → Type 0
+IsNumberRule least greatest r = (parser_of_value r.parser ≡ Signed (pos least) (pos greatest)) × (action_of r ≡ Set)
     × ((unwrap_or_range r.range).start_inclusive ≡ 1) × (r.is_simple ≡ true)
 
 -- each argument with this id is one
-abbrev pub HasNumberRules : Text → List Rule → Type 0
-HasNumberRules id [] = ⊤
-HasNumberRules id (r ∷ rs) = (bytes_eq r.id id ≡ true → IsNumberRule r) × HasNumberRules id rs
+abbrev pub HasNumberRules : ℕ → ℕ → Text → List Rule → Type 0
+HasNumberRules least greatest id [] = ⊤
+HasNumberRules least greatest id (r ∷ rs) = (bytes_eq r.id id ≡ true → IsNumberRule least greatest r) × HasNumberRules least greatest id rs
 
 -- the argument has this id and a default
 abbrev pub is_default_of : Text → Rule → Bool
 is_default_of id r = bytes_eq r.id id && (not (is_empty r.defaults) && r.is_simple)
 
 -- the rule of an argument that has the id
-rule_at : (xs : List Arg) (id : Text) → HasNumberRules id (map rule_of xs) → (i : ℕ) (a : Arg) → i < length xs
-    → slice_index_or xs i a ≡ a → bytes_eq a.id.now id ≡ true → IsNumberRule (rule_of a)
-rule_at [] id h i a lt at same = absurd (omega arith)
-rule_at (x ∷ xs) id h zero a lt at same = subst (λ (w : Arg). bytes_eq w.id.now id ≡ true → IsNumberRule (rule_of w)) at h.0 same
-rule_at (x ∷ xs) id h (suc n) a lt at same = rule_at xs id h.1 n a (omega arith) at same
+rule_at : (least greatest : ℕ) (xs : List Arg) (id : Text) → HasNumberRules least greatest id (map rule_of xs) → (i : ℕ) (a : Arg) → i < length xs
+    → slice_index_or xs i a ≡ a → bytes_eq a.id.now id ≡ true → IsNumberRule least greatest (rule_of a)
+rule_at least greatest [] id h i a lt at same = absurd (omega arith)
+rule_at least greatest (x ∷ xs) id h zero a lt at same =
+    subst (λ (w : Arg). bytes_eq w.id.now id ≡ true → IsNumberRule least greatest (rule_of w)) at h.0 same
+rule_at least greatest (x ∷ xs) id h (suc n) a lt at same = rule_at least greatest xs id h.1 n a (omega arith) at same
 
 -- an argument with these rules may not go without a value
-not_empty : (a : Arg) → IsNumberRule (rule_of a) → MayBeEmpty a → ⊥
-not_empty a h (inl none) = let one = h.2 in omega arith
-not_empty a h (inr some) =
+not_empty : (least greatest : ℕ) (a : Arg) → IsNumberRule least greatest (rule_of a) → MayBeEmpty a → ⊥
+not_empty least greatest a h (inl none) = let one = h.2 in omega arith
+not_empty least greatest a h (inr some) =
     let bad = rw some at h.3 in
     grind arith
 
@@ -113,11 +119,12 @@ text_read : (f : Found) (id : Text) (x : MatchedArg) (v : Bor Text) → matched_
 text_read f id x v found first read = rw (found, first, read) refl
 
 -- what is known of a built command's option with a number
-module _ (c : Command) (id : Text) (no_groups : groups_of c ≡ []) (named : id ≡ [] → ⊥) (numbers : HasNumberRules id (map rule_of (args_of c))) where
+module _ (c : Command) (id : Text) (least greatest : ℕ) (no_groups : groups_of c ≡ []) (named : id ≡ [] → ⊥)
+    (numbers : HasNumberRules least greatest id (map rule_of (args_of c))) where
   number_rule_of : (w : Text) → w ≡ id → (Q : Arg → Type 0) → Any (λ a. (bytes_eq a.id.now w ≡ true) × Q a) (args_of c)
-      → (a : Arg) × IsNumberRule (rule_of a) × Q a
+      → (a : Arg) × IsNumberRule least greatest (rule_of a) × Q a
   number_rule_of w key Q any =
-      (any.1, rule_at (args_of c) id numbers any.0 any.1 any.2 any.3 (rw key at any.4.0), any.4.1)
+      (any.1, rule_at least greatest (args_of c) id numbers any.0 any.1 any.2 any.3 (rw key at any.4.0), any.4.1)
 
   no_group : (e : Entry) → e.0.now ≡ id → EntryPasses c e → e.1.is_group ≡ true → ⊥
   no_group e key pass g = elim (pass.3 g) [
@@ -137,7 +144,7 @@ module _ (c : Command) (id : Text) (no_groups : groups_of c ≡ []) (named : id 
         absurd cc
     | inr (inr (inr h)) ↦
         let a = number_rule_of e.0.now key MayBeEmpty h in
-        absurd (not_empty a.0 a.1 a.2)
+        absurd (not_empty least greatest a.0 a.1 a.2)
   ]
 
   is_read : (e : Entry) → e.0.now ≡ id → EntryPasses c e → e.1.reading ≡ WithoutMinus
@@ -148,13 +155,13 @@ module _ (c : Command) (id : Text) (no_groups : groups_of c ≡ []) (named : id 
         sym a.2 ∙ ap reading_of a.1.0
   ]
 
-  value_number : (w : Text) → w ≡ id → (t : Text) → PassesArg c w t → IsNumber (without_minus t)
+  value_number : (w : Text) → w ≡ id → (t : Text) → PassesArg c w t → IsNumber least greatest (without_minus t)
   value_number w key t pass =
       let a = number_rule_of w key (λ a. Accepts a.ignore_case (parser_of a) t) pass in
-      number_text t (subst (λ (q : ValueParser). Accepts a.0.ignore_case q t) a.1.0 a.2)
+      number_text least greatest t (subst (λ (q : ValueParser). Accepts a.0.ignore_case q t) a.1.0 a.2)
 
   entry_number : (f : Found) (e : Entry) → matched_of f id ≡ Some e.1 → e.0.now ≡ id → EntryPasses c e
-      → (t : Text) × (one_text f id ≡ Some t) × IsNumber t
+      → (t : Text) × (one_text f id ≡ Some t) × IsNumber least greatest t
   entry_number f e found key pass =
       let all : All (λ v. PassesArg c e.0.now v.now) e.1.vals.items = elim pass.0 [
         | inl g ↦ absurd (no_group e key pass g)
@@ -164,7 +171,7 @@ module _ (c : Command) (id : Text) (no_groups : groups_of c ≡ []) (named : id 
       (without_minus first.0.now, text_read f id e.1 first.0 found first.1 (is_read e key pass), value_number e.0.now key first.0.now first.2)
 
   -- a parse with an entry of it gives a number
-  parsed_number : (f : Found) (s : Bool) → IsParsed c f s → HasId f id → (t : Text) × (one_text f id ≡ Some t) × IsNumber t
+  parsed_number : (f : Found) (s : Bool) → IsParsed c f s → HasId f id → (t : Text) × (one_text f id ≡ Some t) × IsNumber least greatest t
   parsed_number f s parsed has =
       let found = found_entry f.entries.items id has in
       let e = entry_by_id (EntryPasses c) f.entries.items id found.0 parsed.values found.1 in
@@ -172,82 +179,115 @@ module _ (c : Command) (id : Text) (no_groups : groups_of c ≡ []) (named : id 
 
 -- ---- the parse of the command line
 
--- a command as it is before or after it is built, with this option of a number
-pub record GivesNumber (id : Text) (a : App) : Type 0 where
+-- a command as it is before or after it is built, with this option of a number between these
+pub record GivesNumber (id : Text) (least greatest : ℕ) (a : App) : Type 0 where
   pub plain : a.top.is_plain ≡ true
-  pub numbers : HasNumberRules id a.top.rules
+  pub numbers : HasNumberRules least greatest id a.top.rules
   pub default : list_any (is_default_of id) a.top.rules ≡ true
 
+-- the first value of this option is the text of such a number
+abbrev HasNumberIn : ArgMatches → Text → ℕ → ℕ → Type 0
+HasNumberIn m id least greatest = (t : Text) × (one_text (found_of m) id ≡ Some t) × IsNumber least greatest t
+
 -- a parse by such a command gives the number
-number_given : (c : Command) (m : ArgMatches) (id : Text) → (id ≡ [] → ⊥) → GivesNumber id (app_of c)
-    → IsParsed c (found_of m) (has_subcommand m) → HasNumber m id
-number_given c m id named gives parsed =
+number_given : (c : Command) (m : ArgMatches) (id : Text) (least greatest : ℕ) → (id ≡ [] → ⊥) → GivesNumber id least greatest (app_of c)
+    → IsParsed c (found_of m) (has_subcommand m) → HasNumberIn m id least greatest
+number_given c m id least greatest named gives parsed =
     let groups : groups_of c ≡ [] = is_nil _ (both _ _ gives.plain).0 in
-    let got = parsed_number c id groups named gives.numbers (found_of m) (has_subcommand m) parsed
-    (default_entry c (found_of m) (has_subcommand m) id parsed gives.default) in
-    record { text = got.0; there = got.1; numeral = got.2.0; fits = got.2.1 }
+    parsed_number c id least greatest groups named gives.numbers (found_of m) (has_subcommand m) parsed
+    (default_entry c (found_of m) (has_subcommand m) id parsed gives.default)
 
 -- the same of a command that was built, which has no global argument
-number_parsed : (c : Command) (m : ArgMatches) (id : Text) → (id ≡ [] → ⊥) → GivesNumber id (app_of c)
-    → ((out-Command c).has_globals ≡ false → IsParsed c (found_of m) (has_subcommand m)) → HasNumber m id
-number_parsed c m id named gives parsed =
+number_parsed : (c : Command) (m : ArgMatches) (id : Text) (least greatest : ℕ) → (id ≡ [] → ⊥) → GivesNumber id least greatest (app_of c)
+    → ((out-Command c).has_globals ≡ false → IsParsed c (found_of m) (has_subcommand m)) → HasNumberIn m id least greatest
+number_parsed c m id least greatest named gives parsed =
     let locals : (out-Command c).has_globals ≡ false = is_false _ (both _ _ (both _ _ (both _ _ gives.plain).1).1).0 in
-    number_given c m id named gives (parsed locals)
+    number_given c m id least greatest named gives (parsed locals)
 
 -- of a rule with another id nothing is asked
 differs : {A : Type 0} (b : Bool) → b ≡ false → b ≡ true → A
 differs b f t = absurd (true≢false (sym t ∙ f))
 
-size_before : GivesNumber (codes "size") mkfs_line
-size_before = record {
-  plain = refl;
-  numbers = (differs _ refl, ((λ _. (refl, refl, refl, refl)), (differs _ refl, (differs _ refl, tt))));
-  default = refl;
+-- what the command line is known for: its three options with numbers
+record GivesNumbers (a : App) : Type 0 where
+  pub size : GivesNumber (codes "size") 0 4294967295 a
+  pub inodes : GivesNumber (codes "inodes") 0 4294967295 a
+  pub version : GivesNumber (codes "version") 1 2 a
+
+before : GivesNumbers mkfs_line
+before = record {
+  size = record {
+    plain = refl;
+    numbers = (differs _ refl, ((λ _. (refl, refl, refl, refl)), (differs _ refl, (differs _ refl, (differs _ refl, (differs _ refl, (differs _ refl, tt)))))));
+    default = refl;
+  };
+  inodes = record {
+    plain = refl;
+    numbers = (differs _ refl, (differs _ refl, ((λ _. (refl, refl, refl, refl)), (differs _ refl, (differs _ refl, (differs _ refl, (differs _ refl, tt)))))));
+    default = refl;
+  };
+  version = record {
+    plain = refl;
+    numbers = (differs _ refl, (differs _ refl, (differs _ refl, ((λ _. (refl, refl, refl, refl)), (differs _ refl, (differs _ refl, (differs _ refl, tt)))))));
+    default = refl;
+  };
 }
 
-size_after : GivesNumber (codes "size") (built mkfs_line)
-size_after = record {
-  plain = refl;
-  numbers = (differs _ refl, ((λ _. (refl, refl, refl, refl)), (differs _ refl, (differs _ refl, (differs _ refl, (differs _ refl, tt))))));
-  default = refl;
+after : GivesNumbers (built mkfs_line)
+after = record {
+  size = record {
+    plain = refl;
+    numbers = (differs _ refl, ((λ _. (refl, refl, refl, refl)), (differs _ refl, (differs _ refl, (differs _ refl, (differs _ refl, (differs _ refl, (differs _ refl, tt))))))));
+    default = refl;
+  };
+  inodes = record {
+    plain = refl;
+    numbers = (differs _ refl, (differs _ refl, ((λ _. (refl, refl, refl, refl)), (differs _ refl, (differs _ refl, (differs _ refl, (differs _ refl, (differs _ refl, tt))))))));
+    default = refl;
+  };
+  version = record {
+    plain = refl;
+    numbers = (differs _ refl, (differs _ refl, (differs _ refl, ((λ _. (refl, refl, refl, refl)), (differs _ refl, (differs _ refl, (differs _ refl, (differs _ refl, tt))))))));
+    default = refl;
+  };
 }
 
-inodes_before : GivesNumber (codes "inodes") mkfs_line
-inodes_before = record {
-  plain = refl;
-  numbers = (differs _ refl, (differs _ refl, ((λ _. (refl, refl, refl, refl)), (differs _ refl, tt))));
-  default = refl;
-}
-
-inodes_after : GivesNumber (codes "inodes") (built mkfs_line)
-inodes_after = record {
-  plain = refl;
-  numbers = (differs _ refl, (differs _ refl, ((λ _. (refl, refl, refl, refl)), (differs _ refl, (differs _ refl, (differs _ refl, tt))))));
-  default = refl;
-}
-
-abbrev HasBoth : ArgMatches → Type 0
-HasBoth m = HasNumber m (codes "size") × HasNumber m (codes "inodes")
+abbrev HasAll : ArgMatches → Type 0
+HasAll m = HasNumber m (codes "size") × HasNumber m (codes "inodes") × HasVersion m
 
 -- an id with a first letter is not empty
 named : (x : ℕ) (xs : Text) → x ∷ xs ≡ [] → ⊥
 named x xs e = cc
 
--- a parse by the command line's command gives both numbers
-pub both_given : (old new : Command) (r : Result ArgMatches Error) (Q : ArgMatches → Type 0) (P : Error → Type 0) → app_of old ≡ mkfs_line
+u32_number : (m : ArgMatches) (id : Text) → HasNumberIn m id 0 4294967295 → HasNumber m id
+u32_number m id h = record { text = h.0; there = h.1; numeral = h.2.0; fits = let most = h.2.2 in omega arith }
+
+version_number : (m : ArgMatches) → HasNumberIn m (codes "version") 1 2 → HasVersion m
+version_number m h =
+    let is = between (number_in h.0) h.2.1 h.2.2 in
+    record {
+      number = record { text = h.0; there = h.1; numeral = h.2.0; fits = let most = h.2.2 in omega arith };
+      version = is.0;
+      known = is.1;
+    }
+
+-- a parse by the command line's command gives the numbers
+pub all_given : (old new : Command) (r : Result ArgMatches Error) (Q : ArgMatches → Type 0) (P : Error → Type 0) → app_of old ≡ mkfs_line
     → IfOk r (λ m. BuildsTo old new × ((out-Command new).has_globals ≡ false → IsParsed new (found_of m) (has_subcommand m)) × Q m)
-    → BuildsOrBreaks old new → (is_broken new ≡ true → IsErrAnd r P) → IfOk r HasBoth
-both_given old new (Err e) Q P line ok after fails = tt
-both_given old new (Ok m) Q P line ok after fails = elim after [
+    → BuildsOrBreaks old new → (is_broken new ≡ true → IsErrAnd r P) → IfOk r HasAll
+all_given old new (Err e) Q P line ok whole fails = tt
+all_given old new (Ok m) Q P line ok whole fails = elim whole [
   | inl broken ↦ absurd (fails broken)
   | inr h ↦ elim h.2 [
-    | inl same ↦ with_app (same ∙ line) size_before inodes_before
-    | inr whole ↦ with_app (whole (ap is_buildable line) ∙ ap built line) size_after inodes_after
+    | inl same ↦ with_app (same ∙ line) before
+    | inr built_so ↦ with_app (built_so (ap is_buildable line) ∙ ap built line) after
   ]
 ]
   where
-    with_app : {a : App} → app_of new ≡ a → GivesNumber (codes "size") a → GivesNumber (codes "inodes") a → HasBoth m
-    with_app is size inodes = (
-      number_parsed new m (codes "size") (named _ _) (subst (GivesNumber (codes "size")) (sym is) size) ok.1,
-      number_parsed new m (codes "inodes") (named _ _) (subst (GivesNumber (codes "inodes")) (sym is) inodes) ok.1,
-    )
+    with_app : {a : App} → app_of new ≡ a → GivesNumbers a → HasAll m
+    with_app is gives =
+        let here : GivesNumbers (app_of new) = subst GivesNumbers (sym is) gives in (
+          u32_number m (codes "size") (number_parsed new m (codes "size") 0 4294967295 (named _ _) here.size ok.1),
+          u32_number m (codes "inodes") (number_parsed new m (codes "inodes") 0 4294967295 (named _ _) here.inodes ok.1),
+          version_number m (number_parsed new m (codes "version") 1 2 (named _ _) here.version ok.1),
+        )

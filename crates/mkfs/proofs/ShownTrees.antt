@@ -1,5 +1,5 @@
 -- What the disk of an image shows of the nodes that lie on it.
-use Rattle.mkfs.proofs.Vocabulary.{◌≡◌, ℕ, ◌+◌, ◌*◌, ◌<◌, nat_lt, List, [], ◌++◌, length, take, drop, replicate, get_or, pos, range_with_len, Dinode, u32_at, block_at, sizes_of, log_count, logged, recovered, inode_of, numbers_of, content_block, is_marked, data_start, super_for, Node, whole, inodes_from, used_by, blocks_before, blocks_of_node}
+use Rattle.mkfs.proofs.Vocabulary.{◌≡◌, ℕ, ◌+◌, ◌*◌, ◌<◌, nat_lt, List, [], ◌++◌, length, take, drop, replicate, get_or, pos, range_with_len, Dinode, block_at, sizes_of, log_count, logged, recovered, inode_of, numbers_of, content_block, is_marked, data_start, super_for, Node, whole, inodes_from, used_by, blocks_before, blocks_of_node}
 
 -- an inode that is all zeros
 abbrev pub free_inode : Dinode
@@ -12,7 +12,6 @@ pub record IsRange (numbers : List ℕ) (first count : ℕ) : Type 0 where
 
 pub record Shows (disk : List (List ℕ)) (size ninodes : ℕ) (nodes : List Node) : Type 0 where
   pub long : length disk ≡ size
-  pub magic : u32_at (block_at disk 1) 0 ≡ 0x10203040
   pub sizes : sizes_of disk ≡ super_for size ninodes
   pub count : log_count disk ≡ 0
   pub empty : logged disk ≡ []

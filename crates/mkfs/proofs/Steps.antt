@@ -1,5 +1,5 @@
 -- Appending one part after another.
-use Rattle.mkfs.proofs.Vocabulary.{◌≡◌, ℕ, ◌+◌, ◌-◌, ◌<◌, ◌≤◌, List, [], ◌∷◌, ◌++◌, length, take, drop, map, get_or, sym, subst, ap, if◌then◌else◌, is_ok, Ok, Err, Result, OnOk, ◌∙◌, arith, append_assoc, All, flat_map, range_with_len, drop_more, get_or-map, length-map, sum_by-cons, spell_dinode, spell_dirent, spell_numbers, Used, blocks_for, node_blocks, file_blocks, NewFile, contents_of, names_of, entries_from, inodes_from, data_from, file_node, inode_for, node_bytes, padded, whole}
+use Rattle.mkfs.proofs.Vocabulary.{Version, ◌≡◌, ℕ, ◌+◌, ◌-◌, ◌<◌, ◌≤◌, List, [], ◌∷◌, ◌++◌, length, take, drop, map, get_or, sym, subst, ap, if◌then◌else◌, is_ok, Ok, Err, Result, OnOk, ◌∙◌, arith, append_assoc, All, flat_map, range_with_len, drop_more, get_or-map, length-map, sum_by-cons, spell_dinode, spell_dirent, spell_numbers, Used, blocks_for, node_blocks, file_blocks, NewFile, contents_of, names_of, entries_from, inodes_from, data_from, file_node, inode_for, node_bytes, padded, whole}
 use Rattle.mkfs.proofs.Basics.{node_bytes-large, whole-front}
 
 -- one part more, of those that are left
@@ -14,10 +14,10 @@ blocks_more blocks part rest left all n e f h = omega arith
 files-next : (files : List NewFile) (i : ℕ) (file : NewFile) → i < length files → file ≡ get_or files i file → drop i files ≡ file ∷ drop (i + 1) files
 files-next files i file l e = drop_more files i file l ∙ ap (λ (f : NewFile). f ∷ drop (i + 1) files) (sym e)
 
-pub entries-next : (files : List NewFile) (i n : ℕ) (file : NewFile) → i < length files → file ≡ get_or files i file
-    → flat_map spell_dirent (entries_from n (names_of (drop i files)))
-    ≡ spell_dirent (Used n file.name.items) ++ flat_map spell_dirent (entries_from (n + 1) (names_of (drop (i + 1) files)))
-entries-next files i n file l e = ap (λ (fs : List NewFile). flat_map spell_dirent (entries_from n (names_of fs))) (files-next files i file l e)
+pub entries-next : (v : Version) (files : List NewFile) (i n : ℕ) (file : NewFile) → i < length files → file ≡ get_or files i file
+    → flat_map (spell_dirent v) (entries_from n (names_of (drop i files)))
+    ≡ spell_dirent v (Used n file.name.items) ++ flat_map (spell_dirent v) (entries_from (n + 1) (names_of (drop (i + 1) files)))
+entries-next v files i n file l e = ap (λ (fs : List NewFile). flat_map (spell_dirent v) (entries_from n (names_of fs))) (files-next files i file l e)
 
 pub inodes-next : (files : List NewFile) (i first : ℕ) (file : NewFile) → i < length files → file ≡ get_or files i file
     → flat_map spell_dinode (inodes_from first (map file_node (contents_of (drop i files))))

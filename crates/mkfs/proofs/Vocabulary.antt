@@ -1,7 +1,7 @@
 -- What this crate's proofs speak of: its own definitions, and what the crates below and the library call things.
-pub use Rattle.image_tree.proofs.Vocabulary.{All, All-append, AllByRecursion, AllPairs, AreGoodSlots, Bool, Err, HasGoodCounts, HasGoodLog, HasGoodNumbers, HasGoodSizes, HasGoodSlots, HasGoodTypes, HasMarks, HasRoot, IsData, IsFittingSize, IsGoodCount, IsGoodSize, IsGoodSuper, IsGoodType, IsName, IsOnce, IsOneTree, IsWellFormed, List, NamesOnce, None, Ok, OnOk, Option, Result, Some, UpToLog, [], ap, append-nil, append_assoc, arith, at_rest, bit_of, block_at, block_number, blocks_for, cases_eq, cases_lt, children_of, cond, content_of, dinode_at, dirent_at, drop, drop_more, eq-eqb, eqb, eqb-true, false, false_from_ne_true, false≢true, filter, filter-append, flat_map, flat_map-append, further_in, further_names_of, get_or, get_or-map, get_or-replicate, get_or_append_left, get_or_at, get_or_default, if◌then◌else◌, inl, inr, is_block, is_directory, is_file, is_free, is_live, is_marked, is_number, is_positive, last, length, length-append, length-map, length-replicate, list_any, log_count, log_head_at, lt-ltb, map, min, named_by, named_in, nat_lt, ne_eqb, not, numbers_in, overwrite, parent_of, pos, refl, replicate, set, slot_numbers, slot_of, slots_of, subst, suc, sum_by-append, sum_by-cons, super_fields, sym, take, take-append-drop, take_more, times, tree_in, true, up, zero, ℕ, ⊎_elim, ◌%◌, ◌&&◌, ◌*◌, ◌++◌, ◌+◌, ◌-◌, ◌/◌, ◌<ℤ◌, ◌<◌, ◌==◌, ◌^◌, ◌∙◌, ◌∷◌, ◌≡◌, ◌≢◌, ◌≤◌, ◌⊎◌}
+pub use Rattle.image_tree.proofs.Vocabulary.{All, All-append, AllByRecursion, AllPairs, AreGoodSlots, Bool, Err, HasGoodCounts, HasGoodLog, HasGoodNumbers, HasGoodSizes, HasGoodSlots, HasGoodTypes, HasMarks, HasRoot, IsData, IsFittingSize, IsGoodCount, IsGoodSize, IsGoodSuper, IsGoodType, IsOnce, IsOneTree, IsWellFormed, List, NamesOnce, None, Ok, OnOk, Option, Result, Some, UpToLog, [], ap, append-nil, append_assoc, arith, at_rest, bit_of, block_at, block_number, blocks_for, cases_eq, cases_lt, children_of, cond, content_of, dinode_at, dirent_at, drop, drop_more, eq-eqb, eqb, eqb-true, false, false_from_ne_true, false≢true, filter, filter-append, flat_map, flat_map-append, further_in, further_names_of, get_or, get_or-map, get_or-replicate, get_or_append_left, get_or_at, get_or_default, if◌then◌else◌, inl, inr, is_block, is_directory, is_file, is_free, is_live, is_marked, is_number, is_positive, last, length, length-append, length-map, length-replicate, list_any, log_count, log_head_at, lt-ltb, map, min, nat_le, nat_tests, named_by, named_in, nat_lt, ne_eqb, not, numbers_in, overwrite, parent_of, pos, refl, replicate, set, slot_numbers, slot_of, slots_of, subst, suc, sum_by-append, sum_by-cons, super_fields, sym, take, take-append-drop, take_more, times, tree_in, true, up, zero, ℕ, ⊎_elim, ◌%◌, ◌&&◌, ◌*◌, ◌++◌, ◌+◌, ◌-◌, ◌/◌, ◌<ℤ◌, ◌<◌, ◌==◌, ◌^◌, ◌∙◌, ◌∷◌, ◌≡◌, ◌≢◌, ◌≤◌, ◌⊎◌}
 unfoldable pub use Rattle.image_tree.proofs.Vocabulary.{climb, content_block, first_nodes, first_slots, front_blocks, gathered, inode_of, is_live_directory, is_node, kind_of, logged, node_of, numbers_by, numbers_of, recovered, sizes_of, slot_at, slots_in, u32_at, u32s_at}
-pub use Rattle.mkfs.specs.Vocabulary.{ArgMatches, IsNumeral, Set, Signed, digits_value, dot, dotdot, matches_of, range_with_len, rows_of, spell_dinode, spell_dirent, spell_numbers, spell_super, without_leading_plus}
+pub use Rattle.mkfs.specs.Vocabulary.{ArgMatches, IsName, IsNumeral, Set, Signed, digits_value, dot, dotdot, matches_of, range_with_len, rows_of, spell_dinode, spell_dirent, spell_numbers, spell_super, without_leading_plus}
 unfoldable pub use Rattle.mkfs.specs.Vocabulary.{blocks_of}
 pub use Rattle.fs_layout.proofs.Vocabulary.{FitsSigned, IsDinode, IsDirent, IsSuper, bit_at, dinode_of, dirent_of, drop-drop, drop-take, drop_at, length-drop, length-take-le, record_at, super_numbers, take-append-le, take-take, take_at}
 unfoldable pub use Rattle.fs_layout.proofs.Vocabulary.{u16_at}
@@ -20,7 +20,7 @@ pub use Rattle.std.proofs.lemmas.List.Sums.{sum_by_more, sum_by_more_le}
 pub use Rattle.clap.specs.Matches.{ReadsOne, found_of, has_subcommand, matched_of, one_text}
 pub use Rattle.image_tree.proofs.Nodes.{directory_from, directory_is, node_from, node_is, numbers_by_node}
 pub use Rattle.image_tree.specs.Damage.{UpToMarks, UpToRoot, UpToShort, UpToSizes}
-pub use Rattle.mkfs.specs.Options.{HasNumber, mkfs_line, number_in}
+pub use Rattle.mkfs.specs.Options.{HasNumber, HasVersion, mkfs_line, number_in}
 pub use Rattle.mkfs.specs.declared.new_file.NewFile.{NewFile}
 pub use Rattle.std.proofs.lemmas.Slice.Eq.{bytes_eq-Decides}
 pub use Rattle.std.specs.Str.{bytes_eq}
@@ -48,7 +48,8 @@ pub use Rattle.fs_layout.proofs.Entries.{dirent_of-spell, length-spell_dirent}
 pub use Rattle.fs_layout.proofs.Inodes.{dinode_of-spell, length-spell_dinode}
 pub use Rattle.fs_layout.proofs.Numbers.{length-u32s_bytes}
 pub use Rattle.fs_layout.proofs.Words.{numbers_in-spell, super_of-spell}
-pub use Rattle.fs_layout.specs.Widths.{magic}
+pub use Rattle.image_versions.specs.Versions.{dirent_len_of, dirents_per_block_of, magic_of, most_slots_of, name_len_of}
+pub use Rattle.image_versions.specs.declared.version.Version.{Version}
 pub use Rattle.image_tree.proofs.EntryLemmas.{no_node_zero}
 pub use Rattle.image_tree.proofs.MarkLemmas.{once_nil}
 pub use Rattle.image_tree.proofs.NumberLists.{numbers_by_free}

@@ -1,23 +1,25 @@
 -- What can be made fits its image.
-use Rattle.mkfs.proofs.Vocabulary.{◌≡◌, ℕ, zero, suc, ◌+◌, ◌<◌, ◌≤◌, ◌^◌, List, length, map, ap, ◌∙◌, sym, subst, arith, All, length-map, All-map, IsName, node_blocks, file_blocks, data_start, root_size, Node, nodes_with, file_node, used_by, root_content, CanBeMade}
+use Rattle.mkfs.proofs.Vocabulary.{Version, ◌≡◌, ℕ, zero, suc, ◌+◌, ◌<◌, ◌≤◌, ◌^◌, List, length, map, ap, ◌∙◌, sym, subst, arith, All, length-map, All-map, IsName, node_blocks, file_blocks, data_start, root_size, Node, nodes_with, file_node, used_by, root_content, CanBeMade}
+use Rattle.mkfs.proofs.RootSizes.{few-bytes, most-slots}
 use Rattle.mkfs.proofs.Basics.{used-parts, length-root_content, Fits, AreNodes}
 
-pub root_long : (size ninodes : ℕ) (names contents : List (List ℕ)) → length names ≡ length contents → CanBeMade size ninodes names contents
-    → length (root_content names) ≡ root_size (length contents)
-root_long size ninodes names contents many can =
-    let few : 2 + length names < 2 ^ 16 = omega (arith, many, can.0.0.1.few) in
-    let each : All IsName names = λ i d l. (can.0.0.0.1.each i d l).0 in
-    length-root_content names few each ∙ ap root_size many
+pub root_long : (v : Version) (size ninodes : ℕ) (names contents : List (List ℕ)) → length names ≡ length contents → CanBeMade v size ninodes names contents
+    → length (root_content v names) ≡ root_size v (length contents)
+root_long v size ninodes names contents many can =
+    let few : 2 + length names < 2 ^ 16 = omega (arith, many, can.0.0.1.few, most-slots v) in
+    let each : All (IsName v) names = λ i d l. (can.0.0.0.1.each i d l).0 in
+    length-root_content v names few each ∙ ap (root_size v) many
 
-pub root_few : (size ninodes : ℕ) (names contents : List (List ℕ)) → length names ≡ length contents → CanBeMade size ninodes names contents
-    → length (root_content names) ≤ 274432
-root_few size ninodes names contents many can = omega (arith, root_long size ninodes names contents many can, can.0.0.1.few)
+pub root_few : (v : Version) (size ninodes : ℕ) (names contents : List (List ℕ)) → length names ≡ length contents → CanBeMade v size ninodes names contents
+    → length (root_content v names) ≤ 274432
+root_few v size ninodes names contents many can =
+    subst (λ (n : ℕ). n ≤ 274432) (sym (root_long v size ninodes names contents many can)) (few-bytes v (length contents) can.0.0.1.few)
 
-pub room : (size ninodes : ℕ) (names contents : List (List ℕ)) → length names ≡ length contents → CanBeMade size ninodes names contents
-    → used_by (data_start ninodes) (nodes_with (root_content names) contents) ≤ size
-room size ninodes names contents many can =
+pub room : (v : Version) (size ninodes : ℕ) (names contents : List (List ℕ)) → length names ≡ length contents → CanBeMade v size ninodes names contents
+    → used_by (data_start ninodes) (nodes_with (root_content v names) contents) ≤ size
+room v size ninodes names contents many can =
     let first : ℕ = data_start ninodes in
-    let same = sym (used-parts first (root_content names) contents) ∙ ap (λ (n : ℕ). first + node_blocks n + file_blocks contents) (root_long size ninodes names contents many can) in
+    let same = sym (used-parts first (root_content v names) contents) ∙ ap (λ (n : ℕ). first + node_blocks n + file_blocks contents) (root_long v size ninodes names contents many can) in
     subst (λ (n : ℕ). n ≤ size) (sym same) can.1
 
 each-node : (root : List ℕ) (contents : List (List ℕ)) → length root ≤ 274432 → All (λ content. length content ≤ 274432) contents → AreNodes (nodes_with root contents)
@@ -29,14 +31,14 @@ each-node root contents few h =
     at files zero d l = few
     at files (suc i) d l = files i d (omega arith)
 
-pub fits : (size ninodes : ℕ) (names contents : List (List ℕ)) → length names ≡ length contents → CanBeMade size ninodes names contents
-    → Fits size ninodes (nodes_with (root_content names) contents)
-fits size ninodes names contents many can =
+pub fits : (v : Version) (size ninodes : ℕ) (names contents : List (List ℕ)) → length names ≡ length contents → CanBeMade v size ninodes names contents
+    → Fits size ninodes (nodes_with (root_content v names) contents)
+fits v size ninodes names contents many can =
     let nodes : List Node = map file_node contents in
     let count : length nodes ≡ length contents = length-map contents file_node in
     record {
       few = can.0.0.0.0.few_blocks;
       inodes = omega (arith, count, can.0.1, can.0.0.0.0.some_inodes);
-      contents = each-node (root_content names) contents (root_few size ninodes names contents many can) can.0.0.1.each;
-      room = room size ninodes names contents many can;
+      contents = each-node (root_content v names) contents (root_few v size ninodes names contents many can) can.0.0.1.each;
+      room = room v size ninodes names contents many can;
     }

@@ -1,6 +1,6 @@
--- The image that is made: its bytes, one part after another.
+-- The image of a version that is made: its bytes, one part after another.
 use Rattle.std.specs.Prelude.{ℕ, ◌+◌, ◌-◌, ◌*◌, ◌/◌, ◌%◌, ◌^◌, min, nat_lt, if◌then◌else◌, ℤ, pos, List, [], ◌∷◌, ◌++◌, length, take, drop, map, replicate, sum_by}
-use Rattle.mkfs.specs.Vocabulary.{flat_map, range_with_len, Dinode, Dirent, Used, spell_dinode, spell_dirent, spell_numbers, spell_super, addresses, block_len, inode_len, inodes_per_block, numbers_per_block, blocks_for, direct, dot, dotdot, root}
+use Rattle.mkfs.specs.Vocabulary.{flat_map, range_with_len, Dinode, Dirent, Used, Version, spell_dinode, spell_dirent, spell_numbers, spell_super, addresses, block_len, inode_len, inodes_per_block, numbers_per_block, blocks_for, direct, dot, dotdot, root}
 use Rattle.mkfs.specs.declared.new_file.NewFile.{NewFile}
 use Rattle.mkfs.specs.Layout.{log_blocks, inode_blocks, data_start, super_for, node_blocks}
 use Rattle.mkfs.specs.Widths.{bits_per_byte, direct_len, directory_kind, file_kind, first_file}
@@ -49,8 +49,8 @@ abbrev pub root_entries : List (List ℕ) → List Dirent
 root_entries names = Used root dot ∷ Used root dotdot ∷ entries_from first_file names
 
 -- its content: behind the entries zeros, which are free entries, up to a whole block
-unfoldable pub root_content : List (List ℕ) → List ℕ
-root_content names = whole (flat_map spell_dirent (root_entries names))
+unfoldable pub root_content : Version → List (List ℕ) → List ℕ
+root_content v names = whole (flat_map (spell_dirent v) (root_entries names))
 
 abbrev pub root_node : List ℕ → Node
 root_node content = record { kind = directory_kind; content = content }
@@ -130,18 +130,18 @@ blocks_before i nodes = sum_by blocks_of_node (take i nodes)
 -- ---- the whole
 
 -- boot block, superblock and log, which is empty
-unfoldable pub front : ℕ → ℕ → List ℕ
-front size ninodes = zero_blocks 1 ++ padded block_len (spell_super (super_for size ninodes)) ++ zero_blocks log_blocks
+unfoldable pub front : Version → ℕ → ℕ → List ℕ
+front v size ninodes = zero_blocks 1 ++ padded block_len (spell_super v (super_for size ninodes)) ++ zero_blocks log_blocks
 
 -- an image with these nodes: behind them the blocks that are free
-unfoldable pub image_with : ℕ → ℕ → List Node → List ℕ
-image_with size ninodes nodes =
-    front size ninodes
+unfoldable pub image_with : Version → ℕ → ℕ → List Node → List ℕ
+image_with v size ninodes nodes =
+    front v size ninodes
     ++ inode_table ninodes (data_start ninodes) nodes
     ++ bitmap (used_by (data_start ninodes) nodes)
     ++ data_from (data_start ninodes) nodes
     ++ zero_blocks (size - used_by (data_start ninodes) nodes)
 
 -- the image with files of these names and contents in its root
-abbrev pub image_of : ℕ → ℕ → List (List ℕ) → List (List ℕ) → List ℕ
-image_of size ninodes names contents = image_with size ninodes (nodes_with (root_content names) contents)
+abbrev pub image_of : Version → ℕ → ℕ → List (List ℕ) → List (List ℕ) → List ℕ
+image_of v size ninodes names contents = image_with v size ninodes (nodes_with (root_content v names) contents)

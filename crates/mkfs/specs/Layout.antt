@@ -1,6 +1,6 @@
 -- Where the parts of an image lie that is made, in blocks.
 use Rattle.std.specs.Prelude.{ℕ, ◌+◌, ◌-◌, ◌*◌, ◌/◌, nat_lt, if◌then◌else◌, List, length, sum_by}
-use Rattle.mkfs.specs.Vocabulary.{Super, block_len, inodes_per_block, dirent_len, blocks_for, direct}
+use Rattle.mkfs.specs.Vocabulary.{Super, Version, block_len, inodes_per_block, dirent_len_of, blocks_for, direct}
 
 -- where the log begins, and how many blocks it has
 abbrev pub log_start : ℕ
@@ -47,6 +47,6 @@ node_blocks size = blocks_for size + (if nat_lt direct (blocks_for size) then 1 
 abbrev pub file_blocks : List (List ℕ) → ℕ
 file_blocks contents = sum_by (λ content. node_blocks (length content)) contents
 
--- how many bytes the root has that names so many files: its entries, "." and ".." among them, up to a whole block
-abbrev pub root_size : ℕ → ℕ
-root_size files = block_len * blocks_for (dirent_len * (2 + files))
+-- how many bytes the root of this version has that names so many files: its entries, "." and ".." among them, up to a whole block
+abbrev pub root_size : Version → ℕ → ℕ
+root_size v files = block_len * blocks_for (dirent_len_of v * (2 + files))

@@ -5,4 +5,5 @@ pub mod Made
 pub mod Options
 pub mod Refusals
 pub mod Stated
+pub mod VersionOne
 pub mod Widths

@@ -1,6 +1,8 @@
--- The command line: IMAGE [--size N] [--inodes N] [FILE..], and what it gives.
+-- The command line: IMAGE [--size N] [--inodes N] [--version N] [--migrate OLD] [FILE..], and what it gives.
 use Rattle.std.specs.Prelude.{◌≡◌, ℕ, ◌-◌, ◌^◌, ◌<◌, List, [], ◌∷◌, Some, true, codes, pos}
-use Rattle.mkfs.specs.Vocabulary.{IsNumeral, digits_value, without_leading_plus, usize_max, App, Rule, Text, found_of, new_app, new_rule, one_text, with_rule, Set, Signed, ArgMatches}
+use Rattle.clap.specs.declared.builder.action.ArgAction.TheVariants as actions
+use Rattle.image_versions.specs.Versions.{number_of}
+use Rattle.mkfs.specs.Vocabulary.{One, Two, Version, version_of_number, IsNumeral, digits_value, without_leading_plus, usize_max, App, Rule, Text, found_of, new_app, new_rule, one_text, with_rule, Set, Signed, ArgMatches}
 
 -- the file to write
 abbrev pub image_rule : Rule
@@ -19,6 +21,18 @@ number_rule id default = record (new_rule id) {
   parser = Some (Signed (pos 0) (pos greatest_number));
 }
 
+-- the number of a version
+abbrev pub version_rule : Rule
+version_rule = record (number_rule (codes "version") (codes "1")) { parser = Some (Signed (pos (number_of One)) (pos (number_of Two))) }
+
+-- the image to migrate
+abbrev pub migrate_rule : Rule
+migrate_rule = record (new_rule (codes "migrate")) { long = Some (codes "migrate"); value_names = 1 }
+
+-- the program tells what it is
+abbrev pub about_rule : Rule
+about_rule = record (new_rule (codes "about")) { short = Some 86; long = Some (codes "about"); action = Some actions.Version }
+
 -- any number of files
 abbrev pub files_rule : Rule
 files_rule = record (new_rule (codes "files")) {
@@ -26,15 +40,18 @@ files_rule = record (new_rule (codes "files")) {
   value_names = 1;
 }
 
--- the program's name, with a version
+-- the program's name, with a version that has no flag of its own
 abbrev pub mkfs_app : App
-mkfs_app = let app = new_app (codes "mkfs") in record app { top = record app.top { has_version = true } }
+mkfs_app = let app = new_app (codes "mkfs") in record app { top = record app.top { has_version = true; disable_version_flag = true } }
+
+-- with the image and its sizes
+abbrev pub sized_app : App
+sized_app =
+    with_rule (with_rule (with_rule mkfs_app image_rule) (number_rule (codes "size") (codes "2000"))) (number_rule (codes "inodes") (codes "200"))
 
 -- the whole command line
 abbrev pub mkfs_line : App
-mkfs_line =
-    with_rule (with_rule (with_rule (with_rule mkfs_app image_rule) (number_rule (codes "size") (codes "2000")))
-    (number_rule (codes "inodes") (codes "200"))) files_rule
+mkfs_line = with_rule (with_rule (with_rule (with_rule sized_app version_rule) migrate_rule) about_rule) files_rule
 
 -- the number that a decimal text is, where one `+` may stand before it
 abbrev pub number_in : List ℕ → ℕ
@@ -46,3 +63,9 @@ pub record HasNumber (matches : ArgMatches) (id : List ℕ) : Type 0 where
   pub there : one_text (found_of matches) id ≡ Some text
   pub numeral : IsNumeral 10 (without_leading_plus text)
   pub fits : number_in text < 2 ^ 32
+
+-- the first value of "version" is there, and is the number of a version
+pub record HasVersion (matches : ArgMatches) : Type 0 where
+  pub number : HasNumber matches (codes "version")
+  pub version : Version
+  pub known : version_of_number (number_in number.text) ≡ Some version

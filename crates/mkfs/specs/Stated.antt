@@ -1,6 +1,6 @@
--- The tree that an image is to hold: the root with the files' names, and the files behind it.
+-- The tree that an image of a version is to hold: the root with the files' names, and the files behind it.
 use Rattle.std.specs.Prelude.{ℕ, ◌+◌, ◌-◌, ◌/◌, List, [], ◌∷◌, ◌++◌, length, map, replicate, Option, Some, None}
-use Rattle.mkfs.specs.Vocabulary.{Slot, Directory, File, Node, TreeData, at_rest, dot, dotdot, root, dirent_len}
+use Rattle.mkfs.specs.Vocabulary.{Slot, Directory, File, Node, TreeData, Version, at_rest, dot, dotdot, root, dirent_len_of}
 use Rattle.mkfs.specs.Layout.{root_size}
 use Rattle.mkfs.specs.Widths.{first_file}
 
@@ -14,18 +14,18 @@ slots_from number [] = []
 slots_from number (name ∷ names) = used number name ∷ slots_from (number + 1) names
 
 -- ".", ".." and the files; behind them the slots are free, up to the end of the root's last block
-abbrev pub root_slots : List (List ℕ) → List (Option Slot)
-root_slots names =
+abbrev pub root_slots : Version → List (List ℕ) → List (Option Slot)
+root_slots v names =
     used root dot ∷ used root dotdot ∷ slots_from first_file names
-    ++ replicate (root_size (length names) / dirent_len - (2 + length names)) None
+    ++ replicate (root_size v (length names) / dirent_len_of v - (2 + length names)) None
 
-abbrev pub root_in_tree : List (List ℕ) → Option Node
-root_in_tree names = Some (record { count = 1; kind = Directory (root_slots names) })
+abbrev pub root_in_tree : Version → List (List ℕ) → Option Node
+root_in_tree v names = Some (record { count = 1; kind = Directory (root_slots v names) })
 
 abbrev pub file_in_tree : List ℕ → Option Node
 file_in_tree content = Some (record { count = 1; kind = File content })
 
 -- node 0 is none, the root is node 1, the files follow it, and nothing is open
-abbrev pub stated_tree : ℕ → List (List ℕ) → List (List ℕ) → TreeData
-stated_tree ninodes names contents =
-    at_rest (None ∷ root_in_tree names ∷ map file_in_tree contents ++ replicate (ninodes - (2 + length contents)) None)
+abbrev pub stated_tree : Version → ℕ → List (List ℕ) → List (List ℕ) → TreeData
+stated_tree v ninodes names contents =
+    at_rest (None ∷ root_in_tree v names ∷ map file_in_tree contents ++ replicate (ninodes - (2 + length contents)) None)

@@ -1,8 +1,11 @@
 -- What the crates below call things: the words that this crate's definitions and contracts use.
-pub use Rattle.image_tree.specs.Vocabulary.{TreeData, at_rest, block_at, block_len, dinode_at, dirent_len, dirents_per_block, flat_map, inodes_per_block}
+pub use Rattle.image_versions.specs.Shared.{direct, largest_size, most_content_blocks, most_disk_blocks}
+pub use Rattle.image_versions.specs.Versions.{dirent_len_of, most_slots_of, version_of_number}
+pub use Rattle.image_versions.specs.declared.version.Version.{Version}
+pub use Rattle.image_versions.specs.declared.version.Version.TheVariants.{One, Two}
+pub use Rattle.image_tree.specs.Vocabulary.{TreeData, at_rest, block_at, block_len, dinode_at, flat_map, inodes_per_block}
 unfoldable pub use Rattle.image_tree.specs.Vocabulary.{logged, recovered, sizes_of}
-pub use Rattle.image_tree.specs.Checks.{largest_size}
-pub use Rattle.image_tree.specs.Inodes.{blocks_for, direct}
+pub use Rattle.image_tree.specs.Inodes.{blocks_for}
 pub use Rattle.fs_layout.specs.Entry.{spell_dirent}
 pub use Rattle.fs_layout.specs.Inode.{spell_dinode}
 pub use Rattle.fs_layout.specs.Name.{IsName}

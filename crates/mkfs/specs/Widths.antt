@@ -1,14 +1,10 @@
 -- How much an image and its nodes may have, and what their inodes say.
 use Rattle.std.specs.Prelude.{ℕ, ◌+◌, ◌-◌, ◌*◌, ◌^◌, ℤ, pos}
-use Rattle.mkfs.specs.Vocabulary.{block_len, numbers_per_block, dirents_per_block, direct}
+use Rattle.mkfs.specs.Vocabulary.{block_len, direct, most_content_blocks}
 
 -- how many bits a byte has
 abbrev pub bits_per_byte : ℕ
 bits_per_byte = 8
-
--- the most blocks of an image: as many as the bitmap has bits, but one
-abbrev pub most_blocks : ℕ
-most_blocks = bits_per_byte * block_len - 1
 
 -- the most inodes: an entry has 16 bits for the number of one
 abbrev pub most_inodes : ℕ
@@ -18,13 +14,9 @@ most_inodes = 2 ^ 16 - 1
 abbrev pub direct_len : ℕ
 direct_len = block_len * direct
 
--- the most blocks of a node: the direct ones, the indirect one and those that it names
+-- the most blocks of a node: those of its content, and the indirect one
 abbrev pub most_node_blocks : ℕ
-most_node_blocks = direct + 1 + numbers_per_block
-
--- the most entries of a directory
-abbrev pub most_entries : ℕ
-most_entries = dirents_per_block * (direct + numbers_per_block)
+most_node_blocks = most_content_blocks + 1
 
 -- the first file's inode: it follows the root's
 abbrev pub first_file : ℕ

@@ -1,13 +1,14 @@
 //! How an image's file is read.
 ghost use Rattle.std.specs.Prelude.{◌≤◌, length, IfOk};
 
+use image_versions::widths::{BLOCK_LEN, MOST_DISK_BLOCKS};
 use std::fs::File;
 use std::io::{ErrorKind, Read};
 use std::{fs, io};
 use thiserror::Error;
 
-/// The most bytes that an image uses: those of 8191 blocks.
-const LONGEST_IMAGE: u64 = 8191 * 1024;
+/// The most bytes that an image uses: those of as many blocks as there can be.
+const LONGEST_IMAGE: u64 = MOST_DISK_BLOCKS as u64 * BLOCK_LEN as u64;
 
 /// The longest file that is taken for an image, in bytes: 4 GiB.
 const LONGEST_FILE: u64 = 4_294_967_296;

@@ -3,13 +3,14 @@ ghost use Rattle.std.specs.Prelude.{◌≡◌, ◌+◌, ◌*◌, ◌^◌, ◌<�
 ghost use Rattle.mkfs.specs.Vocabulary.{blocks_for, largest_size};
 ghost use Rattle.mkfs.specs.Layout.{bitmap_start, data_start, file_blocks, node_blocks, root_size, super_for};
 ghost use Rattle.mkfs.specs.Image.{contents_of};
-ghost use Rattle.mkfs.specs.Refusals.{HasGoodFiles};
 ghost use Rattle.mkfs.specs.Widths.{most_node_blocks};
 
 use crate::new_file::NewFile;
-use crate::widths::{DIRECT_BLOCKS, INODE_START, LOG_BLOCKS, LOG_START};
+use crate::widths::{INODE_START, LOG_BLOCKS, LOG_START};
 use fs_layout::Super;
-use fs_layout::widths::{BLOCK_LEN, DIRENT_LEN, INODES_PER_BLOCK};
+use fs_layout::widths::{BLOCK_LEN, INODES_PER_BLOCK};
+use image_versions::Version;
+use image_versions::widths::DIRECT;
 
 /// How many blocks hold so many bytes.
 pub fn blocks_for(size: usize) -> usize
@@ -26,11 +27,7 @@ pub fn node_blocks(size: usize) -> usize
     ensures few { size ≤ largest_size → result ≤ most_node_blocks }
 {
     let blocks = blocks_for(size);
-    if blocks > DIRECT_BLOCKS {
-        blocks + 1
-    } else {
-        blocks
-    }
+    if blocks > DIRECT { blocks + 1 } else { blocks }
 }
 
 /// Where the data begins, as a block's number.
@@ -72,18 +69,19 @@ pub fn file_blocks(files: &[NewFile]) -> usize
     blocks
 }
 
-/// How many bytes the root has that names so many files.
-pub fn root_size(files: usize) -> usize
+/// How many bytes the root of this version has that names so many files.
+pub fn root_size(version: Version, files: usize) -> usize
     requires { files < 2 ^ 24 }
-    ensures { result ≡ root_size files }
+    ensures { result ≡ root_size version files }
 {
-    BLOCK_LEN * blocks_for(DIRENT_LEN * (2 + files))
+    BLOCK_LEN * blocks_for(version.dirent_len() * (2 + files))
 }
 
 /// How many blocks are used in all, where the data begins at `first` and the root has so many bytes.
 pub fn used_blocks(first: u32, root: usize, files: &[NewFile]) -> usize
     requires root { root ≤ largest_size }
-    requires files { HasGoodFiles (contents_of files.now) }
+    requires each { All (λ content. length content ≤ largest_size) (contents_of files.now) }
+    requires few { length files.now < 2 ^ 32 }
     ensures { result ≡ first + node_blocks root + file_blocks (contents_of files.now) }
 {
     first as usize + node_blocks(root) + file_blocks(files)

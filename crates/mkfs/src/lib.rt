@@ -1,5 +1,5 @@
-//! Makes images: a root with files in it, on an otherwise empty disk.
-//! `make` answers exactly the bytes that docs/FORMATS.md describes, or the first refusal that stands in its order.
+//! Makes images of both versions: a root with files in it, on an otherwise empty disk.
+//! `make_as` answers exactly the bytes that docs/FORMATS.md describes, or the first refusal that stands in its order.
 //!
 //! The host's files that the programs read and write are read no further than they can serve, and written beside their place and
 //! then moved there, so that none is ever half written.
@@ -20,12 +20,16 @@ pub mod widths;
 
 ghost use Rattle.std.specs.Prelude.{◌≤◌, ◌+◌, length, IfOk};
 
-pub use crate::command_line::{FILES, IMAGE, INODES, SIZE, number, options};
+pub use crate::appends::push_many;
+pub use crate::command_line::{
+    FILES, IMAGE, INODES, MIGRATE, SIZE, VERSION, number, options, version,
+};
 pub use crate::images::{ImageFile, ImageRefused, read_image};
 pub use crate::judges::is_file_name;
-pub use crate::layout::data_start;
-pub use crate::made::{made_blocks, made_front, made_inodes, make};
+pub use crate::layout::{data_start, node_blocks};
+pub use crate::made::{made_blocks, made_front, made_inodes, make, make_as, push_front};
 pub use crate::new_file::NewFile;
+pub use crate::parts::{addresses, push_bitmap, push_content, push_entry};
 pub use crate::refused::MakeRefused;
 pub use crate::replacing::{SaveRefused, save, try_to_save};
 use std::fs::{File, Files};

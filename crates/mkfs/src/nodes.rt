@@ -9,32 +9,42 @@ use crate::layout::node_blocks;
 use crate::new_file::NewFile;
 use crate::parts::{push_content, push_entry, push_inode};
 use crate::widths::{FILE, FIRST_FILE, ROOT};
+use image_versions::Version;
 use std::alloc::{AllocError, Global};
 
 // Appends the files' entries.
-fn push_entries(content: &mut Vec<u8>, files: &[NewFile]) -> Result<(), AllocError>
-    requires names { All IsName (names_of files.now) }
+fn push_entries(
+    content: &mut Vec<u8>,
+    version: Version,
+    files: &[NewFile],
+) -> Result<(), AllocError>
+    requires names { All (IsName version) (names_of files.now) }
     requires few { 2 + length files.now < 2 ^ 16 }
-    ensures { OnOk result (content.new.items ≡ content.old.items ++ flat_map spell_dirent (entries_from FIRST_FILE (names_of files.now))) }
+    ensures { OnOk result (content.new.items ≡ content.old.items
+        ++ flat_map (spell_dirent version) (entries_from FIRST_FILE (names_of files.now))) }
 {
     let mut number = FIRST_FILE;
     for file in files {
-        push_entry(content, number, file.name.as_slice())?;
+        push_entry(content, version, number, file.name.as_slice())?;
         number += 1;
     }
     Ok(())
 }
 
 /// The root's content: its entries, and free ones up to a whole block.
-pub fn root_content(alloc: Global, files: &[NewFile]) -> Result<Vec<u8>, AllocError>
-    requires names { All IsName (names_of files.now) }
+pub fn root_content(
+    alloc: Global,
+    version: Version,
+    files: &[NewFile],
+) -> Result<Vec<u8>, AllocError>
+    requires names { All (IsName version) (names_of files.now) }
     requires few { 2 + length files.now < 2 ^ 16 }
-    ensures { IfOk result (λ content. content.items ≡ root_content (names_of files.now)) }
+    ensures { IfOk result (λ content. content.items ≡ root_content version (names_of files.now)) }
 {
     let mut entries = Vec::new(alloc);
-    push_entry(&mut entries, ROOT, b".")?;
-    push_entry(&mut entries, ROOT, b"..")?;
-    push_entries(&mut entries, files)?;
+    push_entry(&mut entries, version, ROOT, b".")?;
+    push_entry(&mut entries, version, ROOT, b"..")?;
+    push_entries(&mut entries, version, files)?;
     let mut content = Vec::new(alloc);
     push_whole(&mut content, &entries)?;
     Ok(content)

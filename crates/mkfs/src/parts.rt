@@ -1,42 +1,52 @@
 //! The parts of an image.
 ghost use Rattle.std.specs.Prelude.{◌≡◌, ◌≢◌, ◌+◌, ◌-◌, ◌^◌, ◌<◌, ◌≤◌, ◌++◌, ℕ, List, length, drop, min, OnOk};
-ghost use Rattle.mkfs.specs.Vocabulary.{range_with_len, spell_super, spell_dinode, spell_dirent, spell_numbers, IsName, addresses, block_len, numbers_per_block, Used, largest_size};
+ghost use Rattle.mkfs.specs.Vocabulary.{range_with_len, spell_super, spell_dinode, spell_dirent, spell_numbers, IsName, addresses, block_len, numbers_per_block, Used, largest_size, most_disk_blocks};
 ghost use Rattle.mkfs.specs.Image.{bitmap, inode_for, node_bytes, padded};
-ghost use Rattle.mkfs.specs.Widths.{most_blocks};
 
 use crate::appends::{push_many, push_whole};
 use crate::layout::{blocks_for, node_blocks};
-use crate::widths::{BITS, DIRECT_BLOCKS, DIRECT_LEN};
-use fs_layout::widths::{ADDRESSES, BLOCK_LEN, DIRENT_LEN, INODE_LEN, NUMBERS_PER_BLOCK};
+use crate::widths::{BITS, DIRECT_LEN};
+use fs_layout::widths::{ADDRESSES, BLOCK_LEN, INODE_LEN, NUMBERS_PER_BLOCK};
 use fs_layout::{
     Dinode, Dirent, Name, Super, write_dinode, write_dirent, write_numbers, write_super,
 };
+use image_versions::Version;
+use image_versions::widths::DIRECT;
 use std::alloc::AllocError;
 
 /// Appends the superblock's block.
-pub fn push_super(image: &mut Vec<u8>, superblock: &Super) -> Result<(), AllocError>
-    ensures { OnOk result (image.new.items ≡ image.old.items ++ padded block_len (spell_super superblock.now)) }
+pub fn push_super(
+    image: &mut Vec<u8>,
+    version: Version,
+    superblock: &Super,
+) -> Result<(), AllocError>
+    ensures { OnOk result (image.new.items ≡ image.old.items ++ padded block_len (spell_super version superblock.now)) }
 {
     let mut block = [0; BLOCK_LEN];
-    write_super(&mut block, superblock);
+    write_super(version, &mut block, superblock);
     image.extend_from_slice(&block)
 }
 
 /// Appends a directory's entry.
-pub fn push_entry(content: &mut Vec<u8>, number: u16, name: &[u8]) -> Result<(), AllocError>
+pub fn push_entry(
+    content: &mut Vec<u8>,
+    version: Version,
+    number: u16,
+    name: &[u8],
+) -> Result<(), AllocError>
     requires number { number ≢ 0 }
-    requires name { IsName name.now }
-    ensures { OnOk result (content.new.items ≡ content.old.items ++ spell_dirent (Used number name.now)) }
+    requires name { IsName version name.now }
+    ensures { OnOk result (content.new.items ≡ content.old.items ++ spell_dirent version (Used number name.now)) }
 {
-    let name = Name::new(name).unwrap();
+    let name = Name::new(version, name).unwrap();
     let mut block = [0; BLOCK_LEN];
-    write_dirent(&mut block, 0, &Dirent::Used { number, name });
-    content.extend_from_slice(&block[..DIRENT_LEN])
+    write_dirent(version, &mut block, 0, &Dirent::Used { number, name });
+    content.extend_from_slice(&block[..version.dirent_len()])
 }
 
 /// Appends a bitmap in which the bits of so many blocks are set.
 pub fn push_bitmap(image: &mut Vec<u8>, used: usize) -> Result<(), AllocError>
-    requires { used ≤ most_blocks }
+    requires { used ≤ most_disk_blocks }
     ensures { OnOk result (image.new.items ≡ image.old.items ++ bitmap used) }
 {
     let full = used / BITS;
@@ -56,8 +66,8 @@ fn set_rising(numbers: &mut [u32], first: u32, count: usize)
     }
 }
 
-// The numbers in the inode of a node whose blocks lie side by side.
-fn addresses(first: u32, count: usize) -> [u32; ADDRESSES]
+/// The numbers in the inode of a node whose blocks lie side by side.
+pub fn addresses(first: u32, count: usize) -> [u32; ADDRESSES]
     requires { first + count < 2 ^ 32 }
     ensures { result ≡ padded addresses (range_with_len first (min count addresses)) }
 {
@@ -119,7 +129,7 @@ pub fn push_content(image: &mut Vec<u8>, first: u32, content: &[u8]) -> Result<(
     }
     let (front, rest) = content.split_at(DIRECT_LEN);
     push_whole(image, front)?;
-    let numbers = blocks_for(content.len()) - DIRECT_BLOCKS;
+    let numbers = blocks_for(content.len()) - DIRECT;
     push_numbers(image, first + ADDRESSES as u32, numbers)?;
     push_whole(image, rest)
 }

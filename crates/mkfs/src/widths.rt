@@ -1,4 +1,7 @@
-//! Where the parts of an image lie and how much fits: the tables of docs/FORMATS.md.
+//! Where the parts of an image lie and how much fits: the tables of docs/FORMATS.md. What a version has of its own, and what other crates
+//! have to know as well, stands in `image_versions`.
+
+use image_versions::widths::{BLOCK_LEN, DIRECT};
 
 /// Where the log begins, as a block's number.
 pub const LOG_START: u32 = 2;
@@ -9,20 +12,8 @@ pub const LOG_BLOCKS: u32 = 31;
 /// Where the inodes begin, as a block's number.
 pub const INODE_START: u32 = 33;
 
-/// How many blocks an inode names directly.
-pub const DIRECT_BLOCKS: usize = 12;
-
-/// The bytes in these.
-pub const DIRECT_LEN: usize = 12_288;
-
-/// The most bytes that a node may have: 268 blocks.
-pub const LARGEST_SIZE: usize = 274_432;
-
-/// The most entries that a directory may have.
-pub const MOST_ENTRIES: usize = 17_152;
-
-/// The most blocks that an image may have: as many as a block has bits, but one.
-pub const MOST_BLOCKS: u32 = 8_191;
+/// The bytes in the blocks that an inode names directly.
+pub const DIRECT_LEN: usize = DIRECT * BLOCK_LEN;
 
 /// The most inodes: an entry has 16 bits for the number of one.
 pub const MOST_INODES: u32 = 65_535;

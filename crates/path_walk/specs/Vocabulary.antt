@@ -6,7 +6,6 @@ pub use Rattle.inode_machine.specs.Inodes.{AtName, face_or, is_directory_face, i
 pub use Rattle.inode_machine.specs.Opening.{file_for}
 pub use Rattle.inode_machine.specs.World.{Answer, Op}
 pub use Rattle.inode_machine.specs.World.Op.{UnlockInode, Take, WalkDown}
-pub use Rattle.plain_tree.specs.Code.{with_element}
 pub use Rattle.plain_tree.specs.declared.answer.Answer.{Answer as CallAnswer}
 pub use Rattle.std.specs.List.{list_all}
 pub use Rattle.plain_tree.specs.declared.answer.Cause.{Cause}
@@ -14,3 +13,4 @@ pub use Rattle.plain_tree.specs.declared.answer.Cause.TheVariants.{BadDescriptor
 pub use Rattle.plain_tree.specs.declared.answer.Reply.{Reply}
 pub use Rattle.plain_tree.specs.declared.call.Call.{Call}
 pub use Rattle.plain_tree.specs.declared.step.Action.{Action}
+pub use Rattle.plain_tree.specs.VersionOne.{with_element}

@@ -3,7 +3,7 @@ ghost use Rattle.std.specs.Prelude.{◌≡◌, ◌≢◌, ◌+◌, ◌<◌, ◌�
 ghost use Rattle.path_walk.specs.Vocabulary.{with_element, elements, is_absolute};
 ghost use Rattle.path_walk.specs.Elements.{name_in, shifted, IsElement};
 
-const NAME_LEN: usize = 14;
+use image_versions::one::NAME_LEN;
 
 const SLASH: u8 = b'/';
 

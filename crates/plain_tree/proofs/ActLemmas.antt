@@ -1,5 +1,5 @@
 -- What a step makes of a tree, from its parts.
-use Rattle.plain_tree.proofs.Vocabulary.{◌≡◌, ◌≢◌, ℕ, ◌+◌, ◌-◌, ◌^◌, ◌<◌, Bool, true, false, ◌||◌, not, nat_lt, List, inl, inr, refl, sym, ◌∙◌, ap, subst, Option, Some, None, if◌then◌else◌, arith, fun_ext, cases_Bool, nat_tests, TooManyLinks, Node, Directory, OpenFile, Hold, OpenFileEntry, Dup, Close, Inherit, StepAnswer, Name, Tree, file_in, is_directory, live_directory, look, put, slots_of, at_hold, at_node, bump_refusal, cleared, emptied, lowered, raise_hold, raised, read_refusal, removed, removed_child, truncated, mkdir_refusal, name_taken, or_else, fd_refusal, file_at, has, has_room, is_nothing, lowest, node_or, node_at, place_of, read_write, refusal_with, with_file, with_nodes, write_only, Advances, EndsWithin, HasFiles, read_count}
+use Rattle.plain_tree.proofs.Vocabulary.{◌≡◌, Version, ◌≢◌, ℕ, ◌+◌, ◌-◌, ◌^◌, ◌<◌, Bool, true, false, ◌||◌, not, nat_lt, List, inl, inr, refl, sym, ◌∙◌, ap, subst, Option, Some, None, if◌then◌else◌, arith, fun_ext, cases_Bool, nat_tests, TooManyLinks, Node, Directory, OpenFile, Hold, OpenFileEntry, Dup, Close, Inherit, StepAnswer, Name, Tree, file_in, is_directory, live_directory, look, put, slots_of, at_hold, at_node, bump_refusal, cleared, emptied, lowered, raise_hold, raised, read_refusal, removed, removed_child, truncated, mkdir_refusal, name_taken, or_else, fd_refusal, file_at, has, has_room, is_nothing, lowest, node_or, node_at, place_of, read_write, refusal_with, with_file, with_nodes, write_only, Advances, EndsWithin, HasFiles, read_count}
 use Rattle.plain_tree.proofs.TreeLemmas.{put_same, put_other}
 
 pub given_file : (t t1 t2 : Tree) (ns : ℕ → Option Node) (h id n flags : ℕ) (es : List OpenFileEntry) → t1 ≡ with_nodes t ns → has_room (t.fds h) ≡ true
@@ -27,16 +27,16 @@ few_still t t1 d n k v w e live none is few =
     let same : (node_at t1 k).count ≡ v.count = ap (λ (j : ℕ). (node_at t1 j).count) is ∙ count_kept t t1 d n v w e (not_same t d n live none) in
     omega arith
 
-pub dup_room : (t : Tree) (h fd : ℕ) (res : Option ℕ) (par : Option (ℕ × Name)) → refusal_with t h (Dup fd) res par ≡ None → place_of t h (Dup fd) ≡ true → has_room (t.fds h) ≡ true
+pub dup_room : (v : Version) (t : Tree) (h fd : ℕ) (res : Option ℕ) (par : Option (ℕ × Name)) → refusal_with v t h (Dup fd) res par ≡ None → place_of t h (Dup fd) ≡ true → has_room (t.fds h) ≡ true
 unfolding refusal_with place_of
-dup_room t h fd res par none place = room (file_at t h fd) none place where
+dup_room v t h fd res par none place = room (file_at t h fd) none place where
   room : (f : Option OpenFile) → fd_refusal f ≡ None → (is_nothing f || has_room (t.fds h)) ≡ true → has_room (t.fds h) ≡ true
   room None none place = absurd cc
   room (Some f) none place = place
 
-pub close_below : (t : Tree) (h fd : ℕ) (res : Option ℕ) (par : Option (ℕ × Name)) → refusal_with t h (Close fd) res par ≡ None → fd < 16
+pub close_below : (v : Version) (t : Tree) (h fd : ℕ) (res : Option ℕ) (par : Option (ℕ × Name)) → refusal_with v t h (Close fd) res par ≡ None → fd < 16
 unfolding refusal_with
-close_below t h fd res par none = elim (cases_Bool (nat_lt fd 16)) [
+close_below v t h fd res par none = elim (cases_Bool (nat_lt fd 16)) [
   | inl y ↦ grind (arith, nat_tests)
   | inr y ↦ absurd (let x = rw y at none in cc)
 ]

@@ -15,7 +15,7 @@ pub use Rattle.plain_tree.proofs.FileLemmas.{closed_without, no_orphan}
 pub use Rattle.plain_tree.proofs.LeadLemmas.{LeadsSame, leads_end, leads_more, leads_not, made_leads, step_placed}
 pub use Rattle.plain_tree.proofs.MarkLemmas.{all_found, closed_all, first_marked, named_copy, next_fewer, next_marks, none_marked, part_at}
 unfoldable pub use Rattle.plain_tree.proofs.MarkLemmas.{unmarked}
-pub use Rattle.plain_tree.proofs.PathLemmas.{found_end, found_slash, no_elements, pieces_more, same_pointwise}
+pub use Rattle.plain_tree.proofs.PathLemmas.{climbs_the_same, found_end, found_slash, no_elements, pieces_more, same_pointwise}
 pub use Rattle.plain_tree.proofs.RowLemmas.{rows_name}
 pub use Rattle.plain_tree.proofs.RowsStay.{rows_stay}
 pub use Rattle.plain_tree.proofs.SettleLemmas.{settle_end, settle_none, step_gone, step_kept}

@@ -20,3 +20,4 @@ pub mod Settling
 pub mod RowLemmas
 pub mod SettledSteps
 pub mod RowsStay
+pub mod VersionOne

@@ -1,5 +1,5 @@
 -- A step of one hart leaves the rows of the others.
-use Rattle.plain_tree.proofs.Vocabulary.{◌≡◌, ◌≢◌, inl, inr, ℕ, ◌+◌, ◌<◌, Bool, true, false, ◌&&◌, ◌==◌, nat_lt, List, [], ◌∷◌, length, Option, Some, None, refl, sym, ◌∙◌, ap, if◌then◌else◌, OpenFile, Hold, Action, TreeStep, StepAnswer, Failed, Open, Truncate, Read, WritePart, Find, Bump, Enter, Unbump, Unlink, Mkdir, Chdir, Dup, Close, Fstat, Inherit, hart_count, descriptor_count, Name, Tree, put, and_then, any_below, look, parent, resolve, at_dir, at_hold, closed, creates, drop_hold, effect_with, enter_hold, entered, file_at, has_fd, has_room, held, lowered, lowest, made, moved, new_file, opened_at, opened_in, opened_new, opens_one, part, path_of, raise_hold, raised, refused, removed, removed_child, truncated, with_file, with_nodes, written, wrote, Step, key_at, key_of, row_of}
+use Rattle.plain_tree.proofs.Vocabulary.{◌≡◌, Version, ◌≢◌, inl, inr, ℕ, ◌+◌, ◌<◌, Bool, true, false, ◌&&◌, ◌==◌, nat_lt, List, [], ◌∷◌, length, Option, Some, None, refl, sym, ◌∙◌, ap, if◌then◌else◌, OpenFile, Hold, Action, TreeStep, StepAnswer, Failed, Open, Truncate, Read, WritePart, Find, Bump, Enter, Unbump, Unlink, Mkdir, Chdir, Dup, Close, Fstat, Inherit, hart_count, descriptor_count, Name, Tree, put, and_then, any_below, look, parent, resolve, at_dir, at_hold, closed, creates, drop_hold, effect_with, enter_hold, entered, file_at, has_fd, has_room, held, lowered, lowest, made, moved, new_file, opened_at, opened_in, opened_new, opens_one, part, path_of, raise_hold, raised, refused, removed, removed_child, truncated, with_file, with_nodes, written, wrote, Step, key_at, key_of, row_of}
 use Rattle.plain_tree.specs.Laws.{HasFiles}
 use Rattle.plain_tree.proofs.Maps.{any_at, either, eq_self, put_is, put_other}
 use Rattle.plain_tree.proofs.RowLemmas.{less_is}
@@ -136,27 +136,27 @@ closed_row t g = same_row (closed t) t g refl refl refl (λ i lg li. at i lg li 
     at i lg li None q = refl
     at i lg li (Some k) q = ap (λ (o : Option OpenFile). key_of o) (kept_file t g i k lg li q)
 
-pub effect_row : (t : Tree) (h : ℕ) (s : Action) (res : Option ℕ) (par : Option (ℕ × Name)) (new id g : ℕ) → g ≢ h → (s ≡ Inherit g → ⊥) → (opens_one t h s ≡ true → HasNot t g id) → row_of (effect_with t h s res par new id) g ≡ row_of t g
+pub effect_row : (v : Version) (t : Tree) (h : ℕ) (s : Action) (res : Option ℕ) (par : Option (ℕ × Name)) (new id g : ℕ) → g ≢ h → (s ≡ Inherit g → ⊥) → (opens_one t h s ≡ true → HasNot t g id) → row_of (effect_with v t h s res par new id) g ≡ row_of t g
 unfolding effect_with
-effect_row t h (Open path flags) res par new id g ne child not' = elim (either (creates flags)) [
+effect_row v t h (Open path flags) res par new id g ne child not' = elim (either (creates flags)) [
   | inl y ↦ rw y (new_row t h id flags par new g ne not')
   | inr y ↦ rw y (at_row t h id flags res new g ne not')
 ]
-effect_row t h (Truncate fd) res par new id g ne child not' = truncated_row t (file_at t h fd) g
-effect_row t h (Read fd n) res par new id g ne child not' = moved_row t (t.fds h fd) (length (part t (file_at t h fd) n)) g
-effect_row t h (WritePart fd b) res par new id g ne child not' = wrote_row t h fd b g
-effect_row t h (Find old) res par new id g ne child not' = held_row t h res g ne
-effect_row t h Bump res par new id g ne child not' = bump_row t h (t.holds h) g ne
-effect_row t h (Enter name) res par new id g ne child not' = enter_row t h par (t.holds h) g ne
-effect_row t h Unbump res par new id g ne child not' = unbump_row t h (t.holds h) g ne
-effect_row t h (Unlink path) res par new id g ne child not' = removed_row t par g
-effect_row t h (Mkdir path) res par new id g ne child not' = made_row t par new g
-effect_row t h (Chdir path) res par new id g ne child not' = dir_row t h res g ne
-effect_row t h (Dup fd) res par new id g ne child not' = fds_row t h (put (t.fds h) (lowest (t.fds h)) (t.fds h fd)) g ne
-effect_row t h (Close fd) res par new id g ne child not' =
+effect_row v t h (Truncate fd) res par new id g ne child not' = truncated_row t (file_at t h fd) g
+effect_row v t h (Read fd n) res par new id g ne child not' = moved_row t (t.fds h fd) (length (part v t (file_at t h fd) n)) g
+effect_row v t h (WritePart fd b) res par new id g ne child not' = wrote_row t h fd b g
+effect_row v t h (Find old) res par new id g ne child not' = held_row t h res g ne
+effect_row v t h Bump res par new id g ne child not' = bump_row t h (t.holds h) g ne
+effect_row v t h (Enter name) res par new id g ne child not' = enter_row t h par (t.holds h) g ne
+effect_row v t h Unbump res par new id g ne child not' = unbump_row t h (t.holds h) g ne
+effect_row v t h (Unlink path) res par new id g ne child not' = removed_row t par g
+effect_row v t h (Mkdir path) res par new id g ne child not' = made_row t par new g
+effect_row v t h (Chdir path) res par new id g ne child not' = dir_row t h res g ne
+effect_row v t h (Dup fd) res par new id g ne child not' = fds_row t h (put (t.fds h) (lowest (t.fds h)) (t.fds h fd)) g ne
+effect_row v t h (Close fd) res par new id g ne child not' =
     closed_row (record t { fds = put t.fds h (put (t.fds h) fd None) }) g ∙ fds_row t h (put (t.fds h) fd None) g ne
-effect_row t h (Fstat fd) res par new id g ne child not' = refl
-effect_row t h (Inherit c) res par new id g ne child not' =
+effect_row v t h (Fstat fd) res par new id g ne child not' = refl
+effect_row v t h (Inherit c) res par new id g ne child not' =
     let other : g ≢ c = λ e. child (ap (λ (z : ℕ). Inherit z) (sym e)) in
     cwd_row (record t { fds = put t.fds c (t.fds h) }) c (t.cwd h) g other ∙ fds_row t c (t.fds h) g other
 
@@ -168,10 +168,10 @@ refused_row t h s g ne = refl
 new_id : (t : Tree) (g id : ℕ) → HasFiles t g → t.files id ≡ None → HasNot t g id
 new_id t g id own none i k lg li q e = own i k lg li q (ap t.files e ∙ none)
 
-pub rows_stay : (t : Tree) (s : TreeStep) (a : StepAnswer) (t' : Tree) (g : ℕ) → Step t s a t' → g ≢ s.hart → (s.action ≡ Inherit g → ⊥) → HasFiles t g → row_of t' g ≡ row_of t g
-rows_stay t s (Failed k) t' g x ne child own = ap (λ (u : Tree). row_of u g) x.1.1 ∙ refused_row t s.hart s.action g ne
-rows_stay t s a t' g x ne child own =
-    let res : Option ℕ = resolve t s.hart (path_of s.action) in
-    let par : Option (ℕ × Name) = parent t s.hart (path_of s.action) in
+pub rows_stay : (v : Version) (t : Tree) (s : TreeStep) (a : StepAnswer) (t' : Tree) (g : ℕ) → Step v t s a t' → g ≢ s.hart → (s.action ≡ Inherit g → ⊥) → HasFiles t g → row_of t' g ≡ row_of t g
+rows_stay v t s (Failed k) t' g x ne child own = ap (λ (u : Tree). row_of u g) x.1.1 ∙ refused_row t s.hart s.action g ne
+rows_stay v t s a t' g x ne child own =
+    let res : Option ℕ = resolve v t s.hart (path_of s.action) in
+    let par : Option (ℕ × Name) = parent v t s.hart (path_of s.action) in
     ap (λ (u : Tree). row_of u g) x.1.3
-    ∙ (settled_row (effect_with t s.hart s.action res par s.new x.0) g ∙ effect_row t s.hart s.action res par s.new x.0 g ne child (λ o. new_id t g x.0 own (x.1.2.file o).unused))
+    ∙ (settled_row (effect_with v t s.hart s.action res par s.new x.0) g ∙ effect_row v t s.hart s.action res par s.new x.0 g ne child (λ o. new_id t g x.0 own (x.1.2.file o).unused))

@@ -1,5 +1,5 @@
 -- A step of a settled tree is that of the unsettled one.
-use Rattle.plain_tree.proofs.Vocabulary.{◌≡◌, ◌≢◌, ◌⊎◌, inl, inr, ℕ, ◌+◌, ◌-◌, ◌<◌, Bool, true, false, ◌&&◌, ◌||◌, not, ◌==◌, nat_lt, List, [], ◌∷◌, length, take, drop, Option, Some, None, refl, sym, ◌∙◌, ap, subst, if◌then◌else◌, Cause, IsDirectory, BadMode, TooManyLinks, DotName, NotDirectory, Descriptors, Node, Directory, OpenFile, Hold, Action, Open, Truncate, Read, WritePart, Find, Bump, Enter, Unbump, Unlink, Mkdir, Chdir, Dup, Close, Fstat, Inherit, StepAnswer, Opened, Bytes, Status, Failed, NoRoom, hart_count, descriptor_count, count_limit, Name, Tree, put, and_then, all_slots, dot, dotdot, fd_names, file_names, first_slot, hold_names, is_directory, is_live, is_named, live_directory, look, same_name, settle, slots_of, IsInPlace, IsNewNode, MayChoose, StepWith, answer_with, at_dir, at_hold, at_node, bump_refusal, chdir_refusal, child_refusal, cleared, closed, content, creates, drop_hold, effect_with, emptied, enter_hold, enter_refusal, fd_refusal, file_at, find_refusal, first_free, has, has_fd, has_room, held, is_absent, is_file, is_nothing, is_open_file, lowered, lowest, made, makes_node, mkdir_refusal, moved, name_taken, new_directory, new_file, no_driver, node_or, not_empty, open_kind, open_new, open_old, open_there, opened, opened_at, opened_in, opened_new, opens_file, or_else, part, place_of, raise_hold, raised, read_refusal, read_write, refusal_with, refused, removed, removed_child, stat_answer, stat_of, truncated, unlink_refusal, with_file, with_nodes, write_kind, write_only, write_refusal, written, written_kind, wrote, Stays, AsksForWhatStays}
+use Rattle.plain_tree.proofs.Vocabulary.{◌≡◌, Version, ◌≢◌, ◌⊎◌, inl, inr, ℕ, ◌+◌, ◌-◌, ◌<◌, Bool, true, false, ◌&&◌, ◌||◌, not, ◌==◌, nat_lt, List, [], ◌∷◌, length, take, drop, Option, Some, None, refl, sym, ◌∙◌, ap, subst, if◌then◌else◌, Cause, IsDirectory, BadMode, TooManyLinks, DotName, NotDirectory, Descriptors, Node, Directory, OpenFile, Hold, Action, Open, Truncate, Read, WritePart, Find, Bump, Enter, Unbump, Unlink, Mkdir, Chdir, Dup, Close, Fstat, Inherit, StepAnswer, Opened, Bytes, Status, Failed, NoRoom, hart_count, descriptor_count, count_limit, Name, Tree, put, and_then, all_slots, dot, dotdot, fd_names, file_names, first_slot, hold_names, is_directory, is_live, is_named, live_directory, look, same_name, settle, slots_of, IsInPlace, IsNewNode, MayChoose, StepWith, answer_with, at_dir, at_hold, at_node, bump_refusal, chdir_refusal, child_refusal, cleared, closed, content, creates, drop_hold, effect_with, emptied, enter_hold, enter_refusal, fd_refusal, file_at, find_refusal, first_free, has, has_fd, has_room, held, is_absent, is_file, is_nothing, is_open_file, lowered, lowest, made, makes_node, mkdir_refusal, moved, name_taken, new_directory, new_file, no_driver, node_or, not_empty, open_kind, open_new, open_old, open_there, opened, opened_at, opened_in, opened_new, opens_file, or_else, part, place_of, raise_hold, raised, read_refusal, read_write, refusal_with, refused, removed, removed_child, stat_answer, stat_of, truncated, unlink_refusal, with_file, with_nodes, write_kind, write_only, write_refusal, written, written_kind, wrote, Stays, AsksForWhatStays}
 use Rattle.plain_tree.proofs.Maps.{and_true, either, eq_not, eq_self, same_or, put_is, put_same, put_other}
 use Rattle.plain_tree.proofs.Settling.{Unnamed, unnamed, is_unnamed, settle_nodes, settle_or, settle_again, settle_named, settle_none, named_fd, named_hold}
 use Rattle.plain_tree.proofs.RowLemmas.{less_is}
@@ -38,11 +38,11 @@ new_same t ms h flags res (Some q) a =
 
 read_same : (t : Tree) (ms : ℕ → Option Node) (o : Option OpenFile) → ((f : OpenFile) → o ≡ Some f → ms f.number ≡ t.nodes f.number) → read_refusal (with_nodes t ms) o ≡ read_refusal t o
 read_same t ms None same = refl
-read_same t ms (Some f) same = kind_at (λ v. if f.readable then no_driver v.kind else Some BadMode) (ms f.number) (t.nodes f.number) (same f refl)
+read_same t ms (Some f) same = kind_at (λ w. if f.readable then no_driver w.kind else Some BadMode) (ms f.number) (t.nodes f.number) (same f refl)
 
-write_same : (t : Tree) (ms : ℕ → Option Node) (b : List ℕ) (o : Option OpenFile) → ((f : OpenFile) → o ≡ Some f → ms f.number ≡ t.nodes f.number) → write_refusal (with_nodes t ms) b o ≡ write_refusal t b o
-write_same t ms b None same = refl
-write_same t ms b (Some f) same = kind_at (λ v. if f.writable then write_kind v.kind f.offset b else Some BadMode) (ms f.number) (t.nodes f.number) (same f refl)
+write_same : (v : Version) (t : Tree) (ms : ℕ → Option Node) (b : List ℕ) (o : Option OpenFile) → ((f : OpenFile) → o ≡ Some f → ms f.number ≡ t.nodes f.number) → write_refusal v (with_nodes t ms) b o ≡ write_refusal v t b o
+write_same v t ms b None same = refl
+write_same v t ms b (Some f) same = kind_at (λ w. if f.writable then write_kind v w.kind f.offset b else Some BadMode) (ms f.number) (t.nodes f.number) (same f refl)
 
 find_same : (t : Tree) (ms : ℕ → Option Node) (r : Option ℕ) → ((n : ℕ) → r ≡ Some n → ms n ≡ t.nodes n) → find_refusal (with_nodes t ms) r ≡ find_refusal t r
 find_same t ms None same = refl
@@ -74,18 +74,18 @@ mkdir_same : (t : Tree) (ms : ℕ → Option Node) (h : ℕ) (res : Option ℕ) 
 mkdir_same t ms h res None a = refl
 mkdir_same t ms h res (Some q) a = λ i. or_else (name_taken (look_at t.nodes ms q.0 q.1 (a.directory q refl) i)) (if nat_lt (node_or (a.directory q refl i)).count count_limit then None else Some TooManyLinks)
 
-pub refusal_same : (t : Tree) (ms : ℕ → Option Node) (h : ℕ) (s : Action) (res : Option ℕ) (par : Option (ℕ × Name)) → Asked t ms h res par → refusal_with (with_nodes t ms) h s res par ≡ refusal_with t h s res par
+pub refusal_same : (v : Version) (t : Tree) (ms : ℕ → Option Node) (h : ℕ) (s : Action) (res : Option ℕ) (par : Option (ℕ × Name)) → Asked t ms h res par → refusal_with v (with_nodes t ms) h s res par ≡ refusal_with v t h s res par
 unfolding refusal_with
-refusal_same t ms h (Open path flags) res par a = λ i. if creates flags then new_same t ms h flags res par a i else old_same t ms flags res a.node i
-refusal_same t ms h (Read fd n) res par a = read_same t ms (file_at t h fd) (a.file fd)
-refusal_same t ms h (WritePart fd b) res par a = write_same t ms b (file_at t h fd) (a.file fd)
-refusal_same t ms h (Find old) res par a = find_same t ms res a.node
-refusal_same t ms h Bump res par a = bump_same t ms (t.holds h) a.hold
-refusal_same t ms h (Enter name) res par a = enter_same t ms h res par a
-refusal_same t ms h (Unlink path) res par a = unlink_same t ms h res par a
-refusal_same t ms h (Mkdir path) res par a = mkdir_same t ms h res par a
-refusal_same t ms h (Chdir path) res par a = chdir_same t ms res a.node
-refusal_same t ms h s res par a = refl
+refusal_same v t ms h (Open path flags) res par a = λ i. if creates flags then new_same t ms h flags res par a i else old_same t ms flags res a.node i
+refusal_same v t ms h (Read fd n) res par a = read_same t ms (file_at t h fd) (a.file fd)
+refusal_same v t ms h (WritePart fd b) res par a = write_same v t ms b (file_at t h fd) (a.file fd)
+refusal_same v t ms h (Find old) res par a = find_same t ms res a.node
+refusal_same v t ms h Bump res par a = bump_same t ms (t.holds h) a.hold
+refusal_same v t ms h (Enter name) res par a = enter_same t ms h res par a
+refusal_same v t ms h (Unlink path) res par a = unlink_same t ms h res par a
+refusal_same v t ms h (Mkdir path) res par a = mkdir_same t ms h res par a
+refusal_same v t ms h (Chdir path) res par a = chdir_same t ms res a.node
+refusal_same v t ms h s res par a = refl
 
 -- Answers, places, and whether a node is made.
 
@@ -104,23 +104,23 @@ opens_same t ms (Some n) same = kind_at (λ v. is_file v.kind) (ms n) (t.nodes n
 opened_same : (t : Tree) (ms : ℕ → Option Node) (h id : ℕ) (x y : Option ℕ) → x ≡ y → ((n : ℕ) → y ≡ Some n → ms n ≡ t.nodes n) → opened (with_nodes t ms) h id x ≡ opened t h id y
 opened_same t ms h id x y e same = ap (λ (r : Option ℕ). opened (with_nodes t ms) h id r) e ∙ (λ i. if has_room (t.fds h) then Opened (lowest (t.fds h)) id (opens_same t ms y same i) else NoRoom Descriptors)
 
-part_same : (t : Tree) (ms : ℕ → Option Node) (o : Option OpenFile) (n : ℕ) → ((f : OpenFile) → o ≡ Some f → ms f.number ≡ t.nodes f.number) → part (with_nodes t ms) o n ≡ part t o n
-part_same t ms None n same = refl
-part_same t ms (Some f) n same = kind_at (λ v. take n (drop f.offset (content v.kind))) (ms f.number) (t.nodes f.number) (same f refl)
+part_same : (v : Version) (t : Tree) (ms : ℕ → Option Node) (o : Option OpenFile) (n : ℕ) → ((f : OpenFile) → o ≡ Some f → ms f.number ≡ t.nodes f.number) → part v (with_nodes t ms) o n ≡ part v t o n
+part_same v t ms None n same = refl
+part_same v t ms (Some f) n same = kind_at (λ w. take n (drop f.offset (content v w.kind))) (ms f.number) (t.nodes f.number) (same f refl)
 
-stat_same : (t : Tree) (ms : ℕ → Option Node) (o : Option OpenFile) → ((f : OpenFile) → o ≡ Some f → ms f.number ≡ t.nodes f.number) → stat_answer (with_nodes t ms) o ≡ stat_answer t o
-stat_same t ms None same = refl
-stat_same t ms (Some f) same = kind_at (λ v. Status (stat_of f.number v)) (ms f.number) (t.nodes f.number) (same f refl)
+stat_same : (v : Version) (t : Tree) (ms : ℕ → Option Node) (o : Option OpenFile) → ((f : OpenFile) → o ≡ Some f → ms f.number ≡ t.nodes f.number) → stat_answer v (with_nodes t ms) o ≡ stat_answer v t o
+stat_same v t ms None same = refl
+stat_same v t ms (Some f) same = kind_at (λ w. Status (stat_of v f.number w)) (ms f.number) (t.nodes f.number) (same f refl)
 
-pub answer_same : (t : Tree) (ms : ℕ → Option Node) (h : ℕ) (s : Action) (res : Option ℕ) (par : Option (ℕ × Name)) (id : ℕ) → Asked t ms h res par → answer_with (with_nodes t ms) h s res par id ≡ answer_with t h s res par id
+pub answer_same : (v : Version) (t : Tree) (ms : ℕ → Option Node) (h : ℕ) (s : Action) (res : Option ℕ) (par : Option (ℕ × Name)) (id : ℕ) → Asked t ms h res par → answer_with v (with_nodes t ms) h s res par id ≡ answer_with v t h s res par id
 unfolding answer_with
-answer_same t ms h (Open path flags) res par id a = elim (either (creates flags)) [
+answer_same v t ms h (Open path flags) res par id a = elim (either (creates flags)) [
   | inl y ↦ rw y (opened_same t ms h id (and_then par (λ q. look ms q.0 q.1)) (and_then par (λ q. look t.nodes q.0 q.1)) (looked t ms h res par a) (λ n e. there t ms h res par n a e))
   | inr y ↦ rw y (opened_same t ms h id res res refl a.node)
 ]
-answer_same t ms h (Read fd n) res par id a = ap (λ (b : List ℕ). Bytes b) (part_same t ms (file_at t h fd) n (a.file fd))
-answer_same t ms h (Fstat fd) res par id a = stat_same t ms (file_at t h fd) (a.file fd)
-answer_same t ms h s res par id a = refl
+answer_same v t ms h (Read fd n) res par id a = ap (λ (b : List ℕ). Bytes b) (part_same v t ms (file_at t h fd) n (a.file fd))
+answer_same v t ms h (Fstat fd) res par id a = stat_same v t ms (file_at t h fd) (a.file fd)
+answer_same v t ms h s res par id a = refl
 
 open_place : (t : Tree) (ms : ℕ → Option Node) (o : Option OpenFile) → ((f : OpenFile) → o ≡ Some f → ms f.number ≡ t.nodes f.number) → is_open_file (with_nodes t ms) o ≡ is_open_file t o
 open_place t ms None same = refl
@@ -426,31 +426,31 @@ inherit_settles t ms h child lt leaves =
     let b : Tree = record t { fds = put t.fds child (t.fds h); cwd = put t.cwd child (t.cwd h) } in
     settles b ms (begins t b ms leaves (λ n u. inl (cwd_unnamed (record t { fds = put t.fds child (t.fds h) }) child (t.cwd h) n (fds_unnamed t child (t.fds h) n u (λ i li. u.fds h i lt li)) (u.cwd h lt))))
 
-pub effect_same : (t : Tree) (ms : ℕ → Option Node) (h : ℕ) (s : Action) (res : Option ℕ) (par : Option (ℕ × Name)) (new id : ℕ) → h < hart_count → Asked t ms h res par → Leaves t ms → refusal_with t h s res par ≡ None → (makes_node t s par ≡ true → ms new ≡ t.nodes new)
-    → settle (effect_with (with_nodes t ms) h s res par new id) ≡ settle (effect_with t h s res par new id)
+pub effect_same : (v : Version) (t : Tree) (ms : ℕ → Option Node) (h : ℕ) (s : Action) (res : Option ℕ) (par : Option (ℕ × Name)) (new id : ℕ) → h < hart_count → Asked t ms h res par → Leaves t ms → refusal_with v t h s res par ≡ None → (makes_node t s par ≡ true → ms new ≡ t.nodes new)
+    → settle (effect_with v (with_nodes t ms) h s res par new id) ≡ settle (effect_with v t h s res par new id)
 unfolding effect_with refusal_with
-effect_same t ms h (Open path flags) res par new id lt a leaves goes fresh = elim (either (creates flags)) [
+effect_same v t ms h (Open path flags) res par new id lt a leaves goes fresh = elim (either (creates flags)) [
   | inl y ↦ rw y (new_settles t ms h id flags res par new lt a leaves (λ e. fresh (rw (y, e) refl)))
   | inr y ↦ rw y (at_settles t ms res h id flags new lt leaves a.node)
 ]
-effect_same t ms h (Truncate fd) res par new id lt a leaves goes fresh = truncate_settles t ms (file_at t h fd) leaves (a.file fd)
-effect_same t ms h (Read fd n) res par new id lt a leaves goes fresh =
-    ap (λ (b : List ℕ). settle (moved (with_nodes t ms) (t.fds h fd) (length b))) (part_same t ms (file_at t h fd) n (a.file fd))
-    ∙ moved_settles t ms (t.fds h fd) (length (part t (file_at t h fd) n)) (λ c less'. begins t c ms leaves (λ k u. inl (less' k u)))
-effect_same t ms h (WritePart fd b) res par new id lt a leaves goes fresh = wrote_settles t ms h fd b leaves (a.file fd)
-effect_same t ms h (Find old) res par new id lt a leaves goes fresh = find_settles t ms h res leaves a.node
-effect_same t ms h Bump res par new id lt a leaves goes fresh = bump_settles t ms h (t.holds h) refl lt leaves a.hold
-effect_same t ms h (Enter name) res par new id lt a leaves goes fresh = enter_settles t ms h res par (t.holds h) lt a leaves
-effect_same t ms h Unbump res par new id lt a leaves goes fresh = unbump_settles t ms h (t.holds h) lt leaves a.hold
-effect_same t ms h (Unlink path) res par new id lt a leaves goes fresh = unlink_settles t ms h res par a leaves
-effect_same t ms h (Mkdir path) res par new id lt a leaves goes fresh = mkdir_settles t ms h res par new a leaves
-effect_same t ms h (Chdir path) res par new id lt a leaves goes fresh = chdir_settles t ms h res leaves a.node
-effect_same t ms h (Dup fd) res par new id lt a leaves goes fresh =
+effect_same v t ms h (Truncate fd) res par new id lt a leaves goes fresh = truncate_settles t ms (file_at t h fd) leaves (a.file fd)
+effect_same v t ms h (Read fd n) res par new id lt a leaves goes fresh =
+    ap (λ (b : List ℕ). settle (moved (with_nodes t ms) (t.fds h fd) (length b))) (part_same v t ms (file_at t h fd) n (a.file fd))
+    ∙ moved_settles t ms (t.fds h fd) (length (part v t (file_at t h fd) n)) (λ c less'. begins t c ms leaves (λ k u. inl (less' k u)))
+effect_same v t ms h (WritePart fd b) res par new id lt a leaves goes fresh = wrote_settles t ms h fd b leaves (a.file fd)
+effect_same v t ms h (Find old) res par new id lt a leaves goes fresh = find_settles t ms h res leaves a.node
+effect_same v t ms h Bump res par new id lt a leaves goes fresh = bump_settles t ms h (t.holds h) refl lt leaves a.hold
+effect_same v t ms h (Enter name) res par new id lt a leaves goes fresh = enter_settles t ms h res par (t.holds h) lt a leaves
+effect_same v t ms h Unbump res par new id lt a leaves goes fresh = unbump_settles t ms h (t.holds h) lt leaves a.hold
+effect_same v t ms h (Unlink path) res par new id lt a leaves goes fresh = unlink_settles t ms h res par a leaves
+effect_same v t ms h (Mkdir path) res par new id lt a leaves goes fresh = mkdir_settles t ms h res par new a leaves
+effect_same v t ms h (Chdir path) res par new id lt a leaves goes fresh = chdir_settles t ms h res leaves a.node
+effect_same v t ms h (Dup fd) res par new id lt a leaves goes fresh =
     let b : Tree = record t { fds = put t.fds h (put (t.fds h) (lowest (t.fds h)) (t.fds h fd)) } in
     settles b ms (begins t b ms leaves (λ n u. inl (fd_unnamed t h (lowest (t.fds h)) (t.fds h fd) n lt u (u.fds h fd lt (low_fd t h fd goes)))))
-effect_same t ms h (Close fd) res par new id lt a leaves goes fresh = close_settles t ms h fd lt leaves
-effect_same t ms h (Fstat fd) res par new id lt a leaves goes fresh = base t ms leaves
-effect_same t ms h (Inherit child) res par new id lt a leaves goes fresh = inherit_settles t ms h child lt leaves
+effect_same v t ms h (Close fd) res par new id lt a leaves goes fresh = close_settles t ms h fd lt leaves
+effect_same v t ms h (Fstat fd) res par new id lt a leaves goes fresh = base t ms leaves
+effect_same v t ms h (Inherit child) res par new id lt a leaves goes fresh = inherit_settles t ms h child lt leaves
 
 -- A tree that settles has such nodes.
 
@@ -479,11 +479,11 @@ asked t h res par lt a = record { node = a.node; directory = a.directory; child 
 
 -- What a step finds and changes in a settled tree.
 
-pub settled_refusal : (t : Tree) (h : ℕ) (s : Action) (res : Option ℕ) (par : Option (ℕ × Name)) → h < hart_count → AsksForWhatStays t res par → refusal_with (settle t) h s res par ≡ refusal_with t h s res par
-settled_refusal t h s res par lt a = ap (λ (u : Tree). refusal_with u h s res par) (as_settled t) ∙ refusal_same t (settle t).nodes h s res par (asked t h res par lt a)
+pub settled_refusal : (v : Version) (t : Tree) (h : ℕ) (s : Action) (res : Option ℕ) (par : Option (ℕ × Name)) → h < hart_count → AsksForWhatStays t res par → refusal_with v (settle t) h s res par ≡ refusal_with v t h s res par
+settled_refusal v t h s res par lt a = ap (λ (u : Tree). refusal_with v u h s res par) (as_settled t) ∙ refusal_same v t (settle t).nodes h s res par (asked t h res par lt a)
 
-pub settled_answer : (t : Tree) (h : ℕ) (s : Action) (res : Option ℕ) (par : Option (ℕ × Name)) (id : ℕ) → h < hart_count → AsksForWhatStays t res par → answer_with (settle t) h s res par id ≡ answer_with t h s res par id
-settled_answer t h s res par id lt a = ap (λ (u : Tree). answer_with u h s res par id) (as_settled t) ∙ answer_same t (settle t).nodes h s res par id (asked t h res par lt a)
+pub settled_answer : (v : Version) (t : Tree) (h : ℕ) (s : Action) (res : Option ℕ) (par : Option (ℕ × Name)) (id : ℕ) → h < hart_count → AsksForWhatStays t res par → answer_with v (settle t) h s res par id ≡ answer_with v t h s res par id
+settled_answer v t h s res par id lt a = ap (λ (u : Tree). answer_with v u h s res par id) (as_settled t) ∙ answer_same v t (settle t).nodes h s res par id (asked t h res par lt a)
 
 pub settled_place : (t : Tree) (h : ℕ) (s : Action) (res : Option ℕ) (par : Option (ℕ × Name)) → h < hart_count → AsksForWhatStays t res par → place_of (settle t) h s ≡ place_of t h s
 settled_place t h s res par lt a = ap (λ (u : Tree). place_of u h s) (as_settled t) ∙ place_same t (settle t).nodes h s res par (asked t h res par lt a)
@@ -492,11 +492,11 @@ pub settled_makes : (t : Tree) (h : ℕ) (s : Action) (res : Option ℕ) (par : 
 settled_makes t h s res par lt a = ap (λ (u : Tree). makes_node u s par) (as_settled t) ∙ makes_same t (settle t).nodes h s res par (asked t h res par lt a)
 
 -- A step that isn't refused changes both to trees that settle to one.
-pub settled_effect : (t : Tree) (h : ℕ) (s : Action) (res : Option ℕ) (par : Option (ℕ × Name)) (new id : ℕ) → h < hart_count → AsksForWhatStays t res par → refusal_with t h s res par ≡ None → (makes_node t s par ≡ true → t.nodes new ≡ None)
-    → settle (effect_with (settle t) h s res par new id) ≡ settle (effect_with t h s res par new id)
-settled_effect t h s res par new id lt a goes fresh =
-    ap (λ (u : Tree). settle (effect_with u h s res par new id)) (as_settled t)
-    ∙ effect_same t (settle t).nodes h s res par new id lt (asked t h res par lt a) (leaves t) goes (λ y. settle_none t new (fresh y))
+pub settled_effect : (v : Version) (t : Tree) (h : ℕ) (s : Action) (res : Option ℕ) (par : Option (ℕ × Name)) (new id : ℕ) → h < hart_count → AsksForWhatStays t res par → refusal_with v t h s res par ≡ None → (makes_node t s par ≡ true → t.nodes new ≡ None)
+    → settle (effect_with v (settle t) h s res par new id) ≡ settle (effect_with v t h s res par new id)
+settled_effect v t h s res par new id lt a goes fresh =
+    ap (λ (u : Tree). settle (effect_with v u h s res par new id)) (as_settled t)
+    ∙ effect_same v t (settle t).nodes h s res par new id lt (asked t h res par lt a) (leaves t) goes (λ y. settle_none t new (fresh y))
 
 refused_same : (t : Tree) (h : ℕ) (s : Action) → h < hart_count → settle (refused t h s) ≡ refused (settle t) h s
 refused_same t h Bump lt =
@@ -520,15 +520,15 @@ hart_of t h s p = less_is h hart_count (and_true (nat_lt h hart_count) (place_of
 in_place : (t : Tree) (h : ℕ) (s : Action) (res : Option ℕ) (par : Option (ℕ × Name)) → AsksForWhatStays t res par → IsInPlace t h s → IsInPlace (settle t) h s
 in_place t h s res par a p = ap (λ (b : Bool). nat_lt h hart_count && b) (settled_place t h s res par (hart_of t h s p) a) ∙ p
 
-pub settled_step : (t : Tree) (h : ℕ) (s : Action) (res : Option ℕ) (par : Option (ℕ × Name)) (a : StepAnswer) (new id : ℕ) (t' : Tree) → AsksForWhatStays t res par → StepWith t h s res par a new id t' → StepWith (settle t) h s res par a new id (settle t')
-settled_step t h s res par (Failed k) new id t' asks x =
+pub settled_step : (v : Version) (t : Tree) (h : ℕ) (s : Action) (res : Option ℕ) (par : Option (ℕ × Name)) (a : StepAnswer) (new id : ℕ) (t' : Tree) → AsksForWhatStays t res par → StepWith v t h s res par a new id t' → StepWith v (settle t) h s res par a new id (settle t')
+settled_step v t h s res par (Failed k) new id t' asks x =
     let lt = hart_of t h s x.2 in
-    (settled_refusal t h s res par lt asks ∙ x.0, ap settle x.1 ∙ refused_same t h s lt, in_place t h s res par asks x.2)
-settled_step t h s res par a new id t' asks x =
+    (settled_refusal v t h s res par lt asks ∙ x.0, ap settle x.1 ∙ refused_same t h s lt, in_place t h s res par asks x.2)
+settled_step v t h s res par a new id t' asks x =
     let lt = hart_of t h s x.4 in (
-      settled_refusal t h s res par lt asks ∙ x.0,
-      x.1 ∙ sym (settled_answer t h s res par id lt asks),
+      settled_refusal v t h s res par lt asks ∙ x.0,
+      x.1 ∙ sym (settled_answer v t h s res par id lt asks),
       settled_choice t h s res par new id lt asks x.2,
-      ap settle x.3 ∙ (sym (settle_again (effect_with t h s res par new id)) ∙ sym (settled_effect t h s res par new id lt asks x.0 (λ y. (x.2.node y).unused))),
+      ap settle x.3 ∙ (sym (settle_again (effect_with v t h s res par new id)) ∙ sym (settled_effect v t h s res par new id lt asks x.0 (λ y. (x.2.node y).unused))),
       in_place t h s res par asks x.4,
     )

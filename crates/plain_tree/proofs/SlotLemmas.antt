@@ -1,5 +1,5 @@
 -- Slots of a directory, one after another.
-use Rattle.plain_tree.proofs.Vocabulary.{◌≡◌, ℕ, suc, ◌+◌, ◌<◌, ◌≤◌, true, false, List, [], ◌∷◌, ◌++◌, length, take, drop, get_or, refl, sym, ◌∙◌, ap, add-one, drop-cons, append_assoc, append-nil, Option, Some, None, set, take_more, take_all, drop_all, set_split, Slot, Name, same_name, cleared, entries, entry_bytes, first_free}
+use Rattle.plain_tree.proofs.Vocabulary.{◌≡◌, Version, ℕ, suc, ◌+◌, ◌<◌, ◌≤◌, true, false, List, [], ◌∷◌, ◌++◌, length, take, drop, get_or, refl, sym, ◌∙◌, ap, add-one, drop-cons, append_assoc, append-nil, Option, Some, None, set, take_more, take_all, drop_all, set_split, Slot, Name, same_name, cleared, entries, entry_bytes, first_free}
 
 free_some : (x : Slot) (ss : List (Option Slot)) (s : Slot) → first_free (Some x ∷ ss) s ≡ Some x ∷ first_free ss s
 unfolding first_free
@@ -63,14 +63,14 @@ clears_found ss e i v x lt is n h inv =
 pub clears_none : (ss : List (Option Slot)) (e : Name) (i : ℕ) → length ss ≤ i → cleared ss e ≡ take i ss ++ cleared (drop i ss) e → cleared ss e ≡ ss
 clears_none ss e i le inv = inv ∙ rw (take_all i ss le, drop_all i ss le, cleared_nil e) (append-nil ss)
 
-entries_snoc : (ss : List (Option Slot)) (v : Option Slot) → entries (ss ++ v ∷ []) ≡ entries ss ++ entry_bytes v
+entries_snoc : (v : Version) (ss : List (Option Slot)) (o : Option Slot) → entries v (ss ++ o ∷ []) ≡ entries v ss ++ entry_bytes v o
 unfolding entries
-entries_snoc [] v = append-nil (entry_bytes v)
-entries_snoc (x ∷ xs) v = ap (λ y. entry_bytes x ++ y) (entries_snoc xs v) ∙ sym (append_assoc (entry_bytes x) (entries xs) (entry_bytes v))
+entries_snoc v [] o = append-nil (entry_bytes v o)
+entries_snoc v (x ∷ xs) o = ap (λ y. entry_bytes v x ++ y) (entries_snoc v xs o) ∙ sym (append_assoc (entry_bytes v x) (entries v xs) (entry_bytes v o))
 
-pub entries_more : (ss : List (Option Slot)) (i : ℕ) (v : Option Slot) → i < length ss → v ≡ get_or ss i v → entries (take (i + 1) ss) ≡ entries (take i ss) ++ entry_bytes v
-entries_more ss i v lt is = ap entries (take_more ss i v lt ∙ ap (λ y. take i ss ++ y ∷ []) (sym is)) ∙ entries_snoc (take i ss) v
+pub entries_more : (v : Version) (ss : List (Option Slot)) (i : ℕ) (o : Option Slot) → i < length ss → o ≡ get_or ss i o → entries v (take (i + 1) ss) ≡ entries v (take i ss) ++ entry_bytes v o
+entries_more v ss i o lt is = ap (λ y. entries v y) (take_more ss i o lt ∙ ap (λ y. take i ss ++ y ∷ []) (sym is)) ∙ entries_snoc v (take i ss) o
 
-pub entries_nil : entries [] ≡ []
+pub entries_nil : (v : Version) → entries v [] ≡ []
 unfolding entries
-entries_nil = refl
+entries_nil v = refl

@@ -4,4 +4,4 @@ unfoldable pub use Rattle.plain_tree.specs.Steps.{answer_with, cleared, effect_w
 pub use Rattle.plain_tree.specs.Tree.{Name, Tree, and_then, climbs, dot, dotdot, hold_names, is_empty, parent, resolve, tree_of}
 unfoldable pub use Rattle.plain_tree.specs.Tree.{any_below, file_in, first_slot, follow, is_named, look, settle}
 pub use Rattle.plain_tree.specs.TreeData.{TreeData}
-pub use Rattle.plain_tree.specs.Widths.{descriptor_count, hart_count, name_len, piece_len, root}
+pub use Rattle.plain_tree.specs.Widths.{descriptor_count, hart_count, piece_len, root}

@@ -1,5 +1,6 @@
 -- Words in which the parts of the check of a list are promised.
 use Rattle.std.specs.Prelude.{◌≡◌, ℕ, Bool, true, false, List, Some, slice_get}
+use Rattle.image_versions.specs.declared.version.Version.{Version}
 use Rattle.plain_tree.specs.declared.step.TreeStep.{TreeStep}
 use Rattle.plain_tree.specs.declared.step.StepAnswer.{StepAnswer}
 use Rattle.plain_tree.specs.declared.step.StepAnswer.TheVariants.{Full as NoRoom}
@@ -9,13 +10,13 @@ use Rattle.plain_tree.specs.Basics.{Tree, Step}
 use Rattle.plain_tree.specs.Explains.{Chain, IsWritten, acts_of}
 
 -- the list leads from t to some tree
-abbrev pub Leads : Tree → List Placed → Type 0
-Leads t list = (end : Tree) × Chain t list end
+abbrev pub Leads : Version → Tree → List Placed → Type 0
+Leads v t list = (end : Tree) × Chain v t list end
 
 -- Where this is true the step with its answer leads from t to t', otherwise from t to no tree.
-abbrev pub LeadsOn : Bool → Tree → TreeStep → StepAnswer → Tree → Type 0
-LeadsOn true t s a t' = Step t s a t'
-LeadsOn false t s a t' = (u : Tree) → Step t s a u → ⊥
+abbrev pub LeadsOn : Version → Bool → Tree → TreeStep → StepAnswer → Tree → Type 0
+LeadsOn v true t s a t' = Step v t s a t'
+LeadsOn v false t s a t' = (u : Tree) → Step v t s a u → ⊥
 
 -- the step answered that there is no room
 abbrev pub is_full : StepAnswer → Bool

@@ -1,5 +1,7 @@
 -- Words in which the code's parts are promised.
 use Rattle.std.specs.Prelude.{ℕ, ◌≡◌, ◌+◌, ◌^◌, ◌==◌, ◌&&◌, not, true, false, ◌<◌, ◌++◌, length, slice_index_or, slice_set, Bool, List, [], ◌∷◌, take, nat_lt, if◌then◌else◌, Option, Some, None, ◌-◌, drop}
+use Rattle.image_versions.specs.declared.version.Version.{Version}
+use Rattle.image_versions.specs.Versions.{name_len_of}
 use Rattle.plain_tree.specs.declared.node.Node.{Node}
 use Rattle.plain_tree.specs.declared.node.Slot.{Slot}
 use Rattle.plain_tree.specs.declared.step.Action.{Action}
@@ -8,11 +10,11 @@ use Rattle.plain_tree.specs.declared.step.StepAnswer.{StepAnswer}
 use Rattle.plain_tree.specs.declared.step.StepAnswer.TheVariants.{Bytes}
 use Rattle.plain_tree.specs.declared.tree.OpenFile.{OpenFile}
 use Rattle.plain_tree.specs.declared.tree.OpenFileEntry.{OpenFileEntry}
-use Rattle.plain_tree.specs.Basics.{Name, Tree, tree_of, file_in, is_empty, and_then, is_named, settle, TreeData, cleared, file_at, first_free, has_fd, name_len}
+use Rattle.plain_tree.specs.Basics.{Name, Tree, tree_of, file_in, is_empty, and_then, is_named, settle, TreeData, cleared, file_at, first_free, has_fd}
 
 -- the element that these bytes are, if there are any, before the others
-abbrev pub with_element : List ℕ → List Name → List Name
-with_element bytes es = if is_empty bytes then es else take name_len bytes ∷ es
+abbrev pub with_element : Version → List ℕ → List Name → List Name
+with_element v bytes es = if is_empty bytes then es else take (name_len_of v) bytes ∷ es
 
 -- these bytes are the end of the path
 abbrev pub IsEnd : List ℕ → List ℕ → Type 0

@@ -1,5 +1,6 @@
 -- The trace of a run, when one list of tree steps explains it, and the part of a tree that has names.
 use Rattle.std.specs.Prelude.{◌≡◌, ℕ, ◌+◌, ◌≤◌, ◌<◌, ◌&&◌, List, [], ◌∷◌, ◌++◌, map, ◌==◌, if◌then◌else◌, Option, Some, None, slice_get}
+use Rattle.image_versions.specs.declared.version.Version.{Version}
 use Rattle.plain_tree.specs.declared.answer.Reply.{Reply}
 use Rattle.plain_tree.specs.declared.call.Call.{Call}
 use Rattle.plain_tree.specs.declared.trace.Trace.{Trace}
@@ -42,9 +43,9 @@ Rises lo [] = Unit {0}
 Rises lo (e ∷ es) = (lo ≤ e.event) × Rises e.event es
 
 -- each step leads on from the tree that the one before left
-unfoldable pub Chain : Tree → List Placed → Tree → Type 0
-Chain t [] t' = t ≡ t'
-Chain t (e ∷ es) t' = (mid : Tree) × Step t e.step e.answer mid × Chain mid es t'
+unfoldable pub Chain : Version → Tree → List Placed → Tree → Type 0
+Chain v t [] t' = t ≡ t'
+Chain v t (e ∷ es) t' = (mid : Tree) × Step v t e.step e.answer mid × Chain v mid es t'
 
 abbrev pub act_of : Placed → Act
 act_of e = record { step = e.step.action; answer = e.answer }
@@ -76,10 +77,10 @@ AllBelong t [] = Unit {0}
 AllBelong t (e ∷ es) = Belongs t e × AllBelong t es
 
 -- From the tree base the list explains the trace.
-pub record Explains (base : TreeData) (t : Trace) (list : List Placed) : Type 0 where
+pub record Explains (v : Version) (base : TreeData) (t : Trace) (list : List Placed) : Type 0 where
   pub rises : Rises 0 list
   pub end : Tree
-  pub chain : Chain (tree_of base) list end
+  pub chain : Chain v (tree_of base) list end
   pub written : (id : ℕ) (c : TracedCall) → slice_get t.calls id ≡ Some c → IsWritten c.call (acts_of id list) c.finished
   pub belongs : AllBelong t list
 

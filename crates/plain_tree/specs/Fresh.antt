@@ -1,5 +1,7 @@
 -- A fresh tree, and what a list of steps answers.
 use Rattle.std.specs.Prelude.{ℕ, ◌-◌, List, [], ◌∷◌, length, Option, Some, None, replicate}
+use Rattle.image_versions.specs.declared.version.Version.{Version}
+use Rattle.image_versions.specs.Versions.{dirents_per_block_of}
 use Rattle.plain_tree.specs.declared.node.Node.{Node}
 use Rattle.plain_tree.specs.declared.node.NodeKind.TheVariants.{Directory}
 use Rattle.plain_tree.specs.declared.step.TreeStep.{TreeStep}
@@ -9,14 +11,14 @@ use Rattle.plain_tree.specs.Basics.{TreeData, Tree, dot, dotdot, root, hart_coun
 use Rattle.plain_tree.specs.Applied.{applied}
 
 -- slots of a fresh root: one block of them
-abbrev pub fresh_slots : ℕ
-fresh_slots = 64
+abbrev pub fresh_slots : Version → ℕ
+fresh_slots v = dirents_per_block_of v
 
-abbrev pub fresh_root : Node
-fresh_root = record {
+abbrev pub fresh_root : Version → Node
+fresh_root v = record {
   count = 1;
   kind = Directory (Some (record { name = dot; number = root }) ∷ Some (record { name = dotdot; number = root })
-      ∷ replicate (fresh_slots - 2) None);
+      ∷ replicate (fresh_slots v - 2) None);
 }
 
 abbrev pub fresh_hart : Hart
@@ -27,14 +29,14 @@ abbrev pub at_rest : List (Option Node) → TreeData
 at_rest nodes = record { ninodes = length nodes; nodes = nodes; files = []; harts = replicate hart_count fresh_hart }
 
 -- a root without names, and room for these numbers of nodes
-abbrev pub fresh : ℕ → TreeData
-fresh ninodes = at_rest (None ∷ Some fresh_root ∷ replicate (ninodes - 2) None)
+abbrev pub fresh : Version → ℕ → TreeData
+fresh v ninodes = at_rest (None ∷ Some (fresh_root v) ∷ replicate (ninodes - 2) None)
 
 -- a step, with the id of an open file that it makes
 pub record Made : Type 0 where
   pub step : TreeStep
   pub id : ℕ
 
-unfoldable pub answers : Tree → List Made → List StepAnswer
-answers t [] = []
-answers t (m ∷ ms) = (applied t m.step m.id).answer ∷ answers (applied t m.step m.id).tree ms
+unfoldable pub answers : Version → Tree → List Made → List StepAnswer
+answers v t [] = []
+answers v t (m ∷ ms) = (applied v t m.step m.id).answer ∷ answers v (applied v t m.step m.id).tree ms

@@ -1,22 +1,24 @@
 -- What the definitions say of one another.
-use Rattle.std.specs.Prelude.{◌≡◌, ℕ, true, ◌⊎◌, ◌<◌, ◌≢◌, Option, Some, None}
+use Rattle.std.specs.Prelude.{◌≡◌, ℕ, true, ◌⊎◌, ◌<◌, ◌≢◌, List, Option, Some, None}
+use Rattle.image_versions.specs.declared.version.Version.{Version}
 use Rattle.plain_tree.specs.declared.step.Action.{Action}
 use Rattle.plain_tree.specs.declared.step.Action.TheVariants.{Inherit}
 use Rattle.plain_tree.specs.declared.step.TreeStep.{TreeStep}
 use Rattle.plain_tree.specs.declared.step.StepAnswer.{StepAnswer}
 use Rattle.plain_tree.specs.Basics.{Name, Tree, any_below, is_named, look, settle, IsInPlace, IsLeastUnused, Step, StepWith, opens_one, hart_count, descriptor_count}
+use Rattle.plain_tree.specs.Tree.{climbs, climbs_in, elements}
 use Rattle.plain_tree.specs.HartRow.{row_of, row_names}
 use Rattle.plain_tree.specs.Applied.{applied, IsApplied, IsBadChoice}
 
 -- A step in its place, with a right number for a new node and the least unused id for a file that it opens, goes as it is applied.
 abbrev pub AppliedIsAStep : Type 0
-AppliedIsAStep = (t : Tree) (s : TreeStep) (id : ℕ) → IsInPlace t s.hart s.action → (IsBadChoice t s → ⊥)
-    → (opens_one t s.hart s.action ≡ true → IsLeastUnused t id) → Step t s (applied t s id).answer (applied t s id).tree
+AppliedIsAStep = (v : Version) (t : Tree) (s : TreeStep) (id : ℕ) → IsInPlace t s.hart s.action → (IsBadChoice v t s → ⊥)
+    → (opens_one t s.hart s.action ≡ true → IsLeastUnused t id) → Step v t s (applied v t s id).answer (applied v t s id).tree
 
 -- What `Tree::apply` promises is a tree step. Out of its place a step is none, and changes nothing.
 abbrev pub AnswersAreSteps : Type 0
-AnswersAreSteps = (t : Tree) (s : TreeStep) (a : StepAnswer) (t' : Tree) → IsApplied t s a t'
-    → Step t s a t' ⊎ ((IsInPlace t s.hart s.action → ⊥) × (t' ≡ t))
+AnswersAreSteps = (v : Version) (t : Tree) (s : TreeStep) (a : StepAnswer) (t' : Tree) → IsApplied v t s a t'
+    → Step v t s a t' ⊎ ((IsInPlace t s.hart s.action → ⊥) × (t' ≡ t))
 
 -- What has settled settles to itself.
 abbrev pub SettlesOnce : Type 0
@@ -32,8 +34,8 @@ HasFiles t g = (i id : ℕ) → g < hart_count → i < descriptor_count → t.fd
 
 -- A step of one hart leaves the rows of the others, but that of an inherit's child.
 abbrev pub RowsStay : Type 0
-RowsStay = (t : Tree) (s : TreeStep) (a : StepAnswer) (t' : Tree) (g : ℕ) → Step t s a t' → g ≢ s.hart → (s.action ≡ Inherit g → ⊥)
-    → HasFiles t g → row_of t' g ≡ row_of t g
+RowsStay = (v : Version) (t : Tree) (s : TreeStep) (a : StepAnswer) (t' : Tree) (g : ℕ) → Step v t s a t' → g ≢ s.hart
+    → (s.action ≡ Inherit g → ⊥) → HasFiles t g → row_of t' g ≡ row_of t g
 
 -- the node of that number stays where the tree settles
 abbrev pub Stays : Tree → ℕ → Type 0
@@ -47,5 +49,10 @@ pub record AsksForWhatStays (t : Tree) (res : Option ℕ) (par : Option (ℕ × 
 
 -- A step of a settled tree is that of the unsettled one.
 abbrev pub SettledSteps : Type 0
-SettledSteps = (t : Tree) (h : ℕ) (s : Action) (res : Option ℕ) (par : Option (ℕ × Name)) (a : StepAnswer) (new id : ℕ) (t' : Tree)
-    → AsksForWhatStays t res par → StepWith t h s res par a new id t' → StepWith (settle t) h s res par a new id (settle t')
+SettledSteps = (v : Version) (t : Tree) (h : ℕ) (s : Action) (res : Option ℕ) (par : Option (ℕ × Name)) (a : StepAnswer) (new id : ℕ)
+    (t' : Tree) → AsksForWhatStays t res par → StepWith v t h s res par a new id t'
+    → StepWith v (settle t) h s res par a new id (settle t')
+
+-- A path climbs in one version where it does in any.
+abbrev pub ClimbsInEachVersion : Type 0
+ClimbsInEachVersion = (v : Version) (path : List ℕ) → climbs_in (elements v path) ≡ climbs path

@@ -16,3 +16,4 @@ pub mod Marks
 pub mod OneEnd
 pub mod Checked
 pub mod Laws
+pub mod VersionOne

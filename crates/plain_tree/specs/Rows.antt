@@ -1,5 +1,7 @@
--- Short runs as tree steps, with what they answer from a fresh tree.
+-- Short runs as tree steps, with what they answer from a fresh tree; of version 1, where nothing else is said.
 use Rattle.std.specs.Prelude.{◌≡◌, ℕ, true, false, List, [], ◌∷◌, ◌++◌, map, codes, replicate}
+use Rattle.image_versions.specs.declared.version.Version.{Version}
+use Rattle.image_versions.specs.declared.version.Version.TheVariants.{One, Two}
 use Rattle.plain_tree.specs.declared.answer.Cause.TheVariants.{NoEntry, Exists, DotName, BadDescriptor, BadOffset}
 use Rattle.plain_tree.specs.declared.answer.Full.TheVariants.{Descriptors}
 use Rattle.plain_tree.specs.declared.answer.NodeType.{NodeType}
@@ -28,8 +30,8 @@ makes h n a r = record { made = record { step = record { hart = h; new = n; acti
 abbrev pub opens : ℕ → ℕ → ℕ → Action → StepAnswer → Line
 opens h n id a r = record { made = record { step = record { hart = h; new = n; action = a }; id = id }; answer = r }
 
-abbrev pub is_so : List Line → Type 0
-is_so ls = answers (tree_of (fresh 200)) (map (λ l. l.made) ls) ≡ map (λ l. l.answer) ls
+abbrev pub is_so : Version → List Line → Type 0
+is_so v ls = answers v (tree_of (fresh v 200)) (map (λ l. l.made) ls) ≡ map (λ l. l.answer) ls
 
 -- number, type, links and size
 abbrev pub stat : ℕ → NodeType → ℕ → ℕ → StepAnswer
@@ -48,7 +50,7 @@ read_and_create = 512
 abbrev pub read_and_truncate : ℕ
 read_and_truncate = 1024
 
--- entries of content: number, name, zeros
+-- entries of version 1's content: number, name, zeros
 abbrev pub dot_entry : ℕ → List ℕ
 dot_entry n = n ∷ 0 ∷ 46 ∷ replicate 13 0
 
@@ -56,14 +58,14 @@ abbrev pub dotdot_entry : ℕ → List ℕ
 dotdot_entry n = n ∷ 0 ∷ 46 ∷ 46 ∷ replicate 12 0
 
 abbrev pub ReadsRoot : Type 0
-ReadsRoot = is_so (
+ReadsRoot = is_so One (
     opens 0 0 0 (Open (codes "/") 0) (Opened 0 0 false)
     ∷ line 0 (Fstat 0) (stat 1 ADirectory 1 1024)
     ∷ line 0 (Read 0 32) (Bytes (dot_entry 1 ++ dotdot_entry 1))
     ∷ [])
 
 abbrev pub MakesDirectory : Type 0
-MakesDirectory = is_so (
+MakesDirectory = is_so One (
     makes 0 2 (Mkdir (codes "/a")) Done
     ∷ opens 0 0 0 (Open (codes "/a") 0) (Opened 0 0 false)
     ∷ line 0 (Fstat 0) (stat 2 ADirectory 1 32)
@@ -71,8 +73,18 @@ MakesDirectory = is_so (
     ∷ line 0 (Fstat 1) (stat 1 ADirectory 2 1024)
     ∷ [])
 
+abbrev pub MakesLongerDirectory : Type 0
+MakesLongerDirectory = is_so Two (
+    makes 0 2 (Mkdir (codes "/a")) Done
+    ∷ opens 0 0 0 (Open (codes "/a") 0) (Opened 0 0 false)
+    ∷ line 0 (Fstat 0) (stat 2 ADirectory 1 64)
+    ∷ opens 0 0 1 (Open (codes "/") 0) (Opened 1 1 false)
+    ∷ line 0 (Fstat 1) (stat 1 ADirectory 2 1024)
+    ∷ line 0 (Read 0 33) (Bytes (2 ∷ 0 ∷ 46 ∷ replicate 29 0 ++ 1 ∷ []))
+    ∷ [])
+
 abbrev pub TakesNoElements : Type 0
-TakesNoElements = is_so (
+TakesNoElements = is_so One (
     opens 0 0 0 (Open [] 0) (Opened 0 0 false)
     ∷ opens 0 0 1 (Open (codes "/") 0) (Opened 1 1 false)
     ∷ line 0 (Unlink (codes "/")) (Failed NoEntry)
@@ -80,15 +92,27 @@ TakesNoElements = is_so (
     ∷ [])
 
 abbrev pub CutsNames : Type 0
-CutsNames = is_so (
+CutsNames = is_so One (
     opens 0 2 0 (Open (codes "/abcdefghijklmn") read_and_create) (Opened 0 0 true)
     ∷ opens 0 3 1 (Open (codes "/abcdefghijklmnopqrst") read_and_create) (Opened 1 1 true)
     ∷ line 0 (Fstat 0) (stat 2 AFile 1 0)
     ∷ line 0 (Fstat 1) (stat 2 AFile 1 0)
     ∷ [])
 
+-- Two names of 15 bytes, of which only the last differs, are one name in version 1 and two in version 2.
+abbrev pub long_names : ℕ → List Line
+long_names n =
+    opens 0 2 0 (Open (codes "/abcdefghijklmno") read_and_create) (Opened 0 0 true)
+    ∷ opens 0 3 1 (Open (codes "/abcdefghijklmnp") read_and_create) (Opened 1 1 true)
+    ∷ line 0 (Fstat 0) (stat 2 AFile 1 0)
+    ∷ line 0 (Fstat 1) (stat n AFile 1 0)
+    ∷ []
+
+abbrev pub TellsLongNames : Type 0
+TellsLongNames = is_so One (long_names 2) × is_so Two (long_names 3)
+
 abbrev pub WritesInPieces : Type 0
-WritesInPieces = is_so (
+WritesInPieces = is_so One (
     opens 0 2 0 (Open (codes "/f") write_and_create) (Opened 0 0 true)
     ∷ opens 1 0 1 (Open (codes "/f") 0) (Opened 0 1 true)
     ∷ line 0 (WritePart 0 (replicate 3072 7)) Done
@@ -98,7 +122,7 @@ WritesInPieces = is_so (
     ∷ [])
 
 abbrev pub EmptiesUnderAWriter : Type 0
-EmptiesUnderAWriter = is_so (
+EmptiesUnderAWriter = is_so One (
     opens 0 2 0 (Open (codes "/f") both_and_create) (Opened 0 0 true)
     ∷ line 0 (WritePart 0 (replicate 100 7)) Done
     ∷ opens 1 0 1 (Open (codes "/f") read_and_truncate) (Opened 0 1 true)
@@ -110,7 +134,7 @@ EmptiesUnderAWriter = is_so (
 
 -- An open of /d/f that acts after both unlinks finds nothing, also where both names were made anew later.
 abbrev pub FindsNothingInTheRemoved : Type 0
-FindsNothingInTheRemoved = is_so (
+FindsNothingInTheRemoved = is_so One (
     makes 1 2 (Mkdir (codes "/d")) Done
     ∷ opens 1 3 0 (Open (codes "/d/f") read_and_create) (Opened 0 0 true)
     ∷ line 1 (Close 0) Done
@@ -123,7 +147,7 @@ FindsNothingInTheRemoved = is_so (
     ∷ [])
 
 abbrev pub StaysInTheRemoved : Type 0
-StaysInTheRemoved = is_so (
+StaysInTheRemoved = is_so One (
     makes 0 2 (Mkdir (codes "/d")) Done
     ∷ line 0 (Chdir (codes "/d")) Done
     ∷ line 1 (Unlink (codes "/d")) Done
@@ -134,7 +158,7 @@ StaysInTheRemoved = is_so (
     ∷ [])
 
 abbrev pub LinksWhileUnlinked : Type 0
-LinksWhileUnlinked = is_so (
+LinksWhileUnlinked = is_so One (
     opens 1 2 0 (Open (codes "/f") write_and_create) (Opened 0 0 true)
     ∷ line 1 (WritePart 0 (codes "A")) Done
     ∷ line 0 (Find (codes "/f")) Done
@@ -147,7 +171,7 @@ LinksWhileUnlinked = is_so (
     ∷ [])
 
 abbrev pub TakesItsRaiseBack : Type 0
-TakesItsRaiseBack = is_so (
+TakesItsRaiseBack = is_so One (
     opens 1 2 0 (Open (codes "/f") read_and_create) (Opened 0 0 true)
     ∷ opens 1 3 1 (Open (codes "/g") read_and_create) (Opened 1 1 true)
     ∷ line 0 (Find (codes "/f")) Done
@@ -159,7 +183,7 @@ TakesItsRaiseBack = is_so (
     ∷ [])
 
 abbrev pub SharesItsOffset : Type 0
-SharesItsOffset = is_so (
+SharesItsOffset = is_so One (
     opens 0 0 0 (Open (codes "/") 0) (Opened 0 0 false)
     ∷ line 0 (Inherit 1) Done
     ∷ line 0 (Read 0 16) (Bytes (dot_entry 1))
@@ -180,7 +204,7 @@ sixteen_opens =
 
 -- A seventeenth open has no descriptor; the file that it made stays.
 abbrev pub KeepsWhatItMade : Type 0
-KeepsWhatItMade = is_so (sixteen_opens ++
+KeepsWhatItMade = is_so One (sixteen_opens ++
     opens 0 2 16 (Open (codes "/new") read_and_create) (NoRoom Descriptors)
     ∷ makes 1 3 (Mkdir (codes "/new")) (Failed Exists)
     ∷ line 0 (Dup 3) (NoRoom Descriptors)
@@ -188,7 +212,7 @@ KeepsWhatItMade = is_so (sixteen_opens ++
     ∷ [])
 
 abbrev pub KeepsTheOpenFile : Type 0
-KeepsTheOpenFile = is_so (
+KeepsTheOpenFile = is_so One (
     opens 0 2 0 (Open (codes "/f") read_and_create) (Opened 0 0 true)
     ∷ line 0 (Unlink (codes "/f")) Done
     ∷ line 0 (Unlink (codes "/f")) (Failed NoEntry)
@@ -197,7 +221,7 @@ KeepsTheOpenFile = is_so (
     ∷ [])
 
 abbrev pub RefusesWhatIsOutOfPlace : Type 0
-RefusesWhatIsOutOfPlace = is_so (
+RefusesWhatIsOutOfPlace = is_so One (
     line 0 Bump (Failed BadDescriptor)
     ∷ line 0 (Enter (codes "/g")) (Failed BadDescriptor)
     ∷ line 0 Unbump (Failed BadDescriptor)

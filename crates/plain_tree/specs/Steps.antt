@@ -1,5 +1,7 @@
 -- One step of the plain tree: its causes in order, its answer, what it changes.
 use Rattle.std.specs.Prelude.{◌≡◌, ◌≢◌, ℕ, zero, suc, ◌+◌, ◌-◌, ◌*◌, ◌/◌, ◌%◌, ◌<◌, ◌≤◌, ℤ, pos, negsuc, Bool, true, false, ◌&&◌, ◌||◌, not, List, [], ◌∷◌, ◌++◌, take, drop, length, replicate, ◌==◌, nat_lt, if◌then◌else◌, Option, Some, None, bit_and}
+use Rattle.image_versions.specs.declared.version.Version.{Version}
+use Rattle.image_versions.specs.Versions.{dirent_len_of, name_len_of}
 use Rattle.plain_tree.specs.declared.answer.Cause.{Cause}
 use Rattle.plain_tree.specs.declared.answer.Cause.TheVariants.{NoEntry, Exists, IsDirectory, NotEmpty, DotName, BadDescriptor, BadMode, TooBig, NoDriver, TooManyLinks, BadOffset, NotDirectory}
 use Rattle.plain_tree.specs.declared.answer.Full.TheVariants.{Descriptors}
@@ -18,7 +20,7 @@ use Rattle.plain_tree.specs.declared.step.TreeStep.{TreeStep}
 use Rattle.plain_tree.specs.declared.step.StepAnswer.{StepAnswer}
 use Rattle.plain_tree.specs.declared.step.StepAnswer.TheVariants.{Opened, Bytes, Stat as Status, Fd as NewFd, Done, Failed, Full as NoRoom}
 use Rattle.plain_tree.specs.Tree.{Name, Tree, put, any_below, same_name, dot, dotdot, is_directory, slots_of, look, and_then, resolve, parent, settle}
-use Rattle.plain_tree.specs.Widths.{name_len, dirent_len, largest_size, count_limit, hart_count, descriptor_count, major_limit, root_device}
+use Rattle.plain_tree.specs.Widths.{largest_size, count_limit, hart_count, descriptor_count, major_limit, root_device}
 
 -- Flags of open: write only, read and write, make the file, empty it.
 
@@ -42,23 +44,23 @@ creates flags = has flags create
 
 -- Contents and sizes.
 
-abbrev pub entry_bytes : Option Slot → List ℕ
-entry_bytes None = replicate dirent_len 0
-entry_bytes (Some s) = (s.number % 256) ∷ (s.number / 256) ∷ s.name ++ replicate (name_len - length s.name) 0
+abbrev pub entry_bytes : Version → Option Slot → List ℕ
+entry_bytes v None = replicate (dirent_len_of v) 0
+entry_bytes v (Some s) = (s.number % 256) ∷ (s.number / 256) ∷ s.name ++ replicate (name_len_of v - length s.name) 0
 
-unfoldable pub entries : List (Option Slot) → List ℕ
-entries [] = []
-entries (s ∷ ss) = entry_bytes s ++ entries ss
+unfoldable pub entries : Version → List (Option Slot) → List ℕ
+entries v [] = []
+entries v (s ∷ ss) = entry_bytes v s ++ entries v ss
 
-abbrev pub content : NodeKind → List ℕ
-content (Directory slots) = entries slots
-content (File bytes) = bytes
-content (Device major minor size) = []
+abbrev pub content : Version → NodeKind → List ℕ
+content v (Directory slots) = entries v slots
+content v (File bytes) = bytes
+content v (Device major minor size) = []
 
-abbrev pub size_of : NodeKind → ℕ
-size_of (Directory slots) = dirent_len * length slots
-size_of (File bytes) = length bytes
-size_of (Device major minor size) = size
+abbrev pub size_of : Version → NodeKind → ℕ
+size_of v (Directory slots) = dirent_len_of v * length slots
+size_of v (File bytes) = length bytes
+size_of v (Device major minor size) = size
 
 abbrev pub type_of : NodeKind → NodeType
 type_of (Directory slots) = DirectoryType
@@ -133,14 +135,14 @@ part_refusal offset size [] = None
 part_refusal offset size (b ∷ bs) =
     if nat_lt size offset then Some BadOffset else (if nat_lt largest_size (offset + length (b ∷ bs)) then Some TooBig else None)
 
-abbrev pub write_kind : NodeKind → ℕ → List ℕ → Option Cause
-write_kind (Directory slots) offset b = part_refusal offset (size_of (Directory slots)) b
-write_kind (File bytes) offset b = part_refusal offset (length bytes) b
-write_kind (Device major minor size) offset b = Some NoDriver
+abbrev pub write_kind : Version → NodeKind → ℕ → List ℕ → Option Cause
+write_kind v (Directory slots) offset b = part_refusal offset (size_of v (Directory slots)) b
+write_kind v (File bytes) offset b = part_refusal offset (length bytes) b
+write_kind v (Device major minor size) offset b = Some NoDriver
 
-abbrev pub write_refusal : Tree → List ℕ → Option OpenFile → Option Cause
-write_refusal t b None = Some BadDescriptor
-write_refusal t b (Some f) = if f.writable then write_kind (node_at t f.number).kind f.offset b else Some BadMode
+abbrev pub write_refusal : Version → Tree → List ℕ → Option OpenFile → Option Cause
+write_refusal v t b None = Some BadDescriptor
+write_refusal v t b (Some f) = if f.writable then write_kind v (node_at t f.number).kind f.offset b else Some BadMode
 
 abbrev pub find_refusal : Tree → Option ℕ → Option Cause
 find_refusal t None = Some NoEntry
@@ -220,23 +222,23 @@ follows_path (Chdir path) = true
 follows_path s = false
 
 -- The first cause that stands. res: what the path resolves to; par: its parent, with the last element.
-unfoldable pub refusal_with : Tree → ℕ → Action → Option ℕ → Option (ℕ × Name) → Option Cause
-refusal_with t h (Open path flags) res par = if creates flags then open_new t flags par else open_old t flags res
-refusal_with t h (Read fd n) res par = read_refusal t (file_at t h fd)
-refusal_with t h (WritePart fd b) res par = write_refusal t b (file_at t h fd)
-refusal_with t h (Find old) res par = find_refusal t res
-refusal_with t h Bump res par = bump_refusal t (t.holds h)
-refusal_with t h (Enter new) res par = enter_refusal t par
-refusal_with t h (Unlink path) res par = unlink_refusal t par
-refusal_with t h (Mkdir path) res par = mkdir_refusal t par
-refusal_with t h (Chdir path) res par = chdir_refusal t res
-refusal_with t h (Dup fd) res par = fd_refusal (file_at t h fd)
-refusal_with t h (Close fd) res par = fd_refusal (file_at t h fd)
-refusal_with t h (Fstat fd) res par = fd_refusal (file_at t h fd)
-refusal_with t h s res par = None
+unfoldable pub refusal_with : Version → Tree → ℕ → Action → Option ℕ → Option (ℕ × Name) → Option Cause
+refusal_with v t h (Open path flags) res par = if creates flags then open_new t flags par else open_old t flags res
+refusal_with v t h (Read fd n) res par = read_refusal t (file_at t h fd)
+refusal_with v t h (WritePart fd b) res par = write_refusal v t b (file_at t h fd)
+refusal_with v t h (Find old) res par = find_refusal t res
+refusal_with v t h Bump res par = bump_refusal t (t.holds h)
+refusal_with v t h (Enter new) res par = enter_refusal t par
+refusal_with v t h (Unlink path) res par = unlink_refusal t par
+refusal_with v t h (Mkdir path) res par = mkdir_refusal t par
+refusal_with v t h (Chdir path) res par = chdir_refusal t res
+refusal_with v t h (Dup fd) res par = fd_refusal (file_at t h fd)
+refusal_with v t h (Close fd) res par = fd_refusal (file_at t h fd)
+refusal_with v t h (Fstat fd) res par = fd_refusal (file_at t h fd)
+refusal_with v t h s res par = None
 
-abbrev pub refusal : Tree → ℕ → Action → Option Cause
-refusal t h s = refusal_with t h s (resolve t h (path_of s)) (parent t h (path_of s))
+abbrev pub refusal : Version → Tree → ℕ → Action → Option Cause
+refusal v t h s = refusal_with v t h s (resolve v t h (path_of s)) (parent v t h (path_of s))
 
 -- Where a step has its place.
 
@@ -315,9 +317,9 @@ moved t None by = t
 moved t (Some id) by = record t { files = put t.files id (and_then (t.files id) (λ f. Some (record f { offset = f.offset + by }))) }
 
 -- the part of the content that a read gives
-abbrev pub part : Tree → Option OpenFile → ℕ → List ℕ
-part t None n = []
-part t (Some f) n = take n (drop f.offset (content (node_at t f.number).kind))
+abbrev pub part : Version → Tree → Option OpenFile → ℕ → List ℕ
+part v t None n = []
+part v t (Some f) n = take n (drop f.offset (content v (node_at t f.number).kind))
 
 abbrev pub written_kind : NodeKind → ℕ → List ℕ → NodeKind
 written_kind (File bytes) offset b = File (take offset bytes ++ b ++ drop (offset + length b) bytes)
@@ -406,31 +408,32 @@ abbrev pub closed : Tree → Tree
 closed t = record t { files = λ id. if has_fd t id then t.files id else None }
 
 -- The tree after the step, before the nodes that nothing keeps leave it. new: the number of a new node; id: of a new open file.
-unfoldable pub effect_with : Tree → ℕ → Action → Option ℕ → Option (ℕ × Name) → ℕ → ℕ → Tree
-effect_with t h (Open path flags) res par new id = if creates flags then opened_new t h id flags par new else opened_at t h id flags res new
-effect_with t h (Truncate fd) res par new id = truncated t (file_at t h fd)
-effect_with t h (Read fd n) res par new id = moved t (t.fds h fd) (length (part t (file_at t h fd) n))
-effect_with t h (WritePart fd b) res par new id = wrote t h fd b
-effect_with t h (Find old) res par new id = held t h res
-effect_with t h Bump res par new id = record (at_hold t (t.holds h) raised) { holds = put t.holds h (raise_hold (t.holds h)) }
-effect_with t h (Enter name) res par new id = drop_hold (enter_hold t par (t.holds h)) h
-effect_with t h Unbump res par new id = drop_hold (at_hold t (t.holds h) lowered) h
-effect_with t h (Unlink path) res par new id = removed t par
-effect_with t h (Mkdir path) res par new id = made t par new
-effect_with t h (Chdir path) res par new id = at_dir t h res
-effect_with t h (Dup fd) res par new id = record t { fds = put t.fds h (put (t.fds h) (lowest (t.fds h)) (t.fds h fd)) }
-effect_with t h (Close fd) res par new id = closed (record t { fds = put t.fds h (put (t.fds h) fd None) })
-effect_with t h (Fstat fd) res par new id = t
-effect_with t h (Inherit child) res par new id = record t { fds = put t.fds child (t.fds h); cwd = put t.cwd child (t.cwd h) }
+unfoldable pub effect_with : Version → Tree → ℕ → Action → Option ℕ → Option (ℕ × Name) → ℕ → ℕ → Tree
+effect_with v t h (Open path flags) res par new id =
+    if creates flags then opened_new t h id flags par new else opened_at t h id flags res new
+effect_with v t h (Truncate fd) res par new id = truncated t (file_at t h fd)
+effect_with v t h (Read fd n) res par new id = moved t (t.fds h fd) (length (part v t (file_at t h fd) n))
+effect_with v t h (WritePart fd b) res par new id = wrote t h fd b
+effect_with v t h (Find old) res par new id = held t h res
+effect_with v t h Bump res par new id = record (at_hold t (t.holds h) raised) { holds = put t.holds h (raise_hold (t.holds h)) }
+effect_with v t h (Enter name) res par new id = drop_hold (enter_hold t par (t.holds h)) h
+effect_with v t h Unbump res par new id = drop_hold (at_hold t (t.holds h) lowered) h
+effect_with v t h (Unlink path) res par new id = removed t par
+effect_with v t h (Mkdir path) res par new id = made t par new
+effect_with v t h (Chdir path) res par new id = at_dir t h res
+effect_with v t h (Dup fd) res par new id = record t { fds = put t.fds h (put (t.fds h) (lowest (t.fds h)) (t.fds h fd)) }
+effect_with v t h (Close fd) res par new id = closed (record t { fds = put t.fds h (put (t.fds h) fd None) })
+effect_with v t h (Fstat fd) res par new id = t
+effect_with v t h (Inherit child) res par new id = record t { fds = put t.fds child (t.fds h); cwd = put t.cwd child (t.cwd h) }
 
 -- Answers.
 
-abbrev pub stat_of : ℕ → Node → Stat
-stat_of n v = record { device = root_device; inode = n; kind = type_of v.kind; nlink = v.count; size = size_of v.kind }
+abbrev pub stat_of : Version → ℕ → Node → Stat
+stat_of v n node = record { device = root_device; inode = n; kind = type_of node.kind; nlink = node.count; size = size_of v node.kind }
 
-abbrev pub stat_answer : Tree → Option OpenFile → StepAnswer
-stat_answer t None = Done
-stat_answer t (Some f) = Status (stat_of f.number (node_at t f.number))
+abbrev pub stat_answer : Version → Tree → Option OpenFile → StepAnswer
+stat_answer v t None = Done
+stat_answer v t (Some f) = Status (stat_of v f.number (node_at t f.number))
 
 -- a name that isn't there is made, and is a file
 abbrev pub opens_file : Tree → Option ℕ → Bool
@@ -441,12 +444,12 @@ opens_file t (Some n) = is_file (node_at t n).kind
 abbrev pub opened : Tree → ℕ → ℕ → Option ℕ → StepAnswer
 opened t h id n = if has_room (t.fds h) then Opened (lowest (t.fds h)) id (opens_file t n) else NoRoom Descriptors
 
-unfoldable pub answer_with : Tree → ℕ → Action → Option ℕ → Option (ℕ × Name) → ℕ → StepAnswer
-answer_with t h (Open path flags) res par id = opened t h id (if creates flags then and_then par (λ q. look t.nodes q.0 q.1) else res)
-answer_with t h (Read fd n) res par id = Bytes (part t (file_at t h fd) n)
-answer_with t h (Dup fd) res par id = NewFd (lowest (t.fds h))
-answer_with t h (Fstat fd) res par id = stat_answer t (file_at t h fd)
-answer_with t h s res par id = Done
+unfoldable pub answer_with : Version → Tree → ℕ → Action → Option ℕ → Option (ℕ × Name) → ℕ → StepAnswer
+answer_with v t h (Open path flags) res par id = opened t h id (if creates flags then and_then par (λ q. look t.nodes q.0 q.1) else res)
+answer_with v t h (Read fd n) res par id = Bytes (part v t (file_at t h fd) n)
+answer_with v t h (Dup fd) res par id = NewFd (lowest (t.fds h))
+answer_with v t h (Fstat fd) res par id = stat_answer v t (file_at t h fd)
+answer_with v t h s res par id = Done
 
 -- what a refused step changes: a refused bump drops its hold
 abbrev pub refused : Tree → ℕ → Action → Tree
@@ -485,12 +488,12 @@ pub record MayChoose (t : Tree) (h : ℕ) (s : Action) (par : Option (ℕ × Nam
   pub file : opens_one t h s ≡ true → IsLeastUnused t id
 
 -- The step, where the path was found to resolve to res and its parent to be par.
-abbrev pub StepWith : Tree → ℕ → Action → Option ℕ → Option (ℕ × Name) → StepAnswer → ℕ → ℕ → Tree → Type 0
-StepWith t h s res par (Failed k) new id t' = (refusal_with t h s res par ≡ Some k) × (t' ≡ refused t h s) × IsInPlace t h s
-StepWith t h s res par a new id t' = (refusal_with t h s res par ≡ None) × (a ≡ answer_with t h s res par id) × MayChoose t h s par new id
-    × (t' ≡ settle (effect_with t h s res par new id)) × IsInPlace t h s
+abbrev pub StepWith : Version → Tree → ℕ → Action → Option ℕ → Option (ℕ × Name) → StepAnswer → ℕ → ℕ → Tree → Type 0
+StepWith v t h s res par (Failed k) new id t' = (refusal_with v t h s res par ≡ Some k) × (t' ≡ refused t h s) × IsInPlace t h s
+StepWith v t h s res par a new id t' = (refusal_with v t h s res par ≡ None) × (a ≡ answer_with v t h s res par id)
+    × MayChoose t h s par new id × (t' ≡ settle (effect_with v t h s res par new id)) × IsInPlace t h s
 
 -- From t the step may give this answer and go on to t'.
-abbrev pub Step : Tree → TreeStep → StepAnswer → Tree → Type 0
-Step t s a t' =
-    (id : ℕ) × StepWith t s.hart s.action (resolve t s.hart (path_of s.action)) (parent t s.hart (path_of s.action)) a s.new id t'
+abbrev pub Step : Version → Tree → TreeStep → StepAnswer → Tree → Type 0
+Step v t s a t' =
+    (id : ℕ) × StepWith v t s.hart s.action (resolve v t s.hart (path_of s.action)) (parent v t s.hart (path_of s.action)) a s.new id t'

@@ -1,5 +1,8 @@
 -- The plain tree: what a path names, and which nodes stay.
 use Rattle.std.specs.Prelude.{ℕ, zero, suc, Bool, true, false, ◌&&◌, ◌||◌, not, List, [], ◌∷◌, ◌++◌, take, map, filter, ◌==◌, nat_lt, if◌then◌else◌, Option, Some, None, slice_index_or}
+use Rattle.image_versions.specs.declared.version.Version.{Version}
+use Rattle.image_versions.specs.declared.version.Version.TheVariants.{One}
+use Rattle.image_versions.specs.Versions.{name_len_of}
 use Rattle.plain_tree.specs.declared.node.Slot.{Slot}
 use Rattle.plain_tree.specs.declared.node.Node.{Node}
 use Rattle.plain_tree.specs.declared.node.NodeKind.{NodeKind}
@@ -9,9 +12,9 @@ use Rattle.plain_tree.specs.declared.tree.OpenFileEntry.{OpenFileEntry}
 use Rattle.plain_tree.specs.declared.tree.Hold.{Hold}
 use Rattle.plain_tree.specs.declared.tree.Hart.{Hart}
 use Rattle.plain_tree.specs.TreeData.{TreeData}
-use Rattle.plain_tree.specs.Widths.{name_len, hart_count, descriptor_count, root}
+use Rattle.plain_tree.specs.Widths.{hart_count, descriptor_count, root}
 
--- a name is its bytes, at most 14, without a zero byte
+-- a name is its bytes, at most as many as the version's names have, without a zero byte
 abbrev pub Name : Type 0
 Name = List ℕ
 
@@ -68,7 +71,7 @@ dot = 46 ∷ []
 abbrev pub dotdot : Name
 dotdot = 46 ∷ 46 ∷ []
 
--- Elements of a path: cut at every '/', the empty ones dropped, each cut to 14 bytes.
+-- Elements of a path: cut at every '/', the empty ones dropped, each cut to a name of the version.
 
 unfoldable pub pieces : List ℕ → List ℕ → List (List ℕ)
 pieces so_far [] = so_far ∷ []
@@ -78,8 +81,8 @@ abbrev pub is_empty : {A : Type 0} → List A → Bool
 is_empty [] = true
 is_empty (x ∷ xs) = false
 
-abbrev pub elements : List ℕ → List Name
-elements path = map (λ e. take name_len e) (filter (λ e. not (is_empty e)) (pieces [] path))
+abbrev pub elements : Version → List ℕ → List Name
+elements v path = map (λ e. take (name_len_of v) e) (filter (λ e. not (is_empty e)) (pieces [] path))
 
 abbrev pub is_absolute : List ℕ → Bool
 is_absolute [] = false
@@ -90,8 +93,9 @@ unfoldable pub climbs_in : List Name → Bool
 climbs_in [] = false
 climbs_in (e ∷ es) = same_name e dotdot || climbs_in es
 
+-- in one version where in any, since no name is cut to ".."
 abbrev pub climbs : List ℕ → Bool
-climbs path = climbs_in (elements path)
+climbs path = climbs_in (elements One path)
 
 -- Live directories, and what they find.
 
@@ -148,11 +152,11 @@ parent_of ns d (e ∷ es) = parent_from ns d e es
 abbrev pub start_of : Tree → ℕ → List ℕ → ℕ
 start_of t h path = if is_absolute path then root else t.cwd h
 
-abbrev pub resolve : Tree → ℕ → List ℕ → Option ℕ
-resolve t h path = follow t.nodes (start_of t h path) (elements path)
+abbrev pub resolve : Version → Tree → ℕ → List ℕ → Option ℕ
+resolve v t h path = follow t.nodes (start_of t h path) (elements v path)
 
-abbrev pub parent : Tree → ℕ → List ℕ → Option (ℕ × Name)
-parent t h path = parent_of t.nodes (start_of t h path) (elements path)
+abbrev pub parent : Version → Tree → ℕ → List ℕ → Option (ℕ × Name)
+parent v t h path = parent_of t.nodes (start_of t h path) (elements v path)
 
 -- What stays: live nodes, and those that a descriptor's open file, a current directory or a hold names.
 

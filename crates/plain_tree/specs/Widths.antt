@@ -1,17 +1,10 @@
--- The widths and limits of this version of the file system.
+-- The widths and limits that do not depend on the version.
 use Rattle.std.specs.Prelude.{ℕ}
-
--- bytes of a name; a longer element of a path is cut
-abbrev pub name_len : ℕ
-name_len = 14
-
--- bytes of a slot in a directory's content: two of the number, then the name
-abbrev pub dirent_len : ℕ
-dirent_len = 16
+use Rattle.image_versions.specs.Shared as shared
 
 -- bytes of the largest file
 abbrev pub largest_size : ℕ
-largest_size = 274432
+largest_size = shared.largest_size
 
 -- bytes of a write's piece
 abbrev pub piece_len : ℕ

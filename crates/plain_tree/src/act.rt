@@ -13,6 +13,7 @@ use crate::refused::Attempt;
 use crate::step::{Action, StepAnswer};
 use crate::tree::{Hold, OpenFile, OpenFileEntry, Tree};
 use crate::widths::{CREATE, DOT, DOTDOT, HARTS, READ_WRITE, WRITE_ONLY};
+use image_versions::Version;
 use std::alloc::Global;
 
 /// A file as it is when it is opened.
@@ -198,8 +199,15 @@ impl Tree {
         }
     }
 
-    fn write_part(&mut self, alloc: Global, hart: u8, fd: u32, bytes: &[u8]) -> Attempt
-        requires { write_refusal (tree_of self.old) bytes.now (file_at (tree_of self.old) hart fd) ≡ None }
+    fn write_part(
+        &mut self,
+        alloc: Global,
+        version: Version,
+        hart: u8,
+        fd: u32,
+        bytes: &[u8],
+    ) -> Attempt
+        requires { write_refusal version (tree_of self.old) bytes.now (file_at (tree_of self.old) hart fd) ≡ None }
         ensures { MatchResult result (λ _. tree_of self.new ≡ wrote (tree_of self.old) hart fd bytes.now) (λ _. self.new ≡ self.old) }
     {
         if bytes.is_empty() {
@@ -384,6 +392,7 @@ impl Tree {
     pub(crate) fn act(
         &mut self,
         alloc: Global,
+        version: Version,
         hart: u8,
         action: &Action,
         found: &Found,
@@ -393,17 +402,17 @@ impl Tree {
     ) -> Attempt
         requires hart { hart < HARTS }
         requires live { IfSome found.now.parent (λ d. live_directory ((tree_of self.old).nodes d) ≡ true) }
-        requires none { refusal_with (tree_of self.old) hart action.now found.now.node (with_name found.now.parent found.now.name.now)
-            ≡ None }
+        requires none { refusal_with version (tree_of self.old) hart action.now found.now.node
+            (with_name found.now.parent found.now.name.now) ≡ None }
         requires place { place_of (tree_of self.old) hart action.now ≡ true }
         requires new { makes_node (tree_of self.old) action.now (with_name found.now.parent found.now.name.now) ≡ true
             → IsNewNode (tree_of self.old) number }
         requires unused { is_open action.now ≡ true → (tree_of self.old).files id ≡ None }
         requires answer { answer.now
-            ≡ answer_with (tree_of self.old) hart action.now found.now.node (with_name found.now.parent found.now.name.now) id }
+            ≡ answer_with version (tree_of self.old) hart action.now found.now.node (with_name found.now.parent found.now.name.now) id }
         requires fits { ReadsWithin (tree_of self.old) hart action.now answer.now }
         ensures { MatchResult result
-            (λ _. tree_of self.new ≡ effect_with (tree_of self.old) hart action.now found.now.node
+            (λ _. tree_of self.new ≡ effect_with version (tree_of self.old) hart action.now found.now.node
             (with_name found.now.parent found.now.name.now) number id) (λ _. self.new ≡ self.old) }
     {
         match action {
@@ -424,7 +433,13 @@ impl Tree {
                 self.read(hart, *fd, bytes_read(answer));
                 Ok(())
             }
-            Action::WritePart { fd, bytes } => self.write_part(alloc, hart, *fd, bytes.as_slice()),
+            Action::WritePart { fd, bytes } => self.write_part(
+                alloc,
+                version,
+                hart,
+                *fd,
+                bytes.as_slice(),
+            ),
             Action::Find { .. } => {
                 self.find(hart, found.node);
                 Ok(())

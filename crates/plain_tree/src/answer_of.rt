@@ -10,10 +10,11 @@ use crate::look::Found;
 use crate::node::NodeKind;
 use crate::refusal::has_flag;
 use crate::refused::Attempt;
-use crate::slots::entries;
+use crate::slots::{entries, slots_size};
 use crate::step::{Action, StepAnswer};
 use crate::tree::{OpenFile, Tree};
-use crate::widths::{CREATE, DESCRIPTOR_COUNT, DIRENT_LEN, ROOT_DEVICE};
+use crate::widths::{CREATE, DESCRIPTOR_COUNT, ROOT_DEVICE};
+use image_versions::Version;
 use std::alloc::Global;
 
 /// So many bytes from the offset on, as far as there are.
@@ -45,11 +46,11 @@ fn node_type(kind: &NodeKind) -> NodeType
     }
 }
 
-fn size(kind: &NodeKind) -> u64
-    ensures { result ≡ size_of kind.now }
+fn size(version: Version, kind: &NodeKind) -> u64
+    ensures { result ≡ size_of version kind.now }
 {
     match kind {
-        NodeKind::Directory { slots } => slots.as_slice().len() as u64 * DIRENT_LEN as u64,
+        NodeKind::Directory { slots } => slots_size(version, slots.as_slice()),
         NodeKind::File { bytes } => bytes.as_slice().len() as u64,
         NodeKind::Device { size, .. } => u64::from(*size),
     }
@@ -66,8 +67,14 @@ pub(crate) fn bytes_read(answer: &StepAnswer) -> u64
 }
 
 impl Tree {
-    fn part(&self, alloc: Global, file: Option<OpenFile>, count: usize) -> Attempt<Vec<u8>>
-        ensures bytes { IfOk result (λ v. v.items ≡ part (tree_of self.now) file count) }
+    fn part(
+        &self,
+        alloc: Global,
+        version: Version,
+        file: Option<OpenFile>,
+        count: usize,
+    ) -> Attempt<Vec<u8>>
+        ensures bytes { IfOk result (λ v. v.items ≡ part version (tree_of self.now) file count) }
         ensures within { IfOk result (λ v. EndsWithin file (length v.items)) }
     {
         let Some(file) = file else {
@@ -77,7 +84,7 @@ impl Tree {
             None => cut_out(alloc, &[], file.offset, count),
             Some(node) => match &node.kind {
                 NodeKind::Directory { slots } => {
-                    let content = entries(alloc, slots.as_slice())?;
+                    let content = entries(alloc, version, slots.as_slice())?;
                     cut_out(alloc, &content, file.offset, count)
                 }
                 NodeKind::File { bytes } => cut_out(alloc, bytes.as_slice(), file.offset, count),
@@ -86,14 +93,14 @@ impl Tree {
         }
     }
 
-    fn stat(&self, file: Option<OpenFile>) -> StepAnswer
-        ensures { result ≡ stat_answer (tree_of self.now) file }
+    fn stat(&self, version: Version, file: Option<OpenFile>) -> StepAnswer
+        ensures { result ≡ stat_answer version (tree_of self.now) file }
     {
         let Some(file) = file else {
             return StepAnswer::Done;
         };
         let (kind, nlink, size) = match self.node(usize::from(file.number)) {
-            Some(node) => (node_type(&node.kind), node.count, size(&node.kind)),
+            Some(node) => (node_type(&node.kind), node.count, size(version, &node.kind)),
             None => (NodeType::File, 0, 0),
         };
         StepAnswer::Stat {
@@ -147,13 +154,14 @@ impl Tree {
     pub(crate) fn answer(
         &self,
         alloc: Global,
+        version: Version,
         hart: u8,
         action: &Action,
         found: &Found,
         id: usize,
     ) -> Attempt<StepAnswer>
-        ensures answer { IfOk result
-            (λ a. a ≡ answer_with (tree_of self.now) hart action.now found.now.node (with_name found.now.parent found.now.name.now) id) }
+        ensures answer { let parent = with_name found.now.parent found.now.name.now in
+            IfOk result (λ a. a ≡ answer_with version (tree_of self.now) hart action.now found.now.node parent id) }
         ensures within { IfOk result (λ a. ReadsWithin (tree_of self.now) hart action.now a) }
     {
         match action {
@@ -164,13 +172,13 @@ impl Tree {
             )),
             Action::Open { .. } => Ok(self.opened(hart, id, found.node)),
             Action::Read { fd, count } => {
-                let bytes = Bytes::new(self.part(alloc, self.file_at(hart, *fd), *count)?);
+                let bytes = Bytes::new(self.part(alloc, version, self.file_at(hart, *fd), *count)?);
                 Ok(StepAnswer::Bytes { bytes })
             }
             Action::Dup { .. } => Ok(StepAnswer::Fd {
                 fd: self.lowest(hart) as u32,
             }),
-            Action::Fstat { fd } => Ok(self.stat(self.file_at(hart, *fd))),
+            Action::Fstat { fd } => Ok(self.stat(version, self.file_at(hart, *fd))),
             _ => Ok(StepAnswer::Done),
         }
     }

@@ -11,6 +11,7 @@ use crate::refused::{ApplyRefused, NoMemory};
 use crate::step::{Action, StepAnswer, TreeStep};
 use crate::tree::Tree;
 use crate::widths::HARTS;
+use image_versions::Version;
 use std::alloc::Global;
 
 fn is_open(action: &Action) -> bool
@@ -49,12 +50,17 @@ impl Tree {
 
     /// Makes the step and gives its answer. A new open file takes the least unused id. A step out of its place
     /// answers cause 6, `dup` with all descriptors taken 23, and changes nothing.
-    pub fn apply(&mut self, alloc: Global, step: &TreeStep) -> Result<StepAnswer, ApplyRefused>
-        ensures { MatchResult result (λ a. IsApplied (tree_of self.old) step.now a (tree_of self.new))
-            (λ e. IsRefused self.old step.now e self.new) }
+    pub fn apply(
+        &mut self,
+        alloc: Global,
+        version: Version,
+        step: &TreeStep,
+    ) -> Result<StepAnswer, ApplyRefused>
+        ensures { MatchResult result (λ a. IsApplied version (tree_of self.old) step.now a (tree_of self.new))
+            (λ e. IsRefused version self.old step.now e self.new) }
     {
-        let found = self.found(step.hart, step.action.path());
-        self.apply_found(alloc, step, &found)
+        let found = self.found(version, step.hart, step.action.path());
+        self.apply_found(alloc, version, step, &found)
     }
 
     /// The same where a walk has found what the step's path leads to, element by element as calls do (xv6: `namex`), whatever was removed
@@ -62,25 +68,27 @@ impl Tree {
     pub fn apply_found(
         &mut self,
         alloc: Global,
+        version: Version,
         step: &TreeStep,
         found: &Found,
     ) -> Result<StepAnswer, ApplyRefused>
         requires { IfSome found.now.parent (λ d. live_directory ((tree_of self.old).nodes d) ≡ true) }
         ensures { let parent = with_name found.now.parent found.now.name.now in
-            MatchResult result (λ a. IsAppliedWith (tree_of self.old) step.now found.now.node parent a (tree_of self.new))
-            (λ e. IsRefusedWith self.old step.now found.now.node parent e self.new) }
+            MatchResult result (λ a. IsAppliedWith version (tree_of self.old) step.now found.now.node parent a (tree_of self.new))
+            (λ e. IsRefusedWith version self.old step.now found.now.node parent e self.new) }
     {
         let mut id = 0;
         if is_open(&step.action) {
             id = self.least_unused();
         }
-        self.apply_at(alloc, step, found, id)
+        self.apply_at(alloc, version, step, found, id)
     }
 
     /// The same with the unused id that a new open file takes.
     fn apply_at(
         &mut self,
         alloc: Global,
+        version: Version,
         step: &TreeStep,
         found: &Found,
         id: usize,
@@ -88,8 +96,8 @@ impl Tree {
         requires live { IfSome found.now.parent (λ d. live_directory ((tree_of self.old).nodes d) ≡ true) }
         requires unused { is_open step.now.action ≡ true → (tree_of self.old).files id ≡ None }
         ensures { let parent = with_name found.now.parent found.now.name.now in
-            MatchResult result (λ a. IsAppliedAtWith (tree_of self.old) step.now found.now.node parent id a (tree_of self.new))
-            (λ e. IsRefusedWith self.old step.now found.now.node parent e self.new) }
+            MatchResult result (λ a. IsAppliedAtWith version (tree_of self.old) step.now found.now.node parent id a (tree_of self.new))
+            (λ e. IsRefusedWith version self.old step.now found.now.node parent e self.new) }
     {
         let hart = step.hart;
         let action = &step.action;
@@ -101,15 +109,15 @@ impl Tree {
         if !self.has_place(hart, action) {
             return Ok(out_of_place(action));
         }
-        if let Some(cause) = self.refusal(hart, action, found) {
+        if let Some(cause) = self.refusal(version, hart, action, found) {
             self.refuse(hart, action);
             return Ok(StepAnswer::Failed { cause });
         }
         if self.makes_node(action, found) && !self.is_new(step.new) {
             return Err(ApplyRefused::BadChoice);
         }
-        let answer = self.answer(alloc, hart, action, found, id)?;
-        self.act(alloc, hart, action, found, step.new, id, &answer)?;
+        let answer = self.answer(alloc, version, hart, action, found, id)?;
+        self.act(alloc, version, hart, action, found, step.new, id, &answer)?;
         self.settle();
         Ok(answer)
     }

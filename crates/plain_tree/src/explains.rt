@@ -13,6 +13,7 @@ use crate::reply::{had_room, is_reply};
 use crate::trace::{Placed, Trace, TracedCall};
 use crate::tree::Tree;
 use crate::written::{is_beginning, is_through};
+use image_versions::Version;
 use std::alloc::Global;
 
 /// The list has the call's whole written sequence, which makes this reply.
@@ -50,11 +51,17 @@ fn all_written(calls: &[TracedCall], list: &[Placed]) -> bool
 /// The list of tree steps explains the trace from this tree: the numbers never fall, each step leads on from the
 /// one before, each call has its steps and its reply, and no entry belongs to anything else. The steps are made on a
 /// copy of the tree. The error is that memory is short for the copy or for a step.
-pub fn check(alloc: Global, base: &Tree, trace: &Trace, list: &[Placed]) -> Result<bool, NoMemory>
-    ensures { IfOk result (λ b. IsTrue b ↔ Explains base.now trace.now list.now) }
+pub fn check(
+    alloc: Global,
+    version: Version,
+    base: &Tree,
+    trace: &Trace,
+    list: &[Placed],
+) -> Result<bool, NoMemory>
+    ensures { IfOk result (λ b. IsTrue b ↔ Explains version base.now trace.now list.now) }
 {
     if rises(list) && all_belong(trace, list) && all_written(trace.calls.as_slice(), list) {
-        leads(alloc, base, list)
+        leads(alloc, version, base, list)
     } else {
         Ok(false)
     }

@@ -6,7 +6,8 @@ use crate::act::slot;
 use crate::node::{Node, NodeKind, Slots};
 use crate::refused::{Attempt, NoMemory};
 use crate::tree::Hart;
-use crate::widths::{DESCRIPTOR_COUNT, DOT, DOTDOT, FRESH_SLOTS, ROOT};
+use crate::widths::{DESCRIPTOR_COUNT, DOT, DOTDOT, ROOT};
+use image_versions::Version;
 use std::alloc::Global;
 
 /// Adds so many places with nothing in them.
@@ -24,13 +25,13 @@ pub(crate) fn push_absent<T: Drop>(places: &mut Vec<Option<T>>, count: usize) ->
     Ok(())
 }
 
-fn fresh_root(alloc: Global) -> Attempt<Node>
-    ensures { IfOk result (λ v. v ≡ fresh_root) }
+fn fresh_root(alloc: Global, version: Version) -> Attempt<Node>
+    ensures { IfOk result (λ v. v ≡ fresh_root version) }
 {
     let mut slots = Vec::new(alloc);
     slots.push(slot(alloc, &DOT, ROOT)?)?;
     slots.push(slot(alloc, &DOTDOT, ROOT)?)?;
-    push_absent(&mut slots, FRESH_SLOTS - 2)?;
+    push_absent(&mut slots, version.dirents_per_block() - 2)?;
     let slots = Slots::new(slots);
     Ok(Node {
         count: 1,
@@ -39,12 +40,16 @@ fn fresh_root(alloc: Global) -> Attempt<Node>
 }
 
 /// The nodes of a fresh tree: the root alone.
-pub(crate) fn fresh_nodes(alloc: Global, ninodes: u16) -> Attempt<Vec<Option<Node>>>
-    ensures { IfOk result (λ v. v.items ≡ None ∷ Some fresh_root ∷ replicate (ninodes - 2) None) }
+pub(crate) fn fresh_nodes(
+    alloc: Global,
+    version: Version,
+    ninodes: u16,
+) -> Attempt<Vec<Option<Node>>>
+    ensures { IfOk result (λ v. v.items ≡ None ∷ Some (fresh_root version) ∷ replicate (ninodes - 2) None) }
 {
     let mut nodes = Vec::new(alloc);
     nodes.push(None)?;
-    nodes.push(Some(fresh_root(alloc)?))?;
+    nodes.push(Some(fresh_root(alloc, version)?))?;
     push_absent(&mut nodes, usize::from(ninodes.saturating_sub(2)))?;
     Ok(nodes)
 }

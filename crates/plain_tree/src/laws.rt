@@ -1,5 +1,5 @@
 //! What the definitions say of one another.
-ghost use Rattle.plain_tree.specs.Laws.{AnswersAreSteps, AppliedIsAStep, RowsName, RowsStay, SettledSteps, SettlesOnce};
+ghost use Rattle.plain_tree.specs.Laws.{AnswersAreSteps, AppliedIsAStep, ClimbsInEachVersion, RowsName, RowsStay, SettledSteps, SettlesOnce};
 
 /// What is applied in its place, with a right choice and the least unused id for a file that it opens, is a tree step.
 pub fn applied_is_a_step()
@@ -30,4 +30,9 @@ pub fn settled_steps()
 /// for; but an inherit's child takes over those of its hart.
 pub fn rows_stay()
     ensures { RowsStay }
+{}
+
+/// Whether a path has the element ".." does not depend on the version that cuts its elements.
+pub fn climbs_in_each_version()
+    ensures { ClimbsInEachVersion }
 {}

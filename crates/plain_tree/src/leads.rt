@@ -9,6 +9,7 @@ use crate::step::{StepAnswer, TreeStep};
 use crate::trace::Placed;
 use crate::tree::Tree;
 use crate::widths::HARTS;
+use image_versions::Version;
 use std::alloc::Global;
 
 fn same_answer(a: &StepAnswer, b: &StepAnswer) -> bool
@@ -26,13 +27,13 @@ impl Tree {
     }
 
     /// Makes the step, and says whether it leads on with that answer. Where it doesn't, the tree is of no account.
-    fn lead_on(&mut self, alloc: Global, entry: &Placed) -> Attempt<bool>
-        ensures { IfOk result (λ b. LeadsOn b (tree_of self.old) entry.now.step entry.now.answer (tree_of self.new)) }
+    fn lead_on(&mut self, alloc: Global, version: Version, entry: &Placed) -> Attempt<bool>
+        ensures { IfOk result (λ b. LeadsOn version b (tree_of self.old) entry.now.step entry.now.answer (tree_of self.new)) }
     {
         if !self.is_in_place(&entry.step) {
             return Ok(false);
         }
-        match self.apply(alloc, &entry.step) {
+        match self.apply(alloc, version, &entry.step) {
             Ok(answer) => Ok(same_answer(&answer, &entry.answer)),
             Err(ApplyRefused::BadChoice) => Ok(false),
             Err(ApplyRefused::NoMemory) => Err(NoMemory),
@@ -42,12 +43,12 @@ impl Tree {
 
 /// Each step leads on from the tree that the one before it left. The error is that memory is short for the copy or
 /// for a step.
-pub(crate) fn leads(alloc: Global, base: &Tree, list: &[Placed]) -> Attempt<bool>
-    ensures { IfOk result (λ b. IsTrue b ↔ Leads (tree_of base.now) list.now) }
+pub(crate) fn leads(alloc: Global, version: Version, base: &Tree, list: &[Placed]) -> Attempt<bool>
+    ensures { IfOk result (λ b. IsTrue b ↔ Leads version (tree_of base.now) list.now) }
 {
     let mut tree = base.try_clone(alloc)?;
     for entry in list {
-        if !tree.lead_on(alloc, entry)? {
+        if !tree.lead_on(alloc, version, entry)? {
             return Ok(false);
         }
     }

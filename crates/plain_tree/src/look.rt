@@ -7,6 +7,7 @@ use crate::node::{NodeKind, Slot};
 use crate::paths::{begins_at_root, next_element, same};
 use crate::tree::Tree;
 use crate::widths::ROOT;
+use image_versions::Version;
 
 /// What an action's path leads to, or what a walk along it has found: the node, and the live directory before the last element, with that
 /// element.
@@ -67,12 +68,12 @@ impl Tree {
 
     /// The number that the path leads to.
     #[tactic(auto, unfolding(crate::specs::Tree::follow))]
-    fn resolve(&self, hart: u8, path: &[u8]) -> Option<u16>
-        ensures { result ≡ resolve (tree_of self.now) hart path.now }
+    fn resolve(&self, version: Version, hart: u8, path: &[u8]) -> Option<u16>
+        ensures { result ≡ resolve version (tree_of self.now) hart path.now }
     {
         let mut at = self.start(hart, path);
         let mut rest = path;
-        while let Some((name, after)) = next_element(rest) {
+        while let Some((name, after)) = next_element(version, rest) {
             at = self.look(at, name)?;
             rest = after;
         }
@@ -81,17 +82,17 @@ impl Tree {
 
     #[tactic(auto, unfolding(crate::specs::Tree::parent_of, crate::specs::Tree::parent_from))]
     /// The live directory before the path's last element, and that element.
-    fn parent<'a>(&self, hart: u8, path: &'a [u8]) -> (Option<u16>, &'a [u8])
-        ensures parent { parent (tree_of self.now) hart path.now ≡ with_name result.0 result.1.now }
+    fn parent<'a>(&self, version: Version, hart: u8, path: &'a [u8]) -> (Option<u16>, &'a [u8])
+        ensures parent { parent version (tree_of self.now) hart path.now ≡ with_name result.0 result.1.now }
         ensures live { IfSome result.0 (λ d. live_directory ((tree_of self.now).nodes d) ≡ true) }
     {
-        let Some((first, after)) = next_element(path) else {
+        let Some((first, after)) = next_element(version, path) else {
             return (None, path);
         };
         let mut at = self.start(hart, path);
         let mut name = first;
         let mut rest = after;
-        while let Some((next, after)) = next_element(rest) {
+        while let Some((next, after)) = next_element(version, rest) {
             match self.look(at, name) {
                 Some(number) => at = number,
                 None => return (None, name),
@@ -107,14 +108,14 @@ impl Tree {
     }
 
     /// What the path leads to.
-    pub(crate) fn found<'a>(&self, hart: u8, path: &'a [u8]) -> Found<'a>
-        ensures node { result.node ≡ resolve (tree_of self.now) hart path.now }
-        ensures parent { parent (tree_of self.now) hart path.now ≡ with_name result.parent result.name.now }
+    pub(crate) fn found<'a>(&self, version: Version, hart: u8, path: &'a [u8]) -> Found<'a>
+        ensures node { result.node ≡ resolve version (tree_of self.now) hart path.now }
+        ensures parent { parent version (tree_of self.now) hart path.now ≡ with_name result.parent result.name.now }
         ensures live { IfSome result.parent (λ d. live_directory ((tree_of self.now).nodes d) ≡ true) }
     {
-        let (parent, name) = self.parent(hart, path);
+        let (parent, name) = self.parent(version, hart, path);
         Found {
-            node: self.resolve(hart, path),
+            node: self.resolve(version, hart, path),
             parent,
             name,
         }

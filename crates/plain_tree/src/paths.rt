@@ -2,9 +2,10 @@
 ghost use Rattle.std.specs.Prelude.{◌≡◌, ◌+◌, ◌<◌, ◌≤◌, [], ◌∷◌, length, take, drop, MatchOption};
 ghost use Rattle.plain_tree.specs.Code.{IsEnd, with_element};
 ghost use Rattle.plain_tree.specs.Tree.{elements, is_absolute, same_name};
-ghost use Rattle.plain_tree.specs.Widths.{name_len};
+ghost use Rattle.image_versions.specs.declared.version.Version.{Version};
 
-use crate::widths::{NAME_LEN, SLASH};
+use crate::widths::SLASH;
+use image_versions::Version;
 
 /// The same bytes.
 pub fn same(a: &[u8], b: &[u8]) -> bool
@@ -25,7 +26,7 @@ pub(crate) fn begins_at_root(path: &[u8]) -> bool
 /// Where the path's first '/' is, or its end.
 fn name_end(path: &[u8]) -> usize
     ensures bound { result ≤ length path.now }
-    ensures cut { elements path.now ≡ with_element (take result path.now) (elements (drop (result + 1) path.now)) }
+    ensures cut { (v : Version) → elements v path.now ≡ with_element v (take result path.now) (elements v (drop (result + 1) path.now)) }
 {
     for (i, byte) in path.iter().enumerate() {
         if *byte == SLASH {
@@ -46,10 +47,11 @@ pub fn first(bytes: &[u8], count: usize) -> &[u8]
     }
 }
 
-/// The first element of a path, and the path after it, which is its end.
-pub fn next_element(path: &[u8]) -> Option<(&[u8], &[u8])>
-    ensures { MatchOption result (elements path.now ≡ [])
-        (λ r. (elements path.now ≡ r.0.now ∷ elements r.1.now) × (length r.1.now < length path.now) × IsEnd path.now r.1.now) }
+/// The first element of a path, cut to the longest name of the version, and the path after it, which is its end.
+pub fn next_element(version: Version, path: &[u8]) -> Option<(&[u8], &[u8])>
+    ensures { MatchOption result (elements version path.now ≡ [])
+        (λ r. (elements version path.now ≡ r.0.now ∷ elements version r.1.now) × (length r.1.now < length path.now)
+        × IsEnd path.now r.1.now) }
 {
     let mut rest = path;
     while !rest.is_empty() {
@@ -60,7 +62,7 @@ pub fn next_element(path: &[u8]) -> Option<(&[u8], &[u8])>
             &rest[end..]
         };
         if end > 0 {
-            return Some((first(&rest[..end], NAME_LEN), after));
+            return Some((first(&rest[..end], version.name_len()), after));
         }
         rest = after;
     }

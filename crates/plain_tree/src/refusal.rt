@@ -9,12 +9,13 @@ use crate::bytes::Bytes;
 use crate::look::Found;
 use crate::node::{NodeKind, Slot};
 use crate::paths::same;
+use crate::slots::slots_size;
 use crate::step::Action;
 use crate::tree::{Hold, OpenFile, Tree};
 use crate::widths::{
-    COUNT_LIMIT, CREATE, DESCRIPTOR_COUNT, DIRENT_LEN, DOT, DOTDOT, HARTS, LARGEST_SIZE,
-    MAJOR_LIMIT,
+    COUNT_LIMIT, CREATE, DESCRIPTOR_COUNT, DOT, DOTDOT, HARTS, LARGEST_SIZE, MAJOR_LIMIT,
 };
+use image_versions::Version;
 
 /// The flags have the bit.
 pub(crate) fn has_flag(flags: u32, bit: u32) -> bool
@@ -49,13 +50,13 @@ fn part_refuses(offset: u64, size: u64, bytes: &[u8]) -> Option<Cause>
     }
 }
 
-fn kind_refuses_write(kind: &NodeKind, offset: u64, bytes: &[u8]) -> Option<Cause>
-    ensures { result ≡ write_kind kind.now offset bytes.now }
+fn kind_refuses_write(version: Version, kind: &NodeKind, offset: u64, bytes: &[u8]) -> Option<Cause>
+    ensures { result ≡ write_kind version kind.now offset bytes.now }
 {
     match kind {
         NodeKind::Directory { slots } => part_refuses(
             offset,
-            slots.as_slice().len() as u64 * DIRENT_LEN as u64,
+            slots_size(version, slots.as_slice()),
             bytes,
         ),
         NodeKind::File { bytes: old } => part_refuses(offset, old.as_slice().len() as u64, bytes),
@@ -174,8 +175,8 @@ impl Tree {
         }
     }
 
-    fn write_refusal(&self, bytes: &[u8], file: Option<OpenFile>) -> Option<Cause>
-        ensures { result ≡ write_refusal (tree_of self.now) bytes.now file }
+    fn write_refusal(&self, version: Version, bytes: &[u8], file: Option<OpenFile>) -> Option<Cause>
+        ensures { result ≡ write_refusal version (tree_of self.now) bytes.now file }
     {
         let Some(file) = file else {
             return Some(Cause::BadDescriptor);
@@ -184,7 +185,7 @@ impl Tree {
             return Some(Cause::BadMode);
         }
         match self.node(usize::from(file.number)) {
-            Some(node) => kind_refuses_write(&node.kind, file.offset, bytes),
+            Some(node) => kind_refuses_write(version, &node.kind, file.offset, bytes),
             None => part_refuses(file.offset, 0, bytes),
         }
     }
@@ -262,8 +263,15 @@ impl Tree {
 
     /// The first cause that stands. `found` is what the action's path leads to.
     #[tactic(auto, unfolding(crate::specs::Steps::refusal_with))]
-    pub(crate) fn refusal(&self, hart: u8, action: &Action, found: &Found) -> Option<Cause>
-        ensures { result ≡ refusal_with (tree_of self.now) hart action.now found.now.node (with_name found.now.parent found.now.name.now) }
+    pub(crate) fn refusal(
+        &self,
+        version: Version,
+        hart: u8,
+        action: &Action,
+        found: &Found,
+    ) -> Option<Cause>
+        ensures { result
+            ≡ refusal_with version (tree_of self.now) hart action.now found.now.node (with_name found.now.parent found.now.name.now) }
     {
         match action {
             Action::Open { flags, .. } if has_flag(*flags, CREATE) => self.open_new(
@@ -274,6 +282,7 @@ impl Tree {
             Action::Open { flags, .. } => self.open_old(*flags, found.node),
             Action::Read { fd, .. } => self.read_refusal(self.file_at(hart, *fd)),
             Action::WritePart { fd, bytes } => self.write_refusal(
+                version,
                 bytes.as_slice(),
                 self.file_at(hart, *fd),
             ),

@@ -1,11 +1,18 @@
-//! The definitions, computed on short runs from a fresh tree of 200 numbers.
+//! The definitions, computed on short runs from a fresh tree of 200 numbers; of version 1, where nothing else is said.
 ghost use Rattle.std.specs.Prelude.{◌≡◌, [], ◌∷◌, codes};
-ghost use Rattle.plain_tree.specs.Rows.{CutsNames, EmptiesUnderAWriter, FindsNothingInTheRemoved, KeepsTheOpenFile, KeepsWhatItMade, LinksWhileUnlinked, MakesDirectory, ReadsRoot, RefusesWhatIsOutOfPlace, SharesItsOffset, StaysInTheRemoved, TakesItsRaiseBack, TakesNoElements, WritesInPieces};
+ghost use Rattle.plain_tree.specs.Rows.{CutsNames, EmptiesUnderAWriter, FindsNothingInTheRemoved, KeepsTheOpenFile, KeepsWhatItMade, LinksWhileUnlinked, MakesDirectory, MakesLongerDirectory, ReadsRoot, RefusesWhatIsOutOfPlace, SharesItsOffset, StaysInTheRemoved, TakesItsRaiseBack, TakesNoElements, TellsLongNames, WritesInPieces};
 ghost use Rattle.plain_tree.specs.Tree.{elements};
+ghost use Rattle.image_versions.specs.declared.version.Version.TheVariants.{One, Two};
 
-/// Empty elements of a path are dropped, and each of the others is cut to 14 bytes.
+/// Empty elements of a path are dropped, and each of the others is cut, in version 1 to 14 bytes.
 pub fn cuts_elements()
-    ensures { elements (codes "//a//bcdefghijklmnopq/") ≡ codes "a" ∷ codes "bcdefghijklmno" ∷ [] }
+    ensures { elements One (codes "//a//bcdefghijklmnopq/") ≡ codes "a" ∷ codes "bcdefghijklmno" ∷ [] }
+{}
+
+/// In version 2 an element of up to 30 bytes stays as it is, and a longer one is cut to so many.
+pub fn keeps_elements()
+    ensures { elements Two (codes "abcdefghijklmno/abcdefghijklmnp//0123456789012345678901234567890123")
+        ≡ codes "abcdefghijklmno" ∷ codes "abcdefghijklmnp" ∷ codes "012345678901234567890123456789" ∷ [] }
 {}
 
 /// A fresh root answers as the root of a fresh disk: one link, 1024 bytes, and the entries "." and "..".
@@ -18,6 +25,11 @@ pub fn makes_directory()
     ensures { MakesDirectory }
 {}
 
+/// In version 2 a new directory has 64 bytes, its entries 32 each.
+pub fn makes_longer_directory()
+    ensures { MakesLongerDirectory }
+{}
+
 /// A path without elements names the start itself, and has no parent.
 pub fn takes_no_elements()
     ensures { TakesNoElements }
@@ -26,6 +38,11 @@ pub fn takes_no_elements()
 /// A name of 14 bytes and a longer one that begins with it are one name.
 pub fn cuts_names()
     ensures { CutsNames }
+{}
+
+/// Two names of 15 bytes that begin alike are one in version 1, which cuts them, and two in version 2.
+pub fn tells_long_names()
+    ensures { TellsLongNames }
 {}
 
 /// Between two pieces of a write another hart sees the first.

@@ -1,12 +1,13 @@
 //! The slots of a directory.
-ghost use Rattle.std.specs.Prelude.{◌≡◌, ◌++◌, MatchResult, IfOk, replicate};
+ghost use Rattle.std.specs.Prelude.{◌≡◌, ◌++◌, ◌*◌, MatchResult, IfOk, length, replicate};
+ghost use Rattle.image_versions.specs.Versions.{dirent_len_of};
 ghost use Rattle.plain_tree.specs.Code.{FreeAt, ClearsAt};
 ghost use Rattle.plain_tree.specs.Steps.{cleared, entries, entry_bytes, first_free};
 
 use crate::node::Slot;
 use crate::paths::same;
 use crate::refused::Attempt;
-use crate::widths::{DIRENT_LEN, NAME_LEN};
+use image_versions::Version;
 use std::alloc::Global;
 
 /// Where the first free slot is.
@@ -74,29 +75,36 @@ fn push_zeros(out: &mut Vec<u8>, count: usize) -> Attempt
     Ok(())
 }
 
-/// Appends the bytes of a slot: the number, low byte first, then the name, with zeros up to its width.
-fn push_entry(out: &mut Vec<u8>, slot: &Option<Slot>) -> Attempt
-    ensures { IfOk result (λ _. out.new.items ≡ out.old.items ++ entry_bytes slot.now) }
+/// Appends the bytes of a slot: the number, low byte first, then the name, with zeros up to the width of the version.
+fn push_entry(out: &mut Vec<u8>, version: Version, slot: &Option<Slot>) -> Attempt
+    ensures { IfOk result (λ _. out.new.items ≡ out.old.items ++ entry_bytes version slot.now) }
 {
     match slot {
-        None => push_zeros(out, DIRENT_LEN),
+        None => push_zeros(out, version.dirent_len()),
         Some(slot) => {
             let name = slot.name.as_slice();
             out.push((slot.number % 256) as u8)?;
             out.push((slot.number / 256) as u8)?;
             out.extend_from_slice(name)?;
-            push_zeros(out, NAME_LEN.saturating_sub(name.len()))
+            push_zeros(out, version.name_len().saturating_sub(name.len()))
         }
     }
 }
 
 /// The bytes of the slots.
-pub(crate) fn entries(alloc: Global, slots: &[Option<Slot>]) -> Attempt<Vec<u8>>
-    ensures { IfOk result (λ v. v.items ≡ entries slots.now) }
+pub(crate) fn entries(alloc: Global, version: Version, slots: &[Option<Slot>]) -> Attempt<Vec<u8>>
+    ensures { IfOk result (λ v. v.items ≡ entries version slots.now) }
 {
     let mut out = Vec::new(alloc);
     for slot in slots {
-        push_entry(&mut out, slot)?;
+        push_entry(&mut out, version, slot)?;
     }
     Ok(out)
+}
+
+/// How many bytes the slots are.
+pub(crate) fn slots_size(version: Version, slots: &[Option<Slot>]) -> u64
+    ensures { result ≡ dirent_len_of version * length slots.now }
+{
+    version.dirent_len() as u64 * slots.len() as u64
 }

@@ -10,6 +10,7 @@ use crate::fresh::{fresh_hart, fresh_nodes, push_absent};
 use crate::node::{Node, NodeKind};
 use crate::refused::{Attempt, NoMemory};
 use crate::widths::{DESCRIPTOR_COUNT, HARTS, ROOT};
+use image_versions::Version;
 use std::alloc::Global;
 use std::marker::Model;
 use std::mem;
@@ -81,11 +82,11 @@ fn entry_of(files: &[OpenFileEntry], id: usize) -> Option<usize>
 }
 
 impl Tree {
-    /// A root without names, with numbers below `ninodes` for the nodes to come (2 at least).
-    pub fn new(alloc: Global, ninodes: u16) -> Result<Tree, NoMemory>
-        ensures { IfOk result (λ t. t ≡ fresh ninodes) }
+    /// A root without names in one block, with numbers below `ninodes` for the nodes to come (2 at least).
+    pub fn new(alloc: Global, version: Version, ninodes: u16) -> Result<Tree, NoMemory>
+        ensures { IfOk result (λ t. t ≡ fresh version ninodes) }
     {
-        Ok(Tree::of_nodes(alloc, fresh_nodes(alloc, ninodes)?))
+        Ok(Tree::of_nodes(alloc, fresh_nodes(alloc, version, ninodes)?))
     }
 
     /// A tree of these nodes, each at its number. Nothing is open, and all harts are in the root. It takes no memory.

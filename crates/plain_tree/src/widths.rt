@@ -1,13 +1,8 @@
-//! The widths and limits of this version of the file system.
-
-/// Bytes of a name; a longer element of a path is cut.
-pub(crate) const NAME_LEN: usize = 14;
-
-/// Bytes of a directory's slot in its content.
-pub(crate) const DIRENT_LEN: usize = 16;
+//! The widths and limits that do not depend on the version.
+use image_versions::widths;
 
 /// Bytes of the largest file.
-pub(crate) const LARGEST_SIZE: u64 = 274_432;
+pub(crate) const LARGEST_SIZE: u64 = widths::LARGEST_SIZE as u64;
 
 /// Bytes of a write's piece.
 pub(crate) const PIECE_LEN: usize = 3072;
@@ -29,9 +24,6 @@ pub(crate) const ROOT: u16 = 1;
 
 /// The number of the one device.
 pub(crate) const ROOT_DEVICE: u32 = 1;
-
-/// Slots of a fresh root: one block of them.
-pub(crate) const FRESH_SLOTS: usize = 64;
 
 /// Flags of open: write only, read and write, make the file, empty it.
 pub(crate) const WRITE_ONLY: u32 = 1;

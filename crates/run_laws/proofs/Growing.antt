@@ -1,10 +1,10 @@
 -- The kept list of a run on a mounted disk, at each of the run's beginnings.
 use Rattle.run_laws.proofs.Vocabulary.{◌≡◌, ℕ, zero, suc, ◌≤◌, List, [], ◌∷◌, ◌++◌, length, take, refl, sym, ◌∙◌, ap, subst, arith, length-take-le, take-append-drop, take-take, sizes_of, tree_in, Call, Placed, Explains, IsNamedPart, Rises, Shown, trace_of, Tree, tree_of, IsMarked, RisesBy, beginning, before, Theory, EventOf as Event, Sound, State, AllHonest, fresh, makes, next, run, run-append, sound_run, Outside, MoveMachine, IsMoving, RunsFrom, shown_by, shows, theory_of, IsTheHistory, history_of, clean_before, history_grows, RunsOn, block_moves, first, block_calls, moving, runs_from, disk_after, marks_at, state_after, event_of, first_sound, AllStarted}
 use Rattle.std.proofs.Common.{drop}
-use Rattle.plain_tree.specs.Explains.{Chain}
 use Rattle.tree_laws.proofs.History.{Apart}
 use Rattle.run_laws.proofs.Left.{HasTreeOf, Leaves, honest_first, left}
 use Rattle.run_laws.proofs.Listed.{kept_explains}
+use Rattle.plain_tree.specs.VersionOne.{Chain}
 
 rises_so : (lo : ℕ) (list : List Placed) → Rises lo list → RisesBy event_of lo list
 unfolding Rises RisesBy

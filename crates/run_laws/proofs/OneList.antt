@@ -1,10 +1,10 @@
 -- All beginnings of a run of a mounted world agree with one list.
 use Rattle.run_laws.proofs.Vocabulary.{All, ◌≡◌, ◌⊎◌, inl, inr, ℕ, zero, suc, ◌≤◌, false, List, [], ◌∷◌, length, take, Option, refl, sym, ◌∙◌, ap, subst, arith, Super, sizes_of, tree_in, Call, Placed, Trace, TracedCall, call_climbs, Explains, IsNamedPart, Shown, trace_of, tree_of, TreeData, before, IsHart, NeverClimbs, apart_alone, apart_calm, Theory, EventOf, State, fresh, run, Code, Plain, plain_run, erase-run, Outside, MoveMachine, shows, RunsOn, block_moves, first, block_calls, block_code, is_code, disk_after as disk_left, Event, HartsOf, Rests, IsHistory, NoneClimbs, OneHart, all_shown, shown, trace_in, WorldOf, AllStarted, long_history, one_each, shown_is, started, mountable, rests_erased, honest_run, AgreesWithTheList, RunsHaveOneList}
-use Rattle.plain_tree.specs.Explains.{Chain}
 use Rattle.hart_core.specs.declared.events.Came.{Came}
 use Rattle.path_walk.specs.declared.asks.Heard.{Heard}
 use Rattle.run_laws.specs.OneList.{disk_after}
 use Rattle.run_laws.proofs.Growing.{IsSoFar, list_on, shows_first, so_it_is}
+use Rattle.plain_tree.specs.VersionOne.{Chain}
 
 shown_first : (k : ℕ) (es : List Event) (cs : List Came) → take k (all_shown es cs) ≡ all_shown (take k es) (take k cs)
 shown_first zero es cs = refl

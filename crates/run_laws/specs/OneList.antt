@@ -1,7 +1,7 @@
 -- A run has one list of tree steps, and it only grows: each beginning of the run agrees with it.
 use Rattle.std.specs.Prelude.{◌≡◌, ◌⊎◌, ℕ, ◌≤◌, List, ◌++◌, length, take}
 use Rattle.run_laws.specs.Vocabulary.{tree_in, Call, Placed, Explains, IsNamedPart, Tree, tree_of, TreeData, IsMarked, before, EventOf, Outside, history_of, block_moves, first, Came, Event, HartsOf, FoundRoom, IsHistory, IsMounted, NoneClimbs, OneHart, trace_in, after_first, marks_of, WorldOf}
-use Rattle.plain_tree.specs.Explains.{Chain}
+use Rattle.plain_tree.specs.VersionOne.{Chain}
 
 -- the list has these entries first
 abbrev pub IsBeginningOf : List Placed → List Placed → Type 0

@@ -11,6 +11,7 @@ use explain::explain;
 use hart_core::trace;
 use hart_runner::{Kernel, Seat};
 use image_tree::{examine, tree_of};
+use image_versions::Version;
 use plain_tree::{Call, check};
 use std::alloc::Global;
 use std::env;
@@ -80,9 +81,9 @@ fn is_explained(rt: &impl Abort, alloc: Global, image: &[u8], run: &LeftRun) -> 
     let events = run.events.as_slice();
     let list = explain(alloc, image, events).expect(rt, "error");
     let mut disk = MemoryDisk::new(copied(rt, alloc, image));
-    let base = tree_of(alloc, &mut disk).expect(rt, "error");
+    let base = tree_of(alloc, &mut disk, Version::One).expect(rt, "error");
     let trace = trace(alloc, events, run.outcomes.as_slice()).expect(rt, "error");
-    let explains = check(alloc, &base, &trace, list.as_slice()).expect(rt, "error");
+    let explains = check(alloc, Version::One, &base, &trace, list.as_slice()).expect(rt, "error");
     explains && !list.is_empty()
 }
 
@@ -102,7 +103,7 @@ fn eight_harts(rt: HostRuntime) {
     assert!(rt; plan.rounds.count_good(&left) == CALLS);
     assert!(rt; is_explained(&rt, alloc, image.as_slice(), &left));
     let count = left.events.len();
-    let shape = examine(alloc, &mut MemoryDisk::new(left.bytes)).expect(&rt, "error");
+    let shape = examine(alloc, &mut MemoryDisk::new(left.bytes), Version::One).expect(&rt, "error");
     assert!(rt; shape.orphans == 0);
     let _ = println!(rt; "{count} events");
 }

@@ -7,6 +7,7 @@ use crate::runs::{LeftRun, left_by};
 use block_device::MemoryDisk;
 use hart_runner::{CallFault, Gate, Kernel, NoGate, Seat};
 use image_tree::examine;
+use image_versions::Version;
 use locked_world::Halt;
 use plain_tree::Call;
 use std::alloc::Global;
@@ -234,7 +235,9 @@ fn eight_harts(rt: HostRuntime) {
         let copy = copied(&rt, alloc, image.as_slice());
         let left = round::<Brand, HostRuntime>(&rt, alloc, Blank::new(8), copy, calls);
         assert!(rt; all.count_good(&left) == CALLS);
-        let shape = examine(alloc, &mut MemoryDisk::new(left.bytes)).expect(&rt, "error");
+        let shape = examine(alloc, &mut MemoryDisk::new(left.bytes), Version::One).expect(
+            &rt, "error",
+        );
         assert!(rt; (shape.live, shape.orphans, shape.blocks) == (1, 0, 1));
     }
 }

@@ -1,10 +1,10 @@
 -- What can still come after a list.
-use Rattle.tree_histories.proofs.Vocabulary.{◌≡◌, ◌≢◌, ℕ, ◌≤◌, true, List, [], ◌∷◌, ◌++◌, refl, sym, ◌∙◌, ap, subst, append_assoc, inl, inr, arith, Option, Some, None, slice_get, append-nil, cases_Bool, cases_eq, Reply, Placed, Trace, TracedCall, Tree, Step, is_nothing, Act, next_of, Leads, AllBelong, Belongs, Chain, IsInTime, IsWritten, Rises, act_of, acts_of, Stand, CanEnd, IsOfCall, end_of}
+use Rattle.tree_histories.proofs.Vocabulary.{◌≡◌, ◌≢◌, ℕ, ◌≤◌, true, List, [], ◌∷◌, ◌++◌, refl, sym, ◌∙◌, ap, subst, append_assoc, inl, inr, arith, Option, Some, None, slice_get, append-nil, cases_Bool, cases_eq, Reply, Placed, Trace, TracedCall, Tree, Step, is_nothing, Act, next_of, Leads, AllBelong, Belongs, Chain, ChainBy, IsInTime, IsWritten, Rises, act_of, acts_of, Stand, CanEnd, IsOfCall, end_of}
 use Rattle.tree_histories.proofs.StandLemmas.{acts_none, acts_other, acts_own, push_other, push_own}
 use Rattle.plain_tree.proofs.CheckLemmas.{rises_more, belong_more}
 
 chain_more : (t u : Tree) (e : Placed) (es : List Placed) → Chain t (e ∷ es) u → (mid : Tree) × Step t e.step e.answer mid × Chain mid es u
-unfolding Chain
+unfolding ChainBy
 chain_more t u e es h = h
 
 -- The first entry of a rest.

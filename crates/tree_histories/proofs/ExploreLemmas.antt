@@ -1,5 +1,5 @@
 -- What a search finds, and what it rules out.
-use Rattle.tree_histories.proofs.Vocabulary.{◌≡◌, ◌≢◌, ℕ, ◌<◌, ◌≤◌, Bool, true, false, List, [], ◌∷◌, ◌++◌, length, get_or, refl, sym, ◌∙◌, ap, subst, inl, inr, arith, Some, None, slice_get, take, take_all, get_or_past, slice_get_cases, Placed, Trace, TreeData, Tree, tree_of, Chain, Explains, IsWritten, acts_of, chain_one, Tried, Due, Placing, Position, start, IsDue, CallIsExplored, CanEnd, HasFound, IsExplored, IsPlaced, IsTried, IsAt, IsDead, IsDeadWith, IsEarliest, IsHopeless, IsKept, IsMade, IsOfCall, IsSteppedOn, IsUndone, NeedsNumber, last_event, left, steps_left}
+use Rattle.tree_histories.proofs.Vocabulary.{◌≡◌, ◌≢◌, ℕ, ◌<◌, ◌≤◌, Bool, true, false, List, [], ◌∷◌, ◌++◌, length, get_or, refl, sym, ◌∙◌, ap, subst, inl, inr, arith, Some, None, slice_get, take, take_all, get_or_past, slice_get_cases, Placed, Trace, TreeData, Tree, tree_of, Chain, ChainBy, Explains, IsWritten, acts_of, chain_one, Tried, Due, Placing, Position, start, IsDue, CallIsExplored, CanEnd, HasFound, IsExplored, IsPlaced, IsTried, IsAt, IsDead, IsDeadWith, IsEarliest, IsHopeless, IsKept, IsMade, IsOfCall, IsSteppedOn, IsUndone, NeedsNumber, last_event, left, steps_left}
 use Rattle.tree_histories.specs.declared.explore.Tried.TheVariants as tried
 use Rattle.tree_histories.specs.declared.position.Placing.TheVariants as placing
 use Rattle.tree_histories.proofs.StandLemmas.{acts_none}
@@ -113,7 +113,7 @@ none_acts : (id : ℕ) (list : List Placed) → acts_of id list ≡ acts_of id [
 none_acts id list = rw (acts_none id) refl
 
 none_chain : (t u : Tree) → Chain t [] u → t ≡ u
-unfolding Chain
+unfolding ChainBy
 none_chain t u h = h
 
 -- Nothing was placed, and nothing can come: no list explains the trace.

@@ -1,11 +1,12 @@
 -- Whether a step finds room doesn't depend on the id that a file takes; and where a step found room on the kept tree, its move does.
-use Rattle.tree_histories.proofs.Vocabulary.{◌≡◌, ◌⊎◌, inl, inr, ℕ, ◌<◌, Bool, true, false, nat_tests, arith, List, Option, Some, None, if◌then◌else◌, refl, sym, ◌∙◌, ap, subst, Cause, Action, ActedOn, Deed, IsActed, IsInPlace, KeptTree, Made, Name, NoRoom, Opened, TreeStep, Tree, act_answer, answer_with, hart_count, own_made, place_of, refusal_with, roomy, tree_of}
+use Rattle.tree_histories.proofs.Vocabulary.{◌≡◌, ◌⊎◌, inl, inr, ℕ, ◌<◌, Bool, true, false, nat_tests, arith, List, Option, Some, None, if◌then◌else◌, refl, sym, ◌∙◌, ap, subst, Cause, Action, ActedOn, Deed, IsActed, IsInPlace, KeptTree, Made, Name, NoRoom, Opened, TreeStep, Tree, act_answer, answer_with, answer_by, hart_count, own_made, place_of, refusal_with, roomy, tree_of}
 use Rattle.inode_machine.specs.Marks.{has_answer_room}
 use Rattle.plain_tree.specs.declared.answer.Full.TheVariants.{Descriptors}
 use Rattle.plain_tree.specs.declared.step.Action.TheVariants as steps
 use Rattle.plain_tree.specs.declared.tree.OpenFile.{OpenFile}
-use Rattle.plain_tree.specs.Steps.{file_at, stat_answer}
+use Rattle.plain_tree.specs.Steps.{file_at}
 use Rattle.tree_histories.proofs.Acting.{answer_of, own_told}
+use Rattle.plain_tree.specs.VersionOne.{stat_answer}
 
 opened_same : (b : Bool) (fd i j : ℕ) (f : Bool)
     → has_answer_room (if b then Opened fd i f else NoRoom Descriptors) ≡ has_answer_room (if b then Opened fd j f else NoRoom Descriptors)
@@ -26,7 +27,7 @@ module _ (t : Tree) (h : ℕ) (R : Option ℕ) (Q : Option (ℕ × Name)) where
 
   -- a step but an open is never answered that there is no room
   open_or_room : (s : Action) → Open s ⊎ Roomy s
-  unfolding answer_with
+  unfolding answer_by
   open_or_room (steps.Open path flags) = inl (path, flags, refl)
   open_or_room (steps.Truncate fd) = inr (λ id. refl)
   open_or_room (steps.Read fd n) = inr (λ id. refl)
@@ -50,7 +51,7 @@ module _ (t : Tree) (h : ℕ) (R : Option ℕ) (Q : Option (ℕ × Name)) where
   -- an open's answer says the same of room, whichever id its file takes
   open_same : (o : Option Cause) (path : List ℕ) (flags i j : ℕ)
       → has_answer_room (act_answer o t h (steps.Open path flags) R Q i) ≡ has_answer_room (act_answer o t h (steps.Open path flags) R Q j)
-  unfolding answer_with
+  unfolding answer_by
   open_same (Some k) path flags i j = refl
   open_same None path flags i j = opened_same _ _ i j _
 

@@ -1,5 +1,5 @@
 -- Steps that differ in the number of a new node alone.
-use Rattle.tree_histories.proofs.Vocabulary.{◌≡◌, ◌≢◌, ℕ, ◌<◌, ◌≤◌, ◌==◌, true, false, ◌&&◌, nat_lt, List, inl, inr, refl, sym, ◌∙◌, ap, subst, arith, Option, Some, None, cases_Bool, nat_tests, Cause, Action, OpenStep as Open, Truncate, ReadStep as Read, WritePart, Find, Bump, Enter, Unbump, UnlinkStep as Unlink, MkdirStep as Mkdir, ChdirStep as Chdir, DupStep as Dup, CloseStep as Close, FstatStep as Fstat, InheritStep as Inherit, StepAnswer, Opened, Bytes, Status, NewFd, Done, Failed, NoRoom, Name, Tree, resolve, parent, settle, look, Step, MayChoose, IsInPlace, IsNewNode, answer_with, effect_with, refusal, path_of, creates, makes_node, is_absent, is_nothing, opened_new, opened_in, opened_at, IsApplied, hart_count, applied_step, step_one}
+use Rattle.tree_histories.proofs.Vocabulary.{◌≡◌, ◌≢◌, ℕ, ◌<◌, ◌≤◌, ◌==◌, true, false, ◌&&◌, nat_lt, List, inl, inr, refl, sym, ◌∙◌, ap, subst, arith, Option, Some, None, cases_Bool, nat_tests, Cause, Action, OpenStep as Open, Truncate, ReadStep as Read, WritePart, Find, Bump, Enter, Unbump, UnlinkStep as Unlink, MkdirStep as Mkdir, ChdirStep as Chdir, DupStep as Dup, CloseStep as Close, FstatStep as Fstat, InheritStep as Inherit, StepAnswer, Opened, Bytes, Status, NewFd, Done, Failed, NoRoom, Name, Tree, resolve, parent, settle, look, Step, MayChoose, IsInPlace, IsNewNode, answer_with, effect_with, effect_by, refusal, path_of, creates, makes_node, is_absent, is_nothing, opened_new, opened_in, opened_at, IsApplied, hart_count, applied_step, step_one}
 
 place_hart : (t : Tree) (h : ℕ) (s : Action) → IsInPlace t h s → h < 8
 place_hart t h s p = elim (cases_Bool (nat_lt h hart_count)) [
@@ -20,7 +20,7 @@ at_same t h id flags None m n = refl
 at_same t h id flags (Some k) m n = refl
 
 open_same : (t : Tree) (h : ℕ) (path : List ℕ) (flags : ℕ) (res : Option ℕ) (par : Option (ℕ × Name)) (m n id : ℕ) → (creates flags && is_absent t par) ≡ false → effect_with t h (Open path flags) res par m id ≡ effect_with t h (Open path flags) res par n id
-unfolding effect_with
+unfolding effect_by
 open_same t h path flags res par m n id f = elim (cases_Bool (creates flags)) [
   | inl y ↦ (let g = rw y at f in rw y (new_same t h id flags par m n g))
   | inr y ↦ rw y (at_same t h id flags res m n)
@@ -28,7 +28,7 @@ open_same t h path flags res par m n id f = elim (cases_Bool (creates flags)) [
 
 -- a step that makes no node takes any number
 effect_same : (t : Tree) (h : ℕ) (s : Action) (res : Option ℕ) (par : Option (ℕ × Name)) (m n id : ℕ) → makes_node t s par ≡ false → effect_with t h s res par m id ≡ effect_with t h s res par n id
-unfolding effect_with
+unfolding effect_by
 effect_same t h (Open path flags) res par m n id f = open_same t h path flags res par m n id f
 effect_same t h (Mkdir path) res par m n id f = absurd cc
 effect_same t h (Truncate fd) res par m n id f = refl

@@ -22,6 +22,7 @@ ghost use Rattle.tree_histories.specs.Walks.{IsNextWalk, LeadsBy, name_from, ste
 use crate::paths::rest_of;
 use crate::sees::sight;
 use crate::standing::{Standing, Walk};
+use image_versions::Version;
 use path_walk::{Ask, Heard, Locked, Mark};
 use plain_tree::paths::next_element;
 use plain_tree::{
@@ -141,7 +142,7 @@ pub(crate) struct Lead {
 fn name_from(path: &[u8], from: usize) -> &[u8]
     ensures { result.now ≡ name_from from path.now }
 {
-    match next_element(rest_of(path, from)) {
+    match next_element(Version::One, rest_of(path, from)) {
         Some((name, _)) => name,
         None => &[],
     }
@@ -479,7 +480,7 @@ impl Kept {
             parent: lead.parent,
             name: name_from(step.action.path(), lead.from),
         };
-        let answer = self.tree.apply_found(alloc, &step, &found);
+        let answer = self.tree.apply_found(alloc, Version::One, &step, &found);
         self.deed_of(step, answer)
     }
 
@@ -499,7 +500,7 @@ impl Kept {
             new: 0,
             action,
         };
-        let answer = self.tree.apply(alloc, &step);
+        let answer = self.tree.apply(alloc, Version::One, &step);
         self.deed_of(step, answer)
     }
 

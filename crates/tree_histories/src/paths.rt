@@ -3,6 +3,7 @@ ghost use Rattle.std.specs.Prelude.{◌≡◌, ◌+◌, ◌-◌, ◌<◌, ◌++�
 ghost use Rattle.tree_histories.specs.Vocabulary.{call_climbs, climbs, dotdot, same_name, name_in, IsElement, IsInOne};
 ghost use Rattle.tree_histories.specs.Told.{any_climbs, any_full, is_full_reply};
 
+use image_versions::Version;
 use path_walk::Element;
 use plain_tree::paths::{first, next_element};
 use plain_tree::{Answer, Call, TracedCall};
@@ -44,7 +45,7 @@ fn climbs(path: &[u8]) -> bool
     ensures { result ≡ climbs path.now }
 {
     let mut rest = path;
-    while let Some((element, after)) = next_element(rest) {
+    while let Some((element, after)) = next_element(Version::One, rest) {
         if is_dotdot(element) {
             return true;
         }

@@ -10,6 +10,7 @@ use crate::next::{Attempt, is_through, next_action};
 use crate::place::is_in_place;
 use crate::reply::{is_reply, is_told};
 use crate::stand::{START, Stand, after};
+use image_versions::Version;
 use plain_tree::reply::is_full;
 use plain_tree::{ApplyRefused, NoMemory, Placed, StepAnswer, Trace, TracedCall, Tree, TreeStep};
 use std::alloc::Global;
@@ -111,7 +112,7 @@ fn tree_after(alloc: Global, base: &Tree, list: &[Placed]) -> Attempt<Tree>
 {
     let mut tree = base.try_clone(alloc)?;
     for entry in list {
-        match tree.apply(alloc, &entry.step) {
+        match tree.apply(alloc, Version::One, &entry.step) {
             Ok(_) => {}
             Err(_) => return Err(NoMemory),
         }
@@ -202,7 +203,7 @@ impl Position {
         if !is_in_place(&self.tree, &step) {
             return Ok(Placing::Refused);
         }
-        let answer = match self.tree.apply(alloc, &step) {
+        let answer = match self.tree.apply(alloc, Version::One, &step) {
             Ok(answer) => answer,
             Err(ApplyRefused::BadChoice) => return Ok(Placing::BadChoice),
             Err(ApplyRefused::NoMemory) => return Err(NoMemory),

@@ -4,10 +4,9 @@ ghost use Rattle.tree_histories.specs.Vocabulary.{any_used, size_of, look, tree_
 ghost use Rattle.tree_histories.specs.Sights.{FewSlots, ShowsSo};
 
 use crate::paths::name_in;
+use image_versions::one::DIRENT_LEN;
 use path_walk::{Face, InodeType, Query, Sight};
 use plain_tree::{Node, NodeKind, Slot, Tree};
-
-const ENTRY_LEN: u64 = 16;
 
 /// The slots of a new directory, for itself and its parent.
 const FIRST_SLOTS: usize = 2;
@@ -27,7 +26,9 @@ fn size_of(kind: &NodeKind) -> u64
     ensures { FewSlots kind.now → result ≡ size_of kind.now }
 {
     match kind {
-        NodeKind::Directory { slots } => ENTRY_LEN.saturating_mul(slots.as_slice().len() as u64),
+        NodeKind::Directory { slots } => (DIRENT_LEN as u64).saturating_mul(
+            slots.as_slice().len() as u64,
+        ),
         NodeKind::File { bytes } => bytes.as_slice().len() as u64,
         NodeKind::Device { size, .. } => u64::from(*size),
     }

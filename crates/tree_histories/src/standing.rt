@@ -2,15 +2,17 @@
 ghost use Rattle.std.specs.Prelude.{◌≡◌, ◌∷◌, ℕ, false, true, if◌then◌else◌, List, Option, Some, IfOk, IsTrue};
 ghost use Rattle.plain_tree.specs.Calls.{piece};
 ghost use Rattle.plain_tree.specs.Steps.{path_of};
-ghost use Rattle.plain_tree.specs.Tree.{elements, is_absolute};
+ghost use Rattle.plain_tree.specs.Tree.{is_absolute};
 ghost use Rattle.plain_tree.specs.Widths.{root};
 ghost use Rattle.plain_tree.specs.declared.call.Call.TheVariants as calls;
 ghost use Rattle.path_walk.specs.Asks.{asks, mark_at, marked_as, op_in, piece_of};
 ghost use Rattle.whole_calls.specs.Wholes.{HasRoomFor, IsCall, WholeAsks, WholeFits, action_in, call_in, first_in, second_in, text_in, whole_of};
 ghost use Rattle.tree_histories.specs.Keeping.{HearsSo, IsNewCall, ReadsTooMuch, walking};
 ghost use Rattle.tree_histories.specs.Walks.{IsWalk, are_none, is_on_new, is_past_old, left_to, step_for, step_in, walk_of};
+ghost use Rattle.plain_tree.specs.VersionOne.{elements};
 
 use crate::paths::rest_of;
+use image_versions::Version;
 use path_walk::{Ask, Heard, Mark, Numbers, is_absolute};
 use plain_tree::paths::{first, next_element};
 use plain_tree::{Action, Answer, Bytes, Call, NoMemory};
@@ -298,7 +300,7 @@ impl Standing {
     {
         let is_new = is_on_new(&self.whole);
         let path = path(&self.whole, is_new);
-        let _element = next_element(path)?;
+        let _element = next_element(Version::One, path)?;
         Some(Walk {
             directory: start_of(path, current),
             from: 0,
@@ -310,7 +312,10 @@ impl Standing {
     pub(crate) fn name(&self, walk: Walk) -> &[u8]
         ensures { result.now ≡ (walk_of (call_in self.now.whole) walk).next }
     {
-        match next_element(rest_of(path(&self.whole, walk.is_new), walk.from)) {
+        match next_element(
+            Version::One,
+            rest_of(path(&self.whole, walk.is_new), walk.from),
+        ) {
             Some((name, _)) => name,
             None => &[],
         }
@@ -320,8 +325,11 @@ impl Standing {
     pub(crate) fn is_last(&self, walk: Walk) -> bool
         ensures { result ≡ are_none (walk_of (call_in self.now.whole) walk).rest }
     {
-        match next_element(rest_of(path(&self.whole, walk.is_new), walk.from)) {
-            Some((_, rest)) => next_element(rest).is_none(),
+        match next_element(
+            Version::One,
+            rest_of(path(&self.whole, walk.is_new), walk.from),
+        ) {
+            Some((_, rest)) => next_element(Version::One, rest).is_none(),
             None => true,
         }
     }
@@ -332,8 +340,8 @@ impl Standing {
             IsWalk (call_in self.now.whole) result before.step number before.rest }
     {
         let path = path(&self.whole, walk.is_new);
-        let (_, rest) = next_element(rest_of(path, walk.from))?;
-        let _element = next_element(rest)?;
+        let (_, rest) = next_element(Version::One, rest_of(path, walk.from))?;
+        let _element = next_element(Version::One, rest)?;
         Some(Walk {
             directory: number,
             from: path.len().saturating_sub(rest.len()),

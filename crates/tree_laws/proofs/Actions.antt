@@ -1,11 +1,11 @@
 -- What each action makes of a tree: by its definition.
-use Rattle.tree_laws.proofs.Vocabulary.{◌≡◌, effect_with, answer_with, ActionsAreTold}
+use Rattle.tree_laws.proofs.Vocabulary.{◌≡◌, effect_by, answer_by, ActionsAreTold}
 
 it : {A : Type 0} {x : A} → x ≡ x
 it {A} {x} = λ _. x
 
 pub told : ActionsAreTold
-unfolding effect_with answer_with
+unfolding effect_by answer_by
 told = record {
   opens = λ path flags t h res par new id. (it, it);
   truncate = λ fd t h res par new id. (it, it);

@@ -1,5 +1,5 @@
 -- The history, for all calls: what starting, writing, telling and replying keep true. Nothing here knows the moves or what a tree step does.
-use Rattle.tree_laws.proofs.Vocabulary.{◌≡◌, ◌≢◌, ℕ, ◌+◌, ◌<◌, ◌≤◌, Bool, true, ◌&&◌, ◌==◌, inl, inr, refl, sym, ◌∙◌, ap, subst, arith, List, [], ◌∷◌, ◌++◌, append_assoc, append-nil, length, Option, Some, None, slice_get, Reply, Call, Trace, TracedCall, Placed, TreeData, Tree, tree_of, put, Step, is_nothing, Act, next_of, Follows, IsWhole, noted, ends_at, Chain, act_in, acts_of, IsWritten, IsInTime, Belongs, Rises, AllBelong, Explains, Started, Replied, Deed, MayEnd, HartStanding, History, writes, tells, entry_of, starts, replies, passes, Free, Busy}
+use Rattle.tree_laws.proofs.Vocabulary.{◌≡◌, ◌≢◌, ℕ, ◌+◌, ◌<◌, ◌≤◌, Bool, true, ◌&&◌, ◌==◌, inl, inr, refl, sym, ◌∙◌, ap, subst, arith, List, [], ◌∷◌, ◌++◌, append_assoc, append-nil, length, Option, Some, None, slice_get, Reply, Call, Trace, TracedCall, Placed, TreeData, Tree, tree_of, put, Step, is_nothing, Act, next_of, Follows, IsWhole, noted, ends_at, Chain, ChainBy, act_in, acts_of, IsWritten, IsInTime, Belongs, Rises, AllBelong, Explains, Started, Replied, Deed, MayEnd, HartStanding, History, writes, tells, entry_of, starts, replies, passes, Free, Busy}
 use Rattle.tree_laws.proofs.Maps.{either, eq_self, eq_not, eq_is, same_or, put_same, put_other, put_is, and_true}
 use Rattle.tree_laws.proofs.Lists.{get_left, get_last, get_more, get_past, get_map, map_get}
 
@@ -38,7 +38,7 @@ below_later now later [] le b = tt
 below_later now later (x ∷ xs) le b = (omega (arith, b.0), below_later now later xs le b.1)
 
 chain_more : (base t t' : Tree) (xs : List Placed) (e : Placed) → Chain base xs t → Step t e.step e.answer t' → Chain base (xs ++ e ∷ []) t'
-unfolding Chain
+unfolding ChainBy
 chain_more base t t' [] e c s = (t', subst (λ (z : Tree). Step z e.step e.answer t') (sym c) s, refl)
 chain_more base t t' (x ∷ xs) e c s = (c.0, c.1, chain_more c.0 t t' xs e c.2 s)
 

@@ -1,5 +1,5 @@
 -- What a tree step does to the live directories: nothing, or one of four changes.
-use Rattle.tree_laws.proofs.Vocabulary.{◌≡◌, ◌≢◌, ℕ, ◌-◌, ◌<◌, ◌≤◌, Bool, true, false, ◌&&◌, ◌||◌, inl, inr, refl, sym, ◌∙◌, ap, subst, arith, List, [], ◌∷◌, drop, length, Option, Some, None, nat_lt, if◌then◌else◌, DotName, Node, NodeKind, OpenFile, Hold, Action, Open, Truncate, Read, WritePart, Find, Bump, Enter, Unbump, Unlink, Mkdir, Chdir, Dup, Close, Fstat, Inherit, StepAnswer, Opened, Bytes, Status, NewFd, Done, Failed, NoRoom, hart_count, Name, Tree, put, same_name, dot, dotdot, is_directory, live_directory, all_slots, first_slot, look, settle, node_or, node_at, file_at, is_open_file, has_room, creates, enter_refusal, child_refusal, unlink_refusal, mkdir_refusal, not_empty, any_used, first_free, cleared, refusal_with, place_of, IsInPlace, effect_with, refused, new_file, new_directory, raised, lowered, emptied, truncated, written_kind, written, moved, wrote, held, at_hold, enter_hold, drop_hold, removed, removed_child, made, opened_at, opened_in, opened_new, at_dir, with_file, is_absent, is_nothing, makes_node, IsNewNode, MayChoose, StepWith, Slots, Folders, folder, folders_of, links_in, raises, up_in, NamesOnce, IsWellFormed, names_change, IsFound}
+use Rattle.tree_laws.proofs.Vocabulary.{◌≡◌, ◌≢◌, ℕ, ◌-◌, ◌<◌, ◌≤◌, Bool, true, false, ◌&&◌, ◌||◌, inl, inr, refl, sym, ◌∙◌, ap, subst, arith, List, [], ◌∷◌, drop, length, Option, Some, None, nat_lt, if◌then◌else◌, DotName, Node, NodeKind, OpenFile, Hold, Action, Open, Truncate, Read, WritePart, Find, Bump, Enter, Unbump, Unlink, Mkdir, Chdir, Dup, Close, Fstat, Inherit, StepAnswer, Opened, Bytes, Status, NewFd, Done, Failed, NoRoom, hart_count, Name, Tree, put, same_name, dot, dotdot, is_directory, live_directory, all_slots, first_slot, look, settle, node_or, node_at, file_at, is_open_file, has_room, creates, enter_refusal, child_refusal, unlink_refusal, mkdir_refusal, not_empty, any_used, first_free, cleared, refusal_with, refusal_by, place_of, IsInPlace, effect_with, effect_by, refused, new_file, new_directory, raised, lowered, emptied, truncated, written_kind, written, moved, wrote, held, at_hold, enter_hold, drop_hold, removed, removed_child, made, opened_at, opened_in, opened_new, at_dir, with_file, is_absent, is_nothing, makes_node, IsNewNode, MayChoose, StepWith, Slots, Folders, folder, folders_of, links_in, raises, up_in, NamesOnce, IsWellFormed, names_change, IsFound}
 use Rattle.tree_laws.proofs.Basics.{either, put_same, put_other, or_none, Dots, plain_or, folder_live, folder_dead, folder_some, folder_links, linked_live, folders_put, put_self, settle_folders, look_in, counted_folders, entered_folders, new_folders, new_apart, not_folder, with_new}
 use Rattle.tree_laws.proofs.Facts.{entry_found, entry_linked}
 use Rattle.tree_laws.proofs.Placed.{with_directory, without, less, without_folders, less_folder, put_turn, can_go, type_file, type_folder, raised_folder, positive, gone, links_node}
@@ -169,7 +169,7 @@ removed_change m t new (Some q) k live ref = elim (either (same_name q.1 dot || 
 
 effect_change : (t : Tree) (h : ℕ) (s : Action) (res : Option ℕ) (par : Option (ℕ × Name)) (new id : ℕ) → IsWellFormed t → h < hart_count → place_of t h s ≡ true → LiveParent t par
     → refusal_with t h s res par ≡ None → MayChoose t h s par new id → Change (folders_of t.nodes) (folders_of (effect_with t h s res par new id).nodes) (names_change s) (makes_node t s par) par new
-unfolding effect_with refusal_with place_of
+unfolding effect_by refusal_by place_of
 effect_change t h (Open path flags) res par new id k lt place live ref may = elim (either (creates flags)) [
   | inl y ↦ rw y (opened_new_change (true && is_absent t par) t h id flags new par live (λ e. may.node (both (creates flags) (is_absent t par) y e)))
   | inr y ↦ rw y (same_nodes t.nodes _ false (false && is_absent t par) par new (opened_nodes t h id flags new res))

@@ -1,5 +1,5 @@
 -- What a tree step leaves, from what it does to the live directories.
-use Rattle.tree_laws.proofs.Vocabulary.{◌≡◌, ◌≢◌, ℕ, Bool, true, false, ◌||◌, ◌⊎◌, inl, inr, refl, sym, ◌∙◌, ap, subst, arith, List, [], ◌∷◌, drop, length, Option, Some, None, Slot, Node, OpenFile, Hold, Action, Open, Truncate, Read, WritePart, Find, Bump, Enter, Unbump, Unlink, Mkdir, Chdir, Dup, Close, Fstat, Inherit, StepAnswer, Opened, Bytes, Status, NewFd, Done, Failed, NoRoom, hart_count, descriptor_count, Name, Tree, put, same_name, dot, dotdot, climbs_in, live_directory, is_live, all_slots, first_slot, look, follow, settle, is_named, hold_names, fd_names, file_names, new_file, has_room, creates, any_used, first_free, cleared, refusal_with, effect_with, refused, truncated, written, wrote, moved, file_at, held, at_hold, enter_hold, drop_hold, removed, removed_child, made, raise_hold, opened_at, opened_in, opened_new, at_dir, with_file, makes_node, StepWith, Slots, Folders, folder, folders_of, up_in, NamesOnce, IsWellFormed, names_change, IsFound, LeavesFinding, Frame, IsNobodys}
+use Rattle.tree_laws.proofs.Vocabulary.{◌≡◌, ◌≢◌, ℕ, Bool, true, false, ◌||◌, ◌⊎◌, inl, inr, refl, sym, ◌∙◌, ap, subst, arith, List, [], ◌∷◌, drop, length, Option, Some, None, Slot, Node, OpenFile, Hold, Action, Open, Truncate, Read, WritePart, Find, Bump, Enter, Unbump, Unlink, Mkdir, Chdir, Dup, Close, Fstat, Inherit, StepAnswer, Opened, Bytes, Status, NewFd, Done, Failed, NoRoom, hart_count, descriptor_count, Name, Tree, put, same_name, dot, dotdot, climbs_in, live_directory, is_live, all_slots, first_slot, look, follow, settle, is_named, hold_names, fd_names, file_names, new_file, has_room, creates, any_used, first_free, cleared, refusal_with, effect_with, effect_by, refused, truncated, written, wrote, moved, file_at, held, at_hold, enter_hold, drop_hold, removed, removed_child, made, raise_hold, opened_at, opened_in, opened_new, at_dir, with_file, makes_node, StepWith, Slots, Folders, folder, folders_of, up_in, NamesOnce, IsWellFormed, names_change, IsFound, LeavesFinding, Frame, IsNobodys}
 use Rattle.tree_laws.proofs.Basics.{either, same_or, eq_not, put_is, put_same, put_other, none_any, same_is, same_self, entered_other, cleared_other, cleared_gone, first_dots, first_dot, first_unused, Dots, folder_live, folder_dead, folder_some, folder_none, look_bad, look_in, look_good, first_found, follow_end, follow_step, Removes, after_removal, with_new}
 use Rattle.tree_laws.proofs.Facts.{look_live}
 use Rattle.tree_laws.proofs.Changed.{Change, refused_folders, step_change}
@@ -319,7 +319,7 @@ at_hart : (f f' : ℕ → ℕ) (g : ℕ) → f' ≡ f → f' g ≡ f g
 at_hart f f' g e = ap (λ (z : ℕ → ℕ). z g) e
 
 effect_cwd : (t : Tree) (h g : ℕ) (s : Action) (res : Option ℕ) (par : Option (ℕ × Name)) (new id : ℕ) → g ≢ h → (s ≡ Inherit g → ⊥) → (effect_with t h s res par new id).cwd g ≡ t.cwd g
-unfolding effect_with
+unfolding effect_by
 effect_cwd t h g (Open path flags) res par new id ne other = elim (either (creates flags)) [
   | inl y ↦ rw y (at_hart t.cwd _ g (opened_new_cwd t h id flags new par))
   | inr y ↦ rw y (at_hart t.cwd _ g (opened_cwd t h id flags new res))
@@ -435,7 +435,7 @@ of_hart : (f f' : ℕ → Option Hold) (g : ℕ) → f' ≡ f → f' g ≡ f g
 of_hart f f' g e = ap (λ (z : ℕ → Option Hold). z g) e
 
 effect_holds : (t : Tree) (h g : ℕ) (s : Action) (res : Option ℕ) (par : Option (ℕ × Name)) (new id : ℕ) → g ≢ h → (effect_with t h s res par new id).holds g ≡ t.holds g
-unfolding effect_with
+unfolding effect_by
 effect_holds t h g (Open path flags) res par new id ne = elim (either (creates flags)) [
   | inl y ↦ rw y (of_hart t.holds _ g (opened_new_holds t h id flags new par))
   | inr y ↦ rw y (of_hart t.holds _ g (opened_holds t h id flags new res))

@@ -1,5 +1,5 @@
 -- The whole event: the history, the other harts, and the walks that are lost. Every run is explained by the list that is kept.
-use Rattle.tree_laws.proofs.Vocabulary.{◌≡◌, ◌≢◌, ℕ, zero, suc, ◌+◌, ◌<◌, ◌≤◌, true, false, inl, inr, refl, sym, ◌∙◌, ap, subst, arith, List, [], ◌∷◌, ◌++◌, map, length, Option, Some, None, Reply, Call, Trace, TreeData, hart_count, Tree, tree_of, put, live_directory, Act, next_of, call_climbs, Chain, Rises, AllBelong, noted, trace_from, trace_of, Explains, IsWellFormed, Deed, Walk, Stage, Move, fail, after, HartStanding, History, writes, writes_any, tells, tells_any, passes, Free, Busy, World, Event, lost, lost_of, unless, falls, all_fall, moves_on, MayReply, finishes, stepped, Happens, Runs, opened, shown_of, climbing, NoneClimbs, IsStartBy, Alone, Starts, Steps, Nothing}
+use Rattle.tree_laws.proofs.Vocabulary.{◌≡◌, ◌≢◌, ℕ, zero, suc, ◌+◌, ◌<◌, ◌≤◌, true, false, inl, inr, refl, sym, ◌∙◌, ap, subst, arith, List, [], ◌∷◌, ◌++◌, map, length, Option, Some, None, Reply, Call, Trace, TreeData, hart_count, Tree, tree_of, put, live_directory, Act, next_of, call_climbs, ChainBy, Rises, AllBelong, noted, trace_from, trace_of, Explains, IsWellFormed, Deed, Walk, Stage, Move, fail, after, HartStanding, History, writes, writes_any, tells, tells_any, passes, Free, Busy, World, Event, lost, lost_of, unless, falls, all_fall, moves_on, MayReply, finishes, stepped, Happens, Runs, opened, shown_of, climbing, NoneClimbs, IsStartBy, Alone, Starts, Steps, Nothing}
 use Rattle.tree_laws.proofs.Basics.{same_or, put_same, put_other, BookOk, AllBelow, write_ok, tell_ok, start_ok, reply_ok, passes_ok, later_ok, explained, LeavesWalk, StepBy, walk_falls, walk_kept}
 use Rattle.tree_laws.proofs.Moved.{WalkAt, MoveResult, HasMoved, no_walk, lost_dead, lost_live, any_moved}
 use Rattle.tree_laws.proofs.Moved.MoveResult.{Stays, ActsThere, Went, GivesWalkUp}
@@ -402,7 +402,7 @@ run_ok Ok base w w' (e ∷ es) apart start k r = run_ok Ok base r.0 w' es apart 
 
 -- the beginning
 pub opened_ok : (Ok : ℕ → Call → Type 0) (t : Tree) → IsWellFormed t → Inv Ok t (opened t)
-unfolding AllBelow Chain Rises AllBelong
+unfolding AllBelow ChainBy Rises AllBelong
 opened_ok Ok t k = record {
   good = k;
   late = λ g. [];

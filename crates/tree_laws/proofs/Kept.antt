@@ -1,5 +1,5 @@
 -- Every tree step keeps a tree well formed.
-use Rattle.tree_laws.proofs.Vocabulary.{◌≡◌, ◌≢◌, ℕ, ◌<◌, Bool, true, false, ◌&&◌, ◌||◌, not, ◌==◌, inl, inr, refl, sym, ◌∙◌, ap, subst, arith, List, [], ◌∷◌, length, Option, Some, None, nat_lt, if◌then◌else◌, nat_tests, Cause, DotName, Node, NodeKind, Directory, File, Device, OpenFile, Hold, Action, Open, Truncate, Read, WritePart, Find, Bump, Enter, Unbump, Unlink, Mkdir, Chdir, Dup, Close, Fstat, Inherit, StepAnswer, Opened, Bytes, Status, NewFd, Done, Failed, NoRoom, hart_count, Name, Tree, put, same_name, dot, dotdot, is_directory, live_directory, all_slots, first_slot, look, resolve, parent, settle, node_or, node_at, file_at, is_file, is_open_file, holds_raised, has_room, creates, find_refusal, enter_refusal, name_taken, or_else, child_refusal, unlink_refusal, mkdir_refusal, chdir_refusal, fd_refusal, refusal_with, place_of, IsInPlace, effect_with, refused, new_file, raised, lowered, emptied, truncated, written_kind, written, wrote, held, at_hold, raise_hold, enter_hold, drop_hold, removed, removed_child, made, opened_at, opened_in, opened_new, at_dir, is_absent, is_nothing, IsNewNode, MayChoose, StepWith, folder, links_of, links_in, raised_at, one_if, IsThere, IsWellFormed, IsFound}
+use Rattle.tree_laws.proofs.Vocabulary.{◌≡◌, ◌≢◌, ℕ, ◌<◌, Bool, true, false, ◌&&◌, ◌||◌, not, ◌==◌, inl, inr, refl, sym, ◌∙◌, ap, subst, arith, List, [], ◌∷◌, length, Option, Some, None, nat_lt, if◌then◌else◌, nat_tests, Cause, DotName, Node, NodeKind, Directory, File, Device, OpenFile, Hold, Action, Open, Truncate, Read, WritePart, Find, Bump, Enter, Unbump, Unlink, Mkdir, Chdir, Dup, Close, Fstat, Inherit, StepAnswer, Opened, Bytes, Status, NewFd, Done, Failed, NoRoom, hart_count, Name, Tree, put, same_name, dot, dotdot, is_directory, live_directory, all_slots, first_slot, look, resolve, parent, settle, node_or, node_at, file_at, is_file, is_open_file, holds_raised, has_room, creates, find_refusal, enter_refusal, name_taken, or_else, child_refusal, unlink_refusal, mkdir_refusal, chdir_refusal, fd_refusal, refusal_with, refusal_by, place_of, IsInPlace, effect_with, effect_by, refused, new_file, raised, lowered, emptied, truncated, written_kind, written, wrote, held, at_hold, raise_hold, enter_hold, drop_hold, removed, removed_child, made, opened_at, opened_in, opened_new, at_dir, is_absent, is_nothing, IsNewNode, MayChoose, StepWith, folder, links_of, links_in, raised_at, one_if, IsThere, IsWellFormed, IsFound}
 use Rattle.tree_laws.proofs.Basics.{either, eq_self, eq_not, put_same, and_true, or_none, one_yes, one_no, live_some, settled_well, look_in, well_content, well_same, well_counted, well_entered, well_file, not_folder, not_raised, is_raised, raises_part, with_new}
 use Rattle.tree_laws.proofs.Facts.{InMap, in_map, look_live, resolve_map, parent_live}
 use Rattle.tree_laws.proofs.Placed.{well_directory, well_removed}
@@ -189,14 +189,14 @@ changed_well t h None k ref = k
 changed_well t h (Some n) k ref = well_chdir t h n k (if_some _ _ ref)
 
 dup_well : (t : Tree) (h fd : ℕ) (o : Option OpenFile) → IsWellFormed t → h < hart_count → file_at t h fd ≡ o → fd_refusal o ≡ None → IsWellFormed (effect_with t h (Dup fd) None None 0 0)
-unfolding effect_with
+unfolding effect_by
 dup_well t h fd None k lt is ref = absurd cc
 dup_well t h fd (Some f) k lt is ref = well_dup t h fd f k lt is
 
 -- A step that isn't refused. map, live: what the path's results are.
 pub effect_well : (t : Tree) (h : ℕ) (s : Action) (res : Option ℕ) (par : Option (ℕ × Name)) (new id : ℕ) → IsWellFormed t → h < hart_count → place_of t h s ≡ true → ((n : ℕ) → res ≡ Some n → InMap t.nodes n) → LiveParent t par
     → refusal_with t h s res par ≡ None → MayChoose t h s par new id → IsWellFormed (effect_with t h s res par new id)
-unfolding effect_with refusal_with place_of
+unfolding effect_by refusal_by place_of
 effect_well t h (Open path flags) res par new id k lt place map live ref may = elim (either (creates flags)) [
   | inl y ↦ rw y (opened_new_well t h id flags new par k live (λ e. may.node (both (creates flags) (is_absent t par) y e)) (λ o. (may.file o).unused))
   | inr y ↦ rw y (opened_well t h id flags new res k map (λ o. (may.file o).unused))

@@ -1,6 +1,6 @@
 -- What this crate's proofs speak of: its own definitions, and what the crates below and the library call things.
-pub use Rattle.plain_tree.proofs.Vocabulary.{Act, Belongs, Bool, IsInPlace, IsLeastUnused, IsNewNode, IsReached, List, MayChoose, Name, None, Option, Some, Step, StepWith, Tree, TreeData, [], act_of as act_in, all_slots, and_then, ap, append-nil, append_assoc, arith, at_dir, at_hold, chdir_refusal, child_refusal, closed, creates, descriptor_count, dot, dotdot, drop, drop_hold, elements, emptied, empty_it, enter_hold, enter_refusal, entered, false, fd_names, fd_refusal, file_at, file_names, find_refusal, fresh_hart, hart_count, has, has_room, held, hold_names, if_done, if_failed, if◌then◌else◌, inl, inr, is_absent, is_directory, is_file, is_live, is_nothing, is_open_file, length, live_directory, lowered, lowest, made, makes_node, map, mkdir_refusal, moved, name_taken, nat_lt, nat_tests, new_directory, new_file, next_piece, node_at, node_or, not, not_empty, once, opened_at, opened_in, opened_new, opens_one, or_else, parent, path_of, piece, piece_count, raise_hold, raised, read_write, refl, refused, removed, removed_child, replicate, resolve, resting, root, slots_of, subst, suc, sym, to_truncate, tree_of, true, truncated, unlink_refusal, with_file, with_nodes, write_only, written, written_kind, wrote, zero, ℕ, ◌&&◌, ◌++◌, ◌+◌, ◌-◌, ◌<◌, ◌==◌, ◌||◌, ◌∙◌, ◌∷◌, ◌≡◌, ◌≢◌, ◌≤◌, ◌⊎◌}
-unfoldable pub use Rattle.plain_tree.proofs.Vocabulary.{AllBelong, Chain, Follows, Rises, acts_of, answer_with, any_below, any_used, cleared, effect_with, entries, file_in, first_cause, first_free, first_slot, follow, had_room, has_fd, is_named, last_cause, look, lowest_from, next_of, pieces, place_of, put, refusal_with, same_name, settle}
+pub use Rattle.plain_tree.proofs.Vocabulary.{Act, Belongs, Bool, IsInPlace, IsLeastUnused, IsNewNode, IsReached, List, MayChoose, Name, None, Option, Some, Tree, TreeData, [], act_of as act_in, all_slots, and_then, ap, append-nil, append_assoc, arith, at_dir, at_hold, chdir_refusal, child_refusal, closed, creates, descriptor_count, dot, dotdot, drop, drop_hold, emptied, empty_it, enter_hold, enter_refusal, entered, false, fd_names, fd_refusal, file_at, file_names, find_refusal, fresh_hart, hart_count, has, has_room, held, hold_names, if_done, if_failed, if◌then◌else◌, inl, inr, is_absent, is_directory, is_file, is_live, is_nothing, is_open_file, length, live_directory, lowered, lowest, made, makes_node, map, mkdir_refusal, moved, name_taken, nat_lt, nat_tests, new_directory, new_file, next_piece, node_at, node_or, not, not_empty, once, opened_at, opened_in, opened_new, opens_one, or_else, path_of, piece, piece_count, raise_hold, raised, read_write, refl, refused, removed, removed_child, replicate, resting, root, slots_of, subst, suc, sym, to_truncate, tree_of, true, truncated, unlink_refusal, with_file, with_nodes, write_only, written, written_kind, wrote, zero, ℕ, ◌&&◌, ◌++◌, ◌+◌, ◌-◌, ◌<◌, ◌==◌, ◌||◌, ◌∙◌, ◌∷◌, ◌≡◌, ◌≢◌, ◌≤◌, ◌⊎◌}
+unfoldable pub use Rattle.plain_tree.proofs.Vocabulary.{AllBelong, Chain as ChainBy, Follows, Rises, acts_of, answer_with as answer_by, any_below, any_used, cleared, effect_with as effect_by, entries as entries_by, file_in, first_cause, first_free, first_slot, follow, had_room, has_fd, is_named, last_cause, look, lowest_from, next_of, pieces, place_of, put, refusal_with as refusal_by, same_name, settle}
 pub use Rattle.tree_laws.specs.Vocabulary.{Explains, NoEntry, Other, Replied, Reply, Shown, Started, call_climbs, follows_path, fresh, noted, start_of, trace_of}
 unfoldable pub use Rattle.tree_laws.specs.Vocabulary.{climbs_in, reply_of}
 pub use Rattle.tree_laws.specs.WellFormed.{Folders, IsForest, IsInOrder, IsThere, IsWellFormed, Slots, folder, folders_of, has_up, links_in, links_of, past, raised_at, up_in}
@@ -21,7 +21,6 @@ pub use Rattle.plain_tree.specs.declared.trace.TracedCall.{TracedCall}
 pub use Rattle.std.proofs.Common.{slice_get, slice_index_or, ◌*◌}
 pub use Rattle.tree_laws.specs.Moves.Move.{Begin, Look, Own, GiveUpWalk}
 pub use Rattle.plain_tree.specs.Calls.{IsWhole}
-pub use Rattle.plain_tree.specs.Fresh.{fresh_root, fresh_slots}
 pub use Rattle.tree_laws.specs.Actions.{ActionsAreTold}
 pub use Rattle.tree_laws.specs.Examples.{ChdirFinishes, CloseFinishes, DupFinishes, FstatFinishes, InheritFinishes, LinkFinishes, MkdirFinishes, OpenFinishes, ReadFinishes, UnlinkFinishes, WalkerFails, WalkerFailsAtAFile, WalkerStaysFailed, WriteFinishes, asks, changes, closes, doubles, inherits, links, made_again, makes, opens_a, opens_below_a, reads, removed_under, unlinks}
 pub use Rattle.tree_laws.specs.MoveLaws.{Tells, before, of_call}
@@ -43,3 +42,4 @@ pub use Rattle.plain_tree.specs.declared.trace.Trace.{Trace}
 pub use Rattle.plain_tree.specs.declared.tree.Hart.{Hart}
 pub use Rattle.plain_tree.specs.declared.tree.Hold.{Hold}
 pub use Rattle.plain_tree.specs.declared.tree.OpenFile.{OpenFile}
+pub use Rattle.plain_tree.specs.VersionOne.{Step, StepWith, elements, parent, resolve, Chain, answer_with, effect_with, entries, refusal_with, fresh_root, fresh_slots}

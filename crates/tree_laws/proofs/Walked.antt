@@ -1,5 +1,5 @@
 -- A walk's path so far leads to its node while that is a live directory; when another hart's step kills it the walk fails just then.
-use Rattle.tree_laws.proofs.Vocabulary.{◌≡◌, ℕ, Bool, true, false, ◌&&◌, not, ◌⊎◌, inl, inr, refl, sym, ◌∙◌, ap, subst, List, [], ◌∷◌, ◌++◌, length, Option, Some, None, nat_lt, Cause, NoEntry, Call, OpenCall, ReadCall, WriteCall, LinkCall, UnlinkCall, MkdirCall, ChdirCall, DupCall, FstatCall, CloseCall, InheritCall, Action, Open, Truncate, Read, WritePart, Find, Bump, Enter, Unbump, Unlink, Mkdir, Chdir, Dup, Close, Fstat, Inherit, StepAnswer, Opened, Bytes, Status, NewFd, Done, Failed, NoRoom, Hold, hart_count, Name, Tree, elements, climbs, climbs_in, pieces, live_directory, follow, start_of, resolve, parent, parent_of, path_of, follows_path, refusal_with, refused, place_of, holds_raised, IsInPlace, Step, creates, has, empty_it, Act, next_of, call_climbs, last_cause, next_piece, once, to_truncate, if_done, if_failed, piece, piece_count, Deed, Walk, fail}
+use Rattle.tree_laws.proofs.Vocabulary.{◌≡◌, ℕ, Bool, true, false, ◌&&◌, not, ◌⊎◌, inl, inr, refl, sym, ◌∙◌, ap, subst, List, [], ◌∷◌, ◌++◌, length, Option, Some, None, nat_lt, Cause, NoEntry, Call, OpenCall, ReadCall, WriteCall, LinkCall, UnlinkCall, MkdirCall, ChdirCall, DupCall, FstatCall, CloseCall, InheritCall, Action, Open, Truncate, Read, WritePart, Find, Bump, Enter, Unbump, Unlink, Mkdir, Chdir, Dup, Close, Fstat, Inherit, StepAnswer, Opened, Bytes, Status, NewFd, Done, Failed, NoRoom, Hold, hart_count, Name, Tree, elements, climbs, climbs_in, pieces, live_directory, follow, start_of, resolve, parent, parent_of, path_of, follows_path, refusal_with, refusal_by, refused, place_of, holds_raised, IsInPlace, Step, creates, has, empty_it, Act, next_of, call_climbs, last_cause, next_piece, once, to_truncate, if_done, if_failed, piece, piece_count, Deed, Walk, fail}
 use Rattle.tree_laws.proofs.Maps.{either, or_none}
 use Rattle.tree_laws.proofs.Walks.{follow_on, follow_off, follow_stop, look_bad, parent_on, parent_off, parent_bad, climbs_front}
 
@@ -49,7 +49,7 @@ place_kept t t' h s f e is = ap (λ (b : Bool). nat_lt h hart_count && b) (place
 -- A path that leads nowhere is refused, as a name that isn't there.
 
 none_refused : (t : Tree) (h : ℕ) (s : Action) → follows_path s ≡ true → refusal_with t h s None None ≡ Some NoEntry
-unfolding refusal_with
+unfolding refusal_by
 none_refused t h (Open path flags) f = elim (either (creates flags)) [ inl y ↦ rw y refl | inr y ↦ rw y refl ]
 none_refused t h (Find old) f = refl
 none_refused t h (Enter new) f = refl

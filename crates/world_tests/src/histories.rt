@@ -2,6 +2,7 @@
 use crate::images::tree_in;
 use crate::trees::is_same_tree;
 use block_device::MemoryDisk;
+use image_versions::Version;
 use plain_tree::{Placed, Trace, Tree, check};
 use std::alloc::Global;
 use std::process::Abort;
@@ -14,7 +15,7 @@ pub fn explains(
     trace: &Trace,
     list: &[Placed],
 ) -> bool {
-    check(alloc, base, trace, list).expect(rt, "error")
+    check(alloc, Version::One, base, trace, list).expect(rt, "error")
 }
 
 /// A list that explains a trace, from the tree of a disk on.
@@ -33,7 +34,9 @@ pub fn history_of(
 
 fn make_steps(rt: &impl Abort, alloc: Global, tree: &mut Tree, list: &[Placed]) {
     for placed in list {
-        let _answer = tree.apply(alloc, &placed.step).expect(rt, "error");
+        let _answer = tree
+            .apply(alloc, Version::One, &placed.step)
+            .expect(rt, "error");
     }
 }
 

@@ -2,6 +2,7 @@
 use crate::memory::copied;
 use block_device::MemoryDisk;
 use image_tree::{examine, tree_of};
+use image_versions::Version;
 use mkfs::{NewFile, make};
 use plain_tree::Tree;
 use std::alloc::Global;
@@ -174,12 +175,12 @@ pub fn name(number: u32) -> [u8; 4] {
 
 /// The tree of an image that is in order.
 pub fn tree_in(rt: &impl Abort, alloc: Global, disk: &mut MemoryDisk) -> Tree {
-    tree_of(alloc, disk).expect(rt, "error")
+    tree_of(alloc, disk, Version::One).expect(rt, "error")
 }
 
 /// How many nodes with a name, nodes without one and blocks of contents stand on a disk, whose image is well formed.
 pub fn counts(rt: &impl Abort, alloc: Global, disk: MemoryDisk) -> (u32, u32, u32) {
     let mut disk = disk;
-    let shape = examine(alloc, &mut disk).expect(rt, "error");
+    let shape = examine(alloc, &mut disk, Version::One).expect(rt, "error");
     (shape.live, shape.orphans, shape.blocks)
 }

@@ -3,6 +3,7 @@ use block_device::MemoryDisk;
 use fs_machine::Kind;
 use hart_core::{Came, Event, Outcome, Run, World, run, trace};
 use image_tree::tree_of;
+use image_versions::Version;
 use mkfs::make;
 use plain_tree::{Bytes, Call, HARTS, NoMemory, Placed, Trace, Tree, check};
 use script::{CallLine, Command, parse};
@@ -212,7 +213,7 @@ fn outcomes_of(alloc: Global, play: &Play) -> Result<Vec<Came>, Fail> {
 /// What the events come to.
 pub fn seen_in(alloc: Global, play: &Play) -> Result<Seen, Fail> {
     let mut disk = MemoryDisk::new(Vec::from_slice(alloc, &play.image)?);
-    let Ok(base) = tree_of(alloc, &mut disk) else {
+    let Ok(base) = tree_of(alloc, &mut disk, Version::One) else {
         return Err(Fail::from(AllocError));
     };
     let outcomes = outcomes_of(alloc, play)?;
@@ -224,7 +225,7 @@ pub fn seen_in(alloc: Global, play: &Play) -> Result<Seen, Fail> {
 
 /// Whether the list explains what was seen.
 pub fn explains(alloc: Global, seen: &Seen, list: &[Placed]) -> Result<bool, Fail> {
-    match check(alloc, &seen.base, &seen.trace, list) {
+    match check(alloc, Version::One, &seen.base, &seen.trace, list) {
         Ok(explains) => Ok(explains),
         Err(NoMemory) => Err(Fail::from(AllocError)),
     }
@@ -234,7 +235,7 @@ pub fn explains(alloc: Global, seen: &Seen, list: &[Placed]) -> Result<bool, Fai
 pub fn gives_answers(alloc: Global, seen: Seen, list: &[Placed]) -> Result<bool, Fail> {
     let mut tree = seen.base;
     for entry in list {
-        match tree.apply(alloc, &entry.step) {
+        match tree.apply(alloc, Version::One, &entry.step) {
             Ok(answer) => {
                 if answer != entry.answer {
                     return Ok(false);

@@ -11,6 +11,7 @@ use crate::rows::{CREATE, Line, READ, READ_AND_WRITE};
 use block_device::MemoryDisk;
 use fs_machine::Kind;
 use hart_core::{Run, World};
+use image_versions::Version;
 use plain_tree::{Trace, TracedCall};
 
 // The answer of a call that was refused memory, and that of one that wasn't.
@@ -130,7 +131,7 @@ fn of_check(rt: HostRuntime) {
     let trace = traced(&rt, alloc, &made);
     let list = history_of(&rt, alloc, &mut disk, &trace);
     let _ = println!(rt; "call");
-    let came = plain_tree::check(alloc, &base, &trace, list.as_slice());
+    let came = plain_tree::check(alloc, Version::One, &base, &trace, list.as_slice());
     let _ = println!(rt; "done");
     let (explained, answer) = match came {
         Ok(explained) => (explained, ANSWERED),

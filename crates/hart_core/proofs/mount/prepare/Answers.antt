@@ -8,7 +8,7 @@ returns-in-Err-clause-err g c =
 
 pub returns-clause-ok : goal.returns-clause-ok
 returns-clause-ok g c = (
-  c.in_ok-layout.ensures.judges.1,
+  c.in_ok-layout.ensures.judges.2,
   settled_so (g.D.Device.contents c.args.device.now) (g.D.Device.contents c.examine_layout.new.device) (g.D.Device.contents c.settle.new.device) c.in_ok-layout.ensures.device.contents c.in-Ok.ensures.home c.in-Ok.ensures.empty
       c.settle.ensures.sizes c.settle.ensures.well c.settle.ensures.tree c.in-Ok.ensures.named c.in-Ok.ensures.freed,
 )

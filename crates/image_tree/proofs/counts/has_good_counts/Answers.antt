@@ -4,10 +4,10 @@ use Rattle.image_tree.proofs.counts.has_good_counts.Goals as goal
 pub loop-i-preserved : goal.loop-i-preserved
 loop-i-preserved g c =
     let disk : List (List ℕ) = g.D.Device.contents c.args.device.now in
-    let here : GoodCount (g.D.Device.contents c.loop-i.device) c.loop-i.i = c.in_ok-good.ensures.good.0 c.if-not-good.false in (
+    let here : GoodCount c.args.layout.now.version (g.D.Device.contents c.loop-i.device) c.loop-i.i = c.in_ok-good.ensures.good.0 c.if-not-good.false in (
       c.in_ok-good.ensures.device.contents ∙ c.loop-i.invariant.0,
       c.in_ok-good.ensures.device.faults ∙ c.loop-i.invariant.1,
-      one_more (GoodCount disk) c.loop-i.i c.loop-i.invariant.2 (subst (λ (d : List (List ℕ)). GoodCount d c.loop-i.i) c.loop-i.invariant.0 here),
+      one_more (GoodCount c.args.layout.now.version disk) c.loop-i.i c.loop-i.invariant.2 (subst (λ (d : List (List ℕ)). GoodCount c.args.layout.now.version d c.loop-i.i) c.loop-i.invariant.0 here),
       calls_after c.loop-i.invariant.3 c.in_ok-good.ensures.calls,
     )
 

@@ -4,7 +4,7 @@ use Rattle.image_tree.proofs.entries.has_good_slots.Goals as goal
 pub loop-i-preserved : goal.loop-i-preserved
 loop-i-preserved g c =
     let disk : List (List ℕ) = g.D.Device.contents c.args.device.now in
-    let Good = λ (d : List (List ℕ)) (k : ℕ). is_live_directory d k ≡ true → AreGoodSlots (is_node d) k (slots_in d k) in
+    let Good = λ (d : List (List ℕ)) (k : ℕ). is_live_directory d k ≡ true → AreGoodSlots (is_node d) k (slots_in c.args.layout.now.version d k) in
     let here : Good (g.D.Device.contents c.loop-i.device) c.loop-i.i = c.in_ok-good.ensures.good.0 c.if-not-good.false in (
       c.in_ok-good.ensures.device.contents ∙ c.loop-i.invariant.0,
       c.in_ok-good.ensures.device.faults ∙ c.loop-i.invariant.1,

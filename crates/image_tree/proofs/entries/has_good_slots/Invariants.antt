@@ -5,5 +5,5 @@ abbrev pub invariant-loop-i : goal.invariant-loop-i
 invariant-loop-i g l =
     (g.D.Device.contents l.device ≡ g.D.Device.contents l.fn.device) × (g.D.Device.failures l.device ≡ g.D.Device.failures l.fn.device)
     × ((k : ℕ) → 1 ≤ k → k < l.i → is_live_directory (g.D.Device.contents l.fn.device) k ≡ true
-    → AreGoodSlots (is_node (g.D.Device.contents l.fn.device)) k (slots_in (g.D.Device.contents l.fn.device) k))
+    → AreGoodSlots (is_node (g.D.Device.contents l.fn.device)) k (slots_in l.layout.version (g.D.Device.contents l.fn.device) k))
     × ComesByCalls g.D.Device.Called l.fn.device l.device

@@ -12,5 +12,5 @@ returns-clause-good g c =
     slots_told (g.D.Device.contents c.args.device.now) c.args.layout.now c.args.i c.in_ok-inode.inode c.args.nodes.now c.as_slice.result.now c.in_ok-good.good
     c.requires.layout c.requires.low c.requires.bound c.in_ok-inode.ensures.inode (sym c.is_live_directory.ensures ∙ c.if-not-is_live_directory.false)
     c.requires.table
-    (c.as_slice.ensures.value ∙ c.in_ok-slots.ensures.slots ∙ ap (λ (d : List (List ℕ)). slots_in d c.args.i) c.in_ok-inode.ensures.device.contents)
+    (c.as_slice.ensures.value ∙ c.in_ok-slots.ensures.slots ∙ ap (λ (d : List (List ℕ)). slots_in c.args.layout.now.version d c.args.i) c.in_ok-inode.ensures.device.contents)
     c.in_ok-good.ensures

@@ -14,9 +14,9 @@ loop-i-preserved g c =
     record {
       faults = c.in_ok-reclaim_at.ensures.faults ∙ c.loop-i.invariant.faults;
       calls = calls_after c.loop-i.invariant.calls c.in_ok-reclaim_at.ensures.calls;
-      image = image_next d e n c.loop-i.invariant.image c.in_ok-reclaim_at.ensures.sizes c.in_ok-reclaim_at.ensures.well c.in_ok-reclaim_at.ensures.tree;
+      image = image_next c.args.version d e n c.loop-i.invariant.image c.in_ok-reclaim_at.ensures.sizes c.in_ok-reclaim_at.ensures.well c.in_ok-reclaim_at.ensures.tree;
       empty = c.in_ok-reclaim_at.ensures.empty;
-      to = reclaimed_next d e n c.loop-i.i c.loop-i.invariant.image.sizes c.loop-i.invariant.image.well (omega arith)
+      to = reclaimed_next c.args.version d e n c.loop-i.i c.loop-i.invariant.image.sizes c.loop-i.invariant.image.well (omega arith)
           (subst (λ (z : Super). c.loop-i.i < z.ninodes) c.requires.sizes (omega arith)) c.loop-i.invariant.to c.in_ok-reclaim_at.ensures.done;
     }
 

@@ -12,11 +12,11 @@ returns-clause-links g c =
     let children = table_kept c.in_ok-children.children c.deref_mut-4.result.now c.count_children.new.children (sizes_of disk).ninodes c.count_children.auto.children c.deref_mut-4.ensures.len (c.in_ok-children.ensures.length ∙ n) in
     record {
       ups = c.in_ok-ups.ensures.table;
-      names = tallies_kept c.in_ok-names.names c.count_names.new.names (gathered (named_in disk) (last disk)) names.0 (rw same at c.in_ok-count_names.ensures.names);
-      further = tallies_kept c.in_ok-further.further c.count_names.new.further (gathered (further_in disk) (last disk)) further.0 (rw same at c.in_ok-count_names.ensures.further);
-      proper = tallies_kept c.in_ok-proper.proper c.count_names.new.proper (gathered (proper_in disk) (last disk)) proper.0 (rw same at c.in_ok-count_names.ensures.proper);
-      children = tallies_kept c.in_ok-children.children c.count_children.new.children (gathered (parent_of disk) (last disk)) children.0
-          (children_are disk c.in_ok-ups.ups.items c.as_slice-2.result.now c.count_children.new.children c.in_ok-ups.ensures.table c.as_slice-2.ensures.value
+      names = tallies_kept c.in_ok-names.names c.count_names.new.names (gathered (named_in c.args.layout.now.version disk) (last disk)) names.0 (rw same at c.in_ok-count_names.ensures.names);
+      further = tallies_kept c.in_ok-further.further c.count_names.new.further (gathered (further_in c.args.layout.now.version disk) (last disk)) further.0 (rw same at c.in_ok-count_names.ensures.further);
+      proper = tallies_kept c.in_ok-proper.proper c.count_names.new.proper (gathered (proper_in c.args.layout.now.version disk) (last disk)) proper.0 (rw same at c.in_ok-count_names.ensures.proper);
+      children = tallies_kept c.in_ok-children.children c.count_children.new.children (gathered (parent_of c.args.layout.now.version disk) (last disk)) children.0
+          (children_are c.args.layout.now.version disk c.in_ok-ups.ups.items c.as_slice-2.result.now c.count_children.new.children c.in_ok-ups.ensures.table c.as_slice-2.ensures.value
           c.count_children.ensures);
       names_length = length_kept c.in_ok-names.names c.count_names.new.names (sizes_of disk).ninodes names.0 names.1;
       further_length = length_kept c.in_ok-further.further c.count_names.new.further (sizes_of disk).ninodes further.0 further.1;

@@ -3,7 +3,7 @@ use Rattle.image_tree.proofs.links.find_ups.Goals as goal
 
 pub loop-i-init : goal.loop-i-init
 loop-i-init g c =
-    let one = up-one (g.D.Device.contents c.args.device.now) c.new-ups.result.items c.push.new.items.items c.new-ups.ensures.items c.in_ok-push.ensures in
+    let one = up-one c.args.layout.now.version (g.D.Device.contents c.args.device.now) c.new-ups.result.items c.push.new.items.items c.new-ups.ensures.items c.in_ok-push.ensures in
     (refl, refl, one.0, one.1, none)
 
 pub loop-i-preserved : goal.loop-i-preserved

@@ -5,17 +5,17 @@ pub returns-clause-either : goal.returns-clause-either
 returns-clause-either g c =
     let d = g.D.Device.contents c.args.device.now in
     let e = g.D.Device.contents c.write.new.self in
-    let s = c.args.sizes.now in
+    let s = c.args.layout.now.sizes in
     elim (either_way c.write.result e d (set d s.logstart c.write_log_head.new.block) c.write.ensures.ok c.write.ensures.err) [
       | inl same ↦ inl same
-      | inr new ↦ inr (head_is d e s c.args.home c.write_log_head.new.block (replicate 1024 0) c.requires.good c.requires.empty c.requires.sizes c.requires.low c.requires.high c.write_log_head.ensures.bytes new)
+      | inr new ↦ inr (head_is c.args.layout.now.version d e s c.args.home c.write_log_head.new.block (replicate 1024 0) c.requires.layout.good c.requires.empty c.requires.layout.sizes c.requires.low c.requires.high c.write_log_head.ensures.bytes new)
     ]
 
 pub returns-clause-put : goal.returns-clause-put
 returns-clause-put g c =
     let d = g.D.Device.contents c.args.device.now in
     let e = g.D.Device.contents c.write.new.self in
-    let s = c.args.sizes.now in
-    on_ok c.write.result (e ≡ set d s.logstart c.write_log_head.new.block) (IsPut d e c.args.home (block_at d (s.logstart + 1)) (block_at d (s.logstart + 2)))
-    (λ new. head_is d e s c.args.home c.write_log_head.new.block (replicate 1024 0) c.requires.good c.requires.empty c.requires.sizes c.requires.low c.requires.high c.write_log_head.ensures.bytes new)
+    let s = c.args.layout.now.sizes in
+    on_ok c.write.result (e ≡ set d s.logstart c.write_log_head.new.block) (IsPut c.args.layout.now.version d e c.args.home (block_at d (s.logstart + 1)) (block_at d (s.logstart + 2)))
+    (λ new. head_is c.args.layout.now.version d e s c.args.home c.write_log_head.new.block (replicate 1024 0) c.requires.layout.good c.requires.empty c.requires.layout.sizes c.requires.low c.requires.high c.write_log_head.ensures.bytes new)
     c.write.ensures.ok

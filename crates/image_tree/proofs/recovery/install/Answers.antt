@@ -79,20 +79,20 @@ loop-i-preserved g c = record {
   calls = calls_after c.loop-i.invariant.calls c.in_ok-copy.ensures.calls;
   at = after_copy (g.D.Device.contents c.args.device.now) (g.D.Device.contents c.loop-i.device) (g.D.Device.contents c.copy.new.device) c.args.layout.now c.requires c.as_slice-blocks.result.now c.as_slice-blocks.ensures.value c.loop-i.i
       c.loop-i.invariant.at c.loop-i-test.true c.in_ok-copy.ensures.ok;
-  good = copy_good (g.D.Device.contents c.loop-i.device) (g.D.Device.contents c.copy.new.device) c.args.layout.now.sizes (recovered (g.D.Device.contents c.args.device.now)) c.args.layout.now.head.blocks.items (length (g.D.Device.contents c.args.device.now)) c.loop-i.i
+  good = copy_good c.args.layout.now.version (g.D.Device.contents c.loop-i.device) (g.D.Device.contents c.copy.new.device) c.args.layout.now.sizes (recovered (g.D.Device.contents c.args.device.now)) c.args.layout.now.head.blocks.items (length (g.D.Device.contents c.args.device.now)) c.loop-i.i
       c.loop-i.invariant.at c.loop-i.invariant.good c.as_slice-blocks.result.now _ c.as_slice-blocks.ensures.value c.loop-i-test.true (inr c.in_ok-copy.ensures.ok);
 }
 
 pub returns-in_err-copy-clause-good : goal.returns-in_err-copy-clause-good
 returns-in_err-copy-clause-good g c =
-    copy_good (g.D.Device.contents c.loop-i.device) (g.D.Device.contents c.copy.new.device) c.args.layout.now.sizes (recovered (g.D.Device.contents c.args.device.now)) c.args.layout.now.head.blocks.items (length (g.D.Device.contents c.args.device.now)) c.loop-i.i
+    copy_good c.args.layout.now.version (g.D.Device.contents c.loop-i.device) (g.D.Device.contents c.copy.new.device) c.args.layout.now.sizes (recovered (g.D.Device.contents c.args.device.now)) c.args.layout.now.head.blocks.items (length (g.D.Device.contents c.args.device.now)) c.loop-i.i
     c.loop-i.invariant.at c.loop-i.invariant.good c.as_slice-blocks.result.now _ c.as_slice-blocks.ensures.value c.loop-i-test.true c.in_err-copy.ensures.err
 
 pub returns-clause-good : goal.returns-clause-good
 returns-clause-good g c =
     let d = g.D.Device.contents c.loop-i.device in
     let e = g.D.Device.contents c.write.new.self in
-    clear_good d e c.args.layout.now.sizes (recovered (g.D.Device.contents c.args.device.now)) c.args.layout.now.head.blocks.items (length (g.D.Device.contents c.args.device.now)) c.loop-i.i
+    clear_good c.args.layout.now.version d e c.args.layout.now.sizes (recovered (g.D.Device.contents c.args.device.now)) c.args.layout.now.head.blocks.items (length (g.D.Device.contents c.args.device.now)) c.loop-i.i
     c.loop-i.invariant.at c.loop-i.invariant.good (either_way c.write.result e d c.args.layout.now.sizes.logstart c.zeros.result (replicate 1024 0) c.zeros.ensures c.write.ensures.ok c.write.ensures.err)
 
 pub returns-in_err-copy-clause-kept : goal.returns-in_err-copy-clause-kept

@@ -6,5 +6,5 @@ invariant-loop-i g l = record {
   faults : g.D.Device.failures l.device ≡ g.D.Device.failures l.fn.device;
   calls : ComesByCalls g.D.Device.Called l.fn.device l.device;
   at : Installed (g.D.Device.contents l.device) l.layout.sizes (recovered (g.D.Device.contents l.fn.device)) l.layout.head.blocks.items (length (g.D.Device.contents l.fn.device)) l.i;
-  good : UpToLog (g.D.Device.contents l.device);
+  good : UpToLog l.layout.version (g.D.Device.contents l.device);
 }

@@ -3,7 +3,7 @@ use Rattle.image_tree.proofs.sizes.has_good_size.Goals as goal
 
 pub returns-then-is_free-clause-good : goal.returns-then-is_free-clause-good
 returns-then-is_free-clause-good g c =
-    held _ (free_no_size (g.D.Device.contents c.args.device.now) c.args.i c.in_ok-inode.inode c.in_ok-inode.ensures.inode (sym c.is_free.ensures ∙ c.if-is_free.true))
+    held _ (free_no_size c.args.layout.now.version (g.D.Device.contents c.args.device.now) c.args.i c.in_ok-inode.inode c.in_ok-inode.ensures.inode (sym c.is_free.ensures ∙ c.if-is_free.true))
 
 pub returns-then-not-is_fitting-clause-good : goal.returns-then-not-is_fitting-clause-good
 returns-then-not-is_fitting-clause-good g c =

@@ -4,5 +4,5 @@ use Rattle.image_tree.proofs.slots.load_slots.Given as goal
 abbrev pub invariant-loop-s : goal.invariant-loop-s
 invariant-loop-s g l =
     (g.D.Device.contents l.device ≡ g.D.Device.contents l.fn.device) × (g.D.Device.failures l.device ≡ g.D.Device.failures l.fn.device)
-    × (l.slots.items ≡ first_slots (g.D.Device.contents l.fn.device) l.inode l.s)
+    × (l.slots.items ≡ first_slots l.layout.version (g.D.Device.contents l.fn.device) l.inode l.s)
     × ComesByCalls g.D.Device.Called l.fn.device l.device

@@ -8,7 +8,7 @@ returns-then-is_free-clause-node g c =
 
 pub returns-then-not-is_live-clause-node : goal.returns-then-not-is_live-clause-node
 returns-then-not-is_live-clause-node g c =
-    no_node_dead (g.D.Device.contents c.args.device.now) c.args.i c.in_ok-inode.inode c.in_ok-inode.ensures.inode (sym c.is_live.ensures ∙ c.if-not-is_live.true)
+    no_node_dead c.args.layout.now.version (g.D.Device.contents c.args.device.now) c.args.i c.in_ok-inode.inode c.in_ok-inode.ensures.inode (sym c.is_live.ensures ∙ c.if-not-is_live.true)
 
 pub returns-clause-node : goal.returns-clause-node
 returns-clause-node g c =

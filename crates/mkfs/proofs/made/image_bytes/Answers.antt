@@ -4,17 +4,17 @@ use Rattle.mkfs.proofs.made.image_bytes.Goals as goal
 pub push_parts-requires-clause-root : goal.push_parts-requires-clause-root
 push_parts-requires-clause-root c =
     let is = c.as_slice.ensures.value ∙ c.in_ok-root.ensures in
-    let few = root_few c.args.size c.args.ninodes (names_of c.args.files.now) (contents_of c.args.files.now) (same-length c.args.files.now) c.requires in
+    let few = root_few c.args.version c.args.size c.args.ninodes (names_of c.args.files.now) (contents_of c.args.files.now) (same-length c.args.files.now) c.requires in
     subst (λ (root : List ℕ). length root ≤ 274432) (sym is) few
 
 pub push_parts-requires-clause-blocks : goal.push_parts-requires-clause-blocks
 push_parts-requires-clause-blocks c =
     let contents : List (List ℕ) = contents_of c.args.files.now in
     let is = c.as_slice.ensures.value ∙ c.in_ok-root.ensures in
-    let enough = room c.args.size c.args.ninodes (names_of c.args.files.now) contents (same-length c.args.files.now) c.requires in
+    let enough = room c.args.version c.args.size c.args.ninodes (names_of c.args.files.now) contents (same-length c.args.files.now) c.requires in
     subst (λ (root : List ℕ). used_by (data_start c.args.ninodes) (nodes_with root contents) ≤ c.args.size) (sym is) enough
 
 pub returns : goal.returns
 returns c =
-    let bytes : c.push_parts.new.image.items ≡ image_of c.args.size c.args.ninodes (names_of c.args.files.now) (contents_of c.args.files.now) = search rules in
-    is-made c.args.size c.args.ninodes c.args.files.now c.push_parts.new.image.items c.requires bytes
+    let bytes : c.push_parts.new.image.items ≡ image_of c.args.version c.args.size c.args.ninodes (names_of c.args.files.now) (contents_of c.args.files.now) = search rules in
+    is-made c.args.version c.args.size c.args.ninodes c.args.files.now c.push_parts.new.image.items c.requires bytes

@@ -3,10 +3,10 @@ use Rattle.mkfs.proofs.made.made_blocks.Goals as goal
 
 pub returns-clause-bitmap : goal.returns-clause-bitmap
 returns-clause-bitmap c =
-    λ size ninodes names contents e can. bitmap-there size ninodes (nodes_with (root_content names) contents) (fits size ninodes names contents e can)
+    λ v size ninodes names contents e can. bitmap-there v size ninodes (nodes_with (root_content v names) contents) (fits v size ninodes names contents e can)
 
 pub returns-clause-nodes : goal.returns-clause-nodes
 returns-clause-nodes c =
-    λ size ninodes i names contents d e can l.
-    let within : i < length (nodes_with (root_content names) contents) = omega (arith, l, length-map contents file_node) in
-    node-there size ninodes (nodes_with (root_content names) contents) i d (fits size ninodes names contents e can) within
+    λ v size ninodes i names contents d e can l.
+    let within : i < length (nodes_with (root_content v names) contents) = omega (arith, l, length-map contents file_node) in
+    node-there v size ninodes (nodes_with (root_content v names) contents) i d (fits v size ninodes names contents e can) within

@@ -20,4 +20,4 @@ returns c =
     ∙ ap (λ (xs : List ℕ). xs ++ data_from first nodes)
     (c.in_ok-push_bitmap.ensures
     ∙ ap (λ (xs : List ℕ). xs ++ bitmap used) (c.in_ok-push_table.ensures ∙ ap (λ (xs : List ℕ). xs ++ table) c.in_ok-push_front.ensures)))
-    ∙ image-parts old c.args.size c.args.ninodes used nodes same)
+    ∙ image-parts c.args.version old c.args.size c.args.ninodes used nodes same)

@@ -4,5 +4,5 @@ use Rattle.mkfs.proofs.nodes.push_entries.Given as goal
 abbrev pub invariant-loop-file : goal.invariant-loop-file
 invariant-loop-file l =
     (l.number ≡ 2 + l.file-index)
-    × (l.content.items ++ flat_map spell_dirent (entries_from l.number (names_of (drop l.file-index l.files)))
-    ≡ l.fn.content.items ++ flat_map spell_dirent (entries_from 2 (names_of l.files)))
+    × (l.content.items ++ flat_map (spell_dirent l.version) (entries_from l.number (names_of (drop l.file-index l.files)))
+    ≡ l.fn.content.items ++ flat_map (spell_dirent l.version) (entries_from 2 (names_of l.files)))

@@ -1,6 +1,7 @@
 use Rattle.plain_tree.proofs.Vocabulary.{arith, ◌∙◌}
 use Rattle.std.proofs.Common.{below_more}
-use Rattle.plain_tree.proofs.PathLemmas.{pieces_more, found_slash, found_end}
+use Rattle.plain_tree.proofs.PathLemmas.{pieces_more}
+use Rattle.plain_tree.proofs.VersionOne.{found_slash, found_end}
 use Rattle.path_walk.proofs.elements.name_len.Goals as goal
 
 pub returns-then-byte-eq-SLASH-clause-cut : goal.returns-then-byte-eq-SLASH-clause-cut

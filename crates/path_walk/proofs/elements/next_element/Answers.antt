@@ -1,8 +1,8 @@
 use Rattle.plain_tree.proofs.Vocabulary.{◌≡◌, ◌+◌, ◌≤◌, ◌-◌, length, drop, take, [], refl, sym, ◌∙◌, arith, drop_all}
 use Rattle.std.proofs.Common.{length-drop}
 use Rattle.std.proofs.lemmas.List.{take_rest}
-use Rattle.plain_tree.proofs.PathLemmas.{no_elements}
 use Rattle.path_walk.proofs.ElementLemmas.{element_here, is_element}
+use Rattle.plain_tree.proofs.VersionOne.{no_elements}
 use Rattle.path_walk.proofs.elements.next_element.Goals as goal
 
 pub returns-then-len-gt0-clause-element : goal.returns-then-len-gt0-clause-element

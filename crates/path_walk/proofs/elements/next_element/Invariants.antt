@@ -1,4 +1,5 @@
-use Rattle.plain_tree.proofs.Vocabulary.{◌≡◌, ◌≤◌, ◌-◌, length, drop, elements}
+use Rattle.plain_tree.proofs.Vocabulary.{◌≡◌, ◌≤◌, ◌-◌, length, drop}
+use Rattle.plain_tree.specs.VersionOne.{elements}
 use Rattle.path_walk.proofs.elements.next_element.Given as goal
 
 abbrev pub invariant-loop-at : goal.invariant-loop-at

@@ -4,8 +4,8 @@ use Rattle.plain_tree.proofs.tree.Tree.act.Goals as goal
 pub returns-in-Read : goal.returns-in-Read
 unfolding answer_with effect_with
 returns-in-Read c =
-    let said : c.bytes_read.result ≡ read_count (answer_with (tree_of c.args.self.now) c.args.hart c.args.action.now c.args.found.now.node (with_name c.args.found.now.parent c.args.found.now.name.now) c.args.id) = c.bytes_read.ensures ∙ ap read_count c.requires.answer in
-    let count : c.bytes_read.result ≡ length (part (tree_of c.args.self.now) (file_at (tree_of c.args.self.now) c.args.hart c.in-Read.fd) c.in-Read.count) = rw c.in-Read.is at said in
+    let said : c.bytes_read.result ≡ read_count (answer_with c.args.version (tree_of c.args.self.now) c.args.hart c.args.action.now c.args.found.now.node (with_name c.args.found.now.parent c.args.found.now.name.now) c.args.id) = c.bytes_read.ensures ∙ ap read_count c.requires.answer in
+    let count : c.bytes_read.result ≡ length (part c.args.version (tree_of c.args.self.now) (file_at (tree_of c.args.self.now) c.args.hart c.in-Read.fd) c.in-Read.count) = rw c.in-Read.is at said in
     rw (c.in-Read.is, ← count) c.read.ensures
 
 pub read-requires : goal.read-requires
@@ -25,10 +25,10 @@ unfolding refusal_with
 mkdir-requires-clause-none c = rw c.in-Mkdir.is at c.requires.none
 
 pub dup-requires-clause-room : goal.dup-requires-clause-room
-dup-requires-clause-room c = dup_room (tree_of c.args.self.now) c.args.hart c.in-Dup.fd c.args.found.now.node (with_name c.args.found.now.parent c.args.found.now.name.now) (rw c.in-Dup.is at c.requires.none) (rw c.in-Dup.is at c.requires.place)
+dup-requires-clause-room c = dup_room c.args.version (tree_of c.args.self.now) c.args.hart c.in-Dup.fd c.args.found.now.node (with_name c.args.found.now.parent c.args.found.now.name.now) (rw c.in-Dup.is at c.requires.none) (rw c.in-Dup.is at c.requires.place)
 
 pub close-requires-clause-fd : goal.close-requires-clause-fd
-close-requires-clause-fd c = close_below (tree_of c.args.self.now) c.args.hart c.in-Close.fd c.args.found.now.node (with_name c.args.found.now.parent c.args.found.now.name.now) (rw c.in-Close.is at c.requires.none)
+close-requires-clause-fd c = close_below c.args.version (tree_of c.args.self.now) c.args.hart c.in-Close.fd c.args.found.now.node (with_name c.args.found.now.parent c.args.found.now.name.now) (rw c.in-Close.is at c.requires.none)
 
 pub inherit-requires-clause-child : goal.inherit-requires-clause-child
 inherit-requires-clause-child c = child_below (tree_of c.args.self.now) c.args.hart c.in-Inherit.child (rw c.in-Inherit.is at c.requires.place)
