@@ -1,16 +1,24 @@
-//! `mkfs IMAGE [--size N] [--inodes N] [FILE..]`: writes an image with these files in its root.
+//! `mkfs IMAGE [--size N] [--inodes N] [--version N] [FILE..]`: writes an image with these files in its root.
+//! `mkfs --migrate OLD IMAGE [--size N] [--version N]`: writes an image of a later version with the tree of an old one.
 //!
 //! Faults are told in this order: the command line, with an IMAGE that is one of the FILEs (status 2), a FILE that can't be read, what
 //! can't be made, an IMAGE that can't be written (status 1). Want of memory is told where it comes,
 //! as a refusal to make (status 1).
 #![tactic(auto)]
 
+use block_device::MemoryDisk;
 use clap::ArgMatches;
 use clap::error::ErrorKind;
-use mkfs::widths::{INODE_START, LARGEST_SIZE, LOG_BLOCKS};
+use clap::parser::ValueSource;
+use image_tree::{Layout, MountFault, find_layout, find_version};
+use image_versions::Version;
+use image_versions::widths::LARGEST_SIZE;
+use migration::{MigrateRefused, migrate};
+use mkfs::widths::{INODE_START, LOG_BLOCKS};
 use mkfs::{
-    FILES, IMAGE, INODES, MakeRefused, NewFile, SIZE, SaveRefused, data_start, is_file_name, make,
-    number, options, read_at_most, save,
+    FILES, IMAGE, INODES, ImageFile, ImageRefused, MIGRATE, MakeRefused, NewFile, SIZE,
+    SaveRefused, VERSION, data_start, is_file_name, make_as, number, options, read_at_most,
+    read_image, save, version,
 };
 use std::alloc::{AllocError, Global};
 use std::process::ExitCode;
@@ -38,6 +46,18 @@ enum Fault<'a> {
     /// The image can't be written.
     #[error("{0}")]
     Save(SaveRefused),
+    /// The image can't be migrated.
+    #[error("refused {} {}", .0.number(), .0.name())]
+    NotMigrated(MigrateRefused),
+    /// The old image can't be read, and why.
+    #[error("{0:?}: {1}")]
+    OldImage(&'a str, ImageRefused),
+    /// The new image would stand in the place of the old one.
+    #[error("{0:?}: is the old image, and would be replaced by the new one")]
+    ReplacesOld(&'a str),
+    /// What is migrated has its files and inodes.
+    #[error("--migrate takes neither a FILE nor --inodes")]
+    GivenBesides,
 }
 
 impl<'a> From<AllocError> for Fault<'a> {
@@ -49,6 +69,18 @@ impl<'a> From<AllocError> for Fault<'a> {
 impl<'a> From<MakeRefused> for Fault<'a> {
     fn from(refused: MakeRefused) -> Fault<'a> {
         Fault::Refused(refused)
+    }
+}
+
+impl<'a> From<MigrateRefused> for Fault<'a> {
+    fn from(refused: MigrateRefused) -> Fault<'a> {
+        Fault::NotMigrated(refused)
+    }
+}
+
+impl<'a> From<MountFault> for Fault<'a> {
+    fn from(fault: MountFault) -> Fault<'a> {
+        Fault::NotMigrated(MigrateRefused::from(fault))
     }
 }
 
@@ -70,10 +102,23 @@ impl<'a> Fault<'a> {
         Fault::File(path, error)
     }
 
-    // What came of making an image of these files.
-    fn of_files(paths: &[&'a str], files: &[NewFile], refused: MakeRefused) -> Fault<'a> {
+    // What came of reading the old image.
+    fn of_image(path: &'a str, refused: ImageRefused) -> Fault<'a> {
+        match refused {
+            ImageRefused::NoMemory => Fault::Refused(MakeRefused::NoMemory),
+            refused => Fault::OldImage(path, refused),
+        }
+    }
+
+    // What came of making an image of this version with these files.
+    fn of_files(
+        version: Version,
+        paths: &[&'a str],
+        files: &[NewFile],
+        refused: MakeRefused,
+    ) -> Fault<'a> {
         let place = match refused {
-            MakeRefused::BadName => misnamed(files),
+            MakeRefused::BadName => misnamed(version, files),
             MakeRefused::FileTooBig => oversized(files),
             _ => None,
         };
@@ -94,21 +139,26 @@ impl<'a> Fault<'a> {
     // The program's exit status.
     fn status(&self) -> u8 {
         match self {
-            Fault::Words(_) | Fault::Replaces(_) => 2,
-            Fault::Refused(_) | Fault::RefusedFile(..) | Fault::File(..) | Fault::Save(_) => 1,
+            Fault::Words(_) | Fault::Replaces(_) | Fault::ReplacesOld(_) | Fault::GivenBesides => 2,
+            Fault::Refused(_)
+            | Fault::RefusedFile(..)
+            | Fault::File(..)
+            | Fault::Save(_)
+            | Fault::NotMigrated(_)
+            | Fault::OldImage(..) => 1,
         }
     }
 }
 
-// The place of the first file whose name an image can't have, or has from a file before it.
-fn misnamed(files: &[NewFile]) -> Option<usize> {
+// The place of the first file whose name an image of this version can't have, or has from a file before it.
+fn misnamed(version: Version, files: &[NewFile]) -> Option<usize> {
     for (place, file) in files.iter().enumerate() {
         let name = file.name.as_slice();
         let comes_twice = files
             .iter()
             .take(place)
             .any(|before| before.name.as_slice() == name);
-        if comes_twice || !is_file_name(name) {
+        if comes_twice || !is_file_name(version, name) {
             return Some(place);
         }
     }
@@ -171,6 +221,7 @@ fn summary(alloc: Global, size: u32, ninodes: u32) -> Result<String, AllocError>
 fn run<'a>(
     rt: &HostRuntime,
     matches: &'a ArgMatches,
+    version: Version,
     size: u32,
     ninodes: u32,
 ) -> Result<String, Fault<'a>> {
@@ -180,14 +231,59 @@ fn run<'a>(
         return Err(Fault::Replaces(path));
     }
     let files = load(rt, paths)?;
-    let disk = make(rt.alloc(), size, ninodes, files.as_slice()).map_err(|refused| Fault::of_files(
-        paths,
-        files.as_slice(),
-        refused,
-    ))?;
+    let disk = make_as(rt.alloc(), version, size, ninodes, files.as_slice()).map_err(
+        |refused| Fault::of_files(version, paths, files.as_slice(), refused),
+    )?;
     let line = summary(rt.alloc(), size, ninodes)?;
     let bytes = disk.into_bytes();
     save(rt, image, bytes.as_slice(), None)?;
+    Ok(line)
+}
+
+// Whether the words give this option.
+fn is_given(matches: &ArgMatches, id: &str) -> bool {
+    matches.value_source(id) == Some(ValueSource::CommandLine)
+}
+
+// Where the parts of an image lie, of whichever version it is.
+fn layout_of(disk: &mut MemoryDisk) -> Result<Layout, MountFault> {
+    let version = find_version(disk)?;
+    find_layout(disk, version)
+}
+
+// Writes the image that the old one is migrated to, and gives the line about it.
+fn run_migration<'a>(
+    rt: &HostRuntime,
+    matches: &'a ArgMatches,
+    old: &'a str,
+    version: Version,
+    size: u32,
+) -> Result<String, Fault<'a>> {
+    let paths = matches.get_strs(FILES).unwrap_or([].as_slice());
+    if is_given(matches, INODES) || !paths.is_empty() {
+        return Err(Fault::GivenBesides);
+    }
+    let new = matches.get_str(IMAGE).unwrap_or("");
+    if let Some(path) = replaced(rt, new, [old].as_slice()) {
+        return Err(Fault::ReplacesOld(path));
+    }
+    let file = read_image(rt, old).map_err(|refused| Fault::of_image(old, refused))?;
+    let ImageFile { bytes, rest: _ } = file;
+    let mut disk = MemoryDisk::new(bytes);
+    let sizes = layout_of(&mut disk)?.sizes;
+    let version = if is_given(matches, VERSION) {
+        version
+    } else {
+        Version::Two
+    };
+    let size = if is_given(matches, SIZE) {
+        size
+    } else {
+        sizes.size
+    };
+    let made = migrate(rt.alloc(), &mut disk, version, size)?;
+    let line = summary(rt.alloc(), size, sizes.ninodes)?;
+    save(rt, new, made.into_bytes().as_slice(), None)?;
     Ok(line)
 }
 
@@ -222,7 +318,12 @@ fn main(rt: HostRuntime) -> anyhow::Result<ExitCode> {
     };
     let size = number(&matches, SIZE);
     let ninodes = number(&matches, INODES);
-    match run(&rt, &matches, size, ninodes) {
+    let version = version(&matches);
+    let line = match matches.get_str(MIGRATE) {
+        Some(old) => run_migration(&rt, &matches, old, version, size),
+        None => run(&rt, &matches, version, size, ninodes),
+    };
+    match line {
         Ok(line) => println!(rt; "{line}")?,
         Err(fault) => return Ok(tell(&rt, &fault)?),
     }

@@ -1,0 +1,14 @@
+pub mod Steps
+pub mod SlotCounts
+pub mod Spelled
+pub mod NewNodes
+pub mod Contents
+pub mod PlainNodes
+pub mod NewBlocks
+pub mod NewInodes
+pub mod NewNumbers
+pub mod NewContents
+pub mod OldNodes
+pub mod LikeImages
+pub mod NewImages
+pub mod MigratedImages

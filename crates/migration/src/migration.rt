@@ -1,0 +1,53 @@
+//! Migrating an image.
+ghost use Rattle.std.specs.Prelude.{MatchResult};
+ghost use Rattle.migration.specs.Vocabulary.{ComesByCalls, OnlyReads, version_of};
+ghost use Rattle.migration.specs.Migrated.{IsMigrated};
+ghost use Rattle.migration.specs.Refusals.{IsFirstRefusal, faults_with};
+
+use crate::image::image_bytes;
+use crate::refused::MigrateRefused;
+use crate::taking::take;
+use block_device::{Device, MemoryDisk};
+use image_tree::find_version;
+use image_versions::Version;
+use std::alloc::Global;
+
+// Migrates an image of version `from`.
+fn migrate_from<D: Device>(
+    alloc: Global,
+    old: &mut D,
+    from: Version,
+    version: Version,
+    size: u32,
+) -> Result<MemoryDisk, MigrateRefused>
+    ensures made { MatchResult result
+        (IsMigrated from version size (D.contents old.old))
+        (IsFirstRefusal from version size (D.contents old.old)) }
+    ensures device { OnlyReads D.contents D.failures (faults_with result) old.old old.new }
+    ensures calls { ComesByCalls D.Called old.old old.new }
+{
+    let taken = take(alloc, old, from, version, size)?;
+    // After this call it is known that the device holds bytes.
+    let _count = old.blocks();
+    let bytes = image_bytes(alloc, version, size, taken.ninodes, taken.nodes.as_slice())?;
+    Ok(MemoryDisk::new(bytes))
+}
+
+/// Makes an image of this version and `size` blocks, with the tree of an older one as recovery would leave that, which is only read.
+/// Each live node keeps its number, its type, its count and its device numbers, a directory its slots in their places, also free ones,
+/// and another node its bytes. Nodes without a name are left out.
+pub fn migrate<D: Device>(
+    alloc: Global,
+    old: &mut D,
+    version: Version,
+    size: u32,
+) -> Result<MemoryDisk, MigrateRefused>
+    ensures made { MatchResult result
+        (IsMigrated (version_of (D.contents old.old)) version size (D.contents old.old))
+        (IsFirstRefusal (version_of (D.contents old.old)) version size (D.contents old.old)) }
+    ensures device { OnlyReads D.contents D.failures (faults_with result) old.old old.new }
+    ensures calls { ComesByCalls D.Called old.old old.new }
+{
+    let from = find_version(old)?;
+    migrate_from(alloc, old, from, version, size)
+}
