@@ -6,5 +6,4 @@ pub use Rattle.hart_runner.proofs.Sent.{kernel_sync, seat_send, six_send, three_
 pub use Rattle.hart_runner.specs.contracts.gate.NoGate.{the_row}
 pub use Rattle.bench.proofs.InHand.{back_so, got_so, none_unused, read_so}
 pub use Rattle.bench.specs.contracts.threads.four_work.{L-row}
-pub use Rattle.fs_layout.specs.declared.inode.Dinode.{Dinode}
-pub use Rattle.fs_machine.specs.declared.entries.Inode.{Inode}
+pub use Rattle.fs_machine.specs.InMemory.{Inode}

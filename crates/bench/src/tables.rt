@@ -64,7 +64,7 @@ fn load(tables: &mut Tables, number: u32) {
     match tables.lock(HART, number) {
         None => {}
         Some(mut guard) => {
-            guard.value_mut().content = Some(inode_of_size(0));
+            guard.value_mut().set_record(inode_of_size(0));
             tables.unlock(HART, guard);
         }
     }

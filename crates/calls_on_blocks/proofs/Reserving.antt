@@ -1,5 +1,5 @@
 -- A start that reserves a child: what the tables and the blocks show of it, and what it finds.
-use Rattle.calls_on_blocks.proofs.Vocabulary.{◌≡◌, ◌≢◌, inl, inr, ℕ, ◌<◌, Bool, true, false, ◌&&◌, not, nat_lt, List, Option, Some, None, refl, sym, ◌∙◌, ap, subst, arith, if◌then◌else◌, is_some, option_map, nat_tests, none-some, same_Some, Dinode, put, hart_count, descriptor_count, same_or, put_same, put_other, any_none, none_any, any_same, eq_self, TablesState, file_named, entry_at, entry_of, is_at, is_nothing, serving, Idle, Inv, has_descriptor, serving_world, Desk, Entry, serving_none, DesksShow, descriptor, file_of, is_taken, lent_by, loaded, place_with, part_same, descriptors_name_files, Blocks, tables_of, Shows, shows_then, Reserves, has_file, reserved}
+use Rattle.calls_on_blocks.proofs.Vocabulary.{◌≡◌, ◌≢◌, inl, inr, ℕ, ◌<◌, Bool, true, false, ◌&&◌, not, nat_lt, List, Option, Some, None, refl, sym, ◌∙◌, ap, subst, arith, if◌then◌else◌, is_some, option_map, nat_tests, none-some, same_Some, Loaded, put, hart_count, descriptor_count, same_or, put_same, put_other, any_none, none_any, any_same, eq_self, TablesState, file_named, entry_at, entry_of, is_at, is_nothing, serving, Idle, Inv, has_descriptor, serving_world, Desk, Entry, serving_none, DesksShow, descriptor, file_of, is_taken, lent_by, loaded, place_with, part_same, descriptors_name_files, Blocks, tables_of, Shows, shows_then, Reserves, has_file, reserved}
 use Rattle.fs_machine.specs.declared.desk.Desk as cards
 use Rattle.inode_machine.specs.World as above
 use Rattle.inodes_on_blocks.specs.ShownTables as tables
@@ -64,7 +64,7 @@ module _ (h c : ℕ) (w : above.World) (lt : h < hart_count) (apart : c ≢ h) (
       )
 
   -- the tables show it as they are
-  pub tables_reserved : (t : TablesState) (load : ℕ → Option Dinode) → tables.Shows t w load → tables.Shows t (serving_world w h c) load
+  pub tables_reserved : (t : TablesState) (load : ℕ → Option Loaded) → tables.Shows t w load → tables.Shows t (serving_world w h c) load
   tables_reserved t load shows = record {
     sound = shows.sound;
     places = shows.places;
@@ -124,7 +124,7 @@ unreserved h busy children w lt inv idle reserves none = by (w.desks h).lender r
 is_below : (a b : ℕ) → a < b → nat_lt a b ≡ true
 is_below a b lt = grind (arith, nat_tests)
 
-pub has_none : (h : ℕ) (t : TablesState) (w : above.World) (load : ℕ → Option Dinode) → tables.Shows t w load → Inv w → h < hart_count → (w.desks h).lender ≡ None → has_file h t ≡ false → has_descriptor (w.desks h) ≡ false
+pub has_none : (h : ℕ) (t : TablesState) (w : above.World) (load : ℕ → Option Loaded) → tables.Shows t w load → Inv w → h < hart_count → (w.desks h).lender ≡ None → has_file h t ≡ false → has_descriptor (w.desks h) ≡ false
 has_none h t w load shows inv lt free none = none_any descriptor_count (λ i. not (is_nothing ((w.desks h).fds i))) (λ i li. by i li ((w.desks h).fds i) refl)
   where
     by : (i : ℕ) → i < descriptor_count → (o : Option ℕ) → (w.desks h).fds i ≡ o → not (is_nothing ((w.desks h).fds i)) ≡ false

@@ -82,7 +82,7 @@ unfoldable pub use Rattle.tree_laws.proofs.Book.{AllBelow}
 pub use Rattle.tree_laws.proofs.Cut.{run_below, run_grew}
 unfoldable pub use Rattle.tree_laws.proofs.Cut.{AllFrom}
 pub use Rattle.buffer_cache.specs.declared.got.Got.{Got}
-pub use Rattle.fs_layout.specs.declared.inode.Dinode.{Dinode}
+pub use Rattle.fs_machine.specs.InMemory.{Loaded}
 pub use Rattle.fs_layout.specs.declared.superblock.Super.{Super}
 pub use Rattle.fs_machine.specs.declared.files.Refused.{Refused}
 pub use Rattle.group_log.specs.declared.commit.Progress.TheVariants.{Waits as WaitsFor}

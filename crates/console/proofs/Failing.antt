@@ -1,5 +1,5 @@
 -- The device has failed once more where an operation stops.
-use Rattle.console.proofs.Vocabulary.{◌≡◌, ℕ, ◌+◌, min, Bool, true, false, List, Option, Some, None, refl, most_faults, get_of, SeatState, Got, joined_count as joined, limit_of, turn_is_out, join_waits, SlotState, GuardState, lock_of, ExecResult, Waits, Ran, Stops, Dinode, Inode, NewFile, OpenFile, RefusedState as Refused, Want, TablesState, file_named, place_named, place_of, Outside, Passes, Fails, got_by, join_if, read_block, commit_if, write_log, State, Op, Join, JoinToWrite, Leave, Get, Read, Put, Commit, Lock, LockFile, LockOpen, Unlock, SetDirectory, Up, Claim, Down, CheckFile, TakePlace, TakeDescriptor, Double, Close, GiveDescriptor, Reply, Number, Directory, Held, Walked, Freed, exec, in_log, in_tables, joins, join_unless, lock_open, with_open, claims, claim_first}
+use Rattle.console.proofs.Vocabulary.{◌≡◌, ℕ, ◌+◌, min, Bool, true, false, List, Option, Some, None, refl, most_faults, get_of, SeatState, Got, joined_count as joined, limit_of, turn_is_out, join_waits, SlotState, GuardState, lock_of, ExecResult, Waits, Ran, Stops, Loaded, Inode, NewFile, OpenFile, RefusedState as Refused, Want, TablesState, file_named, place_named, place_of, Outside, Passes, Fails, got_by, join_if, read_block, commit_if, write_log, State, Op, Join, JoinToWrite, Leave, Get, Read, Put, Commit, Lock, LockFile, LockOpen, Unlock, SetDirectory, Up, Claim, Down, CheckFile, TakePlace, TakeDescriptor, Double, Close, GiveDescriptor, Reply, Number, Directory, Held, Walked, Freed, exec, in_log, in_tables, joins, join_unless, lock_open, with_open, claims, claim_first}
 use Rattle.buffer_cache.specs.declared.got.Got.TheVariants as got
 use Rattle.fs_machine.specs.declared.files.Want.TheVariants as want
 use Rattle.fs_machine.specs.Inodes as inodes
@@ -24,7 +24,7 @@ lock_goes : (h n : ℕ) (t : TablesState) → GoesOn (inodes.lock_inode h n t)
 unfolding inodes.lock_inode
 lock_goes h n t = lock_at_goes h t (place_of n t.entries)
 
-with_file_goes : (f : OpenFile) (d : ExecResult (Option Dinode) TablesState) → GoesOn d → GoesOn (inodes.with_file f d)
+with_file_goes : (f : OpenFile) (d : ExecResult (Option Loaded) TablesState) → GoesOn d → GoesOn (inodes.with_file f d)
 with_file_goes f Waits goes = tt
 with_file_goes f (Ran content t) goes = tt
 with_file_goes f (Stops t) goes = goes
@@ -39,7 +39,7 @@ file_goes : (h : ℕ) (w : Want) (fd : ℕ) (t : TablesState) → GoesOn (inodes
 unfolding inodes.lock_file
 file_goes h w fd t = unless_goes h t (file_named h fd t) (inodes.refusal_of w (file_named h fd t))
 
-with_open_goes : (f : OpenFile) (d : ExecResult (Option Dinode) TablesState) → GoesOn d → GoesOn (with_open f d)
+with_open_goes : (f : OpenFile) (d : ExecResult (Option Loaded) TablesState) → GoesOn d → GoesOn (with_open f d)
 with_open_goes f Waits goes = tt
 with_open_goes f (Ran content t) goes = tt
 with_open_goes f (Stops t) goes = goes
@@ -64,7 +64,7 @@ up_directory_goes : (h : ℕ) (t : TablesState) → GoesOn (inodes.up_directory 
 unfolding inodes.up_directory
 up_directory_goes h t = up_goes _ t
 
-dying_goes : (h n k : ℕ) (t : TablesState) (o : Option Dinode) → GoesOn (inodes.drop_dying h n k t o)
+dying_goes : (h n k : ℕ) (t : TablesState) (o : Option Loaded) → GoesOn (inodes.drop_dying h n k t o)
 dying_goes h n k t None = tt
 dying_goes h n k t (Some d) = tt
 
@@ -76,7 +76,7 @@ drop_goes : (h n : ℕ) (t : TablesState) → GoesOn (inodes.drop_inode h n t)
 unfolding inodes.drop_inode
 drop_goes h n t = drop_at_goes h n t (place_of n t.entries)
 
-walked_dying_goes : (k : ℕ) (t : TablesState) (o : Option Dinode) → GoesOn (inodes.walked_dying k t o)
+walked_dying_goes : (k : ℕ) (t : TablesState) (o : Option Loaded) → GoesOn (inodes.walked_dying k t o)
 walked_dying_goes k t None = tt
 walked_dying_goes k t (Some d) = tt
 

@@ -59,9 +59,8 @@ pub use Rattle.std.specs.Io.BufRead.{DropsThrough, drop_through, take_through}
 pub use Rattle.std.specs.Io.KnownBytes.{IsAtEnd, append_known}
 pub use Rattle.std.specs.Option.{option_to_list}
 pub use Rattle.buffer_cache.specs.declared.got.Got.{Got}
-pub use Rattle.fs_layout.specs.declared.inode.Dinode.{Dinode}
 pub use Rattle.fs_layout.specs.declared.superblock.Super.{Super}
-pub use Rattle.fs_machine.specs.declared.entries.Inode.{Inode}
+pub use Rattle.fs_machine.specs.InMemory.{Inode, Loaded}
 pub use Rattle.fs_machine.specs.declared.files.NewFile.{NewFile}
 pub use Rattle.fs_machine.specs.declared.files.OpenFile.{OpenFile}
 pub use Rattle.fs_machine.specs.declared.files.Refused.{Refused as RefusedState}

@@ -16,7 +16,7 @@ used_has number n field name e =
     (λ (f : ((is_name (name_of field) && list_all is_zero (drop (position_or_len is_zero field) field)) ≡ false) × (None ≡ Some (Used n name))). let q = f.1 in cc)
     (which_branch (is_name (name_of field) && list_all is_zero (drop (position_or_len is_zero field) field)) (Some (Used number (name_of field))) None (Some (Used n name)) e)
 
-entry_number : (bytes : List ℕ) (entry : Dirent) → dirent_of bytes ≡ Some entry → u16_at bytes 0 ≡ number_of (Some entry)
+pub entry_number : (bytes : List ℕ) (entry : Dirent) → dirent_of bytes ≡ Some entry → u16_at bytes 0 ≡ number_of (Some entry)
 entry_number bytes Free e =
     ⊎_elim
     (λ (t : (eqb (u16_at bytes 0) 0 ≡ true) × (free_of (drop 2 bytes) ≡ Some Free)). eqb-true (u16_at bytes 0) 0 t.0)
@@ -34,7 +34,7 @@ no_entry (Named name) s e = cc
 no_entry Unused s e = cc
 no_entry Entry s e = let p = and_parts (nat_le 2 s) false e in let q = p.1 in cc
 
-some_number : (bytes : List ℕ) (aim : Aim) (s : ℕ) (o : Option Dirent) → dirent_of bytes ≡ o → is_sought aim s o ≡ true → u16_at bytes 0 ≡ number_of o
+pub some_number : (bytes : List ℕ) (aim : Aim) (s : ℕ) (o : Option Dirent) → dirent_of bytes ≡ o → is_sought aim s o ≡ true → u16_at bytes 0 ≡ number_of o
 some_number bytes aim s None e h = absurd (no_entry aim s h)
 some_number bytes aim s (Some entry) e h = entry_number bytes entry e
 

@@ -1,12 +1,12 @@
 -- Each part has an operation to make.
-use Rattle.directory.proofs.Vocabulary.{Dinode, HasOne, first, Hand, block_left, store_left, Aim, clear_left, enter_left, fill_left, write_left, search_left, Clear, Enter, Fill, Search, store_has, block_has, write_has}
+use Rattle.directory.proofs.Vocabulary.{HasOne, first, Hand, InodePlace, block_left, store_left, Aim, clear_left, enter_left, fill_left, write_left, search_left, Clear, Enter, Fill, Search, store_has, block_has, write_has}
 use Rattle.directory.specs.declared.clear.Clear.TheVariants as clear
 use Rattle.directory.specs.declared.enter.Enter.TheVariants as enter
 use Rattle.directory.specs.declared.search.Search.TheVariants as search
 
-pub search_has : (aim : Aim) (d : Dinode) (m : Search) (h : Hand) → HasOne (search_left aim d m h)
-search_has aim d (search.Fetching at m) h = first (block_left m h) _ (block_has m h)
-search_has aim d (search.Giving at found) h = tt
+pub search_has : (aim : Aim) (k : InodePlace) (m : Search) (h : Hand) → HasOne (search_left aim k m h)
+search_has aim k (search.Fetching at m) h = first (block_left m h) _ (block_has m h)
+search_has aim k (search.Giving at found) h = tt
 
 pub clear_has : (m : Clear) (h : Hand) → HasOne (clear_left m h)
 clear_has (clear.Fetching s m) h = first (block_left m h) _ (block_has m h)

@@ -1,5 +1,5 @@
 -- A slot compared where it stands is compared by what it is.
-use Rattle.directory.proofs.Vocabulary.{One, ◌≡◌, ◌≢◌, ℕ, ◌+◌, ◌-◌, ◌*◌, ◌<◌, ◌≤◌, true, false, not, eqb, ◌==◌, ◌&&◌, List, ◌++◌, length, drop, replicate, Option, Some, None, refl, sym, ap, ◌∙◌, arith, ⊎_elim, length-append, length-drop, and_parts, cases_lt, eq-eqb, eqb-true, ne_eqb, eqb-false, not-true, same_from_decides, bytes_eq-Decides, drop_at, length-replicate, get_or_append_left, get_or-append_right, Dirent, Free, Used, u16_bytes, u16_at, record_at, IsBytes, list_all, is_zero, IsName, spell_dirent, dirent_of, used_of, free_of, dirent_at, which_branch, dirent_of-spell, spell-dirent_of, number-part, name_parts, u16_at-lt, u16_bytes-at, length-u16_bytes, is_named, field_of, has_words, u64_at}
+use Rattle.directory.proofs.Vocabulary.{One, ◌≡◌, ◌≢◌, ℕ, ◌+◌, ◌-◌, ◌*◌, ◌<◌, ◌≤◌, true, false, not, eqb, ◌==◌, ◌&&◌, List, ◌++◌, length, drop, replicate, Option, Some, None, refl, sym, ap, ◌∙◌, subst, arith, take_all, ⊎_elim, length-append, length-drop, and_parts, cases_lt, eq-eqb, eqb-true, ne_eqb, eqb-false, not-true, same_from_decides, bytes_eq-Decides, drop_at, length-replicate, get_or_append_left, get_or-append_right, Dirent, Free, Used, u16_bytes, u16_at, record_at, IsBytes, list_all, is_zero, IsName, spell_dirent, dirent_of, used_of, free_of, dirent_at, which_branch, dirent_of-spell, spell-dirent_of, number-part, name_parts, u16_at-lt, u16_bytes-at, length-u16_bytes, is_named, field_of, has_words, u64_at}
 use Rattle.directory.proofs.OneSlot.{IsSlot, slot_in, field_fits, zeros_at}
 use Rattle.directory.proofs.Words.{same_row, u64_at-part, u64_at-drop}
 
@@ -11,7 +11,7 @@ free_not_used field n name e =
     (which_branch (list_all is_zero field) (Some Free) None (Some (Used n name)) e)
 
 -- a used slot has a number
-used_number : (bytes : List ℕ) (n : ℕ) (name : List ℕ) → dirent_of bytes ≡ Some (Used n name) → u16_at bytes 0 ≢ 0
+pub used_number : (bytes : List ℕ) (n : ℕ) (name : List ℕ) → dirent_of bytes ≡ Some (Used n name) → u16_at bytes 0 ≢ 0
 used_number bytes n name e z =
     ⊎_elim
     (λ (t : (eqb (u16_at bytes 0) 0 ≡ true) × (free_of (drop 2 bytes) ≡ Some (Used n name))). free_not_used (drop 2 bytes) n name t.1)
@@ -63,7 +63,7 @@ field_of-fits name fits i =
     omega (arith, get_or-append_right name (replicate (14 - length name) 0) (length name) i 0 refl high, zeros_at (14 - length name) (i - length name)))
     (cases_lt i (length name))
 
-module _ (block name : List ℕ) (p : ℕ) (long : length block ≡ 1024) (fits : IsBytes block) (name_fits : IsBytes name) (within : p < 64) (is : IsName name) where
+module _ (block name : List ℕ) (p : ℕ) (s : IsSlot (record_at 16 p block)) (name_fits : IsBytes name) (is : IsName name) where
   short : length name ≤ 14
   short = (name_parts One name is).high
 
@@ -71,7 +71,6 @@ module _ (block name : List ℕ) (p : ℕ) (long : length block ≡ 1024) (fits 
   unfolding has_words
   by_words h =
       let slot : List ℕ = record_at 16 p block in
-      let s = slot_in block p long fits within in
       let both = and_parts (not (u16_at block (16 * p) == 0) && (u64_at block (16 * p + 2) == u64_at (field_of name) 0)) (u64_at block (16 * p + 8) == u64_at (field_of name) 6) h in
       let front = and_parts (not (u16_at block (16 * p) == 0)) (u64_at block (16 * p + 2) == u64_at (field_of name) 0) both.0 in
       let some : u16_at slot 0 ≢ 0 = λ z. eqb-false (u16_at block (16 * p)) 0 (not-true (u16_at block (16 * p) == 0) front.0) (sym (number-part One block p) ∙ z) in
@@ -83,7 +82,6 @@ module _ (block name : List ℕ) (p : ℕ) (long : length block ≡ 1024) (fits 
   unfolding has_words
   words_there n e =
       let slot : List ℕ = record_at 16 p block in
-      let s = slot_in block p long fits within in
       let words = same_words block name p (field_there slot name n s e) in
       let some : u16_at block (16 * p) ≢ 0 = λ z. used_number slot n name e (number-part One block p ∙ z) in
       rw (words.0, words.1, ne_eqb (u16_at block (16 * p)) 0 some, eq-eqb (u64_at (field_of name) 0) (u64_at (field_of name) 0) refl, eq-eqb (u64_at (field_of name) 6) (u64_at (field_of name) 6) refl) refl
@@ -94,7 +92,19 @@ module _ (block name : List ℕ) (p : ℕ) (long : length block ≡ 1024) (fits 
   by_name (Some (Used n other)) e h =
       words_there n (e ∙ ap (λ (xs : List ℕ). Some (Used n xs)) ((bytes_eq-Decides other name).0 h))
 
-  -- compared by the words of its name, a slot is used by this name exactly where it is
-  pub words_name : (front back : ℕ) → front ≡ u64_at (field_of name) 0 → back ≡ u64_at (field_of name) 6 → has_words front back p block ≡ is_named name (dirent_at p block)
-  words_name front back f b =
+  words_same : (front back : ℕ) → front ≡ u64_at (field_of name) 0 → back ≡ u64_at (field_of name) 6 → has_words front back p block ≡ is_named name (dirent_at p block)
+  words_same front back f b =
       rw (f, b) (same_from_decides {P = is_named name (dirent_at p block) ≡ true} _ _ (by_words, by_name (dirent_at p block) refl) (λ h. h, λ h. h))
+
+-- compared by the words of its name, a slot is used by this name exactly where it is
+pub words_name : (block name : List ℕ) (p : ℕ) → length block ≡ 1024 → IsBytes block → IsBytes name → p < 64 → IsName name
+    → (front back : ℕ) → front ≡ u64_at (field_of name) 0 → back ≡ u64_at (field_of name) 6 → has_words front back p block ≡ is_named name (dirent_at p block)
+words_name block name p long fits name_fits within is front back f b = words_same block name p (slot_in block p long fits within) name_fits is front back f b
+
+-- the same of the bytes of one slot
+pub words_slot : (bytes name : List ℕ) → length bytes ≡ 16 → IsBytes bytes → IsBytes name → IsName name
+    → (front back : ℕ) → front ≡ u64_at (field_of name) 0 → back ≡ u64_at (field_of name) 6 → has_words front back 0 bytes ≡ is_named name (dirent_of bytes)
+words_slot bytes name long fits name_fits is front back f b =
+    let all : record_at 16 0 bytes ≡ bytes = take_all 16 bytes (omega arith) in
+    let s : IsSlot bytes = record { long = long; fits = fits } in
+    words_same bytes name 0 (subst IsSlot (sym all) s) name_fits is front back f b ∙ ap (λ (xs : List ℕ). is_named name (dirent_of xs)) all

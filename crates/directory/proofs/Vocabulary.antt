@@ -4,15 +4,17 @@ pub use Rattle.fs_layout.proofs.Vocabulary.{IsBytes, and_parts, drop-take, eq-eq
 pub use Rattle.fs_layout.specs.VersionOne.{dirent_at, dirent_of, is_name, spell_dirent, used_of}
 pub use Rattle.image_versions.specs.declared.version.Version.TheVariants.{One}
 unfoldable pub use Rattle.fs_layout.proofs.Vocabulary.{u16_at, u16_bytes}
-pub use Rattle.directory.specs.Vocabulary.{IsName, first_below, recorded}
-pub use Rattle.directory.specs.Programs.{Aim, Entry, Named, Unused, block_count, first_in, found_at, look_at, or_next, slot_count, slots_in}
+pub use Rattle.directory.specs.Vocabulary.{IndexState, IndexedSlot, InodePlace, IsName, Loaded, first_below, no_index, recorded}
+pub use Rattle.directory.specs.Programs.{Aim, Entry, Named, Searched, Unused, block_count, first_in, found_at, look_at, most_slots, or_next, search, slot_count, slots_in}
 unfoldable pub use Rattle.directory.specs.Programs.{found_in, search_from, with_dirent}
+pub use Rattle.directory.specs.Indexes.{as_read, first_that, found_as, free_below, index_room, slots_known, with_block, with_slot_if}
+unfoldable pub use Rattle.directory.specs.Indexes.{IsIndex, cleared, first_gap, first_of, placed, raised, used_in, used_upto, with_entry, without}
 pub use Rattle.directory.specs.Slots.{is_free, is_named, is_used}
 unfoldable pub use Rattle.directory.specs.Slots.{field_of, first_free, first_named, first_used, has_words, is_clear, u64_at}
-pub use Rattle.directory.specs.Laws.{FindsNothingInTheDead, FindsTheFirst, IsFirst, PutsOneEntry, Shows, is_sought, number_of, slot_at}
+pub use Rattle.directory.specs.Laws.{AreSlots, FindsNothingInTheDead, FindsTheFirst, IsFirst, PutsOneEntry, Shows, is_sought, number_of, slot_at}
 pub use Rattle.fs_layout.proofs.Branches.{which_branch}
 pub use Rattle.fs_layout.proofs.Entries.{dirent_of-spell, name_parts, number-part, others_stay, reads_back, spell-dirent_of}
-pub use Rattle.std.proofs.lemmas.Bool.{and_from, and_left, and_right, le-leb, lt-leb, not-true}
+pub use Rattle.std.proofs.lemmas.Bool.{and_from, and_left, and_right, cases_Bool, le-leb, le-ltb, leb-true, lt-leb, lt-ltb, ltb-false, ltb-true, not-true}
 pub use Rattle.std.proofs.lemmas.Bool.Decides.{same_from_decides}
 pub use Rattle.bitmap_alloc.proofs.First.{FirstIs, first_is, none_below, this_below}
 pub use Rattle.bitmap_alloc.specs.Laws.{recording}
@@ -20,7 +22,13 @@ pub use Rattle.byteorder.specs.Endian.{little_bytes, little_from}
 pub use Rattle.directory.specs.Clearing.{clear_left}
 pub use Rattle.directory.specs.EnterParts.{enter_left}
 pub use Rattle.directory.specs.Filling.{fill_left}
-pub use Rattle.directory.specs.Searching.{search_left}
+pub use Rattle.directory.specs.Searching.{beside_index, search_left}
+pub use Rattle.fs_machine.specs.Hands.{index_at, indexed}
+pub use Rattle.fs_machine.specs.InMemory.{unindexed}
+pub use Rattle.inode_data.proofs.Vocabulary.{GuardState, Inode, no_inode, option_map_or}
+pub use Rattle.inode_table.specs.HeldInodes.{record_in}
+pub use Rattle.inode_table.specs.Programs.{loaded_of, no_record}
+pub use Rattle.std.specs.Option.{unwrap_or}
 pub use Rattle.directory.specs.declared.clear.Clear.{Clear}
 pub use Rattle.directory.specs.declared.enter.Enter.{Enter}
 pub use Rattle.directory.specs.declared.fill.Fill.{Fill}
@@ -28,9 +36,11 @@ pub use Rattle.directory.specs.declared.found.Found.{Found}
 pub use Rattle.directory.specs.declared.search.Search.{Search}
 pub use Rattle.fs_layout.proofs.Numbers.{length-u16_bytes, u16_at-lt, u16_bytes-at}
 pub use Rattle.inode_data.proofs.HasOnes.{block_has, write_has}
-pub use Rattle.std.proofs.Common.{zero-add}
+pub use Rattle.std.proofs.Common.{add-one, add-zero, find, map, take_all, take_at, zero-add}
+pub use Rattle.std.specs.List.{insert, remove}
+pub use Rattle.std.specs.Prelude.{if◌then◌else◌, min, nat_lt}
 pub use Rattle.std.proofs.lemmas.Grind.{same_number_lists}
-pub use Rattle.std.proofs.lemmas.List.{drop-replicate, get_or-append_right, get_or-replicate, get_or-take, get_or_append_left, get_or_past}
+pub use Rattle.std.proofs.lemmas.List.{append-nil, drop-replicate, drop_all, drop_more, length-map, get_or-append_right, get_or-replicate, get_or-take, get_or_append_left, get_or_past, take_more}
 pub use Rattle.std.proofs.lemmas.Slice.Eq.{bytes_eq-Decides}
 pub use Rattle.fs_layout.specs.declared.entry.Dirent.{Dirent}
 pub use Rattle.fs_layout.specs.declared.entry.Dirent.TheVariants.{Free, Used}

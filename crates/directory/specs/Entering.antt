@@ -1,16 +1,18 @@
 -- A name entered: a program over what all harts share. Nothing is marked in it.
-use Rattle.std.specs.Prelude.{ℕ, ◌+◌, ◌*◌, ◌==◌, nat_lt, if◌then◌else◌, List, Option, Some, None}
-use Rattle.directory.specs.Vocabulary.{Dinode, Super, Used, spell_dirent, dirent_len, Prog, Ret, bind, Answer, WriteResult, write_part}
+use Rattle.std.specs.Prelude.{ℕ, ◌+◌, ◌*◌, ◌==◌, nat_lt, if◌then◌else◌, Bool, true, false, List, Option, Some, None}
+use Rattle.directory.specs.Vocabulary.{Dinode, IndexState, Loaded, Super, Used, spell_dirent, dirent_len, Prog, Ret, bind, Answer, WriteResult, write_part}
 use Rattle.fs_machine.specs.Steps.{Op}
-use Rattle.directory.specs.Programs.{Unused, most_slots, search, slot_count}
+use Rattle.directory.specs.Programs.{Searched, Unused, most_slots, search, slot_count}
+use Rattle.directory.specs.Indexes.{with_entry}
 use Rattle.directory.specs.declared.found.Found.{Found}
 use Rattle.directory.specs.declared.enter.Room.{Room}
 use Rattle.directory.specs.declared.enter.Room.TheVariants.{There, NoBlock, NoSlot}
 
--- the directory's record, and whether there was room for the name
+-- the directory's record, whether there was room for the name, and the index of its names
 pub record EnteredState : Type 0 where
   pub inode : Dinode
   pub room : Room
+  pub index : IndexState
 
 -- the slot of a new name: the free one that was found, or a new last one
 abbrev pub slot_for : Dinode → Option Found → ℕ
@@ -18,23 +20,27 @@ slot_for d (Some f) = f.slot
 slot_for d None = slot_count d
 
 -- a slot lies in one block, so all of it was written or nothing
-abbrev pub entered_by : {M : Type 0} → ℕ → WriteResult → Prog Op Answer M EnteredState
-entered_by slot w = Ret (record { inode = w.inode; room = if w.upto == dirent_len * (slot + 1) then There else NoBlock })
+abbrev pub entered_if : ℕ → List ℕ → IndexState → Dinode → Bool → EnteredState
+entered_if slot bytes x d true = record { inode = d; room = There; index = with_entry slot bytes x }
+entered_if slot bytes x d false = record { inode = d; room = NoBlock; index = x }
+
+abbrev pub entered_by : {M : Type 0} → ℕ → List ℕ → IndexState → WriteResult → Prog Op Answer M EnteredState
+entered_by slot bytes x w = Ret (entered_if slot bytes x w.inode (w.upto == dirent_len * (slot + 1)))
 
 -- the bytes of an entry go into a slot, where a directory may have so many
-abbrev pub enter_in : {M : Type 0} → Super → (n : ℕ) → Dinode → List ℕ → ℕ → Prog Op Answer M EnteredState
-enter_in sizes n d bytes slot =
-    if nat_lt slot most_slots then bind (write_part sizes n d (dirent_len * slot) bytes) (entered_by slot)
-    else Ret (record { inode = d; room = NoSlot })
+abbrev pub enter_in : {M : Type 0} → Super → (n : ℕ) → Dinode → List ℕ → IndexState → ℕ → Prog Op Answer M EnteredState
+enter_in sizes n d bytes x slot =
+    if nat_lt slot most_slots then bind (write_part sizes n d (dirent_len * slot) bytes) (entered_by slot bytes x)
+    else Ret (record { inode = d; room = NoSlot; index = x })
 
-abbrev pub enter_at : {M : Type 0} → Super → (n : ℕ) → Dinode → List ℕ → Option Found → Prog Op Answer M EnteredState
-enter_at sizes n d bytes found = enter_in sizes n d bytes (slot_for d found)
+abbrev pub enter_at : {M : Type 0} → Super → (n : ℕ) → Dinode → List ℕ → Searched → Prog Op Answer M EnteredState
+enter_at sizes n d bytes o = enter_in sizes n d bytes o.index (slot_for d o.found)
 
 -- these bytes of an entry, in the first free slot of directory n
-abbrev pub enter_bytes : {M : Type 0} → Super → (n : ℕ) → Dinode → List ℕ → Prog Op Answer M EnteredState
-enter_bytes sizes n d bytes = bind (search Unused d) (enter_at sizes n d bytes)
+abbrev pub enter_bytes : {M : Type 0} → Super → (n : ℕ) → Loaded → List ℕ → Prog Op Answer M EnteredState
+enter_bytes sizes n l bytes = bind (search Unused l) (enter_at sizes n l.inode bytes)
 
 -- Into directory n goes inode m by this name: in the first free slot, else in a new last one, where the directory may have one more and a
 -- block is there or free.
-abbrev pub enter : {M : Type 0} → Super → (n : ℕ) → Dinode → (m : ℕ) → List ℕ → Prog Op Answer M EnteredState
-enter sizes n d m name = enter_bytes sizes n d (spell_dirent (Used m name))
+abbrev pub enter : {M : Type 0} → Super → (n : ℕ) → Loaded → (m : ℕ) → List ℕ → Prog Op Answer M EnteredState
+enter sizes n l m name = enter_bytes sizes n l (spell_dirent (Used m name))

@@ -1,9 +1,10 @@
 -- What a search finds, whatever its operations answer, and what a block has after a slot was written.
-use Rattle.std.specs.Prelude.{◌≡◌, ◌≢◌, ℕ, ◌/◌, ◌%◌, ◌<◌, nat_le, ◌&&◌, List, [], length, Bool, true, false, Option, Some, None}
-use Rattle.directory.specs.Vocabulary.{Dinode, Dirent, Free, Used, dirent_at, IsDirent, block_len, dirents_per_block, Ret, P, Oracle, outcome, recorded, FetchedBlock, fetch_block}
+use Rattle.std.specs.Prelude.{◌≡◌, ◌≢◌, ℕ, ◌/◌, ◌%◌, ◌<◌, ◌≤◌, nat_le, ◌&&◌, List, [], length, Bool, true, false, Option, Some, None}
+use Rattle.directory.specs.Vocabulary.{Dinode, Dirent, Loaded, Free, Used, dirent_at, IsDirent, block_len, dirents_per_block, Ret, P, Oracle, outcome, recorded, FetchedBlock, fetch_block}
 use Rattle.directory.specs.declared.found.Found.{Found}
 use Rattle.directory.specs.Slots.{is_named, is_free, is_used}
-use Rattle.directory.specs.Programs.{Aim, Named, Unused, Entry, block_count, slot_count, is_live_directory, lookup, search, with_dirent}
+use Rattle.directory.specs.Programs.{Aim, Named, Unused, Entry, Searched, block_count, slot_count, is_live_directory, lookup, search, with_dirent}
+use Rattle.directory.specs.Indexes.{IsIndex}
 
 -- the operations show these blocks as the directory's, at any time
 abbrev pub Shows : Oracle → Dinode → (ℕ → List ℕ) → Type 0
@@ -33,16 +34,25 @@ IsFirst aim slots count (Some f) =
     (f.slot < count) × (is_sought aim f.slot (slots f.slot) ≡ true) × (f.number ≡ number_of (slots f.slot))
     × ((s : ℕ) → s < f.slot → is_sought aim s (slots s) ≡ false)
 
--- a search finds the first of the directory's slots that is sought, and records nothing
+-- a directory's blocks have so many slots, which are read so; each is an entry, and there are no others
+pub record AreSlots (count : ℕ) (content : ℕ → List ℕ) (slots : ℕ → Option Dirent) : Type 0 where
+  pub shown : (s : ℕ) → s < count → slot_at content s ≡ slots s
+  pub entries : (s : ℕ) → s < count → slots s ≢ None
+  pub beyond : (s : ℕ) → count ≤ s → is_used (slots s) ≡ false
+
+-- where its index is right a search finds the first of the directory's slots that is sought, leaves the index right, and records nothing
 abbrev pub FindsTheFirst : Type 0
-FindsTheFirst = (answer : Oracle) (d : Dinode) (content : ℕ → List ℕ) (aim : Aim) → Shows answer d content
-    → let p : P (Option Found) = search aim d in
-    IsFirst aim (slot_at content) (slot_count d) (outcome answer 0 p) × (recorded answer 0 p ≡ [])
+FindsTheFirst = (answer : Oracle) (l : Loaded) (content : ℕ → List ℕ) (slots : ℕ → Option Dirent) (aim : Aim) → Shows answer l.inode content
+    → AreSlots (slot_count l.inode) content slots → IsIndex l.index slots
+    → let p : P Searched = search aim l in
+    IsFirst aim slots (slot_count l.inode) (outcome answer 0 p).found × IsIndex (outcome answer 0 p).index slots
+    × (recorded answer 0 p ≡ [])
 
 -- in a directory without links, and in what is no directory, nothing is found, without an operation
 abbrev pub FindsNothingInTheDead : Type 0
 FindsNothingInTheDead =
-    (name : List ℕ) (d : Dinode) → is_live_directory d ≡ false → let p : P (Option Found) = lookup name d in p ≡ Ret None
+    (name : List ℕ) (l : Loaded) → is_live_directory l.inode ≡ false
+    → let p : P Searched = lookup name l in p ≡ Ret (record { found = None; index = l.index })
 
 -- a block into which an entry was written has it, and its other slots are as they were
 abbrev pub PutsOneEntry : Type 0

@@ -4,6 +4,8 @@ pub mod EnterParts
 pub mod Entering
 pub mod Filling
 pub mod Laws
+pub mod Aims
+pub mod Indexes
 pub mod Programs
 pub mod Searching
 pub mod Slots

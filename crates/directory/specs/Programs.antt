@@ -1,69 +1,37 @@
 -- A directory searched: programs over what all harts share. Nothing is marked in them.
-use Rattle.std.specs.Prelude.{ℕ, zero, suc, ◌+◌, ◌-◌, ◌*◌, ◌/◌, ◌%◌, max, ◌==◌, ◌&&◌, if◌then◌else◌, nat_lt, ℤ, pos, negsuc, min, List, Bool, false, Option, Some, None}
-use Rattle.directory.specs.Vocabulary.{option_map, Dinode, Dirent, overwrite, u16_at, spell_dirent, dirent_len, dirents_per_block, Prog, Ret, Do, bind, unmarked, Answer, Put, store, FetchedBlock, fetch_block, most_blocks}
+use Rattle.std.specs.Prelude.{ℕ, zero, suc, ◌+◌, ◌-◌, ◌*◌, ◌/◌, ◌%◌, max, ◌==◌, ◌&&◌, if◌then◌else◌, nat_lt, ℤ, pos, negsuc, List, Bool, false, Option, Some, None}
+use Rattle.directory.specs.Vocabulary.{Dinode, Dirent, IndexState, Loaded, overwrite, spell_dirent, dirent_len, dirents_per_block, Prog, Ret, Do, bind, unmarked, Answer, Put, store, FetchedBlock, fetch_block}
 use Rattle.fs_machine.specs.Steps.{Op}
-use Rattle.directory.specs.Slots.{first_named, first_free, first_used}
+pub use Rattle.directory.specs.Aims.{Aim, Named, Unused, Entry, block_count, first_in, found_at, most_slots, slot_count, slots_in}
+unfoldable pub use Rattle.directory.specs.Aims.{found_in}
+use Rattle.directory.specs.Indexes.{first_of, raised}
 use Rattle.directory.specs.declared.found.Found.{Found}
-
--- ---- the slots of a directory
-
--- how many slots a directory may have
-abbrev pub most_slots : ℕ
-most_slots = dirents_per_block * most_blocks
-
--- how many it has
-abbrev pub slot_count : Dinode → ℕ
-slot_count d = min most_slots (d.size / dirent_len)
-
--- how many blocks have them
-abbrev pub block_count : Dinode → ℕ
-block_count d = (slot_count d + (dirents_per_block - 1)) / dirents_per_block
-
--- how many of them block k has
-abbrev pub slots_in : Dinode → ℕ → ℕ
-slots_in d k = min dirents_per_block (slot_count d - dirents_per_block * k)
-
--- ---- what is sought in them
-
-pub data Aim : Type 0 where
-  -- a used slot of this name
-  Named : List ℕ → Aim
-  -- a free slot
-  Unused : Aim
-  -- a used one past the first two
-  Entry : Aim
-
--- the first such slot among the first so many of block k
-abbrev pub first_in : Aim → (k limit : ℕ) → List ℕ → Option ℕ
-first_in (Named name) k limit block = first_named name limit block
-first_in Unused k limit block = first_free limit block
-first_in Entry k limit block = first_used (2 - dirents_per_block * k) limit block
-
--- the slot at a place of block k, with the number that it has
-abbrev pub found_at : ℕ → List ℕ → ℕ → Found
-found_at k block place = record { slot = dirents_per_block * k + place; number = u16_at block (dirent_len * place) }
-
-unfoldable pub found_in : Aim → Dinode → ℕ → List ℕ → Option Found
-found_in aim d k block = option_map (found_at k block) (first_in aim k (slots_in d k) block)
 
 -- ---- a block at a time
 
-abbrev pub or_next : {M A : Type 0} → Option A → Prog Op Answer M (Option A) → Prog Op Answer M (Option A)
-or_next (Some a) next = Ret (Some a)
-or_next None next = next
+-- what was found, and the index as it is then
+pub record Searched : Type 0 where
+  pub found : Option Found
+  pub index : IndexState
 
--- block k is given back as it was: what was sought stands there, or the blocks behind it are searched
-abbrev pub look_at : {M : Type 0} → Aim → Dinode → ℕ → Prog Op Answer M (Option Found) → FetchedBlock → Prog Op Answer M (Option Found)
-look_at aim d k next f = Do (Put f.number None) unmarked (λ _. or_next (found_in aim d k f.bytes) next)
+abbrev pub or_next : {M : Type 0} → Option Found → IndexState → (IndexState → Prog Op Answer M Searched) → Prog Op Answer M Searched
+or_next (Some f) x next = Ret (record { found = Some f; index = x })
+or_next None x next = next x
+
+-- block k is given back as it was, and indexed where it may be: what was sought stands there, or the blocks behind it are searched
+abbrev pub look_at : {M : Type 0} → Aim → Dinode → ℕ → IndexState → (IndexState → Prog Op Answer M Searched) → FetchedBlock
+    → Prog Op Answer M Searched
+look_at aim d k x next f = Do (Put f.number None) unmarked (λ _. or_next (found_in aim d k f.bytes) (raised d k f.bytes x) next)
 
 -- so many blocks from block k on
-unfoldable pub search_from : {M : Type 0} → ℕ → Aim → Dinode → ℕ → Prog Op Answer M (Option Found)
-search_from zero aim d k = Ret None
-search_from (suc n) aim d k = bind (fetch_block d k) (look_at aim d k (search_from n aim d (k + 1)))
+unfoldable pub search_from : {M : Type 0} → ℕ → Aim → Dinode → ℕ → IndexState → Prog Op Answer M Searched
+search_from zero aim d k x = Ret (record { found = None; index = x })
+search_from (suc n) aim d k x = bind (fetch_block d k) (look_at aim d k x (search_from n aim d (k + 1)))
 
--- all of them
-abbrev pub search : {M : Type 0} → Aim → Dinode → Prog Op Answer M (Option Found)
-search aim d = search_from (block_count d) aim d 0
+-- the index for the blocks that it has, and then the others
+abbrev pub search : {M : Type 0} → Aim → Loaded → Prog Op Answer M Searched
+search aim l =
+    or_next (first_of aim l.inode l.index) l.index (search_from (block_count l.inode - l.index.blocks) aim l.inode l.index.blocks)
 
 -- ---- names
 
@@ -83,8 +51,8 @@ abbrev pub is_live_directory : Dinode → Bool
 is_live_directory d = is_directory d && is_positive d.nlink
 
 -- What a directory has under a name. Where it has no link, or is no directory, nothing is found and no block touched.
-abbrev pub lookup : {M : Type 0} → List ℕ → Dinode → Prog Op Answer M (Option Found)
-lookup name d = if is_live_directory d then search (Named name) d else Ret None
+abbrev pub lookup : {M : Type 0} → List ℕ → Loaded → Prog Op Answer M Searched
+lookup name l = if is_live_directory l.inode then search (Named name) l else Ret (record { found = None; index = l.index })
 
 -- ---- a slot written
 

@@ -1,8 +1,8 @@
--- A directory searched.
+-- A directory searched, whose lock is at a seat.
 use Rattle.std.specs.Prelude.{◌≡◌, ◌+◌, ◌<◌, Option, None, IsSome, if◌then◌else◌}
-use Rattle.directory.specs.Vocabulary.{Dinode, Ret, Do, bind, unmarked, P, begun_of, Begun, most_blocks, Hand, First, Op, block_at, block_left, block_asked, FetchesFirst}
+use Rattle.directory.specs.Vocabulary.{Dinode, IndexState, Loaded, Ret, Do, bind, unmarked, P, begun_of, Begun, most_blocks, Hand, First, InodePlace, Op, block_at, block_left, block_asked, beside_buffers, index_at, no_index, with_index, record_in, FetchesFirst, IsLoadedAt}
 use Rattle.fs_machine.specs.Steps as steps
-use Rattle.directory.specs.Programs.{Aim, Entry, is_directory, look_at, or_next, search, search_from}
+use Rattle.directory.specs.Programs.{Aim, Entry, Searched, is_directory, look_at, or_next, search, search_from}
 use Rattle.directory.specs.Sought.{IsSlot}
 use Rattle.directory.specs.declared.found.Found.{Found}
 use Rattle.fs_machine.specs.declared.op.Op.TheVariants as ops
@@ -11,12 +11,15 @@ use Rattle.directory.specs.declared.search.Search.{Search}
 use Rattle.directory.specs.declared.search.Search.TheVariants.{Fetching, Giving}
 
 -- the blocks behind the one that is looked at
-abbrev pub search_rest : Aim → Dinode → Blocks → P (Option Found)
-search_rest aim d at = search_from at.left aim d (at.block + 1)
+abbrev pub search_rest : Aim → Dinode → Blocks → IndexState → P Searched
+search_rest aim d at x = search_from at.left aim d (at.block + 1) x
 
-abbrev pub search_left : Aim → Dinode → Search → Hand → P (Option Found)
-search_left aim d (Fetching at m) h = bind (block_left m h) (look_at aim d at.block (search_rest aim d at))
-search_left aim d (Giving at found) h = Do (steps.Put (block_at First h) None) unmarked (λ _. or_next found (search_rest aim d at))
+-- the block in hand is indexed as it is looked at
+abbrev pub search_left : Aim → InodePlace → Search → Hand → P Searched
+search_left aim k (Fetching at m) h =
+    bind (block_left m h) (look_at aim (record_in k h) at.block (index_at k h) (search_rest aim (record_in k h) at))
+search_left aim k (Giving at found) h =
+    Do (steps.Put (block_at First h) None) unmarked (λ _. or_next found (index_at k h) (search_rest aim (record_in k h) at))
 
 abbrev pub search_asked : Search → Op
 search_asked (Fetching at m) = block_asked m
@@ -25,14 +28,22 @@ search_asked (Giving at found) = ops.Give First
 abbrev pub IsWithin : Blocks → Type 0
 IsWithin at = at.block + at.left < most_blocks
 
-abbrev pub SearchReady : Search → Hand → Type 0
-SearchReady (Fetching at m) h = IsWithin at × FetchesFirst m h
-SearchReady (Giving at found) h = IsWithin at × IsSome h.first × IsSlot found × (h.second ≡ None)
+abbrev pub SearchReady : InodePlace → Search → Hand → Type 0
+SearchReady k (Fetching at m) h = IsWithin at × FetchesFirst m h × IsLoadedAt k h
+SearchReady k (Giving at found) h = IsWithin at × IsSome h.first × IsSlot found × (h.second ≡ None) × IsLoadedAt k h
+
+-- what was found, with the index in hand
+abbrev pub found_with : InodePlace → Option Found → Hand → Searched
+found_with k found h = record { found = found; index = index_at k h }
+
+-- all in hand but the buffers and the index at a seat
+abbrev pub beside_index : InodePlace → Hand → Hand
+beside_index k h = with_index k no_index (beside_buffers tt h)
 
 -- one that has begun
-abbrev pub begun_left : Aim → Dinode → Begun Search (Option Found) → Hand → P (Option Found)
-begun_left aim d begun h = begun_of (λ m. search_left aim d m h) (λ found. found) begun
+abbrev pub begun_left : Aim → InodePlace → Begun Search (Option Found) → Hand → P Searched
+begun_left aim k begun h = begun_of (λ m. search_left aim k m h) (λ found. found_with k found h) begun
 
 -- a used slot past the first two; in what is no directory there is none
-abbrev pub entries : Dinode → P (Option Found)
-entries d = if is_directory d then search Entry d else Ret None
+abbrev pub entries : Loaded → P Searched
+entries l = if is_directory l.inode then search Entry l else Ret (record { found = None; index = l.index })

@@ -1,18 +1,21 @@
 //! A name entered.
-ghost use Rattle.std.specs.Prelude.{◌≡◌, ◌<◌, ◌≤◌, ◌^◌, Some, None, IsSome, IfSome, IfNone};
-ghost use Rattle.directory.specs.Vocabulary.{Used, spell_dirent, IsName, bits_per_block, inode_block, begun_of, IfBegun, IsAfter, answer_in, Goes, left_after, bare, Hand as HandState, beside_buffers, NoBuffers};
+ghost use Rattle.std.specs.Prelude.{◌≡◌, ◌+◌, ◌*◌, ◌==◌, ◌<◌, ◌≤◌, ◌^◌, Some, None, IsSome, IfSome, IfNone};
+ghost use Rattle.directory.specs.Vocabulary.{Used, dirent_len, spell_dirent, IsName, bits_per_block, inode_block, begun_of, IfBegun, IsAfter, IsLoadedAt, answer_in, Goes, index_at, left_after, loaded_in, record_in, bare, Hand as HandState, InodePlace as InodePlaceState, NoBuffers};
 ghost use Rattle.directory.specs.Programs.{most_slots};
-ghost use Rattle.directory.specs.Entering.{EnteredState, enter, enter_at, slot_for};
-ghost use Rattle.directory.specs.EnterParts.{entered_as, enter_left, enter_asked, entered_in, EnterReady, IsEntering};
+ghost use Rattle.directory.specs.Entering.{EnteredState, enter, enter_at, entered_if, slot_for};
+ghost use Rattle.directory.specs.Searching.{beside_index, found_with};
+ghost use Rattle.directory.specs.EnterParts.{entered_as, enter_left, enter_asked, enter_seat, entered_in, EnterReady, IsEntering};
 
 use crate::found::{Found, MOST_SLOTS, Sought};
 use crate::search::Search;
+use crate::seat::enter_at;
 use byteorder::{ByteOrder, LittleEndian};
 use fs_layout::widths::DIRENT_NAME_AT;
 use fs_layout::{Dinode, Super};
-use fs_machine::{Answer, Hand, Op, Routine};
+use fs_machine::{Answer, Hand, InodePlace, Op, Routine};
 use image_versions::one::DIRENT_LEN;
 use inode_data::{Begun, WritePart, Written};
+use inode_table::record_at;
 
 // An entry can have so many numbers.
 const NUMBERS: u32 = 65_536;
@@ -31,25 +34,29 @@ pub enum Room {
 /// The directory that a name is entered into, and the bytes of its entry.
 #[derive(Clone, Copy, Drop)]
 pub struct Entering {
-    pub inode: Dinode,
+    /// The seat of its lock.
+    pub seat: InodePlace,
     pub number: u32,
     /// The superblock of its disk.
     pub sizes: Super,
     pub entry: [u8; DIRENT_LEN],
 }
 
-/// An entry on its way into a slot.
+/// An entry on its way into a slot of the directory whose lock is at a seat.
 #[derive(Clone, Copy, Drop)]
 pub struct Placing {
+    pub seat: InodePlace,
     pub entry: [u8; DIRENT_LEN],
     pub slot: usize,
 }
 
-/// The directory as it was stored, and whether there was room for the name. Where no slot was left it is as it was, and not stored.
+/// The directory as it was stored, and whether there was room for the name. Where no slot was left it is as it was, and not stored. The
+/// index of its names is in hand, at the seat.
 #[derive(Clone, Copy, Drop)]
 pub struct Entered {
     pub inode: Dinode,
     pub room: Room,
+    pub seat: InodePlace,
 }
 
 /// Enters a name into a directory: into its first free slot, or else into a new last one. The inode is stored also where no block was
@@ -63,30 +70,33 @@ pub enum Enter {
 }
 
 impl Enter {
-    /// Inode `child` by this name, into directory `number`, which stands so, on a disk with this superblock. An entry has the low 16
-    /// bits of a number, and an inode's has no more.
+    /// Inode `child` by this name, into directory `number` whose lock is at a seat, on a disk with this superblock. An entry has the low
+    /// 16 bits of a number, and an inode's has no more.
     pub fn begin(
         number: u32,
-        inode: &Dinode,
+        seat: InodePlace,
         sizes: &Super,
         child: u32,
         name: &[u8],
+        hand: &Hand,
     ) -> Begun<Enter, Entered>
         requires size { sizes.now.size ≤ bits_per_block }
         requires block { inode_block sizes.now.inodestart number < 2 ^ 32 }
         requires name { IsName name.now }
-        ensures program { (h : HandState) → begun_of (λ m. enter_left m h) entered_as result
-            ≡ enter sizes.now number inode.now child name.now }
-        ensures ready { (h : HandState) → NoBuffers h → IsSome h.txn → IfBegun (λ m. EnterReady m h) (λ _. Unit {0}) result }
+        requires loaded { IsLoadedAt seat hand.now }
+        ensures program { begun_of (λ m. enter_left m hand.now) (λ r. entered_as r hand.now) result
+            ≡ enter sizes.now number (loaded_in seat hand.now) child name.now }
+        ensures ready { NoBuffers hand.now → IsSome hand.now.txn → IfBegun (λ m. EnterReady m hand.now) (λ _. Unit {0}) result }
+        ensures seat { IfBegun (λ m. enter_seat m ≡ seat) (λ r. r.seat ≡ seat) result }
     {
         let entering = Entering {
-            inode: *inode,
+            seat,
             number,
             sizes: *sizes,
             entry: entry_bytes(child, name),
         };
-        match Search::begin(inode) {
-            Begun::Is(found) => place(&entering, found),
+        match Search::begin(hand, seat, Sought::Free) {
+            Begun::Is(found) => place(&entering, found, hand),
             Begun::Runs(search) => Begun::Runs(Enter::Searching(entering, search)),
         }
     }
@@ -97,7 +107,7 @@ impl Routine for Enter {
 
     ghost Value = { EnteredState };
 
-    ghost value = { λ r _. entered_as r };
+    ghost value = { entered_as };
 
     ghost left = { enter_left };
 
@@ -105,13 +115,13 @@ impl Routine for Enter {
 
     ghost Ready = { EnterReady };
 
-    ghost About = { Unit {0} };
+    ghost About = { InodePlaceState };
 
-    ghost about = { λ _. tt };
+    ghost about = { enter_seat };
 
-    ghost beside = { beside_buffers };
+    ghost beside = { beside_index };
 
-    ghost Ends = { λ _ _ h. NoBuffers h };
+    ghost Ends = { λ m r h. NoBuffers h × (r.seat ≡ enter_seat m) × IsLoadedAt r.seat h };
 
     fn op(&self, hand: &mut Hand) -> Op {
         match self {
@@ -124,9 +134,9 @@ impl Routine for Enter {
     fn next(&mut self, answer: &Answer, hand: &mut Hand) -> Option<Entered> {
         match self {
             Enter::Searching(entering, search) => {
-                match search.next(&entering.inode, Sought::Free, answer, hand) {
+                match search.next(entering.seat, Sought::Free, answer, hand) {
                     None => None,
-                    Some(found) => match place(entering, found) {
+                    Some(found) => match place(entering, found, hand) {
                         Begun::Is(entered) => Some(entered),
                         Begun::Runs(enter) => {
                             *self = enter;
@@ -135,38 +145,41 @@ impl Routine for Enter {
                     },
                 }
             }
-            Enter::Writing(placing, part) => match part.next(&placing.entry, answer, hand) {
-                None => None,
-                Some(written) => Some(room_in(placing.slot, &written)),
-            },
+            Enter::Writing(placing, part) => {
+                let placing = *placing;
+                match part.next(&placing.entry, answer, hand) {
+                    None => None,
+                    Some(written) => Some(room_in(&placing, &written, hand)),
+                }
+            }
         }
     }
 }
 
 // Goes on where a free slot was sought.
-fn place(entering: &Entering, found: Option<Found>) -> Begun<Enter, Entered>
-    requires { IsEntering entering.now }
-    ensures program { (h : HandState)
-        → begun_of (λ m. enter_left m h) entered_as result
-        ≡ enter_at entering.now.sizes entering.now.number entering.now.inode entering.now.entry found }
-    ensures ready { (h : HandState) → NoBuffers h → IsSome h.txn → IfBegun (λ m. EnterReady m h) (λ _. Unit {0}) result }
+fn place(entering: &Entering, found: Option<Found>, hand: &Hand) -> Begun<Enter, Entered>
+    requires entering { IsEntering entering.now }
+    requires loaded { IsLoadedAt entering.now.seat hand.now }
+    ensures program { begun_of (λ m. enter_left m hand.now) (λ r. entered_as r hand.now) result
+        ≡ enter_at entering.now.sizes entering.now.number (record_in entering.now.seat hand.now) entering.now.entry
+        (found_with entering.now.seat found hand.now) }
+    ensures ready { NoBuffers hand.now → IsSome hand.now.txn → IfBegun (λ m. EnterReady m hand.now) (λ _. Unit {0}) result }
+    ensures seat { IfBegun (λ m. enter_seat m ≡ entering.now.seat) (λ r. r.seat ≡ entering.now.seat) result }
 {
-    let slot = slot_for(&entering.inode, found);
+    let seat = entering.seat;
+    let inode = record_at(hand, seat);
+    let slot = slot_for(&inode, found);
     if slot >= MOST_SLOTS {
         return Begun::Is(Entered {
-            inode: entering.inode,
+            inode,
             room: Room::NoSlot,
+            seat,
         });
     }
     let at = (DIRENT_LEN * slot) as u32;
-    let part = WritePart::begin(
-        entering.number,
-        &entering.inode,
-        &entering.sizes,
-        at,
-        DIRENT_LEN,
-    );
+    let part = WritePart::begin(entering.number, &inode, &entering.sizes, at, DIRENT_LEN);
     let placing = Placing {
+        seat,
         entry: entering.entry,
         slot,
     };
@@ -183,12 +196,21 @@ fn slot_for(inode: &Dinode, found: Option<Found>) -> usize
     }
 }
 
-// What the writing of a slot came to.
-fn room_in(slot: usize, written: &Written) -> Entered
-    requires { slot < most_slots }
-    ensures { result ≡ entered_in slot written.now }
+// What the writing of a slot came to. Where the entry is there the index has it.
+fn room_in(placing: &Placing, written: &Written, hand: &mut Hand) -> Entered
+    requires slot { placing.now.slot < most_slots }
+    requires loaded { IsLoadedAt placing.now.seat hand.old }
+    ensures entered { result ≡ entered_in placing.now.seat placing.now.slot written.now }
+    ensures state { entered_as result hand.new ≡ entered_if placing.now.slot placing.now.entry (index_at placing.now.seat hand.old)
+        written.now.inode (written.now.upto == dirent_len * (placing.now.slot + 1)) }
+    ensures loaded { IsLoadedAt placing.now.seat hand.new }
+    ensures buffers { NoBuffers hand.old → NoBuffers hand.new }
+    ensures beside { beside_index placing.now.seat hand.new ≡ beside_index placing.now.seat hand.old }
+    ensures hand { bare hand.new ≡ bare hand.old }
 {
-    let room = if written.upto == DIRENT_LEN * (slot + 1) {
+    let seat = placing.seat;
+    let room = if written.upto == DIRENT_LEN * (placing.slot + 1) {
+        enter_at(hand, seat, placing.slot, &placing.entry);
         Room::There
     } else {
         Room::NoBlock
@@ -196,6 +218,7 @@ fn room_in(slot: usize, written: &Written) -> Entered
     Entered {
         inode: written.inode,
         room,
+        seat,
     }
 }
 

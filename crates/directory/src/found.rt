@@ -16,7 +16,7 @@ pub const MOST_SLOTS: usize = image_versions::one::MOST_SLOTS;
 const DIRECTORY: i16 = 1;
 
 // The slots "." and "..".
-const DOTS: usize = 2;
+pub(crate) const DOTS: usize = 2;
 
 /// A slot that was found.
 #[derive(Clone, Copy, PartialEq, Eq, Debug)]
@@ -54,7 +54,7 @@ pub fn block_count(inode: &Dinode) -> usize
 }
 
 // How many of them a block has.
-fn slots_in(inode: &Dinode, k: usize) -> usize
+pub(crate) fn slots_in(inode: &Dinode, k: usize) -> usize
     requires { k < most_blocks }
     ensures count { result ≡ slots_in inode.now k }
     ensures bound { result ≤ dirents_per_block }

@@ -4,15 +4,20 @@
 //! it. A block's 64 slots are compared where they stand, in the buffer.
 //! What is found is the first slot of a name, the first free one, or the first used one from a place on. What has no link, or is no
 //! directory, finds nothing and is not touched.
+//!
+//! A directory in memory has an index of the used slots of its first blocks, which `specs/Indexes` describes. A search looks there first,
+//! and then at the blocks behind those; each block that it looks at is indexed where it is the next one and has room.
 #![tactic(auto)]
 
 mod clear;
 mod enter;
 mod fill;
 mod found;
+mod index;
 pub mod laws;
 mod place;
 mod search;
+mod seat;
 mod slots;
 
 pub use crate::clear::{Clear, Slot};
@@ -22,4 +27,5 @@ pub use crate::found::{
     Found, MOST_SLOTS, Sought, block_count, found_in, is_directory, is_live_directory,
 };
 pub use crate::search::{Blocks, Search};
+pub use crate::seat::clear_in_index;
 pub use crate::slots::{first_free, first_named, first_used, number_at};

@@ -1,14 +1,16 @@
-//! A directory searched, a block at a time.
-ghost use Rattle.std.specs.Prelude.{◌≡◌, ◌+◌, ◌≤◌, ◌<◌, ℕ, List, Some, None, IsSome, IfSome, IfNone};
-ghost use Rattle.directory.specs.Vocabulary.{MatchOption, asks, IfBegun, most_blocks, bytes_at, op_in, answer_in, CanDo, Prepared, IsAfter, Goes, left_after, Hand as HandState, First, Leaves, Dinode as DinodeState, NoBuffers};
-ghost use Rattle.directory.specs.Programs.{Aim, Entry, Named, found_in, lookup, search, search_from};
+//! A directory searched: its index, and then the blocks behind those that it has, one at a time.
+ghost use Rattle.std.specs.Prelude.{◌≡◌, ◌+◌, ◌≤◌, ◌<◌, Some, None, IsSome, IfSome, IfNone};
+ghost use Rattle.directory.specs.Vocabulary.{asks, IfBegun, InodePlace as InodePlaceState, most_blocks, op_in, answer_in, CanDo, Prepared, IsAfter, IsLoadedAt, IsName, Goes, bare, index_at, left_after, loaded_in, record_in, Hand as HandState, NoBuffers};
+ghost use Rattle.directory.specs.Programs.{Aim, Entry, Named, lookup, search, search_from};
 ghost use Rattle.directory.specs.Sought.{aim_of, IsSlot, IsSought};
-ghost use Rattle.directory.specs.Searching.{begun_left, entries, search_left, search_asked, SearchReady};
+ghost use Rattle.directory.specs.Searching.{begun_left, beside_index, entries, found_with, search_left, search_asked, SearchReady};
 
-use crate::found::{Found, Sought, block_count, found_in, is_directory, is_live_directory};
-use fs_layout::Dinode;
-use fs_machine::{Answer, Hand, Op, Part, Place};
+use crate::found::{Found, Sought, block_count, is_directory, is_live_directory};
+use crate::index::first_of;
+use crate::seat::{index_at, look_at};
+use fs_machine::{Answer, Hand, InodePlace, Op, Part, Place};
 use inode_data::{Begun, FetchBlock, fetch_of};
+use inode_table::record_at;
 
 /// The blocks of a directory that a search has to look at yet.
 #[derive(Clone, Copy, Drop)]
@@ -19,7 +21,8 @@ pub struct Blocks {
     pub left: usize,
 }
 
-/// Looks for a slot of a directory, a block at a time, and stops at the first. It is told the directory's record and what is sought.
+/// Looks for a slot of the directory whose lock is at a seat, a block at a time, and stops at the first. It is told the seat and what is
+/// sought.
 #[derive(Clone, Copy, Drop)]
 pub enum Search {
     /// The next block is fetched.
@@ -29,36 +32,49 @@ pub enum Search {
 }
 
 impl Search {
-    /// Over all slots of a directory.
-    pub fn begin(inode: &Dinode) -> Begun<Search, Option<Found>>
-        ensures program { (aim : Aim) (h : HandState) → begun_left aim inode.now result h ≡ search aim inode.now }
-        ensures ready { (h : HandState) → NoBuffers h → IfBegun (λ m. SearchReady m h) (λ _. Unit {0}) result }
+    /// Over all slots of the directory at a seat.
+    pub fn begin(hand: &Hand, seat: InodePlace, sought: Sought) -> Begun<Search, Option<Found>>
+        requires loaded { IsLoadedAt seat hand.now }
+        requires sought { IsSought sought }
+        ensures program { let aim = aim_of sought.entry in begun_left aim seat result hand.now ≡ search aim (loaded_in seat hand.now) }
+        ensures ready { NoBuffers hand.now → IfBegun (λ m. SearchReady seat m hand.now) (λ _. Unit {0}) result }
         ensures slot { IfBegun (λ _. Unit {0}) IsSlot result }
     {
-        next(inode, 0, block_count(inode))
+        let inode = record_at(hand, seat);
+        let index = index_at(hand, seat);
+        match first_of(index, &inode, sought) {
+            Some(found) => Begun::Is(Some(found)),
+            None => {
+                let known = index.blocks();
+                next(hand, seat, known, block_count(&inode).saturating_sub(known))
+            }
+        }
     }
 
-    /// For what a directory has under a name. Where it has no link, or is no directory, nothing is found and no block touched.
-    pub fn lookup(inode: &Dinode) -> Begun<Search, Option<Found>>
-        ensures program { (name : List ℕ) (h : HandState) → begun_left (Named name) inode.now result h ≡ lookup name inode.now }
-        ensures ready { (h : HandState) → NoBuffers h → IfBegun (λ m. SearchReady m h) (λ _. Unit {0}) result }
+    /// For what the directory at a seat has under a name. Where it has no link, or is no directory, nothing is found and no block touched.
+    pub fn lookup(hand: &Hand, seat: InodePlace, name: &[u8]) -> Begun<Search, Option<Found>>
+        requires loaded { IsLoadedAt seat hand.now }
+        requires name { IsName name.now }
+        ensures program { begun_left (Named name.now) seat result hand.now ≡ lookup name.now (loaded_in seat hand.now) }
+        ensures ready { NoBuffers hand.now → IfBegun (λ m. SearchReady seat m hand.now) (λ _. Unit {0}) result }
         ensures slot { IfBegun (λ _. Unit {0}) IsSlot result }
     {
-        if is_live_directory(inode) {
-            Search::begin(inode)
+        if is_live_directory(&record_at(hand, seat)) {
+            Search::begin(hand, seat, Sought::Name(name))
         } else {
             Begun::Is(None)
         }
     }
 
     /// For a used slot past the first two: whether a directory is empty. In what is no directory there is none.
-    pub fn entries(inode: &Dinode) -> Begun<Search, Option<Found>>
-        ensures program { (h : HandState) → begun_left Entry inode.now result h ≡ entries inode.now }
-        ensures ready { (h : HandState) → NoBuffers h → IfBegun (λ m. SearchReady m h) (λ _. Unit {0}) result }
+    pub fn entries(hand: &Hand, seat: InodePlace) -> Begun<Search, Option<Found>>
+        requires { IsLoadedAt seat hand.now }
+        ensures program { begun_left Entry seat result hand.now ≡ entries (loaded_in seat hand.now) }
+        ensures ready { NoBuffers hand.now → IfBegun (λ m. SearchReady seat m hand.now) (λ _. Unit {0}) result }
         ensures slot { IfBegun (λ _. Unit {0}) IsSlot result }
     {
-        if is_directory(inode) {
-            Search::begin(inode)
+        if is_directory(&record_at(hand, seat)) {
+            Search::begin(hand, seat, Sought::Entry)
         } else {
             Begun::Is(None)
         }
@@ -66,9 +82,9 @@ impl Search {
 
     /// The next operation.
     pub fn op(&self, hand: &mut Hand) -> Op
-        requires ready { SearchReady self.now hand.old }
+        requires ready { (seat : InodePlaceState) × SearchReady seat self.now hand.old }
         ensures op { result ≡ search_asked self.now }
-        ensures asks { (aim : Aim) (d : DinodeState) → asks (search_left aim d self.now hand.old) ≡ Some (op_in hand.new result) }
+        ensures asks { (aim : Aim) (seat : InodePlaceState) → asks (search_left aim seat self.now hand.old) ≡ Some (op_in hand.new result) }
         ensures can { CanDo result hand.new }
         ensures prepared { Prepared result hand.old hand.new }
     {
@@ -78,26 +94,31 @@ impl Search {
         }
     }
 
-    /// How it goes on.
+    /// How it goes on. The block that was fetched is indexed where it may be; all else in hand but the buffers is as it was.
     #[inline(always)]
     #[tactic(auto, using(fs_machine::proofs::Going::goes_bind))]
     pub fn next(
         &mut self,
-        inode: &Dinode,
+        seat: InodePlace,
         sought: Sought,
         answer: &Answer,
-        hand: &Hand,
+        hand: &mut Hand,
     ) -> Option<Option<Found>>
         requires sought { IsSought sought }
-        requires came { (before : HandState) × SearchReady self.old before × IsAfter (search_asked self.old) before answer.now hand.now }
-        ensures goes { (before : HandState) → SearchReady self.old before → IsAfter (search_asked self.old) before answer.now hand.now
-            → Goes (search_left (aim_of sought.entry) inode.now self.old before) (answer_in (search_asked self.old) answer.now hand.now)
-            (left_after (search_left (aim_of sought.entry) inode.now) (λ found _. found) result self.new hand.now) }
-        ensures ready { IfNone result (SearchReady self.new hand.now) }
+        requires came { (before : HandState) × SearchReady seat self.old before
+            × IsAfter (search_asked self.old) before answer.now hand.old }
+        ensures goes { (before : HandState) → SearchReady seat self.old before
+            → IsAfter (search_asked self.old) before answer.now hand.old
+            → Goes (search_left (aim_of sought.entry) seat self.old before) (answer_in (search_asked self.old) answer.now hand.old)
+            (left_after (search_left (aim_of sought.entry) seat) (found_with seat) result self.new hand.new) }
+        ensures ready { IfNone result (SearchReady seat self.new hand.new) }
         ensures slot { IfSome result IsSlot }
-        ensures over { IfSome result (λ _. NoBuffers hand.now) }
-        ensures beside { (before : HandState) → SearchReady self.old before → IsAfter (search_asked self.old) before answer.now hand.now
-            → Leaves before hand.now }
+        ensures over { IfSome result (λ _. NoBuffers hand.new) }
+        ensures loaded { IsLoadedAt seat hand.new }
+        ensures beside { (before : HandState) → SearchReady seat self.old before
+            → IsAfter (search_asked self.old) before answer.now hand.old
+            → beside_index seat hand.new ≡ beside_index seat before }
+        ensures hand { bare hand.new ≡ bare hand.old }
     {
         match self {
             Search::Fetching(at, fetch) => {
@@ -105,7 +126,7 @@ impl Search {
                 match fetch.next(answer, hand) {
                     None => None,
                     Some(_) => {
-                        let found = found_at(hand, inode, at.block, sought);
+                        let found = look_at(hand, seat, at.block, sought);
                         *self = Search::Giving(at, found);
                         None
                     }
@@ -115,7 +136,7 @@ impl Search {
                 let at = *at;
                 match *found {
                     Some(found) => Some(Some(found)),
-                    None => match next(inode, at.block + 1, at.left) {
+                    None => match next(hand, seat, at.block + 1, at.left) {
                         Begun::Is(found) => Some(found),
                         Begun::Runs(search) => {
                             *self = search;
@@ -130,33 +151,21 @@ impl Search {
 
 // So many blocks from one on.
 #[tactic(auto, unfolding(crate::specs::Programs::search_from))]
-fn next(inode: &Dinode, block: usize, left: usize) -> Begun<Search, Option<Found>>
-    requires { block + left ≤ most_blocks }
-    ensures program { (aim : Aim) (h : HandState) → begun_left aim inode.now result h ≡ search_from left aim inode.now block }
-    ensures ready { (h : HandState) → NoBuffers h → IfBegun (λ m. SearchReady m h) (λ _. Unit {0}) result }
+fn next(hand: &Hand, seat: InodePlace, block: usize, left: usize) -> Begun<Search, Option<Found>>
+    requires loaded { IsLoadedAt seat hand.now }
+    requires within { 0 < left → block + left ≤ most_blocks }
+    ensures program { (aim : Aim) → begun_left aim seat result hand.now
+        ≡ search_from left aim (record_in seat hand.now) block (index_at seat hand.now) }
+    ensures ready { NoBuffers hand.now → IfBegun (λ m. SearchReady seat m hand.now) (λ _. Unit {0}) result }
     ensures slot { IfBegun (λ _. Unit {0}) IsSlot result }
 {
     if left == 0 {
         return Begun::Is(None);
     }
-    let fetch = fetch_of(inode, block);
+    let fetch = fetch_of(&record_at(hand, seat), block);
     let at = Blocks {
         block,
         left: left - 1,
     };
     Begun::Runs(Search::Fetching(at, fetch))
-}
-
-// What is found in the block in hand.
-fn found_at(hand: &Hand, inode: &Dinode, k: usize, sought: Sought) -> Option<Found>
-    requires valid { MatchOption hand.now.first ⊥ (λ g. IsSome g.value.content) }
-    requires block { k < most_blocks }
-    requires sought { IsSought sought }
-    ensures found { result ≡ found_in (aim_of sought.entry) inode.now k (bytes_at First hand.now) }
-    ensures slot { IsSlot result }
-{
-    match &hand.first {
-        Some(guard) => found_in(guard.value().bytes(), inode, k, sought),
-        None => unreachable!(),
-    }
 }

@@ -14,7 +14,7 @@ const WORD_LEN: usize = 8;
 
 // The field of a name as two words that overlap: its first eight bytes, and its last eight.
 #[derive(Clone, Copy)]
-struct Words {
+pub(crate) struct Words {
     front: u64,
     back: u64,
 }
@@ -30,7 +30,7 @@ fn word_at(bytes: &[u8], at: usize) -> u64
 
 // The words of a name.
 #[tactic(auto, unfolding(crate::specs::Slots::field_of))]
-fn words_of(name: &[u8]) -> Words
+pub(crate) fn words_of(name: &[u8]) -> Words
     requires { length name.now ≤ name_len }
     ensures front { result.front ≡ u64_at (field_of name.now) 0 }
     ensures back { result.back ≡ u64_at (field_of name.now) 6 }
@@ -49,19 +49,28 @@ pub fn number_at(block: &Block, place: usize) -> u16
     requires { place < dirents_per_block }
     ensures { result ≡ u16_at block.now (dirent_len * place) }
 {
-    LittleEndian::read_u16(&block[DIRENT_LEN * place..])
+    number_in(block, place)
 }
 
-// Whether a slot is used, with these words.
+// The same of one of some slots.
+#[tactic(auto, unfolding(fs_layout::specs::Bytes::u16_at))]
+pub(crate) fn number_in(slots: &[u8], place: usize) -> u16
+    requires { dirent_len * (place + 1) ≤ length slots.now }
+    ensures { result ≡ u16_at slots.now (dirent_len * place) }
+{
+    LittleEndian::read_u16(&slots[DIRENT_LEN * place..])
+}
+
+// Whether one of some slots is used, with these words.
 #[tactic(auto, unfolding(crate::specs::Slots::has_words))]
-fn has_words(block: &Block, place: usize, words: Words) -> bool
-    requires { place < dirents_per_block }
-    ensures { result ≡ has_words words.front words.back place block.now }
+pub(crate) fn has_words(slots: &[u8], place: usize, words: Words) -> bool
+    requires { dirent_len * (place + 1) ≤ length slots.now }
+    ensures { result ≡ has_words words.front words.back place slots.now }
 {
     let at = DIRENT_LEN * place;
-    number_at(block, place) != 0
-        && word_at(block, at + DIRENT_NAME_AT) == words.front
-        && word_at(block, at + WORD_LEN) == words.back
+    number_in(slots, place) != 0
+        && word_at(slots, at + DIRENT_NAME_AT) == words.front
+        && word_at(slots, at + WORD_LEN) == words.back
 }
 
 // Whether a slot is all zeros.

@@ -4,5 +4,4 @@ unfoldable pub use Rattle.fs_machine.proofs.Vocabulary.{answer_in}
 pub use Rattle.file_table.specs.Vocabulary.{load_unless, number_in}
 pub use Rattle.fs_machine.proofs.Goings.{inode-there}
 pub use Rattle.file_table.specs.LockingFiles.{locks, opens}
-pub use Rattle.fs_layout.specs.declared.inode.Dinode.{Dinode}
-pub use Rattle.fs_machine.specs.declared.entries.Inode.{Inode}
+pub use Rattle.fs_machine.specs.InMemory.{Inode, Loaded}

@@ -1,6 +1,6 @@
 -- A descriptor's inode locked, and loaded.
 use Rattle.std.specs.Prelude.{◌≡◌, ◌-◌, ◌<◌, ◌^◌, ℕ, Option, Some, None}
-use Rattle.file_table.specs.Vocabulary.{Dinode, Ret, Do, bind, unmarked, LockedState, Refuses, Locks, OpenFile, Want, P, inode_block, load_unless, HandState as Hand, InodePlace, Op, inode_at, number_in, record_in, IsLoadedAt, load_left, load_asked, IsLoading}
+use Rattle.file_table.specs.Vocabulary.{Loaded, Ret, Do, bind, unmarked, LockedState, Refuses, Locks, OpenFile, Want, P, inode_block, load_unless, HandState as Hand, InodePlace, Op, inode_at, loaded_in, number_in, IsLoadedAt, load_left, load_asked, IsLoading}
 use Rattle.fs_machine.specs.Steps as steps
 use Rattle.fs_machine.specs.declared.op.Op.TheVariants as ops
 use Rattle.file_table.specs.declared.lock_file.HeldFile.{HeldFile}
@@ -24,8 +24,8 @@ IsLoadingFile f h = (number_in f.seat h ≡ f.file.number) × (f.file.number < 2
 
 -- ---- where it may be had
 
-abbrev pub locks : OpenFile → Dinode → P LockedState
-locks f d = Ret (Locks f (Some d))
+abbrev pub locks : OpenFile → Loaded → P LockedState
+locks f l = Ret (Locks f (Some l))
 
 abbrev pub load_locked : ℕ → LockedState → P LockedState
 load_locked inodestart (Refuses why) = Ret (Refuses why)
@@ -41,7 +41,7 @@ file_left (file.Loading f m) h = bind (load_left m h) (locks f.file)
 
 abbrev pub file_value : FileLocked → Hand → LockedState
 file_value (result.Refused why) h = Refuses why
-file_value (result.Locked f) h = Locks f.file (Some (record_in f.seat h))
+file_value (result.Locked f) h = Locks f.file (Some (loaded_in f.seat h))
 
 abbrev pub file_asked : LockFile → Op
 file_asked (file.Lock k inodestart w fd) = ops.LockFile k w fd
@@ -61,21 +61,21 @@ FileEnds m (result.Locked f) h = (f.seat ≡ file_seat m) × HasFile f h
 
 -- ---- where it is known to be open
 
-abbrev pub opens : OpenFile → Dinode → P (OpenFile × Dinode)
-opens f d = Ret (f, d)
+abbrev pub opens : OpenFile → Loaded → P (OpenFile × Loaded)
+opens f l = Ret (f, l)
 
-abbrev pub load_open : ℕ → OpenFile × Option Dinode → P (OpenFile × Dinode)
+abbrev pub load_open : ℕ → OpenFile × Option Loaded → P (OpenFile × Loaded)
 load_open inodestart locked = bind (load_unless inodestart locked.0.number locked.1) (opens locked.0)
 
-abbrev pub lock_open_loaded : (inodestart fd : ℕ) → P (OpenFile × Dinode)
+abbrev pub lock_open_loaded : (inodestart fd : ℕ) → P (OpenFile × Loaded)
 lock_open_loaded inodestart fd = Do (steps.LockOpen fd) unmarked (load_open inodestart)
 
-abbrev pub open_left : LockOpen → Hand → P (OpenFile × Dinode)
+abbrev pub open_left : LockOpen → Hand → P (OpenFile × Loaded)
 open_left (opened.Lock k inodestart fd) h = lock_open_loaded inodestart fd
 open_left (opened.Loading f m) h = bind (load_left m h) (opens f.file)
 
-abbrev pub open_value : HeldFile → Hand → OpenFile × Dinode
-open_value f h = (f.file, record_in f.seat h)
+abbrev pub open_value : HeldFile → Hand → OpenFile × Loaded
+open_value f h = (f.file, loaded_in f.seat h)
 
 abbrev pub open_asked : LockOpen → Op
 open_asked (opened.Lock k inodestart fd) = ops.LockOpen k fd

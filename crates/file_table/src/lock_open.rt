@@ -1,6 +1,6 @@
 //! The inode of an open file locked, and loaded.
 ghost use Rattle.std.specs.Prelude.{◌≡◌, None, Option, IfSome, IfNone};
-ghost use Rattle.file_table.specs.Vocabulary.{Dinode as DinodeState, OpenFile as OpenFileState, inode_at, IsAfter, answer_in, Goes, left_after, bare, HandState, InodePlace, beside_lock};
+ghost use Rattle.file_table.specs.Vocabulary.{Loaded, OpenFile as OpenFileState, inode_at, IsAfter, answer_in, Goes, left_after, bare, HandState, InodePlace, beside_lock};
 ghost use Rattle.file_table.specs.LockingFiles.{lock_open_loaded, open_left, open_value, open_asked, open_seat, HasFile, HasInodeBlocks, OpenReady};
 
 use crate::lock_file::HeldFile;
@@ -31,7 +31,7 @@ impl LockOpen {
 impl Routine for LockOpen {
     type Out = HeldFile;
 
-    ghost Value = { OpenFileState × DinodeState };
+    ghost Value = { OpenFileState × Loaded };
 
     ghost value = { open_value };
 

@@ -1,5 +1,5 @@
 -- The last reference to a dead inode.
-use Rattle.fs_machine.proofs.Vocabulary.{◌≡◌, ℕ, ◌==◌, if◌then◌else◌, List, Bool, true, false, refl, sym, ◌∙◌, ap, arith, Option, Some, None, slice_get, slice_set, IsSome, is_some, nat_tests, set-set, same_Some, none-some, Dinode, SlotState, GuardState, guard_of, taken, filled, lock_of, unlocked, set_same, Ran, Entry, Inode, change_at, TablesState, place_of, dying, dead_in, dead_of, drop_inode, drop_at, drop_dying, drop_walked, walked_at, walked_dying, uncounted_at, Counts, Keeps, Dies, is_positive, freed_at, drop_freed, IsSoundInodes, PlaceFits}
+use Rattle.fs_machine.proofs.Vocabulary.{◌≡◌, ℕ, ◌==◌, if◌then◌else◌, List, Bool, true, false, refl, sym, ◌∙◌, ap, arith, Option, Some, None, slice_get, slice_set, IsSome, is_some, nat_tests, set-set, same_Some, none-some, Loaded, SlotState, GuardState, guard_of, taken, filled, lock_of, unlocked, set_same, Ran, Entry, Inode, change_at, TablesState, place_of, dying, dead_in, dead_of, drop_inode, drop_at, drop_dying, drop_walked, walked_at, walked_dying, uncounted_at, Counts, Keeps, Dies, is_positive, freed_at, drop_freed, IsSoundInodes, PlaceFits}
 use Rattle.fs_machine.proofs.Locking.{slot_at, lock_is}
 
 same_one : (r : ℕ) → r ≡ 1 → (r == 1) ≡ true
@@ -11,18 +11,18 @@ there_dying : (entries : List Entry) (locks : List (SlotState Inode)) (k : ℕ) 
 there_dying entries locks k e s ee one es =
     ap (λ o. dying o (slice_get locks k)) ee ∙ (ap (dying (Some e)) es ∙ ap (λ (b : Bool). if b then dead_in s.inside else None) (same_one e.references one))
 
-pub is_dead : (o : Option Dinode) → IsSome (dead_of o) → (dead_of o ≡ o) × IsSome o
+pub is_dead : (o : Option Loaded) → IsSome (dead_of o) → (dead_of o ≡ o) × IsSome o
 is_dead None some = absurd (cc some)
-is_dead (Some d) some = by_test (is_positive d.nlink) refl some
+is_dead (Some d) some = by_test (is_positive d.inode.nlink) refl some
   where
-    by_test : (b : Bool) → is_positive d.nlink ≡ b → IsSome (if b then None else Some d) → ((if is_positive d.nlink then None else Some d) ≡ Some d) × IsSome (Some d)
+    by_test : (b : Bool) → is_positive d.inode.nlink ≡ b → IsSome (if b then None else Some d) → ((if is_positive d.inode.nlink then None else Some d) ≡ Some d) × IsSome (Some d)
     by_test true e z = absurd (cc z)
     by_test false e z = (ap (λ (b : Bool). if b then None else Some d) e, refl)
 
-isnt_dead : (o : Option Dinode) → (IsSome (dead_of o) → ⊥) → dead_of o ≡ None
+isnt_dead : (o : Option Loaded) → (IsSome (dead_of o) → ⊥) → dead_of o ≡ None
 isnt_dead o isnt = all (dead_of o) isnt
   where
-    all : (p : Option Dinode) → (IsSome p → ⊥) → p ≡ None
+    all : (p : Option Loaded) → (IsSome p → ⊥) → p ≡ None
     all None f = refl
     all (Some d) f = absurd (f refl)
 
@@ -82,7 +82,7 @@ pub drop_counted : (h n k : ℕ) (t : TablesState) → place_of n t.entries ≡ 
 unfolding drop_inode
 drop_counted h n k t e alive = ap (drop_at h n t) e ∙ ap (drop_dying h n k t) alive
 
-pub drop_dies : (h n k : ℕ) (t : TablesState) (new : List (SlotState Inode)) (o : Option Dinode) → place_of n t.entries ≡ Some k → dying (slice_get t.entries k) (slice_get t.locks k) ≡ o → IsSome o
+pub drop_dies : (h n k : ℕ) (t : TablesState) (new : List (SlotState Inode)) (o : Option Loaded) → place_of n t.entries ≡ Some k → dying (slice_get t.entries k) (slice_get t.locks k) ≡ o → IsSome o
     → new ≡ change_at k (λ s. taken s h) t.locks → drop_inode h n t ≡ Ran (Dies n o) (record t { locks = new })
 unfolding drop_inode
 drop_dies h n k t new None e dies some is = absurd (cc some)
@@ -103,7 +103,7 @@ pub walked_counted : (n k : ℕ) (t : TablesState) → place_of n t.entries ≡ 
 unfolding drop_walked
 walked_counted n k t e isnt = ap (walked_at t) e ∙ at (dying (slice_get t.entries k) (slice_get t.locks k)) isnt
   where
-    at : (o : Option Dinode) → false ≡ is_some o → walked_dying k t o ≡ Ran Counts (uncounted_at k t)
+    at : (o : Option Loaded) → false ≡ is_some o → walked_dying k t o ≡ Ran Counts (uncounted_at k t)
     at None isnt = refl
     at (Some d) isnt = absurd (cc isnt)
 
@@ -111,7 +111,7 @@ pub walked_kept : (n k : ℕ) (t : TablesState) → place_of n t.entries ≡ Som
 unfolding drop_walked
 walked_kept n k t e is = ap (walked_at t) e ∙ at (dying (slice_get t.entries k) (slice_get t.locks k)) is
   where
-    at : (o : Option Dinode) → true ≡ is_some o → walked_dying k t o ≡ Ran Keeps t
+    at : (o : Option Loaded) → true ≡ is_some o → walked_dying k t o ≡ Ran Keeps t
     at None is = absurd (cc is)
     at (Some d) is = refl
 

@@ -21,7 +21,7 @@ unused = record { number = 1; references = 0 }
 abbrev first : Entry
 first = record { number = 1; references = 8 }
 
-abbrev root_inode : Inode
+abbrev pub root_inode : Inode
 root_inode = record { number = 1; content = None }
 
 pub fresh_good : IsSoundInodes fresh.entries fresh.locks

@@ -8,7 +8,7 @@ pub use Rattle.sleep_lock.proofs.Vocabulary.{emptied, guard_of}
 unfoldable pub use Rattle.sleep_lock.proofs.Vocabulary.{IsNumbered}
 pub use Rattle.atomic_programs.proofs.Vocabulary.{Broke, StillWaits, WentOn, bind, set-set}
 pub use Rattle.fs_machine.specs.Tables.{TablesState, file_in, file_named, holder_at, holder_in, holder_of as lock_holder, is_file_of, is_for, is_unused, one_less, one_more, open_at, place_named, place_of, references_at, references_in, references_of}
-pub use Rattle.fs_machine.specs.declared.entries.Inode.{Inode}
+pub use Rattle.fs_machine.specs.InMemory.{IndexState, Inode, Loaded}
 pub use Rattle.fs_machine.specs.Steps.{CheckFile, Claim, Close, Commit, Directory, Double, Down, Drop, Freed, Get, GiveDescriptor, Held, Join, JoinToWrite, Leave, Lock, LockFile, LockOpen, Number, Put, Read, RefusesJoin, Reply, SetDirectory, State, TakeDescriptor, TakePlace, Unlock, Up, Walked, Whom, claim_first, claims, drop_which, in_log, in_tables, join_unless, joins, kind_of, lock_open, state_of, up_whom, with_open}
 unfoldable pub use Rattle.fs_machine.specs.Steps.{exec}
 pub use Rattle.fs_machine.specs.declared.entries.Entry.{Entry}

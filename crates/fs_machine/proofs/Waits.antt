@@ -1,5 +1,5 @@
 -- Where an operation waits, it may.
-use Rattle.fs_machine.proofs.Vocabulary.{◌≡◌, ◌≢◌, ◌+◌, ◌<◌, ◌≤◌, ◌==◌, ℕ, zero, suc, Bool, true, false, List, [], ◌∷◌, Option, Some, None, length, refl, sym, subst, ap, ◌∙◌, arith, MatchOption, IsSome, cond, count_by, slice_get, nat_tests, is_count_by, SlotState, GuardState, guard_of, lock_of, get_of, SeatState, holder_of, Got, get_laws, joined, pick, limit_of, turn_is_out, join_waits, ExecResult, Waits, Ran, Stops, exec_result_in, Dinode, Entry, Inode, FilePlace, Free, Taken, NewFile, OpenFile, Refused, Want, IsSoundInodes, InsideFits, TablesState, is_unused, place_of, place_named, references_of, references_in, file_named, file_in, open_at, is_file_of, lock_holder, refusal_of, lock_inode, lock_at, lock_file, lock_unless, with_file, settle_inode, up_inode, up_by, up_new, up_directory, drop_inode, drop_at, drop_dying, dying, drop_walked, walked_at, walked_dying, drop_freed, freed_at as uncounted_freed, first_free, take_place, take_at, open_file, open_in, open_by, double_descriptor, double_at, double_to, shut_descriptor, shut_at, freed_if, give_next, give_by, give_at, given_directory, is_free, hand_of, descriptors_of, first_empty, next_full, LogPart, Outside, Passes, Fails, join_if, got_by as block_got, read_block, commit_if, write_log, State, Join, JoinToWrite, Leave, Get, Read, Put, Commit, Lock, LockFile, LockOpen, Unlock, SetDirectory, Up, Claim, Down, CheckFile, TakePlace, TakeDescriptor, Double, Close, GiveDescriptor, Reply, Whom, Number, Directory, Drop, Held, Walked, Freed, exec, in_log, in_tables, joins, join_unless, with_open, lock_open, claims, claim_first, up_whom, drop_which, May, MayLockFile, MayLockOpen, MayWait, IsElsewhere, JoinWaits, IsCounted, WaitsWhereItMay}
+use Rattle.fs_machine.proofs.Vocabulary.{◌≡◌, ◌≢◌, ◌+◌, ◌<◌, ◌≤◌, ◌==◌, ℕ, zero, suc, Bool, true, false, List, [], ◌∷◌, Option, Some, None, length, refl, sym, subst, ap, ◌∙◌, arith, MatchOption, IsSome, cond, count_by, slice_get, nat_tests, is_count_by, SlotState, GuardState, guard_of, lock_of, get_of, SeatState, holder_of, Got, get_laws, joined, pick, limit_of, turn_is_out, join_waits, ExecResult, Waits, Ran, Stops, exec_result_in, Loaded, Entry, Inode, FilePlace, Free, Taken, NewFile, OpenFile, Refused, Want, IsSoundInodes, InsideFits, TablesState, is_unused, place_of, place_named, references_of, references_in, file_named, file_in, open_at, is_file_of, lock_holder, refusal_of, lock_inode, lock_at, lock_file, lock_unless, with_file, settle_inode, up_inode, up_by, up_new, up_directory, drop_inode, drop_at, drop_dying, dying, drop_walked, walked_at, walked_dying, drop_freed, freed_at as uncounted_freed, first_free, take_place, take_at, open_file, open_in, open_by, double_descriptor, double_at, double_to, shut_descriptor, shut_at, freed_if, give_next, give_by, give_at, given_directory, is_free, hand_of, descriptors_of, first_empty, next_full, LogPart, Outside, Passes, Fails, join_if, got_by as block_got, read_block, commit_if, write_log, State, Join, JoinToWrite, Leave, Get, Read, Put, Commit, Lock, LockFile, LockOpen, Unlock, SetDirectory, Up, Claim, Down, CheckFile, TakePlace, TakeDescriptor, Double, Close, GiveDescriptor, Reply, Whom, Number, Directory, Drop, Held, Walked, Freed, exec, in_log, in_tables, joins, join_unless, with_open, lock_open, claims, claim_first, up_whom, drop_which, May, MayLockFile, MayLockOpen, MayWait, IsElsewhere, JoinWaits, IsCounted, WaitsWhereItMay}
 use Rattle.std.specs.Prelude.{position}
 use Rattle.buffer_cache.specs.declared.got.Got.TheVariants as got
 use Rattle.fs_machine.specs.declared.files.FilePlace.TheVariants.{Open}
@@ -45,7 +45,7 @@ drop_never : (h : ℕ) (which : Drop) (t : TablesState) → Never (drop_which h 
 unfolding drop_inode drop_walked drop_freed
 drop_never h (Held n) t = at (place_of n t.entries)
   where
-    dies : (k : ℕ) (o : Option Dinode) → Never (drop_dying h n k t o)
+    dies : (k : ℕ) (o : Option Loaded) → Never (drop_dying h n k t o)
     dies k None e = cc e
     dies k (Some d) e = cc e
 
@@ -54,7 +54,7 @@ drop_never h (Held n) t = at (place_of n t.entries)
     at (Some k) e = dies k (dying (slice_get t.entries k) (slice_get t.locks k)) e
 drop_never h (Walked n) t = at (place_of n t.entries)
   where
-    dies : (k : ℕ) (o : Option Dinode) → Never (walked_dying k t o)
+    dies : (k : ℕ) (o : Option Loaded) → Never (walked_dying k t o)
     dies k None e = cc e
     dies k (Some d) e = cc e
 
@@ -209,7 +209,7 @@ file_counted h fd t f all_counted is = at (place_named h fd t) is
         let all = all_counted f.number in
         omega (arith, one, all)
 
-open_waits : (f : OpenFile) (d : ExecResult (Option Dinode) TablesState) → with_open f d ≡ Waits → d ≡ Waits
+open_waits : (f : OpenFile) (d : ExecResult (Option Loaded) TablesState) → with_open f d ≡ Waits → d ≡ Waits
 open_waits f Waits e = refl
 open_waits f (Ran a t) e = absurd (cc e)
 open_waits f (Stops t) e = absurd (cc e)
@@ -222,7 +222,7 @@ opens_wait h fd t sound counted may e = at (file_named h fd t) refl may e
     at None is ne z = ne
     at (Some f) is ne z = elsewhere h (lock_holder f.number t) (lock_is_out h f.number t sound (file_counted h fd t f counted is) (open_waits f (lock_inode h f.number t) z)) ne.1
 
-with_waits : (f : OpenFile) (d : ExecResult (Option Dinode) TablesState) → with_file f d ≡ Waits → d ≡ Waits
+with_waits : (f : OpenFile) (d : ExecResult (Option Loaded) TablesState) → with_file f d ≡ Waits → d ≡ Waits
 with_waits f Waits e = refl
 with_waits f (Ran a t) e = absurd (cc e)
 with_waits f (Stops t) e = absurd (cc e)

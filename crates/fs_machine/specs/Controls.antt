@@ -4,7 +4,7 @@ use Rattle.fs_machine.specs.Vocabulary.{option_map, Ret, Do, asks, Ran as ItRan,
 use Rattle.atomic_programs.specs.declared.machines.SteppedInPlace.TheVariants.{Waits, Ran, Done, Stopped}
 use Rattle.fs_machine.specs.declared.kind.Kind.{Kind}
 use Rattle.fs_machine.specs.LogPart.{Passes}
-use Rattle.fs_machine.specs.declared.entries.Inode.{Inode}
+use Rattle.fs_machine.specs.InMemory.{Inode}
 use Rattle.fs_machine.specs.Steps as steps
 use Rattle.fs_machine.specs.Steps.{State, exec}
 use Rattle.fs_machine.specs.Machines.{P}

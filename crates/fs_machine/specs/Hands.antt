@@ -1,7 +1,7 @@
 -- What is in a hart's hand, by its places, and how it goes with the state.
 use Rattle.std.specs.Prelude.{◌≡◌, ℕ, List, [], ◌∷◌, drop, replicate, Option, Some, None, IfSome}
 use Rattle.fs_machine.specs.Vocabulary.{option_map, option_map_or, unwrap_or, Dinode, GuardState, BufferState}
-use Rattle.fs_machine.specs.declared.entries.Inode.{Inode}
+use Rattle.fs_machine.specs.InMemory.{Inode, IndexState, index_of, stands_so, with_index_of}
 use Rattle.fs_machine.specs.Steps.{State}
 use Rattle.fs_machine.specs.Tied.{IsOwn, IsOwnInode, bytes_of}
 use Rattle.fs_machine.specs.declared.hand.Hand.{Hand}
@@ -107,10 +107,20 @@ number_at k h = unwrap_or (reference_at k h) 0
 
 -- a guard with this record
 abbrev pub recorded : Dinode → GuardState Inode → GuardState Inode
-recorded d g = record g { value = record g.value { content = Some d } }
+recorded d g = record g { value = stands_so d g.value }
 
 abbrev pub with_record : InodePlace → Dinode → Hand → Hand
 with_record k d h = with_inode k (option_map (recorded d) (inode_at k h)) h
+
+-- the index of the names of the inode at a seat
+abbrev pub index_at : InodePlace → Hand → IndexState
+index_at k h = index_of (inode_in k h)
+
+abbrev pub indexed : IndexState → GuardState Inode → GuardState Inode
+indexed x g = record g { value = with_index_of x g.value }
+
+abbrev pub with_index : InodePlace → IndexState → Hand → Hand
+with_index k x h = with_inode k (option_map (indexed x) (inode_at k h)) h
 
 -- a guard with these bytes
 abbrev pub with_content : List ℕ → GuardState BufferState → GuardState BufferState

@@ -1,7 +1,7 @@
 -- What a step makes of the inodes in memory.
 use Rattle.std.specs.Prelude.{ℕ, ◌==◌, if◌then◌else◌, nat_lt, ℤ, pos, negsuc, List, Bool, true, false, Option, Some, None, is_none, find, position, slice_get, slice_set}
-use Rattle.fs_machine.specs.Vocabulary.{Dinode, SlotState, GuardState, filled, taken, lock_of, ExecResult, Waits, Ran, Stops}
-use Rattle.fs_machine.specs.declared.entries.Inode.{Inode}
+use Rattle.fs_machine.specs.Vocabulary.{SlotState, GuardState, filled, taken, lock_of, ExecResult, Waits, Ran, Stops}
+use Rattle.fs_machine.specs.InMemory.{Inode, Loaded}
 use Rattle.fs_machine.specs.declared.entries.Entry.{Entry}
 use Rattle.fs_machine.specs.declared.files.OpenFile.{OpenFile}
 use Rattle.fs_machine.specs.declared.files.Want.{Want}
@@ -16,22 +16,22 @@ use Rattle.fs_machine.specs.Tables.{TablesState, is_unused, place_of, one_more, 
 
 -- ---- locks
 
-abbrev pub got_by : TablesState → List (SlotState Inode) × Option (GuardState Inode) → ExecResult (Option Dinode) TablesState
+abbrev pub got_by : TablesState → List (SlotState Inode) × Option (GuardState Inode) → ExecResult (Option Loaded) TablesState
 got_by t (locks, None) = Waits
 got_by t (locks, Some guard) = Ran guard.value.content (record t { locks = locks })
 
-abbrev pub lock_at : ℕ → TablesState → Option ℕ → ExecResult (Option Dinode) TablesState
+abbrev pub lock_at : ℕ → TablesState → Option ℕ → ExecResult (Option Loaded) TablesState
 lock_at h t None = Waits
 lock_at h t (Some k) = got_by t (lock_of t.locks k h)
 
 -- the lock of a referenced inode is taken, and what is loaded of it answered; it waits where that is out
-unfoldable pub lock_inode : ℕ → ℕ → TablesState → ExecResult (Option Dinode) TablesState
+unfoldable pub lock_inode : ℕ → ℕ → TablesState → ExecResult (Option Loaded) TablesState
 lock_inode h n t = lock_at h t (place_of n t.entries)
 
 -- what is answered of a descriptor's file
 pub data LockedState : Type 0 where
   Refuses : Refused → LockedState
-  Locks : OpenFile → Option Dinode → LockedState
+  Locks : OpenFile → Option Loaded → LockedState
 
 abbrev pub is_number : ℕ → ℤ → Bool
 is_number n (pos m) = m == n
@@ -51,7 +51,7 @@ refusal_of want.Stat (Some f) = None
 refusal_of want.Read (Some f) = mode_refuses f.readable f
 refusal_of want.Write (Some f) = mode_refuses f.writable f
 
-abbrev pub with_file : OpenFile → ExecResult (Option Dinode) TablesState → ExecResult LockedState TablesState
+abbrev pub with_file : OpenFile → ExecResult (Option Loaded) TablesState → ExecResult LockedState TablesState
 with_file f Waits = Waits
 with_file f (Ran content t) = Ran (Locks f content) t
 with_file f (Stops t) = Stops t
@@ -125,16 +125,16 @@ abbrev pub is_positive : ℤ → Bool
 is_positive (pos n) = nat_lt 0 n
 is_positive (negsuc n) = false
 
-abbrev pub dead_of : Option Dinode → Option Dinode
+abbrev pub dead_of : Option Loaded → Option Loaded
 dead_of None = None
-dead_of (Some d) = if is_positive d.nlink then None else Some d
+dead_of (Some l) = if is_positive l.inode.nlink then None else Some l
 
-abbrev pub dead_in : Option Inode → Option Dinode
+abbrev pub dead_in : Option Inode → Option Loaded
 dead_in None = None
 dead_in (Some v) = dead_of v.content
 
 -- what dies where a reference is dropped: it is the last one
-abbrev pub dying : Option Entry → Option (SlotState Inode) → Option Dinode
+abbrev pub dying : Option Entry → Option (SlotState Inode) → Option Loaded
 dying None s = None
 dying (Some e) None = None
 dying (Some e) (Some s) = if e.references == 1 then dead_in s.inside else None
@@ -143,12 +143,12 @@ dying (Some e) (Some s) = if e.references == 1 then dead_in s.inside else None
 pub data DroppedState : Type 0 where
   Counts : DroppedState
   Keeps : DroppedState
-  Dies : ℕ → Option Dinode → DroppedState
+  Dies : ℕ → Option Loaded → DroppedState
 
 abbrev pub uncounted_at : ℕ → TablesState → TablesState
 uncounted_at k t = record t { entries = change_at k one_less t.entries }
 
-abbrev pub drop_dying : ℕ → ℕ → ℕ → TablesState → Option Dinode → ExecResult DroppedState TablesState
+abbrev pub drop_dying : ℕ → ℕ → ℕ → TablesState → Option Loaded → ExecResult DroppedState TablesState
 drop_dying h n k t None = Ran Counts (uncounted_at k t)
 drop_dying h n k t (Some d) = Ran (Dies n (Some d)) (record t { locks = change_at k (λ s. taken s h) t.locks })
 
@@ -160,7 +160,7 @@ drop_at h n t (Some k) = drop_dying h n k t (dying (slice_get t.entries k) (slic
 unfoldable pub drop_inode : ℕ → ℕ → TablesState → ExecResult DroppedState TablesState
 drop_inode h n t = drop_at h n t (place_of n t.entries)
 
-abbrev pub walked_dying : ℕ → TablesState → Option Dinode → ExecResult DroppedState TablesState
+abbrev pub walked_dying : ℕ → TablesState → Option Loaded → ExecResult DroppedState TablesState
 walked_dying k t None = Ran Counts (uncounted_at k t)
 walked_dying k t (Some d) = Ran Keeps t
 

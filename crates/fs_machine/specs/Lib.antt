@@ -20,6 +20,8 @@ pub mod Lists
 pub mod Tables
 pub mod Soundness
 pub mod Locks
+pub mod InMemory
+pub mod Lending
 pub mod Inodes
 pub mod Files
 pub mod Results

@@ -1,7 +1,7 @@
 -- What the lock of a descriptor's inode stands for.
 use Rattle.std.specs.Prelude.{Option, Some, None}
-use Rattle.fs_machine.specs.Vocabulary.{Dinode, GuardState, ExecResult, Waits as ItWaits, Ran}
-use Rattle.fs_machine.specs.declared.entries.Inode.{Inode}
+use Rattle.fs_machine.specs.Vocabulary.{GuardState, ExecResult, Waits as ItWaits, Ran}
+use Rattle.fs_machine.specs.InMemory.{Inode, Loaded}
 use Rattle.fs_machine.specs.declared.files.OpenFile.{OpenFile}
 use Rattle.fs_machine.specs.Inodes.{LockedState, Refuses, Locks}
 use Rattle.fs_machine.specs.declared.inodes.LockedFile.{LockedFile}
@@ -12,7 +12,7 @@ file_locked_as Waits s = ItWaits
 file_locked_as (Refused why) s = Ran (Refuses why) s
 file_locked_as (Locked file guard) s = Ran (Locks file guard.value.content) s
 
-abbrev pub open_locked_as : {S : Type 0} → Option (OpenFile × GuardState Inode) → S → ExecResult (OpenFile × Option Dinode) S
+abbrev pub open_locked_as : {S : Type 0} → Option (OpenFile × GuardState Inode) → S → ExecResult (OpenFile × Option Loaded) S
 open_locked_as None s = ItWaits
 open_locked_as (Some (file, guard)) s = Ran (file, guard.value.content) s
 

@@ -1,7 +1,7 @@
 -- How a guard of an inode goes with the tables.
 use Rattle.std.specs.Prelude.{◌≡◌, ◌<◌, Some, slice_get}
 use Rattle.fs_machine.specs.Vocabulary.{GuardState, IsOut}
-use Rattle.fs_machine.specs.declared.entries.Inode.{Inode}
+use Rattle.fs_machine.specs.InMemory.{Inode}
 use Rattle.fs_machine.specs.declared.entries.Entry.{Entry}
 use Rattle.fs_machine.specs.Tables.{TablesState}
 

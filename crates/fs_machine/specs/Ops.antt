@@ -2,7 +2,7 @@
 use Rattle.std.specs.Prelude.{◌≡◌, ◌≢◌, ◌<◌, ◌≤◌, ◌∷◌, ◌++◌, [], length, take, ◌^◌, ℕ, pos, List, Bool, true, false, Option, Some, None, IsSome, IfSome}
 use Rattle.fs_machine.specs.Vocabulary.{MatchOption, option_map_or, GuardState, BufferState, AfterLeave, Free, Commits}
 use Rattle.fs_machine.specs.Limits.{descriptor_count, listed_places}
-use Rattle.fs_machine.specs.declared.entries.Inode.{Inode}
+use Rattle.fs_machine.specs.InMemory.{Inode}
 use Rattle.fs_machine.specs.declared.files.Refused.TheVariants as refused
 use Rattle.fs_machine.specs.declared.slots.Doubled.TheVariants as doubled
 use Rattle.fs_machine.specs.declared.slots.Shut.TheVariants as shut

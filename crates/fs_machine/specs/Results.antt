@@ -1,12 +1,12 @@
 -- What the answers of the tables stand for.
 use Rattle.std.specs.Prelude.{ℕ, Option, Some, None, Result, Ok, Err}
-use Rattle.fs_machine.specs.Vocabulary.{Dinode, GuardState, ExecResult, Waits, Ran}
-use Rattle.fs_machine.specs.declared.entries.Inode.{Inode}
+use Rattle.fs_machine.specs.Vocabulary.{GuardState, ExecResult, Waits, Ran}
+use Rattle.fs_machine.specs.InMemory.{Inode, Loaded}
 use Rattle.fs_machine.specs.declared.entries.Dropped.{Dropped}
 use Rattle.fs_machine.specs.declared.entries.Dropped.TheVariants as dropped
 use Rattle.fs_machine.specs.Inodes.{DroppedState, Counts, Keeps, Dies}
 
-abbrev pub locked_as : {S : Type 0} → Option (GuardState Inode) → S → ExecResult (Option Dinode) S
+abbrev pub locked_as : {S : Type 0} → Option (GuardState Inode) → S → ExecResult (Option Loaded) S
 locked_as None s = Waits
 locked_as (Some guard) s = Ran guard.value.content s
 

@@ -2,7 +2,7 @@
 use Rattle.std.specs.Prelude.{◌≡◌, ℕ, ◌<◌, List, length, Option, Some, None, IsSome, slice_get}
 use Rattle.fs_machine.specs.Vocabulary.{SlotState}
 use Rattle.fs_machine.specs.Limits.{inode_places, file_places, desk_count}
-use Rattle.fs_machine.specs.declared.entries.Inode.{Inode}
+use Rattle.fs_machine.specs.InMemory.{Inode}
 use Rattle.fs_machine.specs.declared.entries.Entry.{Entry}
 use Rattle.fs_machine.specs.Tables.{TablesState}
 

@@ -1,7 +1,7 @@
 -- The operations that calls are made of, and what each makes of the state that all harts share.
 use Rattle.std.specs.Prelude.{ℕ, List, Bool, Option, Some, None}
-use Rattle.fs_machine.specs.Vocabulary.{Dinode, AfterLeave, ExecResult, Waits, Ran, Stops, exec_result_in}
-use Rattle.fs_machine.specs.declared.entries.Inode.{Inode}
+use Rattle.fs_machine.specs.Vocabulary.{AfterLeave, ExecResult, Waits, Ran, Stops, exec_result_in}
+use Rattle.fs_machine.specs.InMemory.{Inode, Loaded}
 use Rattle.fs_machine.specs.declared.files.NewFile.{NewFile}
 use Rattle.fs_machine.specs.declared.files.OpenFile.{OpenFile}
 use Rattle.fs_machine.specs.declared.files.Want.{Want}
@@ -114,9 +114,9 @@ Answer (Put b change) = Unit {0}
 -- whether it ended
 Answer Commit = Bool
 -- the inode where it is loaded
-Answer (Lock n) = Option Dinode
+Answer (Lock n) = Option Loaded
 Answer (LockFile w fd) = LockedState
-Answer (LockOpen fd) = OpenFile × Option Dinode
+Answer (LockOpen fd) = OpenFile × Option Loaded
 Answer (Unlock v moved) = Unit {0}
 -- the old directory, to which the reference is in hand now
 Answer (SetDirectory v) = ℕ
@@ -151,12 +151,12 @@ join_unless h s f (Some why) = Ran (RefusesJoin why) s
 join_unless h s None None = Waits
 join_unless h s (Some f) None = joins f (in_log s (join_log h s.log))
 
-abbrev pub with_open : OpenFile → ExecResult (Option Dinode) TablesState → ExecResult (OpenFile × Option Dinode) TablesState
+abbrev pub with_open : OpenFile → ExecResult (Option Loaded) TablesState → ExecResult (OpenFile × Option Loaded) TablesState
 with_open f Waits = Waits
 with_open f (Ran content t) = Ran (f, content) t
 with_open f (Stops t) = Stops t
 
-abbrev pub lock_open : ℕ → TablesState → Option OpenFile → ExecResult (OpenFile × Option Dinode) TablesState
+abbrev pub lock_open : ℕ → TablesState → Option OpenFile → ExecResult (OpenFile × Option Loaded) TablesState
 lock_open h t None = Waits
 lock_open h t (Some f) = with_open f (lock_inode h f.number t)
 

@@ -1,7 +1,7 @@
 -- The tables that all harts share.
 use Rattle.std.specs.Prelude.{ℕ, ◌+◌, ◌-◌, ◌==◌, ◌&&◌, nat_lt, List, Bool, false, Option, Some, None, position, count_by, slice_get}
 use Rattle.fs_machine.specs.Vocabulary.{SlotState}
-use Rattle.fs_machine.specs.declared.entries.Inode.{Inode}
+use Rattle.fs_machine.specs.InMemory.{Inode}
 use Rattle.fs_machine.specs.declared.entries.Entry.{Entry}
 use Rattle.fs_machine.specs.declared.files.OpenFile.{OpenFile}
 use Rattle.fs_machine.specs.declared.files.FilePlace.{FilePlace}

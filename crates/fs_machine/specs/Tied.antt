@@ -1,7 +1,7 @@
 -- How the guards in a hart's hand go with the state.
 use Rattle.std.specs.Prelude.{◌≡◌, ◌≢◌, ℕ, List, [], IfSome}
 use Rattle.fs_machine.specs.Vocabulary.{unwrap_or, IsOutsideLog, GuardState, BufferState, seen_in, IsHeld}
-use Rattle.fs_machine.specs.declared.entries.Inode.{Inode}
+use Rattle.fs_machine.specs.InMemory.{Inode}
 use Rattle.fs_machine.specs.Locks.{IsLocked}
 use Rattle.fs_machine.specs.LogPart.{LogPart}
 use Rattle.fs_machine.specs.Steps.{State}

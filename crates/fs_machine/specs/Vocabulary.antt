@@ -7,6 +7,7 @@ pub use Rattle.buffer_cache.specs.Buffers.{BufferState}
 pub use Rattle.fs_layout.specs.declared.inode.Dinode.{Dinode}
 pub use Rattle.group_log.specs.declared.log.AfterLeave.{AfterLeave}
 pub use Rattle.std.specs.Option.{option_map_or}
+pub use Rattle.std.specs.Borrow.{Fml, Lends, MutBor}
 pub use Rattle.buffer_cache.specs.Seats.{IsHeld}
 pub use Rattle.std.specs.List.{list_any}
 pub use Rattle.atomic_programs.specs.declared.machines.Stepped.{Stepped}

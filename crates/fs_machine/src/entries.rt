@@ -1,26 +1,116 @@
 // Inodes in memory, and references to them.
-ghost use Rattle.std.specs.Prelude.{◌≡◌, ◌+◌, ◌-◌, ◌<◌, ◌^◌, ◌↔◌, ◌∷◌, ℕ, Some, None, IsSome, IsTrue, IfSome, position, length, slice_get, slice_set};
+ghost use Rattle.std.specs.Prelude.{◌≡◌, ◌+◌, ◌-◌, ◌<◌, ◌^◌, ◌↔◌, ◌∷◌, ℕ, Some, None, IsSome, IsTrue, IfOk, IfSome, position, length, slice_get, slice_set};
 ghost use Rattle.fs_machine.specs.Tables.{is_for, is_unused, one_more, one_less};
 ghost use Rattle.fs_machine.specs.Lists.{change_at};
 ghost use Rattle.fs_machine.specs.Inodes.{dead_of};
 
+use crate::name_index::NameIndex;
 use fs_layout::Dinode;
 use sleep_lock::{Guard, RetiredSlots};
+use std::alloc::{AllocError, Global};
 use std::marker::Model;
 
-/// An inode in memory, as the holder of its lock has it: its number, and what stands on the disk once it was loaded.
-#[derive(Drop, Clone, Copy)]
+/// An inode in memory, as the holder of its lock has it: its number, and what stands on the disk once it was loaded, with an index of its
+/// names where it is a directory. A contract sees the index only where the inode is loaded.
+#[derive(Drop)]
 pub struct Inode {
-    pub number: u32,
-    pub content: Option<Dinode>,
+    number: u32,
+    dinode: Option<Dinode>,
+    index: NameIndex,
+}
+
+impl Model for Inode {
+    ghost use Rattle.fs_machine.specs.InMemory.{Inode as InodeState, content_of};
+
+    ghost Value = { InodeState };
+
+    ghost view = { λ v. record { number = v.number; content = content_of v.dinode v.index } };
 }
 
 impl Inode {
+    ghost use Rattle.std.specs.Borrow.{sem};
+    ghost use Rattle.fs_machine.specs.InMemory.{index_of, dinode_of, stands_so};
+    ghost use Rattle.fs_machine.specs.Lending.{LendsIndex};
+
+    /// Of this number, with nothing loaded, and the memory for an index.
+    pub(crate) fn new(alloc: Global, number: u32) -> Result<Inode, AllocError>
+        ensures { IfOk result (λ inode. inode ≡ record { number = number; content = None }) }
+    {
+        Ok(Inode {
+            number,
+            dinode: None,
+            index: NameIndex::new(alloc)?,
+        })
+    }
+
+    // From now on it has this number, and nothing is loaded.
+    pub(crate) fn renew(&mut self, number: u32)
+        ensures { self.new ≡ record { number = number; content = None } }
+    {
+        self.number = number;
+        self.dinode = None;
+    }
+
+    /// Its number.
+    pub fn number(&self) -> u32
+        ensures { result ≡ self.now.number }
+    {
+        self.number
+    }
+
+    /// Whether it is loaded.
+    pub fn is_loaded(&self) -> bool
+        ensures { IsTrue result ↔ IsSome self.now.content }
+    {
+        self.dinode.is_some()
+    }
+
+    /// What stands on the disk.
+    pub fn dinode(&self) -> Option<Dinode>
+        ensures { result ≡ dinode_of self.now }
+    {
+        self.dinode
+    }
+
+    /// It stands so from now on. Where it wasn't loaded none of its names is indexed.
+    pub fn set_record(&mut self, inode: Dinode)
+        ensures { self.new ≡ stands_so inode self.old }
+    {
+        if self.dinode.is_none() {
+            self.index.clear();
+        }
+        self.dinode = Some(inode);
+    }
+
+    /// Nothing is loaded from now on.
+    pub fn unload(&mut self)
+        ensures { self.new ≡ record self.old { content = None } }
+    {
+        self.dinode = None;
+    }
+
+    /// The index of its names.
+    pub fn index(&self) -> &NameIndex
+        requires { IsSome self.now.content }
+        ensures { result.now ≡ index_of self.now }
+    {
+        &self.index
+    }
+
+    /// The same, to be changed.
+    pub fn index_mut(&mut self) -> &mut NameIndex
+        requires { IsSome self.old.content }
+        ensures* writes_back { sem 𝓛 (LendsIndex self.entry result) }
+        ensures value { result.now ≡ index_of self.old }
+    {
+        &mut self.index
+    }
+
     /// Whether it is loaded, and has no link.
     pub fn is_dead(&self) -> bool
         ensures { IsTrue result ↔ IsSome (dead_of self.now.content) }
     {
-        match self.content {
+        match self.dinode {
             None => false,
             Some(inode) => inode.nlink <= 0,
         }

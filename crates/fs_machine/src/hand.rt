@@ -296,7 +296,7 @@ fn is_loaded(place: &Option<Guard<Inode>>) -> bool
     ensures { result ≡ is_some (option_map_or (λ g. g.value) place.now no_inode).content }
 {
     match place {
-        Some(guard) => guard.value().content.is_some(),
+        Some(guard) => guard.value().is_loaded(),
         None => false,
     }
 }
@@ -306,7 +306,7 @@ fn number_of(place: &Option<Guard<Inode>>) -> u32
     ensures { result ≡ (option_map_or (λ g. g.value) place.now no_inode).number }
 {
     match place {
-        Some(guard) => guard.value().number,
+        Some(guard) => guard.value().number(),
         None => unreachable!(),
     }
 }
@@ -316,7 +316,7 @@ fn set_record(place: &mut Option<Guard<Inode>>, inode: Dinode)
     ensures { place.new ≡ option_map (recorded inode) place.old }
 {
     match place {
-        Some(guard) => guard.value_mut().content = Some(inode),
+        Some(guard) => guard.value_mut().set_record(inode),
         None => unreachable!(),
     }
 }

@@ -1,5 +1,5 @@
 // The tables, and the steps on inodes in memory.
-ghost use Rattle.std.specs.Prelude.{◌≡◌, ◌≢◌, ◌+◌, ◌<◌, ◌^◌, ℕ, Some, None, IsSome, IfSome, IfNone, IfOk, is_some, length, slice_get, slice_set};
+ghost use Rattle.std.specs.Prelude.{◌≡◌, ◌≢◌, ◌+◌, ◌<◌, ◌^◌, ℕ, Some, None, IsSome, IfSome, IfNone, IfOk, is_some, length, replicate, slice_get, slice_set};
 ghost use Rattle.sleep_lock.specs.SleepLock.{GuardState, filled};
 ghost use Rattle.sleep_lock.specs.Row.{lock_of};
 ghost use Rattle.atomic_programs.specs.Prog.{Ran};
@@ -49,11 +49,7 @@ impl Tables {
     pub fn new(alloc: Global) -> Result<Tables, AllocError>
         ensures { IfOk result (λ tables. tables ≡ fresh) }
     {
-        let root = Inode {
-            number: ROOT,
-            content: None,
-        };
-        let locks = Slots::new(alloc, Vec::from_slice(alloc, &[root; MEMORY_INODES])?)?;
+        let locks = Slots::new(alloc, places(alloc)?)?;
         let mut entries = [Entry {
             number: ROOT,
             references: 0,
@@ -241,6 +237,17 @@ fn is_dying(entries: &[Entry], locks: &mut Slots<Inode>, place: usize) -> bool
     }
 }
 
+// The places for inodes, all free.
+fn places(alloc: Global) -> Result<Vec<Inode>, AllocError>
+    ensures { IfOk result (λ places. places.items ≡ replicate MEMORY_INODES (record { number = ROOT; content = None })) }
+{
+    let mut places = Vec::with_capacity(alloc, MEMORY_INODES)?;
+    for _ in 0..MEMORY_INODES {
+        places.push(Inode::new(alloc, ROOT)?)?;
+    }
+    Ok(places)
+}
+
 // A free place becomes an inode's, with one reference; nothing of it is loaded yet.
 fn begin(entries: &mut [Entry], locks: &mut Slots<Inode>, place: usize, number: u32)
     requires sound { IsSoundInodes entries.old locks.old }
@@ -252,10 +259,7 @@ fn begin(entries: &mut [Entry], locks: &mut Slots<Inode>, place: usize, number: 
     match locks.lock(0, place as u32) {
         None => unreachable!(),
         Some(mut guard) => {
-            let _ = guard.replace(Inode {
-                number,
-                content: None,
-            });
+            guard.value_mut().renew(number);
             locks.unlock(guard);
         }
     }

@@ -9,12 +9,12 @@ pub use Rattle.inode_data.specs.Emptying.{emptying_of, indirect_rest, listed_res
 pub use Rattle.inode_data.specs.Widths.{direct}
 pub use Rattle.std.proofs.lemmas.List.{get_or-take, get_or_past}
 pub use Rattle.fs_layout.proofs.Numbers.{length-u32s_at}
-pub use Rattle.inode_data.proofs.Goings.{missing, number-kept, table_in}
+pub use Rattle.inode_data.proofs.Goings.{freeing-kept, missing, number-kept, record-beside, table_in}
 pub use Rattle.inode_data.proofs.PartReadings.{next_read, whole_read}
 pub use Rattle.inode_data.proofs.PartWritings.{ends_there, goes_on_so, past_so, stored_so, whole_so}
 pub use Rattle.inode_data.proofs.ReadLaw.{reads_content}
 pub use Rattle.inode_data.specs.Freeing.{free_in_table, free_table, freed, without_content}
-pub use Rattle.inode_data.specs.FreeingInodes.{store_free}
+pub use Rattle.inode_data.specs.FreeingInodes.{beside_freeing, store_free}
 pub use Rattle.inode_data.specs.Locating.{locate_asked}
 pub use Rattle.inode_data.specs.PartReading.{filled_in}
 pub use Rattle.inode_data.specs.Writing.{name_direct, with_table}

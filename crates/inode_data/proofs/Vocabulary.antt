@@ -15,7 +15,10 @@ pub use Rattle.inode_data.specs.Addresses.{address, table_of}
 pub use Rattle.inode_data.specs.Emptying.{beside_emptying, truncate_left}
 pub use Rattle.inode_data.specs.FetchingBlocks.{block_left}
 pub use Rattle.inode_data.specs.Freeing.{free_numbers}
-pub use Rattle.inode_data.specs.FreeingInodes.{freeing_left}
+pub use Rattle.inode_data.specs.FreeingInodes.{beside_freeing, freeing_left}
+pub use Rattle.fs_machine.specs.Hands.{index_at, recorded, with_record}
+pub use Rattle.fs_machine.specs.InMemory.{Loaded, index_of, stands_so}
+pub use Rattle.inode_table.specs.Programs.{no_record}
 pub use Rattle.inode_data.specs.Laws.{ReadsTheContent, Shows, number_at}
 unfoldable pub use Rattle.inode_data.specs.Laws.{content_block, front_blocks}
 pub use Rattle.inode_data.specs.Locating.{locate_left, stage_left}

@@ -1,6 +1,7 @@
 -- The content of the inode at a seat emptied.
-use Rattle.std.specs.Prelude.{◌≡◌, ℕ, ◌+◌, ◌<◌, List, [], drop, take, Option, None, IsSome}
-use Rattle.inode_data.specs.Vocabulary.{MatchOption, Dinode, numbers_in, numbers_per_block, GuardState, BufferState, Inode, record_of, Ret, bind, P, HandState as Hand, First, Second, Op, buffer_at, block_at, inode_in, with_buffer, fetch_left, fetch_asked, fetch_block, fetch_place, FetchReady, block_in, bytes_in, free_left, free_asked, free_place, FreeReady, record_in, unloaded, IsLoadedAt, HasBlock, record_left, record_asked, record_place, record_seat, RecordReady, FreeBlock}
+use Rattle.std.specs.Prelude.{◌≡◌, ℕ, ◌+◌, ◌<◌, drop, take, Option, None, IsSome}
+use Rattle.inode_data.specs.Vocabulary.{MatchOption, Dinode, numbers_in, numbers_per_block, GuardState, BufferState, Inode, record_of, Ret, bind, P, HandState as Hand, First, Second, Op, buffer_at, block_at, inode_in, with_buffer, fetch_left, fetch_asked, fetch_block, fetch_place, FetchReady, block_in, bytes_in, free_left, free_asked, free_place, FreeReady, record_in, with_record, IsLoadedAt, HasBlock, record_left, record_asked, record_place, record_seat, RecordReady, FreeBlock}
+use Rattle.inode_table.specs.Programs.{no_record}
 use Rattle.inode_data.specs.Widths.{direct}
 use Rattle.inode_data.specs.Addresses.{table_of}
 use Rattle.inode_data.specs.Freeing.{free_numbers, free_table, free_in_table, free_indirect, without_content, store_record}
@@ -77,6 +78,6 @@ TruncateReady m h = StageReady m h × IsEmptying (emptying_of m) h
 abbrev pub HasNoBuffer : Hand → Type 0
 HasNoBuffer h = (h.first ≡ None) × (h.second ≡ None)
 
--- but for the buffers and the record
+-- but for the buffers and the record: the index stays
 abbrev pub beside_emptying : Emptying → Hand → Hand
-beside_emptying e h = with_buffer First None (with_buffer Second None (unloaded e.seat h))
+beside_emptying e h = with_buffer First None (with_buffer Second None (with_record e.seat no_record h))

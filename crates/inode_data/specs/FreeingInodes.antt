@@ -1,6 +1,6 @@
 -- The inode at a seat freed.
 use Rattle.std.specs.Prelude.{◌≡◌, ℕ, None, IsSome}
-use Rattle.inode_data.specs.Vocabulary.{MatchOption, Dinode, Super, bind, P, store, HandState as Hand, First, InodePlace, Op, inode_at, number_in, record_left, record_asked, record_place, record_seat, RecordReady}
+use Rattle.inode_data.specs.Vocabulary.{MatchOption, Dinode, Super, bind, P, store, HandState as Hand, First, Second, InodePlace, Op, inode_at, with_buffer, number_in, unloaded, record_left, record_asked, record_place, record_seat, RecordReady}
 use Rattle.inode_data.specs.Freeing.{truncate, freed}
 use Rattle.inode_data.specs.Emptying.{truncate_left, truncate_asked, emptying_of, TruncateReady, HasNoBuffer}
 use Rattle.inode_data.specs.declared.free_inode.FreeInode.{FreeInode}
@@ -37,3 +37,7 @@ IsUnloadedAt k h = MatchOption (inode_at k h) ⊥ (λ g. g.value.content ≡ Non
 
 abbrev pub HasFreed : Emptying → Hand → Type 0
 HasFreed e h = IsUnloadedAt e.seat h × HasNoBuffer h × IsSome h.txn
+
+-- but for the buffers and what is loaded
+abbrev pub beside_freeing : Emptying → Hand → Hand
+beside_freeing e h = with_buffer First None (with_buffer Second None (unloaded e.seat h))

@@ -9,6 +9,7 @@ pub use Rattle.fs_machine.specs.declared.hand.Place.TheVariants.{First, Second}
 pub use Rattle.inode_table.specs.Programs.{inode_block, record_of, store}
 pub use Rattle.inode_table.specs.HeldInodes.{HasBlock, IsLoadedAt, number_in, record_in, unloaded}
 pub use Rattle.bitmap_alloc.specs.Programs.{free_block, take_block}
+pub use Rattle.fs_machine.specs.Hands.{with_record}
 pub use Rattle.fs_machine.specs.Ops.{CanDo, Prepared, op_in}
 pub use Rattle.inode_table.specs.StoringRecords.{RecordReady, record_asked, record_left, record_place, record_seat}
 pub use Rattle.bitmap_alloc.specs.FreeingBlocks.{FreeReady, free_asked, free_left, free_place}
@@ -24,7 +25,7 @@ pub use Rattle.fs_machine.specs.declared.fetch.Fetched.{Fetched}
 pub use Rattle.inode_table.specs.Storing.{StoreReady, store_asked, store_left, store_place}
 pub use Rattle.fs_layout.specs.declared.inode.Dinode.{Dinode}
 pub use Rattle.fs_layout.specs.declared.superblock.Super.{Super}
-pub use Rattle.fs_machine.specs.declared.entries.Inode.{Inode}
+pub use Rattle.fs_machine.specs.InMemory.{Inode}
 pub use Rattle.fs_machine.specs.declared.hand.Hand.{Hand as HandState}
 pub use Rattle.fs_machine.specs.declared.hand.Place.{Place}
 pub use Rattle.fs_machine.specs.declared.hand.InodePlace.{InodePlace}

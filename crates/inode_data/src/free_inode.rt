@@ -2,8 +2,8 @@
 ghost use Rattle.std.specs.Prelude.{◌≡◌, None, IfSome, IfNone};
 ghost use Rattle.inode_data.specs.Vocabulary.{store, IsAfter, answer_in, Goes, left_after, bare, HandState, number_in, record_in};
 ghost use Rattle.inode_data.specs.Freeing.{freed};
-ghost use Rattle.inode_data.specs.Emptying.{beside_emptying, IsEmptying, HasNoBuffer};
-ghost use Rattle.inode_data.specs.FreeingInodes.{free_record, store_free, freeing_left, freeing_asked, freeing_of, FreeingReady, HasFreed};
+ghost use Rattle.inode_data.specs.Emptying.{IsEmptying, HasNoBuffer};
+ghost use Rattle.inode_data.specs.FreeingInodes.{beside_freeing, free_record, store_free, freeing_left, freeing_asked, freeing_of, FreeingReady, HasFreed};
 ghost use Rattle.inode_data.specs.declared.truncate.Emptying.{Emptying as EmptyingState};
 
 use crate::truncate::{Emptying, Truncate};
@@ -28,8 +28,8 @@ impl FreeInode {
         ensures program { freeing_left result hand.new ≡ free_record sizes.now (number_in seat hand.old) (record_in seat hand.old) }
         ensures ready { FreeingReady result hand.new }
         ensures about { freeing_of result ≡ record { seat = seat; sizes = sizes.now } }
-        ensures beside { beside_emptying (record { seat = seat; sizes = sizes.now }) hand.new
-            ≡ beside_emptying (record { seat = seat; sizes = sizes.now }) hand.old }
+        ensures beside { beside_freeing (record { seat = seat; sizes = sizes.now }) hand.new
+            ≡ beside_freeing (record { seat = seat; sizes = sizes.now }) hand.old }
         ensures hand { bare hand.new ≡ bare hand.old }
     {
         FreeInode::Truncating(Truncate::begin(hand, seat, sizes))
@@ -53,7 +53,7 @@ impl Routine for FreeInode {
 
     ghost about = { freeing_of };
 
-    ghost beside = { beside_emptying };
+    ghost beside = { beside_freeing };
 
     ghost Ends = { λ m _ h. HasFreed (freeing_of m) h };
 
@@ -96,7 +96,7 @@ fn store_free(emptying: Emptying, hand: &mut Hand) -> FreeInode
         ≡ store_free emptying.sizes (number_in emptying.seat hand.old) (record_in emptying.seat hand.old) }
     ensures ready { FreeingReady result hand.new }
     ensures about { freeing_of result ≡ emptying }
-    ensures beside { beside_emptying emptying hand.new ≡ beside_emptying emptying hand.old }
+    ensures beside { beside_freeing emptying hand.new ≡ beside_freeing emptying hand.old }
     ensures hand { bare hand.new ≡ bare hand.old }
 {
     let inode = free(record_at(hand, emptying.seat));

@@ -1,5 +1,5 @@
 -- Programs one after the other, without marks.
-use Rattle.inode_parts.proofs.Vocabulary.{◌≡◌, ℕ, Option, Some, ◌∙◌, Dinode, Ret, Do, bind, plain, plain-bind, load_unless}
+use Rattle.inode_parts.proofs.Vocabulary.{◌≡◌, ℕ, Option, Some, ◌∙◌, Loaded, Ret, Do, bind, plain, plain-bind, load_unless}
 use Rattle.atomic_programs.specs.Prog.{asks}
 use Rattle.fs_machine.specs.Machines as code
 use Rattle.fs_machine.specs.Steps as steps
@@ -15,6 +15,6 @@ pub then_plain : {A B : Type 0} (p : P A) (q : code.P A) (f : A → P B) (g : A 
 then_plain p q f g same each = plain-bind p f ∙ (λ i. bind (same i) (λ a. each a i))
 
 -- an inode is loaded, and then
-pub load_then : {A : Type 0} (inodestart n : ℕ) (content : Option Dinode) (f : Dinode → P A) (g : Dinode → code.P A) → ((d : Dinode) → plain (f d) ≡ g d)
+pub load_then : {A : Type 0} (inodestart n : ℕ) (content : Option Loaded) (f : Loaded → P A) (g : Loaded → code.P A) → ((l : Loaded) → plain (f l) ≡ g l)
     → plain (bind (load_unless inodestart n content) f) ≡ bind (load_unless inodestart n content) g
 load_then inodestart n content f g same = then_plain (load_unless inodestart n content) (load_unless inodestart n content) f g (plain_load inodestart n content) same

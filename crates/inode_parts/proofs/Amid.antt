@@ -1,5 +1,5 @@
 -- Operations that change an inode: each stays amid until it leaves what it says.
-use Rattle.inode_parts.proofs.Vocabulary.{◌≡◌, ℕ, Option, Some, None, refl, sym, ap, subst, ◌∙◌, IsSome, MatchOption, option_map, GuardState, Dinode, Inode, Hand, Place, First, Second, InodePlace, One, Two, inode_at, recorded, with_buffer, with_record, HasNoBuffer, unloaded, without_content, IsLoadedAt, beside_buffers, note_at, with_note, beside_inode, IsAmid, Changed, Reloaded, StandBeside, having, other, Note, Notes}
+use Rattle.inode_parts.proofs.Vocabulary.{◌≡◌, ℕ, Option, Some, None, refl, sym, ap, subst, ◌∙◌, IsSome, MatchOption, option_map, GuardState, Dinode, IndexState, Inode, Hand, Place, First, Second, InodePlace, One, Two, inode_at, indexed, recorded, with_buffer, with_index, with_record, HasNoBuffer, unloaded, without_content, IsLoadedAt, beside_buffers, note_at, with_note, beside_inode, IsAmid, Changed, Reloaded, StandBeside, having, other, Note, Notes}
 
 -- ---- beside the inode at a seat nothing changes
 
@@ -12,6 +12,15 @@ pub record_beside : (k : InodePlace) (d : Dinode) (h : Hand) → beside_inode k 
 record_beside One d h = λ i. record (beside_inode One h) { one = unloaded_set d h.one i }
 record_beside Two d h = λ i. record (beside_inode Two h) { two = unloaded_set d h.two i }
 
+-- where its index is
+index_unloaded : (x : IndexState) (o : Option (GuardState Inode)) → option_map without_content (option_map (indexed x) o) ≡ option_map without_content o
+index_unloaded x None = refl
+index_unloaded x (Some g) = refl
+
+index_beside : (k : InodePlace) (x : IndexState) (h : Hand) → beside_inode k (with_index k x h) ≡ beside_inode k h
+index_beside One x h = λ i. record (beside_inode One h) { one = index_unloaded x h.one i }
+index_beside Two x h = λ i. record (beside_inode Two h) { two = index_unloaded x h.two i }
+
 -- where buffers change
 pub buffers_beside : (k : InodePlace) (before h : Hand) → beside_buffers tt h ≡ beside_buffers tt before → beside_inode k h ≡ beside_inode k before
 buffers_beside One before h same = ap (unloaded One) same
@@ -21,9 +30,6 @@ buffers_beside Two before h same = ap (unloaded Two) same
 pub same_inode : (k : InodePlace) (before h : Hand) → beside_buffers tt h ≡ beside_buffers tt before → inode_at k h ≡ inode_at k before
 same_inode One before h same = ap (λ (h : Hand). h.one) same
 same_inode Two before h same = ap (λ (h : Hand). h.two) same
-
-pub still_there : (k : InodePlace) (before h : Hand) → beside_buffers tt h ≡ beside_buffers tt before → IsSome (inode_at k before) → IsSome (inode_at k h)
-still_there k before h same there = subst (λ (o : Option (GuardState Inode)). IsSome o) (sym (same_inode k before h same)) there
 
 -- where one of them does
 pub buffer_beside : (p : Place) (k : InodePlace) (before h : Hand) → with_buffer p None h ≡ with_buffer p None before → beside_inode k h ≡ beside_inode k before
@@ -73,7 +79,7 @@ module _ (n : ℕ) (start h : Hand) (k : InodePlace) (amid : IsAmid n start k h)
   leaves_changed m m2 x noted there = ((reloads, subst (λ (k : InodePlace). IsLoadedAt k h) amid.0 there), stands m m2 x noted)
 
 -- where its record is set at the end
-pub leaves_set : (n : ℕ) (start h after : Hand) (k : InodePlace) (d : Dinode) (m m2 : Notes) (x : Note) → IsAmid n start k h → HasNoBuffer h → IsSome (inode_at k h) → after ≡ with_record k d h → m2 ≡ with_note k x m
+leaves_set : (n : ℕ) (start h after : Hand) (k : InodePlace) (d : Dinode) (m m2 : Notes) (x : Note) → IsAmid n start k h → HasNoBuffer h → IsSome (inode_at k h) → after ≡ with_record k d h → m2 ≡ with_note k x m
     → Changed n start after × StandBeside n (having start m) (having after m2)
 leaves_set n start h after k d m m2 x amid none there set noted =
     subst (λ (after : Hand). Changed n start after × StandBeside n (having start m) (having after m2)) (sym set)
@@ -82,3 +88,21 @@ leaves_set n start h after k d m m2 x amid none there set noted =
     no_buffer : (k : InodePlace) → HasNoBuffer (with_record k d h)
     no_buffer One = none
     no_buffer Two = none
+
+-- .. and its index before
+pub leaves_both : (n : ℕ) (start h after : Hand) (k : InodePlace) (d : Dinode) (x : IndexState) (m m2 : Notes) (l : Note) → IsAmid n start k h → HasNoBuffer h → IsSome (inode_at k h) → after ≡ with_record k d (with_index k x h) → m2 ≡ with_note k l m
+    → Changed n start after × StandBeside n (having start m) (having after m2)
+leaves_both n start h after k d x m m2 l amid none there set noted =
+    leaves_set n start (with_index k x h) after k d m m2 l (still_amid n start k h (with_index k x h) (index_beside k x h) amid) (no_buffer k) (some k there) set noted
+  where
+    no_buffer : (k : InodePlace) → HasNoBuffer (with_index k x h)
+    no_buffer One = none
+    no_buffer Two = none
+
+    inside : (o : Option (GuardState Inode)) → IsSome o → IsSome (option_map (indexed x) o)
+    inside None is = absurd (cc is)
+    inside (Some g) is = refl
+
+    some : (k : InodePlace) → IsSome (inode_at k h) → IsSome (inode_at k (with_index k x h))
+    some One is = inside h.one is
+    some Two is = inside h.two is

@@ -1,5 +1,5 @@
 -- What an operation on whole inodes is below, where it is one operation.
-use Rattle.inode_parts.proofs.Vocabulary.{◌≡◌, ◌≢◌, ℕ, zero, suc, List, [], ◌++◌, Bool, true, false, Option, Some, None, refl, sym, ap, ◌∙◌, subst, inl, inr, append-nil, if◌then◌else◌, is_some, IsSome, MatchOption, option_map_or, unwrap_or, put, eq_is, Prog, Ret, Do, bind, plain, unmarked, GuardState, Dinode, Super, Inode, Given, AfterLeave, Commits, holding, P, after_leave, commit_unless, commits, most_writes, Hand, InodePlace, One, Two, inode_at, inode_in, no_inode, number_at, reference_at, new_file, Acts, joining_to, lent_to, with_dying, is_listed, is_dying, Carry, Had, Apart, record_had, joined_in, loan_in, op_in, Ask, Element, BeginsWith, carry_in, had_at, had_of, IsPart, Part, one, Begins, HasReference, IsAlone, MayRefer, StepReady, free_seat, joining_heard, loan_heard, locks, seat_of_lock, seat_of_reference, still, having, ends_with, is_short, part_for, part_left, PartReady, one_or_leave, PartTold, FillsAs, Note, Notes, OneStep}
+use Rattle.inode_parts.proofs.Vocabulary.{◌≡◌, ◌≢◌, ℕ, zero, suc, List, [], ◌++◌, Bool, true, false, Option, Some, None, refl, sym, ap, ◌∙◌, subst, inl, inr, append-nil, if◌then◌else◌, is_some, IsSome, MatchOption, option_map_or, unwrap_or, put, eq_is, Prog, Ret, Do, bind, plain, unmarked, GuardState, Loaded, Super, Inode, Given, AfterLeave, Commits, holding, P, after_leave, commit_unless, commits, most_writes, Hand, InodePlace, One, Two, inode_at, inode_in, no_inode, number_at, reference_at, new_file, Acts, joining_to, lent_to, with_dying, is_listed, is_dying, Carry, Had, Apart, record_had, joined_in, loan_in, op_in, Ask, Element, BeginsWith, carry_in, had_at, had_of, IsPart, Part, one, Begins, HasReference, IsAlone, MayRefer, StepReady, free_seat, joining_heard, loan_heard, locks, seat_of_lock, seat_of_reference, still, having, ends_with, is_short, part_for, part_left, PartReady, one_or_leave, PartTold, FillsAs, Note, Notes, OneStep}
 use Rattle.fs_machine.specs.declared.slots.Given.TheVariants as given
 use Rattle.group_log.specs.declared.log.AfterLeave.TheVariants.{Free}
 use Rattle.fs_machine.specs.Steps as steps
@@ -22,7 +22,7 @@ lends_so (given.Directory n) = refl
 
 -- ---- the record that a lock goes back with
 
-record_of_had : (path : List ℕ) (l : Note) (o : Option Dinode) → record_had (had_of path l o) ≡ o
+record_of_had : (path : List ℕ) (l : Note) (o : Option Loaded) → record_had (had_of path l o) ≡ o
 record_of_had path note.Nothing None = refl
 record_of_had path note.Nothing (Some d) = refl
 record_of_had path (note.Finds e s) None = refl

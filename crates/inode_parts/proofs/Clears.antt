@@ -1,11 +1,12 @@
 -- A name cleared: it is a part, and goes on.
-use Rattle.inode_parts.proofs.Vocabulary.{◌≡◌, ℕ, ◌/◌, ◌%◌, Bool, true, false, if◌then◌else◌, List, Option, Some, None, refl, sym, ap, ◌∙◌, subst, IsSome, MatchOption, option_map_or, Name, put, GuardState, Free, Dinode, Super, dirents_per_block, Ret, Do, bind, plain, unmarked, Handover, bind-assoc, Inode, P, fetch, inode_block, record_of, store_inode, FetchedBlock, fetch_block, Named, give_record, put_dirent, put_entry, search, with_dirent, with_slot, Hand, InodePlace, One, Two, Goes, inode_at, inode_in, no_inode, IsLoadedAt, goes_with, clear_left, beside_buffers, NothingMore, Had, Apart, Carry, Has, record_had, clear_in, clear_slot, put_named, slot_found, slot_of, carry_in, had_at, had_of, note_at, changed, clear_part_left, slot_in, ClearBegins, HasFound, locks, seat_of_lock, IsPart, Part, Note, Notes, ClearPart}
+use Rattle.inode_parts.proofs.Vocabulary.{◌≡◌, ℕ, ◌/◌, ◌%◌, Bool, true, false, if◌then◌else◌, List, Option, Some, None, refl, sym, ap, ◌∙◌, subst, IsSome, MatchOption, option_map_or, Name, put, GuardState, Free, Dinode, IndexState, Loaded, Super, dirents_per_block, Ret, Do, bind, plain, unmarked, Handover, bind-assoc, Inode, index_of, P, fetch, inode_block, record_of, store_inode, FetchedBlock, fetch_block, Named, give_record, put_dirent, put_entry, search, with_dirent, with_slot, cleared, Hand, InodePlace, One, Two, Goes, index_at, inode_at, inode_in, no_inode, with_index, with_record, IsLoadedAt, goes_with, clear_left, beside_buffers, NothingMore, Had, Apart, Carry, Has, record_had, clear_in, clear_slot, put_named, slot_found, slot_of, carry_in, had_at, had_of, handed, note_at, with_note, clear_part_left, cleared_at, slot_in, ClearBegins, HasFound, locks, seat_of_lock, IsPart, Part, Note, Notes, ClearPart}
 use Rattle.fs_machine.specs.Steps as steps
 use Rattle.inode_machine.specs.World as above
 use Rattle.inodes_on_blocks.specs.Handlers as handlers
+use Rattle.inodes_on_blocks.specs.Naming.{Slotted}
 use Rattle.path_walk.specs.declared.asks.Heard.TheVariants as heard
 use Rattle.inode_parts.specs.declared.note.Note.TheVariants as note
-use Rattle.inode_parts.proofs.Basics.{lock_is, changed_same, changes, elsewhere, plain_block, then_plain}
+use Rattle.inode_parts.proofs.Basics.{lock_is, both_set, changed_same, changes, index_same, elsewhere, plain_block, then_plain}
 use Rattle.inode_parts.proofs.Stores.{put_so}
 
 -- ---- what is had of an inode whose lock is in hand
@@ -22,11 +23,13 @@ had_is path m n h e = at (locks n h.one) refl e
     at false is e = elsewhere path m.one n h.one (had_at path m.two h.two n Apart) is ∙ had_here path m.two n h.two Apart e
 
 -- the slot that was found is that of the name
-found_slot_of : (path : List ℕ) (e : Name) (l : Note) (o : Option Dinode) → HasFound path e l → IsSome o → let p : handlers.P ℕ = slot_of (had_of path l o) e in p ≡ Ret (slot_in l)
-found_slot_of path e (note.Finds x s) (Some d) found some =
-    ap (λ (b : Bool). let p : handlers.P ℕ = if b then Ret s else bind (search (Named e) d) slot_found in p) found.0
-found_slot_of path e (note.Finds x s) None found some = absurd (cc some)
-found_slot_of path e l o found some = absurd found
+found_slot_of : (path : List ℕ) (e : Name) (m : Note) (v : Inode) → HasFound path e m → IsSome v.content → let p : handlers.P Slotted = slot_of (had_of path m v.content) e in p ≡ Ret (slot_in m, index_of v)
+found_slot_of path e (note.Finds x s) v found some = at v.content some
+  where
+    at : (o : Option Loaded) → IsSome o → let p : handlers.P Slotted = slot_of (had_of path (note.Finds x s) o) e in p ≡ Ret (s, index_of (record { number = v.number; content = o }))
+    at None some = absurd (cc some)
+    at (Some l) some = ap (λ (b : Bool). let p : handlers.P Slotted = if b then Ret (s, l.index) else bind (search (Named e) l) slot_found in p) found.0
+found_slot_of path e m v found some = absurd found
 
 loaded_there : (k : InodePlace) (h : Hand) → IsLoadedAt k h → IsSome (inode_in k h).content
 loaded_there k h there = at (inode_at k h) there
@@ -52,14 +55,18 @@ module _ (sizes : Super) (path : List ℕ) (m : Notes) (n : ℕ) (e : Name) (bef
   abbrev had : Inode
   had = record { number = n; content = record_had (c n) }
 
-  abbrev over : Dinode → P (Handover (Unit {0}) Carry)
-  over d = Ret (record { answer = tt {0}; carry = put c n (Has d NothingMore) })
+  -- the index without it
+  abbrev x : IndexState
+  x = cleared s (index_of v)
 
-  abbrev cleared : Inode → P (Handover (Unit {0}) Carry)
-  cleared v = bind (put_entry sizes.inodestart v.number (record_of v) s Free) over
+  abbrev over : Dinode → P (Handover (Unit {0}) Carry)
+  over d = Ret (record { answer = tt {0}; carry = put c n (Has (record { inode = d; index = x }) NothingMore) })
+
+  abbrev cleared_in : Inode → P (Handover (Unit {0}) Carry)
+  cleared_in v = bind (put_entry sizes.inodestart v.number (record_of v) s Free) over
 
   module _ (mark : Unit {0} → Option above.Mark) where
-    block_so : (f : FetchedBlock) → plain (clear_in sizes n e c mark s f) ≡ bind (put_dirent sizes.inodestart n (record_of had) s Free f) over
+    block_so : (f : FetchedBlock) → plain (clear_in sizes n e c mark (s, index_of v) f) ≡ bind (put_dirent sizes.inodestart n (record_of had) s Free f) over
     block_so f = λ i. Do (steps.Put f.number (Some (with_dirent (s % dirents_per_block) Free f.bytes))) unmarked (λ _. stores i)
       where
         b : ℕ
@@ -68,28 +75,28 @@ module _ (sizes : Super) (path : List ℕ) (m : Notes) (n : ℕ) (e : Name) (bef
         d : Dinode
         d = with_slot s (record_of had)
 
-        stores : plain (bind (fetch b) (put_named (above.Clear n e) above.Room mark (tt {0}) b n d c)) ≡ bind (bind (store_inode sizes.inodestart n d) (give_record d)) over
+        stores : plain (bind (fetch b) (put_named (above.Clear n e) above.Room mark (tt {0}) b n (record { inode = d; index = x }) c)) ≡ bind (bind (store_inode sizes.inodestart n d) (give_record d)) over
         stores =
-            put_so b n d (handlers.acts (above.Clear n e) above.Room mark) (record { answer = tt {0}; carry = put c n (Has d NothingMore) })
+            put_so b n d (handlers.acts (above.Clear n e) above.Room mark) (record { answer = tt {0}; carry = put c n (Has (record { inode = d; index = x }) NothingMore) })
             ∙ sym (bind-assoc (store_inode sizes.inodestart n d) (give_record d) over)
 
-    slot_so : plain (clear_slot sizes n e c mark s) ≡ cleared had
+    slot_so : plain (clear_slot sizes n e c mark (s, index_of v)) ≡ cleared_in had
     slot_so =
-        then_plain (fetch_block (record_of had) (s / dirents_per_block)) (fetch_block (record_of had) (s / dirents_per_block)) (clear_in sizes n e c mark s) (λ f. bind (put_dirent sizes.inodestart n (record_of had) s Free f) over)
+        then_plain (fetch_block (record_of had) (s / dirents_per_block)) (fetch_block (record_of had) (s / dirents_per_block)) (clear_in sizes n e c mark (s, index_of v)) (λ f. bind (put_dirent sizes.inodestart n (record_of had) s Free f) over)
         (plain_block (record_of had) (s / dirents_per_block)) block_so
         ∙ sym (bind-assoc (fetch_block (record_of had) (s / dirents_per_block)) (put_dirent sizes.inodestart n (record_of had) s Free) over)
 
-  module _ (p : ClearPart) (begins : ClearBegins sizes path m n e before) (seat : p.seat ≡ k) where
+  module _ (p : ClearPart) (begins : ClearBegins sizes path m n e before) (seat : p.seat ≡ k) (slot : p.slot ≡ s) where
     abbrev then_ : Dinode → P (Handover (Unit {0}) Carry)
-    then_ d = bind (changed path m k heard.WasDone before d) (λ r. Ret (record { answer = tt {0}; carry = r.carry }))
+    then_ d = bind (cleared_at path m k s before d) (λ r. Ret (record { answer = tt {0}; carry = r.carry }))
 
     same_over : (d : Dinode) → over d ≡ then_ d
-    same_over d = λ i. Ret (record { answer = tt {0}; carry = changes path m k n d before begins.0.0.0 begins.0.0.1 i })
+    same_over d = λ i. Ret (record { answer = tt {0}; carry = changes path m k n (record { inode = d; index = x }) before begins.0.0.0 begins.0.0.1 i })
 
-    same_slot : let p : handlers.P ℕ = slot_of (c n) e in p ≡ Ret s
+    same_slot : let p : handlers.P Slotted = slot_of (c n) e in p ≡ Ret (s, index_of v)
     same_slot =
-        ap (λ (x : Had). let p : handlers.P ℕ = slot_of x e in p) (had_is path m n before begins.0.0.0)
-        ∙ found_slot_of path e (note_at k m) v.content begins.1 (loaded_there k before begins.0.1)
+        ap (λ (y : Had). let p : handlers.P Slotted = slot_of y e in p) (had_is path m n before begins.0.0.0)
+        ∙ found_slot_of path e (note_at k m) v begins.1 (loaded_there k before begins.0.1)
 
     pub clear_is_part : clear_left p.clear before ≡ put_entry sizes.inodestart n (record_of v) s Free → IsPart sizes c (above.Clear n e) (clear_part_left path m p before)
     clear_is_part program mark =
@@ -97,18 +104,26 @@ module _ (sizes : Super) (path : List ℕ) (m : Notes) (n : ℕ) (e : Name) (bef
         ∙ slot_so mark
         ∙ (λ i. bind (put_entry sizes.inodestart n (record_of (lock_is path m n before begins.0.0.0 i)) s Free) over)
         ∙ (λ i. bind (sym program i) (λ d. same_over d i))
-        ∙ sym (bind-assoc (clear_left p.clear before) (changed path m k heard.WasDone before) (λ r. Ret (record { answer = tt {0}; carry = r.carry })))
-        ∙ (λ i. bind (bind (clear_left p.clear before) (changed path m (sym seat i) heard.WasDone before)) (λ r. Ret (record { answer = tt {0}; carry = r.carry })))
+        ∙ sym (bind-assoc (clear_left p.clear before) (cleared_at path m k s before) (λ r. Ret (record { answer = tt {0}; carry = r.carry })))
+        ∙ (λ i. bind (bind (clear_left p.clear before) (cleared_at path m (sym seat i) (sym slot i) before)) (λ r. Ret (record { answer = tt {0}; carry = r.carry })))
 
 -- ---- how it goes on
 
 module _ (path : List ℕ) (m : Notes) (p : ClearPart) (before h : Hand) (answer : (o : steps.Op) → steps.Answer o) (beside : beside_buffers tt h ≡ beside_buffers tt before) where
-  pub clear_on : (q : ClearPart) → q.seat ≡ p.seat → Goes (clear_left p.clear before) answer (clear_left q.clear h) → Goes (clear_part_left path m p before) answer (clear_part_left path m q h)
-  clear_on q seat goes =
-      goes_with (clear_left p.clear before) (clear_left q.clear h) (changed path m p.seat heard.WasDone before) (changed path m q.seat heard.WasDone h) answer
-      (changed_same path m p.seat heard.WasDone before h beside ∙ (λ i. changed path m (sym seat i) heard.WasDone h)) goes
+  cleared_same : cleared_at path m p.seat p.slot before ≡ cleared_at path m p.seat p.slot h
+  cleared_same = λ i d. (changed_same path m p.seat heard.WasDone before h beside i) (record { inode = d; index = cleared p.slot (index_same p.seat before h beside i) })
 
-  pub clear_ends : (d : Dinode) (q : Part) → changed path m p.seat heard.WasDone h d ≡ q → Goes (clear_left p.clear before) answer (Ret d) → Goes (clear_part_left path m p before) answer q
+  pub clear_on : (q : ClearPart) → q.seat ≡ p.seat → q.slot ≡ p.slot → Goes (clear_left p.clear before) answer (clear_left q.clear h) → Goes (clear_part_left path m p before) answer (clear_part_left path m q h)
+  clear_on q seat slot goes =
+      goes_with (clear_left p.clear before) (clear_left q.clear h) (cleared_at path m p.seat p.slot before) (cleared_at path m q.seat q.slot h) answer
+      (cleared_same ∙ (λ i. cleared_at path m (sym seat i) (sym slot i) h)) goes
+
+  pub clear_ends : (d : Dinode) (q : Part) → cleared_at path m p.seat p.slot h d ≡ q → Goes (clear_left p.clear before) answer (Ret d) → Goes (clear_part_left path m p before) answer q
   clear_ends d q is goes =
       subst (λ (q : Part). Goes (clear_part_left path m p before) answer q) is
-      (goes_with (clear_left p.clear before) (Ret d) (changed path m p.seat heard.WasDone before) (changed path m p.seat heard.WasDone h) answer (changed_same path m p.seat heard.WasDone before h beside) goes)
+      (goes_with (clear_left p.clear before) (Ret d) (cleared_at path m p.seat p.slot before) (cleared_at path m p.seat p.slot h) answer cleared_same goes)
+
+-- what is in hand at its end
+pub cleared_so : (path : List ℕ) (m m2 : Notes) (k : InodePlace) (s : ℕ) (h after : Hand) (d : Dinode) → IsLoadedAt k h → after ≡ with_record k d (with_index k (cleared s (index_at k h)) h) → m2 ≡ with_note k note.Nothing m
+    → cleared_at path m k s h d ≡ Ret (handed path m2 heard.WasDone after)
+cleared_so path m m2 k s h after d there set noted = λ i. Ret (handed path (sym noted i) heard.WasDone ((sym (both_set k d (cleared s (index_at k h)) h there) ∙ sym set) i))

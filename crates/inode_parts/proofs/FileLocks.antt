@@ -1,5 +1,5 @@
 -- What a descriptor names locked: each operation is its part.
-use Rattle.inode_parts.proofs.Vocabulary.{◌≡◌, ℕ, List, Option, Some, None, refl, sym, subst, ◌∙◌, Dinode, Super, Ret, Do, bind, plain, unmarked, Handover, bind-assoc, LockedState, Refuses, Locks, OpenFile, load_unless, inode_at, Hand, load_locked, load_open, lock_file_loaded, lock_open_loaded, opens, file_left, file_seat, open_left, open_seat, LockFile, LockOpen, file_locked, open_locked, with_file, Carry, carry_in, file_ends, open_ends, answer_by, IsPart, Message, Part, beside_in, Notes}
+use Rattle.inode_parts.proofs.Vocabulary.{◌≡◌, ℕ, List, Option, Some, None, refl, sym, subst, ◌∙◌, Loaded, Super, Ret, Do, bind, plain, unmarked, Handover, bind-assoc, LockedState, Refuses, Locks, OpenFile, load_unless, inode_at, Hand, load_locked, load_open, lock_file_loaded, lock_open_loaded, opens, file_left, file_seat, open_left, open_seat, LockFile, LockOpen, file_locked, open_locked, with_file, Carry, carry_in, file_ends, open_ends, answer_by, IsPart, Message, Part, beside_in, Notes}
 use Rattle.fs_machine.specs.declared.files.Want.TheVariants as want
 use Rattle.fs_machine.specs.Machines as code
 use Rattle.fs_machine.specs.Steps as steps
@@ -15,17 +15,17 @@ abbrev answered : (op : above.Op) → Handover Message Carry → Handover (above
 answered op r = record { answer = answer_by op r.answer; carry = r.carry }
 
 -- the inode is loaded
-module _ (op : above.Op) (i : ℕ) (f : OpenFile) (content : Option Dinode) (loaded : Dinode → P (Handover (above.Answer op) Carry)) where
-  pub file_loaded : (ends : LockedState → Part) → ((d : Dinode) → plain (loaded d) ≡ bind (ends (Locks f (Some d))) (λ r. Ret (answered op r)))
+module _ (op : above.Op) (i : ℕ) (f : OpenFile) (content : Option Loaded) (loaded : Loaded → P (Handover (above.Answer op) Carry)) where
+  pub file_loaded : (ends : LockedState → Part) → ((l : Loaded) → plain (loaded l) ≡ bind (ends (Locks f (Some l))) (λ r. Ret (answered op r)))
       → plain (bind (load_unless i f.number content) loaded) ≡ bind (bind (load_locked i (Locks f content)) ends) (λ r. Ret (answered op r))
   file_loaded ends same =
-      load_then i f.number content loaded (λ d. bind (ends (Locks f (Some d))) (λ r. Ret (answered op r))) same
+      load_then i f.number content loaded (λ l. bind (ends (Locks f (Some l))) (λ r. Ret (answered op r))) same
       ∙ sym (bind-assoc (bind (load_unless i f.number content) (locks f)) ends (λ r. Ret (answered op r)) ∙ bind-assoc (load_unless i f.number content) (locks f) (λ a. bind (ends a) (λ r. Ret (answered op r))))
 
-  open_loaded : (ends : OpenFile × Dinode → Part) → ((d : Dinode) → plain (loaded d) ≡ bind (ends (f, d)) (λ r. Ret (answered op r)))
+  open_loaded : (ends : OpenFile × Loaded → Part) → ((l : Loaded) → plain (loaded l) ≡ bind (ends (f, l)) (λ r. Ret (answered op r)))
       → plain (bind (load_unless i f.number content) loaded) ≡ bind (bind (load_open i (f, content)) ends) (λ r. Ret (answered op r))
   open_loaded ends same =
-      load_then i f.number content loaded (λ d. bind (ends (f, d)) (λ r. Ret (answered op r))) same
+      load_then i f.number content loaded (λ l. bind (ends (f, l)) (λ r. Ret (answered op r))) same
       ∙ sym (bind-assoc (bind (load_unless i f.number content) (opens f)) ends (λ r. Ret (answered op r)) ∙ bind-assoc (load_unless i f.number content) (opens f) (λ a. bind (ends a) (λ r. Ret (answered op r))))
 
 module _ (sizes : Super) (path : List ℕ) (m : Notes) (fd : ℕ) where
@@ -44,7 +44,7 @@ module _ (sizes : Super) (path : List ℕ) (m : Notes) (fd : ℕ) where
 
   -- ---- to write it
 
-  opens_so : (c : Carry) (n : ℕ) (a : OpenFile × Option Dinode) → plain (open_locked sizes fd c a) ≡ bind (bind (load_open sizes.inodestart a) (open_ends path fd c)) (λ r. Ret (answered (above.LockOpen fd n) r))
+  opens_so : (c : Carry) (n : ℕ) (a : OpenFile × Option Loaded) → plain (open_locked sizes fd c a) ≡ bind (bind (load_open sizes.inodestart a) (open_ends path fd c)) (λ r. Ret (answered (above.LockOpen fd n) r))
   opens_so c n a = open_loaded (above.LockOpen fd n) sizes.inodestart a.0 a.1 (with_file (a.0.number, a.0.offset) c fd a.0.number a.0.offset) (open_ends path fd c) (λ d. refl)
 
   pub lock_open_is_part : (h : Hand) (r : LockOpen) (n : ℕ) → open_left r h ≡ lock_open_loaded sizes.inodestart fd → inode_at (open_seat r) h ≡ None
@@ -52,4 +52,4 @@ module _ (sizes : Super) (path : List ℕ) (m : Notes) (fd : ℕ) where
   lock_open_is_part h r n program free =
       let c : Carry = beside_in path m (open_seat r) h in
       subst (λ (b : Carry). IsPart sizes b (above.LockOpen fd n) (bind (open_left r h) (open_ends path fd c))) (sym (none_beside path m h (open_seat r) free))
-      (subst (λ (p : code.P (OpenFile × Dinode)). IsPart sizes c (above.LockOpen fd n) (bind p (open_ends path fd c))) (sym program) (λ mark i. Do (steps.LockOpen fd) unmarked (λ a. opens_so c n a i)))
+      (subst (λ (p : code.P (OpenFile × Loaded)). IsPart sizes c (above.LockOpen fd n) (bind p (open_ends path fd c))) (sym program) (λ mark i. Do (steps.LockOpen fd) unmarked (λ a. opens_so c n a i)))

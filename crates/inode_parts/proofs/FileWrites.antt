@@ -1,9 +1,10 @@
 -- A piece of bytes written to an open file: it is a part, and goes on.
-use Rattle.inode_parts.proofs.Vocabulary.{◌≡◌, ℕ, ◌+◌, ◌-◌, ◌==◌, ◌≤◌, Bool, true, false, if◌then◌else◌, List, length, Option, Some, None, refl, sym, ap, subst, ◌∙◌, arith, IsSome, option_map, piece, Cause, put, Dinode, Super, Ret, Do, bind, plain, unmarked, Handover, bind-assoc, GuardState, Inode, record_of, store_inode, blocks_between, WriteResult, grown, store_written, write_blocks, write_part, Goes, inode_at, inode_in, recorded, with_inode, with_record, Hand, InodePlace, One, Two, HasNoBuffer, number_in, record_in, IsLoadedAt, goes_to, goes_with, recorded-in, beside_buffers, write_left, written_as, WriteReady, WritePart, Written, Acts, Apart, Carry, nothing, record_had, give_written, refused_in, write_unless, wrote_to, wrote_of, Wrote, carry_in, handed, ended_as, write_done, write_file_left, write_over, wrote_upto, WriteFileReady, moved, HasLock, other, seat_of_lock, answer_by, IsPart, Message, LockedFile, Notes, Denied, Writing}
+use Rattle.inode_parts.proofs.Vocabulary.{◌≡◌, ℕ, ◌+◌, ◌-◌, ◌==◌, ◌≤◌, Bool, true, false, if◌then◌else◌, List, length, Option, Some, None, refl, sym, ap, subst, ◌∙◌, arith, IsSome, option_map, unwrap_or, piece, Cause, put, Dinode, Super, Ret, Do, bind, plain, unmarked, Handover, bind-assoc, GuardState, Inode, Loaded, unindexed, with_inode_of, record_of, store_inode, blocks_between, WriteResult, grown, store_written, write_blocks, write_part, Goes, inode_at, inode_in, recorded, with_inode, with_record, Hand, InodePlace, One, Two, HasNoBuffer, record_in, goes_to, goes_with, recorded-in, beside_buffers, write_left, written_as, WriteReady, WritePart, Written, Acts, Apart, Carry, nothing, record_had, give_written, refused_in, write_unless, wrote_to, wrote_of, Wrote, carry_in, handed, ended_as, write_done, write_file_left, write_over, wrote_upto, WriteFileReady, moved, HasLock, other, seat_of_lock, answer_by, IsPart, Message, LockedFile, Notes, Denied, Writing}
 use Rattle.fs_machine.specs.Machines as code
 use Rattle.fs_machine.specs.Steps as steps
 use Rattle.inode_data.specs.declared.write_part.WritePart.TheVariants as write
 use Rattle.inode_machine.specs.World as above
+use Rattle.inode_table.specs.Programs.{no_record}
 use Rattle.path_walk.specs.declared.asks.Heard.TheVariants as heard
 use Rattle.path_walk.specs.declared.asks.Wrote.TheVariants as wrote
 use Rattle.inode_parts.specs.declared.write_file_part.WriteFilePart.TheVariants.{Ending}
@@ -46,15 +47,19 @@ module _ (sizes : Super) (text : List ℕ) (m : Notes) (n fd offset : ℕ) (byte
   answered r = Ret (record { answer = answer_by (above.WriteFile fd n offset bytes) r.answer; carry = r.carry })
 
   module _ (mark : above.Wrote → Option above.Mark) where
-    ends_so : (w : WriteResult) → plain (give_written fd n offset bytes mark c w) ≡ bind (write_over text file bytes n w) answered
+    stands : (d : Dinode) (o : Option Loaded) → let l : Loaded = unwrap_or o (unindexed no_record) in Some (record { inode = d; index = l.index }) ≡ Some (with_inode_of d o)
+    stands d None = refl
+    stands d (Some l) = refl
+
+    ends_so : (w : WriteResult) → plain (give_written fd n offset bytes mark c w) ≡ bind (write_over text file bytes had w) answered
     ends_so w = λ i.
-        Do (steps.Unlock (record { number = n; content = Some w.inode }) (Some (fd, w.upto))) unmarked (λ _.
+        Do (steps.Unlock (record { number = n; content = stands w.inode (record_had (c n)) i }) (Some (fd, w.upto))) unmarked (λ _.
         Ret (record { answer = heard_so offset bytes w.upto i; carry = given_up i }))
 
-    writes_so : (d : Dinode) → plain (bind (write_part sizes n d offset bytes) (give_written fd n offset bytes mark c)) ≡ bind (bind (write_part sizes n d offset bytes) (write_over text file bytes n)) answered
+    writes_so : (d : Dinode) → plain (bind (write_part sizes n d offset bytes) (give_written fd n offset bytes mark c)) ≡ bind (bind (write_part sizes n d offset bytes) (write_over text file bytes had)) answered
     writes_so d =
-        then_plain (write_part sizes n d offset bytes) (write_part sizes n d offset bytes) (give_written fd n offset bytes mark c) (λ w. bind (write_over text file bytes n w) answered) (plain_part sizes n d offset bytes) ends_so
-        ∙ sym (bind-assoc (write_part sizes n d offset bytes) (write_over text file bytes n) answered)
+        then_plain (write_part sizes n d offset bytes) (write_part sizes n d offset bytes) (give_written fd n offset bytes mark c) (λ w. bind (write_over text file bytes had w) answered) (plain_part sizes n d offset bytes) ends_so
+        ∙ sym (bind-assoc (write_part sizes n d offset bytes) (write_over text file bytes had) answered)
 
   module _ (k : InodePlace) (at : k ≡ seat_of_lock n h) where
     record_is : record_of had ≡ record_in k h
@@ -64,13 +69,13 @@ module _ (sizes : Super) (text : List ℕ) (m : Notes) (n fd offset : ℕ) (byte
     refused_so o e = ap (λ (d : Dinode). refused_in d offset bytes) record_is ∙ e
 
   pub write_is_part : (f : LockedFile) (q : code.P WriteResult) → f ≡ file → refused_in (record_in f.seat h) offset bytes ≡ None → q ≡ write_part sizes n (record_in f.seat h) offset bytes
-      → IsPart sizes c (above.WriteFile fd n offset bytes) (bind q (write_over text f bytes (number_in f.seat h)))
+      → IsPart sizes c (above.WriteFile fd n offset bytes) (bind q (write_over text f bytes (inode_in f.seat h)))
   write_is_part f q is fits program mark =
       (λ i. plain (write_unless sizes fd n offset bytes mark c (refused_so f.seat (ap (λ (f : LockedFile). f.seat) is) None fits i)))
       ∙ writes_so mark (record_of had)
-      ∙ (λ i. bind (bind (write_part sizes n (record_of (lock i)) offset bytes) (write_over text file bytes (lock i).number)) answered)
-      ∙ (λ i. bind (bind (write_part sizes n (record_in (sym is i).seat h) offset bytes) (write_over text (sym is i) bytes (number_in (sym is i).seat h))) answered)
-      ∙ (λ i. bind (bind (sym program i) (write_over text f bytes (number_in f.seat h))) answered)
+      ∙ (λ i. bind (bind (write_part sizes n (record_of (lock i)) offset bytes) (write_over text file bytes (lock i))) answered)
+      ∙ (λ i. bind (bind (write_part sizes n (record_in (sym is i).seat h) offset bytes) (write_over text (sym is i) bytes (inode_in (sym is i).seat h))) answered)
+      ∙ (λ i. bind (bind (sym program i) (write_over text f bytes (inode_in f.seat h))) answered)
 
   pub deny_is_part : (k : InodePlace) (why : Cause) → k ≡ seat_of_lock n h → refused_in (record_in k h) offset bytes ≡ Some why → IsPart sizes c (above.WriteFile fd n offset bytes) (write_file_left text (Denied k why) h)
   deny_is_part k why at refused mark =
@@ -83,7 +88,7 @@ module _ (sizes : Super) (text : List ℕ) (m : Notes) (n fd offset : ℕ) (byte
     refuses : (o : Option Cause) → refused_in d f.offset bytes ≡ o → refused_in (record_in f.seat h) offset bytes ≡ o
     refuses o e = (λ i. refused_in (sym is i) (sym from i) bytes) ∙ e
 
-    pub begun_write : (q : code.P WriteResult) → refused_in d f.offset bytes ≡ None → q ≡ write_part sizes n d f.offset bytes → IsPart sizes c (above.WriteFile fd n offset bytes) (bind q (write_over text f bytes (number_in f.seat h)))
+    pub begun_write : (q : code.P WriteResult) → refused_in d f.offset bytes ≡ None → q ≡ write_part sizes n d f.offset bytes → IsPart sizes c (above.WriteFile fd n offset bytes) (bind q (write_over text f bytes (inode_in f.seat h)))
     begun_write q fits program =
         write_is_part f q (λ i. record { seat = seat i; fd = by i; offset = from i }) (refuses None fits)
         (program ∙ (λ i. let p : code.P WriteResult = write_part sizes n (is i) (from i) bytes in p))
@@ -111,20 +116,20 @@ pub ready_for : (text : List ℕ) (at : ℕ) (p : WritePart) (h : Hand) (bytes :
 ready_for text at p h bytes is done ready = subst (λ (b : List ℕ). WriteReady b p h) (sym is) (bytes_so ready.0 (piece text at) p h done ready.1)
 
 module _ (text : List ℕ) (f : LockedFile) (at : ℕ) (p : WritePart) (before h : Hand) (answer : (o : steps.Op) → steps.Answer o) (same : beside_buffers tt h ≡ beside_buffers tt before) where
-  goes_so : (r : code.P WriteResult) → Goes (write_left (piece text at) p before) answer r → Goes (write_file_left text (Writing f at p) before) answer (bind r (write_over text f (piece text at) (number_in f.seat h)))
+  goes_so : (r : code.P WriteResult) → Goes (write_left (piece text at) p before) answer r → Goes (write_file_left text (Writing f at p) before) answer (bind r (write_over text f (piece text at) (inode_in f.seat h)))
   goes_so r goes =
-      goes_with (write_left (piece text at) p before) r (write_over text f (piece text at) (number_in f.seat before)) (write_over text f (piece text at) (number_in f.seat h)) answer
-      (ap (λ (v : Inode). write_over text f (piece text at) v.number) (inode_still f.seat before h same)) goes
+      goes_with (write_left (piece text at) p before) r (write_over text f (piece text at) (inode_in f.seat before)) (write_over text f (piece text at) (inode_in f.seat h)) answer
+      (ap (λ (v : Inode). write_over text f (piece text at) v) (inode_still f.seat before h same)) goes
 
   pub write_on : (q : WritePart) → Goes (write_left (piece text at) p before) answer (write_left (piece text at) q h) → Goes (write_file_left text (Writing f at p) before) answer (write_file_left text (Writing f at q) h)
   write_on q goes = goes_so (write_left (piece text at) q h) goes
 
-  pub write_ends : (r : Written) (after : Hand) → IsLoadedAt f.seat h → after ≡ with_record f.seat r.inode h → Goes (write_left (piece text at) p before) answer (Ret (written_as r))
+  pub write_ends : (r : Written) (after : Hand) → IsSome (inode_at f.seat h) → after ≡ with_record f.seat r.inode h → Goes (write_left (piece text at) p before) answer (Ret (written_as r))
       → Goes (write_file_left text (Writing f at p) before) answer (write_file_left text (ended_as f (piece text at) r) after)
-  write_ends r after loaded set goes =
-      goes_to (write_file_left text (Writing f at p) before) (write_over text f (piece text at) (number_in f.seat h) (written_as r)) (write_file_left text (ended_as f (piece text at) r) after) answer
+  write_ends r after there set goes =
+      goes_to (write_file_left text (Writing f at p) before) (write_over text f (piece text at) (inode_in f.seat h) (written_as r)) (write_file_left text (ended_as f (piece text at) r) after) answer
       (goes_so (Ret (written_as r)) goes)
-      (λ i. moved f ((sym (recorded-in f.seat r.inode h loaded) ∙ ap (inode_in f.seat) (sym set)) i) r.upto text (heard.Wrote (wrote_upto f.offset (piece text at) r.upto)))
+      (λ i. moved f ((sym (recorded-in f.seat r.inode h there) ∙ ap (inode_in f.seat) (sym set)) i) r.upto text (heard.Wrote (wrote_upto f.offset (piece text at) r.upto)))
 
 -- the inode has its new record in hand
 pub ended_ready : (f : LockedFile) (bytes : List ℕ) (r : Written) (h after : Hand) → IsSome (inode_at f.seat h) → inode_at (other f.seat) h ≡ None → HasNoBuffer h → after ≡ with_record f.seat r.inode h → WriteFileReady (ended_as f bytes r) after

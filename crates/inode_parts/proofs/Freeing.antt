@@ -1,5 +1,5 @@
 -- The operation that frees an inode is its part.
-use Rattle.inode_parts.proofs.Vocabulary.{◌≡◌, ℕ, List, Option, Some, sym, ap, ◌∙◌, subst, Dinode, Super, Ret, Do, bind, plain, unmarked, Handover, bind-assoc, plain-bind, Inode, fetch, inode_block, put_inode, record_of, store_inode, with_dinode, freed, store_record, truncate, inode_at, inode_in, Hand, InodePlace, beside_emptying, IsEmptying, free_record, freeing_left, store_free, number_in, record_in as record_at, FreeInode, give_content, Carry, Emptied, record_had, put_record, IsSome, put, carry_in, free_ends, FreeBegins, IsAlone, seat_of_lock, IsPart, beside_in, Notes}
+use Rattle.inode_parts.proofs.Vocabulary.{◌≡◌, ℕ, List, Option, Some, sym, ap, ◌∙◌, subst, Dinode, Super, Ret, Do, bind, plain, unmarked, Handover, bind-assoc, plain-bind, Inode, fetch, inode_block, put_inode, record_of, store_inode, with_dinode, freed, store_record, truncate, inode_at, inode_in, Hand, InodePlace, beside_freeing, IsEmptying, free_record, freeing_left, store_free, number_in, record_in as record_at, FreeInode, give_content, Carry, Emptied, record_had, put_record, IsSome, put, carry_in, free_ends, FreeBegins, IsAlone, seat_of_lock, IsPart, beside_in, Notes}
 use Rattle.fs_machine.specs.Machines as code
 use Rattle.fs_machine.specs.Steps as steps
 use Rattle.inode_data.specs.Freeing.{without_content}
@@ -64,7 +64,7 @@ module _ (sizes : Super) (path : List ℕ) (m : Notes) (n : ℕ) (f : FreeInode)
   had_so : put had_before n Emptied ≡ put (beside_in path m k before) (number_in k before) Emptied
   had_so = had_beside path m before k n Emptied (lock_is_of n (inode_at k before) begins.0.0) ∙ ap (λ (v : Inode). put (beside_in path m k before) v.number Emptied) lock
 
-  at_lock : freeing_left f h ≡ free_record sizes (number_in k before) (record_at k before) → beside_emptying (record { seat = k; sizes = sizes }) h ≡ beside_emptying (record { seat = k; sizes = sizes }) before
+  at_lock : freeing_left f h ≡ free_record sizes (number_in k before) (record_at k before) → beside_freeing (record { seat = k; sizes = sizes }) h ≡ beside_freeing (record { seat = k; sizes = sizes }) before
       → IsPart sizes had_before (above.Free n) (bind (freeing_left f h) (free_ends path (beside_in path m k h) (number_in k h)))
   at_lock program same mark =
       above_is sizes n (record_in had_before n) had_before mark ∙ sym (code_is sizes n (record_in had_before n) had_before)
@@ -76,9 +76,9 @@ module _ (sizes : Super) (path : List ℕ) (m : Notes) (n : ℕ) (f : FreeInode)
       left = ap (λ (v : Inode). let p : code.P (Unit {0}) = free_record sizes v.number (record_of v) in p) lock ∙ sym program
 
 pub free_is_part : (sizes : Super) (path : List ℕ) (m : Notes) (n : ℕ) (k : InodePlace) (f : FreeInode) (before h : Hand) → k ≡ seat_of_lock n before → FreeBegins sizes n before → freeing_left f h ≡ free_record sizes (number_in k before) (record_at k before)
-    → beside_emptying (record { seat = k; sizes = sizes }) h ≡ beside_emptying (record { seat = k; sizes = sizes }) before → IsPart sizes (carry_in path m before) (above.Free n) (bind (freeing_left f h) (free_ends path (beside_in path m k h) (number_in k h)))
+    → beside_freeing (record { seat = k; sizes = sizes }) h ≡ beside_freeing (record { seat = k; sizes = sizes }) before → IsPart sizes (carry_in path m before) (above.Free n) (bind (freeing_left f h) (free_ends path (beside_in path m k h) (number_in k h)))
 free_is_part sizes path m n k f before h is begins =
-    subst (λ (k : InodePlace). freeing_left f h ≡ free_record sizes (number_in k before) (record_at k before) → beside_emptying (record { seat = k; sizes = sizes }) h ≡ beside_emptying (record { seat = k; sizes = sizes }) before
+    subst (λ (k : InodePlace). freeing_left f h ≡ free_record sizes (number_in k before) (record_at k before) → beside_freeing (record { seat = k; sizes = sizes }) h ≡ beside_freeing (record { seat = k; sizes = sizes }) before
     → IsPart sizes (carry_in path m before) (above.Free n) (bind (freeing_left f h) (free_ends path (beside_in path m k h) (number_in k h)))) (sym is)
     (at_lock sizes path m n f before h begins)
 
@@ -87,7 +87,7 @@ pub free_begins : (sizes : Super) (n : ℕ) (k : InodePlace) (h : Hand) → k �
 free_begins sizes n k h is begins = subst (λ (k : InodePlace). IsEmptying (record { seat = k; sizes = sizes }) h) (sym is) begins.1
 
 -- and the lock stays
-pub free_there : (sizes : Super) (n : ℕ) (k : InodePlace) (before h : Hand) → k ≡ seat_of_lock n before → FreeBegins sizes n before → beside_emptying (record { seat = k; sizes = sizes }) h ≡ beside_emptying (record { seat = k; sizes = sizes }) before
+pub free_there : (sizes : Super) (n : ℕ) (k : InodePlace) (before h : Hand) → k ≡ seat_of_lock n before → FreeBegins sizes n before → beside_freeing (record { seat = k; sizes = sizes }) h ≡ beside_freeing (record { seat = k; sizes = sizes }) before
     → IsSome (inode_at k h) × IsAlone (number_in k h) k h
 free_there sizes n k before h is begins same =
     let has = gives_ready n (seat_of_lock n before) before begins.0.0 begins.0.1 in

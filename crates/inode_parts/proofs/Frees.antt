@@ -1,19 +1,19 @@
 -- How an inode is freed, as a part.
-use Rattle.inode_parts.proofs.Vocabulary.{◌≡◌, ℕ, List, Option, Some, None, refl, sym, ap, subst, ◌∙◌, IsSome, MatchOption, option_map, option_map_or, Ret, bind, put, GuardState, Inode, Goes, inode_at, inode_in, no_inode, Hand, InodePlace, One, Two, beside_emptying, freeing_left, freeing_of, IsUnloadedAt, number_in, without_content, FreeInode, Emptying, goes_to, goes_with, number-kept, Emptied, carry_in, handed, had_of, with_note, free_ends, IsAlone, other, Part, beside_in, Notes}
+use Rattle.inode_parts.proofs.Vocabulary.{◌≡◌, ℕ, List, Option, Some, None, refl, sym, ap, subst, ◌∙◌, IsSome, MatchOption, option_map, option_map_or, Ret, bind, put, GuardState, Inode, Goes, inode_at, inode_in, no_inode, Hand, InodePlace, One, Two, beside_freeing, freeing_left, freeing_of, IsUnloadedAt, number_in, without_content, FreeInode, Emptying, goes_to, goes_with, number-kept, Emptied, carry_in, handed, had_of, with_note, free_ends, IsAlone, other, Part, beside_in, Notes}
 use Rattle.fs_machine.specs.Steps as steps
 use Rattle.path_walk.specs.declared.asks.Heard.TheVariants as heard
 use Rattle.inode_parts.specs.declared.note.Note.TheVariants as note
 use Rattle.inode_parts.proofs.Basics.{alone_still, held_beside, same_beside}
 
 -- while an inode is emptied the other seat stays
-other_kept : (e : Emptying) (before h : Hand) → beside_emptying e h ≡ beside_emptying e before → inode_at (other e.seat) before ≡ inode_at (other e.seat) h
+other_kept : (e : Emptying) (before h : Hand) → beside_freeing e h ≡ beside_freeing e before → inode_at (other e.seat) before ≡ inode_at (other e.seat) h
 other_kept e before h same = sym (at e.seat before) ∙ sym (ap (inode_at (other e.seat)) same) ∙ at e.seat h
   where
-    at : (k : InodePlace) (h : Hand) → inode_at (other k) (beside_emptying (record { seat = k; sizes = e.sizes }) h) ≡ inode_at (other k) h
+    at : (k : InodePlace) (h : Hand) → inode_at (other k) (beside_freeing (record { seat = k; sizes = e.sizes }) h) ≡ inode_at (other k) h
     at One h = refl
     at Two h = refl
 
-module _ (e : Emptying) (before h : Hand) (same : beside_emptying e h ≡ beside_emptying e before) where
+module _ (e : Emptying) (before h : Hand) (same : beside_freeing e h ≡ beside_freeing e before) where
   number_same : number_in e.seat before ≡ number_in e.seat h
   number_same = sym (number-kept e h before same)
 
@@ -31,7 +31,7 @@ module _ (e : Emptying) (before h : Hand) (same : beside_emptying e h ≡ beside
           at_none (Some g) e is = absurd (cc e)
       some o (Some g) e is = refl
 
-      at : (k : InodePlace) → let d : Emptying = record { seat = k; sizes = e.sizes } in inode_at k (beside_emptying d h) ≡ inode_at k (beside_emptying d before) → IsSome (inode_at k before) → IsSome (inode_at k h)
+      at : (k : InodePlace) → let d : Emptying = record { seat = k; sizes = e.sizes } in inode_at k (beside_freeing d h) ≡ inode_at k (beside_freeing d before) → IsSome (inode_at k before) → IsSome (inode_at k h)
       at One e is = some before.one h.one e is
       at Two e is = some before.two h.two e is
 
@@ -51,7 +51,7 @@ unloaded_in Two h is = unloaded h.two is
     unloaded None is = refl
     unloaded (Some g) is = is
 
-module _ (path : List ℕ) (m : Notes) (k : InodePlace) (f : FreeInode) (before h : Hand) (answer : (o : steps.Op) → steps.Answer o) (at : (freeing_of f).seat ≡ k) (same : beside_emptying (freeing_of f) h ≡ beside_emptying (freeing_of f) before) where
+module _ (path : List ℕ) (m : Notes) (k : InodePlace) (f : FreeInode) (before h : Hand) (answer : (o : steps.Op) → steps.Answer o) (at : (freeing_of f).seat ≡ k) (same : beside_freeing (freeing_of f) h ≡ beside_freeing (freeing_of f) before) where
   abbrev ends : Hand → Unit {0} → Part
   ends h = free_ends path (beside_in path m k h) (number_in k h)
 

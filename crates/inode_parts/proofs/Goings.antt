@@ -1,5 +1,5 @@
 -- How operations on whole inodes that are one operation below go on.
-use Rattle.inode_parts.proofs.Vocabulary.{◌≡◌, ℕ, List, Bool, true, false, Option, Some, None, refl, sym, ap, ◌∙◌, subst, IsSome, is_some, if◌then◌else◌, MatchOption, put, Cause, descriptor_count, root, Ret, GuardState, Dinode, Inode, NewFile, Goes, inode_at, inode_in, number_at, reference_at, with_inode, with_seated, with_txn, IsAfter, IsHanded, IsJoined, IsKept, IsLent, IsOpened, answer_in, doubled_by, given_by, joined_by, number_by, refused_by, shut_by, yes_in, Hand, InodePlace, One, Two, Answer, cause_if, doubled_to, is_listed, old_directory, shut_to, Heard, Joined, Loan, carry_in, handed, had_of, with_note, IsAlone, StepReady, joining_heard, loan_heard, step_left, still, finish_left, Finish, goes_with, ends_with, part_left, Notes}
+use Rattle.inode_parts.proofs.Vocabulary.{◌≡◌, ℕ, List, Bool, true, false, Option, Some, None, refl, sym, ap, ◌∙◌, subst, IsSome, is_some, if◌then◌else◌, MatchOption, put, Cause, descriptor_count, root, Ret, GuardState, Loaded, Inode, NewFile, Goes, inode_at, inode_in, number_at, reference_at, with_inode, with_seated, with_txn, IsAfter, IsHanded, IsJoined, IsKept, IsLent, IsOpened, answer_in, doubled_by, given_by, joined_by, number_by, refused_by, shut_by, yes_in, Hand, InodePlace, One, Two, Answer, cause_if, doubled_to, is_listed, old_directory, shut_to, Heard, Joined, Loan, carry_in, handed, had_of, with_note, IsAlone, StepReady, joining_heard, loan_heard, step_left, still, finish_left, Finish, goes_with, ends_with, part_left, Notes}
 use Rattle.fs_machine.specs.declared.files.Want.TheVariants as want
 use Rattle.fs_machine.specs.Steps as steps
 use Rattle.fs_machine.specs.declared.op.Answer.TheVariants as answers
@@ -15,9 +15,9 @@ there : (P : GuardState Inode → Type 0) (o : Option (GuardState Inode)) → Ma
 there P None is = absurd is
 there P (Some g) is = refl
 
-nothing_more : (path : List ℕ) (o : Option Dinode) → handlers.had_of o ≡ had_of path note.Nothing o
+nothing_more : (path : List ℕ) (o : Option Loaded) → handlers.had_of o ≡ had_of path note.Nothing o
 nothing_more path None = refl
-nothing_more path (Some d) = refl
+nothing_more path (Some l) = refl
 
 came_in : (k : InodePlace) (g : GuardState Inode) (before : Hand) → inode_in k (with_inode k (Some g) before) ≡ g.value
 came_in One g before = refl

@@ -1,15 +1,16 @@
 -- What the proofs of this crate's functions use: its lemmas, and what they speak of.
-pub use Rattle.inode_parts.proofs.Vocabulary.{Ask, AskTold, BeginsWith, Bool, Carry, Comes, Dinode, Emptying, EnteredState, Entry, Face, FillsAs, FillsFrom, Found, Free, Goes, GoesOrLeaves, HasRoomFor, Having, Heard, IfSome, InodePart, IsAfter, IsAlone, IsAmid, IsLoadedAt, IsOnWay, IsPart, Leaves, List, Locks, Name, Named, None, Option, P, Part, PartReady, PartTold, Place, Query, ReadFilePart, ReadsInto, Refuses, RelockPart, RelockReady, Reply, Ret, InodePlace, Sees, Some, Take, TakePart, UnderWay, WholeFits, WriteFilePart, WriteFileReady, [], answer_to, ap, append-nil, arith, beside_buffers, beside_emptying, beside_in, beside_inode, beside_new, bind, call_in, carry_in, code_enter as enter, counted, drop, empty_seat, enter_left, enter_part_left, entered, entries, face_by, face_unless_free, file_ends, file_left, file_seat, fill_left, fill_names as fill, filled, filled_to, free_ends, free_seat, freeing_left, handed, having, hears, inode_at, is_some, left_after, length, listed_ends, lock_file_left, lock_left, lock_loaded, lock_seat, looked, lookup, name_in, named_ends, new_left, new_value, not, note_at, note_of, number_at, number_found, number_in, open_ends, open_left, open_seat, other, part_left, part_left_after, piece, program, put_entry, query_in, read_file_left, read_left, record_in, record_left, record_place, reference_at, refl, relock_left, search_left, seat_of_lock, second_in, slot_in, type_of, stat_ends, stat_left, step_for, store_inode as store, subst, sym, take, take_left, text_in, true, truncate, truncate_left, whole_of, whole_with, with_first, with_record, with_text, write_file_left, write_left, write_over, ℕ, ◌*◌, ◌++◌, ◌-◌, ◌<◌, ◌^◌, ◌∙◌, ◌≡◌}
-unfoldable pub use Rattle.inode_parts.proofs.Vocabulary.{answer_in}
+pub use Rattle.inode_parts.proofs.Vocabulary.{Ask, AskTold, BeginsWith, Bool, Carry, Comes, Dinode, Emptying, EnteredState, Entry, Face, FillsAs, FillsFrom, Free, Goes, GoesOrLeaves, HasRoomFor, Having, Heard, IfSome, InodePart, IsAfter, IsAlone, IsAmid, IsLoadedAt, IsOnWay, IsPart, Leaves, Loaded, List, Locks, Name, Named, None, Option, P, Part, PartReady, PartTold, Place, Query, ReadFilePart, ReadsInto, Refuses, RelockPart, RelockReady, Reply, Ret, InodePlace, Searched, Sees, Some, Take, TakePart, UnderWay, WholeFits, WriteFilePart, WriteFileReady, [], answer_to, ap, append-nil, arith, beside_buffers, beside_emptying, beside_in, emptying_of, freeing-kept, beside_inode, beside_new, bind, call_in, carry_in, code_enter as enter, counted, drop, empty_seat, enter_seat, enter_left, enter_part_left, entered, face_by, face_unless_free, file_ends, file_left, file_seat, fill_left, fill_names as fill, filled, filled_to, found_with, free_ends, free_seat, freeing_left, handed, having, hears, index_at, inode_at, inode_in, is_some, left_after, length, listed_ends, loaded-there, loaded_in, lock_file_left, lock_left, lock_loaded, lock_seat, looked, lookup, name_in, named_ends, new_left, new_value, no_index, not, note_at, note_of, number_at, number_found, number_in, open_ends, open_left, open_seat, other, part_left, part_left_after, piece, program, put_entry, query_in, read_file_left, read_left, record_in, record_left, record_place, reference_at, refl, relock_left, search_left, seat_of_lock, second_in, slot_in, type_of, stat_ends, stat_left, step_for, store_inode as store, subst, sym, take, take_left, text_in, true, truncate, truncate_left, unindexed, whole_of, whole_with, with_first, with_record, with_text, write_file_left, write_left, write_over, ℕ, ◌*◌, ◌++◌, ◌-◌, ◌<◌, ◌^◌, ◌∙◌, ◌≡◌}
+unfoldable pub use Rattle.inode_parts.proofs.Vocabulary.{answer_in, cleared}
 pub use Rattle.inode_parts.specs.Vocabulary.{Writes as WriteFile, asks, entered_as, file_asked, first_in, freeing_asked, lock_asked, new_asked, new_seat, op_in, open_asked, piece_len, read_asked, reply_to, search_asked, write_asked}
 pub use Rattle.inodes_on_blocks.proofs.Vocabulary.{Enter, drop_all, min, replicate, rules, take_all}
 pub use Rattle.fs_machine.proofs.Vocabulary.{IfNone, buffer_at}
-pub use Rattle.inode_parts.proofs.Amid.{buffer_beside, buffers_beside, leaves_changed, leaves_set, record_beside, reloads, stands, still_amid, still_there}
+pub use Rattle.inode_parts.proofs.Amid.{buffer_beside, buffers_beside, leaves_both, leaves_changed, record_beside, reloads, stands, still_amid}
 pub use Rattle.inode_parts.proofs.Coming.{comes_first, comes_on, file_learned, file_opens, never_came}
 pub use Rattle.inode_parts.proofs.OnWay.{begins_now, first_runs, next_ends, next_runs, part_told, read_text, stands_now, text_stays, told_now, way_now}
 pub use Rattle.inode_data.proofs.Asking.{asks_bind}
 pub use Rattle.inode_parts.proofs.Locking.{first_seat, lock_on, lock_over, other_free}
-pub use Rattle.inode_parts.proofs.Taking.{is_taken, search_on, search_over, seen_ends, take_on, take_over, taken_stays}
+pub use Rattle.inode_parts.proofs.Taking.{is_taken, search_on, search_over, seen_ends, seen_over, take_on, take_over}
+pub use Rattle.inode_parts.proofs.Besides.{inode_over, taken_stays}
 pub use Rattle.inode_parts.specs.Leaving.{heard_if}
 pub use Rattle.file_table.specs.LockingFiles.{FileEnds, file_value}
 pub use Rattle.file_table.specs.declared.lock_file.FileLocked.{FileLocked}
@@ -18,11 +19,11 @@ pub use Rattle.inode_parts.proofs.Seeing.{comes_between, comes_on_search, counte
 pub use Rattle.inode_parts.proofs.StepLeaves.{step_leaves, under_way}
 pub use Rattle.inode_parts.proofs.Texts.{fills_now, fits_with, its_own, on_text, reads_now, reads_with, room_before, room_then, same_with, way_with}
 pub use Rattle.inode_parts.specs.FileWrites.{WriteFileTold, write_file_asked}
-pub use Rattle.inode_parts.specs.Takes.{TakeTold, take_asked, take_seat}
+pub use Rattle.inode_parts.specs.Takes.{TakeReady, TakeTold, take_asked, take_seat}
 pub use Rattle.fs_machine.proofs.Goings.{second-kept}
 pub use Rattle.inode_parts.proofs.Beginning.{may_change, may_claim, may_free, may_lock, may_take_by, may_write}
 pub use Rattle.inode_parts.proofs.Claims.{claim_is_part, claim_leaves, claim_on, claim_over, kind_passes}
-pub use Rattle.inode_parts.proofs.Clears.{clear_is_part, clear_on}
+pub use Rattle.inode_parts.proofs.Clears.{clear_ends, clear_is_part, clear_on, cleared_so}
 pub use Rattle.inode_parts.proofs.Dups.{dup_runs}
 pub use Rattle.inode_parts.proofs.Empties.{empty_is_part, empty_on}
 pub use Rattle.inode_parts.proofs.Enters.{enter_ends, enter_is_part, enter_on, never_over}
@@ -31,7 +32,7 @@ pub use Rattle.inode_parts.proofs.FileLocks.{lock_file_is_part, lock_open_is_par
 pub use Rattle.inode_parts.proofs.FileReads.{begun_fills, begun_is_part, may_move, read_on, room_so}
 pub use Rattle.inode_parts.proofs.FileStats.{stat_file_is_part, told_at, untold}
 pub use Rattle.inode_parts.proofs.FileWrites.{begun_deny, begun_write, done_so, ready_for, write_on}
-pub use Rattle.inode_parts.proofs.Fills.{fill_is_part, fill_on}
+pub use Rattle.inode_parts.proofs.Fills.{fill_ends, fill_is_part, fill_on, filled_so}
 pub use Rattle.inode_parts.proofs.Freeing.{free_begins, free_is_part, free_there}
 pub use Rattle.inode_parts.proofs.Frees.{free_on, free_over, free_stays}
 pub use Rattle.inode_parts.proofs.Goings.{aside_goes, checked_goes, directory_goes, doubled_goes, down_goes, give_goes, installed_goes, joined_goes, lent_goes, moved_goes, root_goes, settle_goes, shut_goes, slot_goes, up_goes, walked_goes}

@@ -5,6 +5,7 @@ pub mod Begins
 pub mod Beginning
 pub mod Handing
 pub mod Changing
+pub mod Besides
 pub mod Stores
 pub mod Plain
 pub mod Empties

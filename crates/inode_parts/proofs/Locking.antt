@@ -1,5 +1,5 @@
 -- How a part goes on whose routine takes a lock.
-use Rattle.inode_parts.proofs.Vocabulary.{◌≡◌, ℕ, List, Option, Some, None, refl, sym, ap, subst, ◌∙◌, IsSome, MatchOption, option_map_or, put, GuardState, Dinode, Ret, bind, Inode, record_of, P, Goes, inode_at, inode_in, no_inode, Hand, InodePlace, One, Two, number_in, record_in, IsLoadedAt, beside_lock, goes_to, goes_with, Carry, carry_in, had_of, with_note, IsAlone, locks, other, Part, beside_in, Note, Notes}
+use Rattle.inode_parts.proofs.Vocabulary.{◌≡◌, ℕ, List, Option, Some, None, refl, sym, ap, subst, ◌∙◌, IsSome, MatchOption, option_map_or, put, GuardState, Loaded, Ret, bind, Inode, loaded_of, P, Goes, inode_at, inode_in, no_inode, Hand, InodePlace, One, Two, number_in, loaded_in, IsLoadedAt, beside_lock, goes_to, goes_with, Carry, carry_in, had_of, with_note, IsAlone, locks, other, Part, beside_in, Note, Notes}
 use Rattle.fs_machine.specs.Steps as steps
 use Rattle.inode_parts.proofs.Sides.{held_beside, same_beside}
 
@@ -31,20 +31,20 @@ module _ {A : Type 0} (ends : Carry → A → Part) (path : List ℕ) (m : Notes
 -- ---- what is had of it then
 
 there_loaded : (o : Option (GuardState Inode)) → MatchOption o ⊥ (λ g. IsSome g.value.content)
-    → let v : Inode = option_map_or (λ (g : GuardState Inode). g.value) o no_inode in IsSome o × (v.content ≡ Some (record_of v))
+    → let v : Inode = option_map_or (λ (g : GuardState Inode). g.value) o no_inode in IsSome o × (v.content ≡ Some (loaded_of v))
 there_loaded None is = absurd is
 there_loaded (Some g) is = (refl, at g.value.content is)
   where
-    at : (o : Option Dinode) → IsSome o → let v : Inode = record { number = g.value.number; content = o } in o ≡ Some (record_of v)
+    at : (o : Option Loaded) → IsSome o → let v : Inode = record { number = g.value.number; content = o } in o ≡ Some (loaded_of v)
     at None is = absurd (cc is)
-    at (Some d) is = refl
+    at (Some l) is = refl
 
-pub loaded_there : (k : InodePlace) (h : Hand) → IsLoadedAt k h → IsSome (inode_at k h) × ((inode_in k h).content ≡ Some (record_in k h))
+pub loaded_there : (k : InodePlace) (h : Hand) → IsLoadedAt k h → IsSome (inode_at k h) × ((inode_in k h).content ≡ Some (loaded_in k h))
 loaded_there One h is = there_loaded h.one is
 loaded_there Two h is = there_loaded h.two is
 
 pub had_now : (path : List ℕ) (m : Notes) (k : InodePlace) (h : Hand) (l : Note) (n : ℕ) → IsLoadedAt k h → number_in k h ≡ n → IsAlone n k h
-    → put (beside_in path m k h) n (had_of path l (Some (record_in k h))) ≡ carry_in path (with_note k l m) h
+    → put (beside_in path m k h) n (had_of path l (Some (loaded_in k h))) ≡ carry_in path (with_note k l m) h
 had_now path m k h l n loaded named alone =
     let there = loaded_there k h loaded in
     (λ i. put (beside_in path m k h) (sym named i) (had_of path l (sym there.1 i)))

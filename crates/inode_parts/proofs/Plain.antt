@@ -1,5 +1,5 @@
 -- Programs that several operations have in them: without marks they are the code's.
-use Rattle.inode_parts.proofs.Vocabulary.{◌≡◌, ℕ, ◌==◌, Bool, true, false, if◌then◌else◌, List, [], ◌∷◌, Option, Some, None, refl, ◌∙◌, slice_index, take, Dinode, Super, numbers_in, Prog, Do, bind, plain, unmarked, bind-assoc, plain-bind, fetch, read_unless, clear_bit, free_block, inode_block, give_back, load_unless, put_inode, store_inode, address, table_of, free_numbers, free_table, free_in_table, free_indirect, fetch_at, fetch_block, fetch_named, fetch_number, give_fetched, direct, Address, Direct, InTable, give_content, Acts}
+use Rattle.inode_parts.proofs.Vocabulary.{◌≡◌, ℕ, ◌==◌, Bool, true, false, if◌then◌else◌, List, [], ◌∷◌, Option, Some, None, refl, ◌∙◌, slice_index, take, Dinode, Loaded, Super, numbers_in, Prog, Do, bind, plain, unmarked, bind-assoc, plain-bind, fetch, read_unless, clear_bit, free_block, inode_block, give_back, load_unless, put_inode, store_inode, address, table_of, free_numbers, free_table, free_in_table, free_indirect, fetch_at, fetch_block, fetch_named, fetch_number, give_fetched, direct, Address, Direct, InTable, give_content, Acts}
 use Rattle.fs_machine.specs.Steps as steps
 use Rattle.inodes_on_blocks.specs.Handlers.{P}
 
@@ -10,8 +10,8 @@ plain_fetch b = λ i. Do (steps.Get b) unmarked (λ content. read content i)
     read None = refl
     read (Some bytes) = refl
 
-pub plain_load : (inodestart n : ℕ) (content : Option Dinode) → plain (load_unless {M = Acts} inodestart n content) ≡ load_unless inodestart n content
-plain_load inodestart n (Some d) = refl
+pub plain_load : (inodestart n : ℕ) (content : Option Loaded) → plain (load_unless {M = Acts} inodestart n content) ≡ load_unless inodestart n content
+plain_load inodestart n (Some l) = refl
 plain_load inodestart n None =
     plain-bind (fetch {M = Acts} (inode_block inodestart n)) (give_back (inode_block inodestart n) n)
     ∙ (λ i. bind (plain_fetch (inode_block inodestart n) i) (λ block. plain (give_back {M = Acts} (inode_block inodestart n) n block)))

@@ -1,5 +1,5 @@
 -- Contents written and directories searched: without marks the programs are the code's.
-use Rattle.inode_parts.proofs.Vocabulary.{◌≡◌, ℕ, zero, suc, ◌+◌, ◌/◌, ◌≤◌, ◌==◌, nat_lt, Bool, true, false, if◌then◌else◌, List, length, drop, Option, Some, None, refl, sym, ◌∙◌, ap, arith, slice_index, nat_tests, Dinode, Super, numbers_in, block_len, Ret, Do, bind, plain, unmarked, bind-assoc, plain-bind, fetch, marked_by, first_clear_below, give_zeros, take_first, zero_found, Address, Direct, InTable, address, table_of, fetch_block, direct, WriteResult, front_of, locate, locate_at, locate_in_table, located, look_up, name_direct, name_in_table, put_part, take_one, with_address, with_table, write_blocks, write_in, write_located, Found, Aim, Unused, block_count, found_in, look_at, or_next, search, search_from, slot_count, look_last, search_full, seek_free, Acts}
+use Rattle.inode_parts.proofs.Vocabulary.{◌≡◌, ℕ, zero, suc, ◌+◌, ◌-◌, ◌/◌, ◌≤◌, ◌==◌, nat_lt, Bool, true, false, if◌then◌else◌, List, length, drop, Option, Some, None, refl, ◌∙◌, ap, arith, slice_index, nat_tests, Dinode, Super, numbers_in, block_len, Ret, Do, bind, plain, unmarked, bind-assoc, plain-bind, fetch, marked_by, first_clear_below, give_zeros, take_first, zero_found, Address, Direct, InTable, address, table_of, fetch_block, direct, WriteResult, front_of, locate, locate_at, locate_in_table, located, look_up, name_direct, name_in_table, put_part, take_one, with_address, with_table, write_blocks, write_in, write_located, Found, Aim, Unused, block_count, found_in, look_at, or_next, search, search_from, slot_count, look_last, search_full, seek_free, seek_full, Acts, IndexState, Loaded, Searched, few_known, first_of, raised}
 use Rattle.fs_machine.specs.Machines as code
 use Rattle.fs_machine.specs.Steps as steps
 use Rattle.inode_data.specs.Writing.{with_part}
@@ -14,16 +14,22 @@ then_plain p q f g same each = plain-bind p f ∙ (λ i. bind (same i) (λ a. ea
 pub after_plain : {A B C : Type 0} (p : P A) (q : code.P A) (f : A → P B) (h : B → P C) (g : A → code.P C) → plain p ≡ q → ((a : A) → plain (bind (f a) h) ≡ g a) → plain (bind (bind p f) h) ≡ bind q g
 after_plain p q f h g same each = ap plain (bind-assoc p f h) ∙ then_plain p q (λ a. bind (f a) h) g same each
 
-pub plain_or_next : {A : Type 0} (o : Option A) (p : P (Option A)) (q : code.P (Option A)) → plain p ≡ q → plain (or_next o p) ≡ or_next o q
-plain_or_next (Some a) p q same = refl
-plain_or_next None p q same = same
+-- what was found, or what comes then
+pub plain_or_next : (o : Option Found) (x : IndexState) (p : IndexState → P Searched) (q : IndexState → code.P Searched) → ((x : IndexState) → plain (p x) ≡ q x) → plain (or_next o x p) ≡ or_next o x q
+plain_or_next (Some f) x p q same = refl
+plain_or_next None x p q same = same x
 
-pub plain_search_from : (n : ℕ) (aim : Aim) (d : Dinode) (k : ℕ) → plain (search_from {M = Acts} n aim d k) ≡ search_from n aim d k
+plain_search_from : (n : ℕ) (aim : Aim) (d : Dinode) (k : ℕ) (x : IndexState) → plain (search_from {M = Acts} n aim d k x) ≡ search_from n aim d k x
 unfolding search_from
-plain_search_from zero aim d k = refl
-plain_search_from (suc n) aim d k =
-    then_plain (fetch_block d k) (fetch_block d k) (look_at aim d k (search_from n aim d (k + 1))) (look_at aim d k (search_from n aim d (k + 1))) (plain_block d k)
-    (λ f. λ i. Do (steps.Put f.number None) unmarked (λ _. plain_or_next (found_in aim d k f.bytes) (search_from n aim d (k + 1)) (search_from n aim d (k + 1)) (plain_search_from n aim d (k + 1)) i))
+plain_search_from zero aim d k x = refl
+plain_search_from (suc n) aim d k x =
+    then_plain (fetch_block d k) (fetch_block d k) (look_at aim d k x (search_from n aim d (k + 1))) (look_at aim d k x (search_from n aim d (k + 1))) (plain_block d k)
+    (λ f. λ i. Do (steps.Put f.number None) unmarked (λ _. plain_or_next (found_in aim d k f.bytes) (raised d k f.bytes x) (search_from n aim d (k + 1)) (search_from n aim d (k + 1)) (plain_search_from n aim d (k + 1)) i))
+
+pub plain_search : (aim : Aim) (l : Loaded) → plain (search {M = Acts} aim l) ≡ search aim l
+plain_search aim l =
+    let b : ℕ = l.index.blocks in
+    plain_or_next (first_of aim l.inode l.index) l.index (search_from (block_count l.inode - b) aim l.inode b) (search_from (block_count l.inode - b) aim l.inode b) (plain_search_from (block_count l.inode - b) aim l.inode b)
 
 -- ---- a block taken
 
@@ -89,32 +95,40 @@ plain_writes (suc n) sizes at bytes d =
 
 -- ---- a free slot sought
 
-plain_or : (o : Option Found) (p : P (Option Found)) (q : code.P (Option Found)) → plain p ≡ q → plain (or_next o p) ≡ or_next o q
-plain_or None p q same = same
-plain_or (Some f) p q same = refl
+abbrev answers : Option Found → IndexState → code.P Searched
+answers o x = Ret (record { found = o; index = x })
 
-abbrev answers : Option Found → code.P (Option Found)
-answers o = Ret o
+plain_last : (o : Option Found) (x : IndexState) → answers o x ≡ or_next o x (answers None)
+plain_last None x = refl
+plain_last (Some f) x = refl
 
-plain_last : (o : Option Found) → answers o ≡ or_next o (answers None)
-plain_last None = refl
-plain_last (Some f) = refl
-
-plain_full : (mark : Option Acts) (n : ℕ) (d : Dinode) (k : ℕ) → plain (search_full mark n d k) ≡ search_from (suc n) Unused d k
+plain_full : (mark : Option Acts) (n : ℕ) (d : Dinode) (k : ℕ) (x : IndexState) → plain (search_full mark n d k x) ≡ search_from (suc n) Unused d k x
 unfolding search_full search_from
-plain_full mark zero d k =
-    then_plain (fetch_block d k) (fetch_block d k) (look_last mark d k) (look_at Unused d k (search_from zero Unused d (k + 1))) (plain_block d k)
-    (λ f i. Do (steps.Put f.number None) unmarked (λ _. plain_last (found_in Unused d k f.bytes) i))
-plain_full mark (suc n) d k =
-    then_plain (fetch_block d k) (fetch_block d k) (look_at Unused d k (search_full mark n d (k + 1))) (look_at Unused d k (search_from (suc n) Unused d (k + 1))) (plain_block d k)
-    (λ f i. Do (steps.Put f.number None) unmarked (λ _. plain_or (found_in Unused d k f.bytes) (search_full mark n d (k + 1)) (search_from (suc n) Unused d (k + 1)) (plain_full mark n d (k + 1)) i))
+plain_full mark zero d k x =
+    then_plain (fetch_block d k) (fetch_block d k) (look_last mark d k x) (look_at Unused d k x (search_from zero Unused d (k + 1))) (plain_block d k)
+    (λ f i. Do (steps.Put f.number None) unmarked (λ _. plain_last (found_in Unused d k f.bytes) (raised d k f.bytes x) i))
+plain_full mark (suc n) d k x =
+    then_plain (fetch_block d k) (fetch_block d k) (look_at Unused d k x (search_full mark n d (k + 1))) (look_at Unused d k x (search_from (suc n) Unused d (k + 1))) (plain_block d k)
+    (λ f i. Do (steps.Put f.number None) unmarked (λ _. plain_or_next (found_in Unused d k f.bytes) (raised d k f.bytes x) (search_full mark n d (k + 1)) (search_from (suc n) Unused d (k + 1)) (plain_full mark n d (k + 1)) i))
 
-pub plain_seek : (mark : Option Acts) (d : Dinode) → plain (seek_free mark d) ≡ search Unused d
-plain_seek mark d = by (nat_lt (slot_count d) 17152) refl
+-- where all slots are there, and the index has none free, it has one block at most
+module _ (mark : Option Acts) (l : Loaded) (full : slot_count l.inode ≡ 17152) where
+  abbrev b : ℕ
+  b = l.index.blocks
+
+  plain_seek_full : (o : Option Found) → first_of Unused l.inode l.index ≡ o
+      → plain (or_next o l.index (search_full mark (267 - b) l.inode b)) ≡ or_next o l.index (search_from (block_count l.inode - b) Unused l.inode b)
+  plain_seek_full (Some f) is = refl
+  plain_seek_full None is =
+      let few : b ≤ 1 = few_known l full is in
+      let all : suc (267 - b) ≡ block_count l.inode - b = omega (arith, few, full) in
+      plain_full mark (267 - b) l.inode b l.index ∙ ap (λ (n : ℕ). search_from n Unused l.inode b l.index) all
+
+pub plain_seek : (mark : Option Acts) (l : Loaded) → plain (seek_free mark l) ≡ search Unused l
+plain_seek mark l = by (nat_lt (slot_count l.inode) 17152) refl
   where
-    by : (b : Bool) → nat_lt (slot_count d) 17152 ≡ b → plain (if b then search Unused d else search_full mark 267 d 0) ≡ search Unused d
-    by true room = plain_search_from (block_count d) Unused d 0
+    by : (b : Bool) → nat_lt (slot_count l.inode) 17152 ≡ b → plain (if b then search Unused l else seek_full mark l) ≡ search Unused l
+    by true room = plain_search Unused l
     by false full =
-        let many : 17152 ≤ slot_count d = grind (arith, nat_tests, full) in
-        let all : block_count d ≡ 268 = omega (arith, many) in
-        plain_full mark 267 d 0 ∙ ap (λ (k : ℕ). search_from k Unused d 0) (sym all)
+        let many : 17152 ≤ slot_count l.inode = grind (arith, nat_tests, full) in
+        plain_seek_full mark l (omega (arith, many)) (first_of Unused l.inode l.index) refl

@@ -1,5 +1,5 @@
 -- The first listed inode locked: the operation is its part.
-use Rattle.inode_parts.proofs.Vocabulary.{◌≡◌, ◌<◌, ◌^◌, ◌⊎◌, inl, inr, ℕ, List, [], ◌∷◌, true, false, Option, Some, None, refl, sym, ap, subst, ◌∙◌, IsSome, is_some, option_map_or, unwrap_or, GuardState, Dinode, Super, Inode, bind, inode_block, load_unless, first_in, first_listed, inode_at, inode_in, no_inode, number_at, reference_at, with_first, with_inode, Hand, InodePlace, One, Two, HasNoBuffer, number_in, HasBlock, lock_loaded, eq_is, eq_self, AtNothing, Query, Take, answer_to, Heard, carry_in, Comes, CameTo, Leaves, having, IsAlone, free_seat, other, refers, seat_of_reference, IsPart, Part, MayRelock, RelockBegins, RelockReady, beside_in, looked, IsTaken, Sees, TakeBegins, Notes}
+use Rattle.inode_parts.proofs.Vocabulary.{◌≡◌, ◌<◌, ◌^◌, ◌⊎◌, inl, inr, ℕ, List, [], ◌∷◌, true, false, Option, Some, None, refl, sym, ap, subst, ◌∙◌, IsSome, is_some, option_map_or, unwrap_or, GuardState, Loaded, Super, Inode, bind, inode_block, load_unless, first_in, first_listed, inode_at, inode_in, no_inode, number_at, reference_at, with_first, with_inode, Hand, InodePlace, One, Two, HasNoBuffer, number_in, HasBlock, lock_loaded, eq_is, eq_self, AtNothing, Query, Take, answer_to, Heard, carry_in, Comes, CameTo, Leaves, having, IsAlone, free_seat, other, refers, seat_of_reference, IsPart, Part, MayRelock, RelockBegins, RelockReady, beside_in, looked, IsTaken, Sees, TakeBegins, Notes}
 use Rattle.fs_machine.specs.Machines as code
 use Rattle.path_walk.specs.declared.asks.Query.TheVariants as query
 use Rattle.inode_parts.specs.declared.relock_part.RelockPart.TheVariants as relock
@@ -38,7 +38,7 @@ module _ (sizes : Super) (n : ℕ) (h : Hand) (k : InodePlace) (at : k ≡ free_
 
   pub relock_is_part : (path : List ℕ) (m : Notes) → IsPart sizes (carry_in path m h) (Take n AtNothing) (bind (lock_loaded sizes.inodestart (first_listed h)) (looked path query.Nothing (beside_in path m k h) (first_listed h)))
   relock_is_part path m =
-      locked_is_part sizes path m n query.Nothing h k (lock_loaded sizes.inodestart (first_listed h)) (first_listed h) (ap (λ (n : ℕ). let p : code.P Dinode = lock_loaded sizes.inodestart n in p) named) named free
+      locked_is_part sizes path m n query.Nothing h k (lock_loaded sizes.inodestart (first_listed h)) (first_listed h) (ap (λ (n : ℕ). let p : code.P Loaded = lock_loaded sizes.inodestart n in p) named) named free
 
   some : h.listed ≡ [] → ⊥
   some none = let clash : n ∷ begins.0.1.0 ≡ [] = sym begins.0.1.1 ∙ none in cc clash
@@ -103,11 +103,11 @@ module _ (k : InodePlace) (before h : Hand) (g : GuardState Inode) (is : h ≡ w
   came_block inodestart block = subst (λ (n : ℕ). inode_block inodestart n < 2 ^ 32) (sym locks_so) block
 
   -- what is left then
-  pub came_goes : (path : List ℕ) (m : Notes) (inodestart : ℕ) (p : code.P Dinode) (r : Part) → p ≡ load_unless inodestart (number_in k h) (inode_in k h).content → bind p (looked path query.Nothing (beside_in path m k h) (number_at k h)) ≡ r
+  pub came_goes : (path : List ℕ) (m : Notes) (inodestart : ℕ) (p : code.P Loaded) (r : Part) → p ≡ load_unless inodestart (number_in k h) (inode_in k h).content → bind p (looked path query.Nothing (beside_in path m k h) (number_at k h)) ≡ r
       → bind (load_unless inodestart (first_listed before) (inode_in k h).content) (looked path query.Nothing (beside_in path m k before) (first_listed before)) ≡ r
   came_goes path m inodestart p r program ends =
       (λ i. bind (load_unless inodestart (sym locks_so i) (inode_in k h).content) (looked path query.Nothing (same_beside path m k before h other_same i) (sym refers_so i)))
-      ∙ ap (λ (p : code.P Dinode). bind p (looked path query.Nothing (beside_in path m k h) (number_at k h))) (sym program)
+      ∙ ap (λ (p : code.P Loaded). bind p (looked path query.Nothing (beside_in path m k h) (number_at k h))) (sym program)
       ∙ ends
 
 -- ---- what it leaves

@@ -1,26 +1,23 @@
 -- What is left in hand of an inode that is taken, and what was seen in it.
-use Rattle.inode_parts.proofs.Vocabulary.{◌≡◌, ℕ, List, [], true, Option, Some, None, sym, ap, subst, ◌∙◌, ◌<◌, ◌^◌, IsSome, IfSome, option_map, unwrap_or, same_self, IsSlot, Found, number_at, Hand, InodePlace, One, Two, beside_lock, LeavesBuffers, SearchReady, Search, Fetching, Giving, AtEntries, AtName, AtNothing, number_found, answer_to, face_of, sight_in, name_in, Face, Heard, Element, having, note_at, with_note, HasFound, Comes, CameTo, IsCounted, Learns, LearnsBy, Leaves, HasReference, IsAlone, other, seat_of_lock, seat_of_reference, note_of, IsTaken, Sees, Note, Notes}
+use Rattle.inode_parts.proofs.Vocabulary.{◌≡◌, ℕ, List, [], true, Option, Some, None, sym, ap, subst, ◌∙◌, ◌<◌, ◌^◌, IsSome, IfSome, option_map, unwrap_or, same_self, IsSlot, Found, number_at, Hand, InodePlace, beside_index, beside_lock, SearchReady, Search, Fetching, Giving, AtEntries, AtName, AtNothing, number_found, answer_to, face_of, sight_in, name_in, Face, Heard, Element, having, note_at, with_note, HasFound, Comes, CameTo, IsCounted, Learns, LearnsBy, Leaves, HasReference, IsAlone, other, seat_of_lock, seat_of_reference, note_of, IsTaken, Sees, Note, Notes}
 use Rattle.inode_machine.specs.Inodes as whole
 use Rattle.inode_machine.specs.World.{Take}
 use Rattle.path_walk.specs.declared.asks.Heard.TheVariants as heard
+use Rattle.inode_parts.proofs.Basics.{locks_over}
 use Rattle.inode_parts.proofs.Coming.{came, its_seat, noted_apart, noted_there}
 use Rattle.inode_parts.proofs.Taking.{number_same}
 
 -- ---- while it is searched
 
-search_second : (s : Search) (h : Hand) → SearchReady s h → h.second ≡ None
-search_second (Fetching at m) h ready = ready.1.2
-search_second (Giving at found) h ready = ready.3
+search_second : (k : InodePlace) (s : Search) (h : Hand) → SearchReady k s h → h.second ≡ None
+search_second k (Fetching at m) h ready = ready.1.2
+search_second k (Giving at found) h ready = ready.3
 
-beside_search : (k : InodePlace) (before h : Hand) → before.second ≡ None → h.second ≡ None → LeavesBuffers before h → beside_lock k h ≡ beside_lock k before
-beside_search One before h empty over same = λ i. record (same i) { one = None; second = (over ∙ sym empty) i }
-beside_search Two before h empty over same = λ i. record (same i) { two = None; second = (over ∙ sym empty) i }
+pub comes_on_search : (k : InodePlace) (s : Search) (start before h : Hand) → SearchReady k s before → h.second ≡ None → beside_index k h ≡ beside_index k before → Comes k start before → Comes k start h
+comes_on_search k s start before h ready over same comes = (comes.0, comes.1, locks_over k before h same (search_second k s before ready) over ∙ comes.2)
 
-pub comes_on_search : (k : InodePlace) (s : Search) (start before h : Hand) → SearchReady s before → h.second ≡ None → LeavesBuffers before h → Comes k start before → Comes k start h
-comes_on_search k s start before h ready over same comes = (comes.0, comes.1, beside_search k before h (search_second s before ready) over same ∙ comes.2)
-
-pub comes_between : (k : InodePlace) (s t : Search) (start before h : Hand) → SearchReady s before → SearchReady t h → LeavesBuffers before h → Comes k start before → Comes k start h
-comes_between k s t start before h ready then same comes = comes_on_search k s start before h ready (search_second t h then) same comes
+pub comes_between : (k : InodePlace) (s t : Search) (start before h : Hand) → SearchReady k s before → SearchReady k t h → beside_index k h ≡ beside_index k before → Comes k start before → Comes k start h
+comes_between k s t start before h ready then same comes = comes_on_search k s start before h ready (search_second k t h then) same comes
 
 -- ---- what was seen
 

@@ -1,8 +1,10 @@
 -- An inode locked and looked at: the operation is its part.
-use Rattle.inode_parts.proofs.Vocabulary.{◌≡◌, ℕ, List, Bool, true, false, if◌then◌else◌, Option, Some, None, refl, sym, ap, subst, ◌∙◌, ◌<◌, ◌^◌, is_some, not, IsSome, option_map, unwrap_or, put, Dinode, Super, Ret, Do, bind, plain, unmarked, Handover, bind-assoc, is_free, inode_block, load_unless, lookup, Found, entries, inode_at, number_at, reference_at, InodePlace, Hand, lock_left, lock_loaded, lock_seat, LockInode, Sight, Take, Carry, NothingMore, Knowledge, Finds, Has, face_in, learned, number_found, search_entries, seen_record, face_of, query_in, sight_in, name_in, Element, carry_in, had_of, face_by, face_unless_free, IsAlone, seat_of_reference, IsPart, Message, beside_in, listed_ends, looked, named_ends, seen, TakeBegins, Note, Notes}
+use Rattle.inode_parts.proofs.Vocabulary.{◌≡◌, ℕ, List, Bool, true, false, if◌then◌else◌, Option, Some, None, refl, sym, ap, subst, ◌∙◌, ◌<◌, ◌^◌, is_some, not, IsSome, option_map, unwrap_or, put, Dinode, Loaded, Searched, Super, Ret, Do, bind, plain, unmarked, Handover, bind-assoc, is_free, inode_block, load_unless, lookup, entries, inode_at, number_at, reference_at, InodePlace, Hand, lock_left, lock_loaded, lock_seat, LockInode, Sight, Take, Carry, NothingMore, Knowledge, Finds, Has, face_in, learned, number_found, search_entries, seen_record, face_of, query_in, sight_in, name_in, Element, carry_in, had_of, face_by, face_unless_free, IsAlone, seat_of_reference, IsPart, Message, beside_in, listed_ends, looked, named_ends, seen, TakeBegins, Note, Notes}
 use Rattle.fs_machine.specs.Machines as code
 use Rattle.fs_machine.specs.Steps as steps
 use Rattle.inode_machine.specs.Inodes.{Face}
+use Rattle.directory.specs.declared.found.Found.{Found}
+use Rattle.inodes_on_blocks.specs.Handlers as programs
 use Rattle.inodes_on_blocks.specs.Reading as handlers
 use Rattle.path_walk.specs.declared.asks.Query.{Query}
 use Rattle.path_walk.specs.declared.asks.Query.TheVariants as query
@@ -22,37 +24,47 @@ faces_same d = by (is_free d)
 abbrev answers : Handover Message Carry → code.P (Handover Sight Carry)
 answers r = Ret (record { answer = sight_in r.answer.1; carry = r.carry })
 
-module _ (path : List ℕ) (c : Carry) (n : ℕ) (d : Dinode) where
+module _ (path : List ℕ) (c : Carry) (n : ℕ) where
   -- and what is learned is noted so
-  seen_so : (l : Note) (k : Knowledge) (found : Option ℕ) (empty : Bool) → had_of path l (Some d) ≡ Has d k → plain (seen_record c n d k found empty) ≡ bind (seen path c n d l found empty) answers
-  seen_so l k found empty e = λ i. Ret (record { answer = record { face = sym (faces_same d) i; found = found; empty = empty }; carry = put c n (sym e i) })
+  seen_so : (l : Loaded) (m : Note) (k : Knowledge) (found : Option ℕ) (empty : Bool) → had_of path m (Some l) ≡ Has l k → plain (seen_record c n l k found empty) ≡ bind (seen path c n l m found empty) answers
+  seen_so l m k found empty e = λ i. Ret (record { answer = record { face = sym (faces_same l.inode) i; found = found; empty = empty }; carry = put c n (sym e i) })
 
-  named_so : (e : Element) (o : Option Found) → plain (seen_record c n d (learned (name_in path e) o) (number_found o) true) ≡ bind (named_ends path c n d e o) answers
-  named_so e None = seen_so note.Nothing NothingMore None true refl
-  named_so e (Some f) = seen_so (note.Finds e f.slot) (Finds (name_in path e) f.slot) (Some f.number) true refl
+  -- its index is as the search left it
+  abbrev named : Loaded → Element → Searched → programs.P (Handover Sight Carry)
+  named l e o = seen_record c n (record l { index = o.index }) (learned (name_in path e) o.found) (number_found o.found) true
 
-  looked_so : (q : Query) → plain (handlers.looked (query_in path q) c n d) ≡ bind (looked path q c n d) answers
-  looked_so query.Nothing = seen_so note.Nothing NothingMore None true refl
-  looked_so (query.Name e) =
-      then_plain (lookup (name_in path e) d) (lookup (name_in path e) d) (λ o. seen_record c n d (learned (name_in path e) o) (number_found o) true) (λ o. bind (named_ends path c n d e o) answers) (plain_lookup (name_in path e) d) (named_so e)
-      ∙ sym (bind-assoc (lookup (name_in path e) d) (named_ends path c n d e) answers)
-  looked_so query.Entries =
-      then_plain (search_entries d) (entries d) (λ o. seen_record c n d NothingMore None (not (is_some o))) (λ o. bind (listed_ends path c n d o) answers) (plain_entries d) (λ o. seen_so note.Nothing NothingMore None (not (is_some o)) refl)
-      ∙ sym (bind-assoc (entries d) (listed_ends path c n d) answers)
+  abbrev listed : Loaded → Searched → programs.P (Handover Sight Carry)
+  listed l o = seen_record c n (record l { index = o.index }) NothingMore None (not (is_some o.found))
+
+  named_so : (l : Loaded) (e : Element) (o : Searched) → plain (named l e o) ≡ bind (named_ends path c n l e o) answers
+  named_so l e o = at o.found
+    where
+      at : (f : Option Found) → let o : Searched = record { found = f; index = o.index } in plain (named l e o) ≡ bind (named_ends path c n l e o) answers
+      at None = seen_so (record l { index = o.index }) note.Nothing NothingMore None true refl
+      at (Some f) = seen_so (record l { index = o.index }) (note.Finds e f.slot) (Finds (name_in path e) f.slot) (Some f.number) true refl
+
+  looked_so : (q : Query) (l : Loaded) → plain (handlers.looked (query_in path q) c n l) ≡ bind (looked path q c n l) answers
+  looked_so query.Nothing l = seen_so l note.Nothing NothingMore None true refl
+  looked_so (query.Name e) l =
+      then_plain (lookup (name_in path e) l) (lookup (name_in path e) l) (named l e) (λ o. bind (named_ends path c n l e o) answers) (plain_lookup (name_in path e) l) (named_so l e)
+      ∙ sym (bind-assoc (lookup (name_in path e) l) (named_ends path c n l e) answers)
+  looked_so query.Entries l =
+      then_plain (search_entries l) (entries l) (listed l) (λ o. bind (listed_ends path c n l o) answers) (plain_entries l) (λ o. seen_so (record l { index = o.index }) note.Nothing NothingMore None (not (is_some o.found)) refl)
+      ∙ sym (bind-assoc (entries l) (listed_ends path c n l) answers)
 
 -- once its lock is taken, by whichever reference
-pub locked_is_part : (sizes : Super) (path : List ℕ) (m : Notes) (n : ℕ) (q : Query) (h : Hand) (k : InodePlace) (p : code.P Dinode) (j : ℕ) → p ≡ lock_loaded sizes.inodestart n → j ≡ n → inode_at k h ≡ None
+pub locked_is_part : (sizes : Super) (path : List ℕ) (m : Notes) (n : ℕ) (q : Query) (h : Hand) (k : InodePlace) (p : code.P Loaded) (j : ℕ) → p ≡ lock_loaded sizes.inodestart n → j ≡ n → inode_at k h ≡ None
     → IsPart sizes (carry_in path m h) (Take n (query_in path q)) (bind p (looked path q (beside_in path m k h) j))
 locked_is_part sizes path m n q h k p j program named free =
     let c : Carry = beside_in path m k h in
     subst (λ (b : Carry). IsPart sizes b (Take n (query_in path q)) (bind p (looked path q c j))) (sym (none_beside path m h k free))
     (subst (λ (j : ℕ). IsPart sizes c (Take n (query_in path q)) (bind p (looked path q c j))) (sym named)
-    (subst (λ (p : code.P Dinode). IsPart sizes c (Take n (query_in path q)) (bind p (looked path q c n))) (sym program)
+    (subst (λ (p : code.P Loaded). IsPart sizes c (Take n (query_in path q)) (bind p (looked path q c n))) (sym program)
     (λ mark i. Do (steps.Lock n) unmarked (λ content. loads c content i))))
   where
-    loads : (c : Carry) (content : Option Dinode) → plain (bind (load_unless sizes.inodestart n content) (handlers.looked (query_in path q) c n)) ≡ bind (bind (load_unless sizes.inodestart n content) (looked path q c n)) answers
+    loads : (c : Carry) (content : Option Loaded) → plain (bind (load_unless sizes.inodestart n content) (handlers.looked (query_in path q) c n)) ≡ bind (bind (load_unless sizes.inodestart n content) (looked path q c n)) answers
     loads c content =
-        load_then sizes.inodestart n content (handlers.looked (query_in path q) c n) (λ d. bind (looked path q c n d) answers) (λ d. looked_so path c n d q)
+        load_then sizes.inodestart n content (handlers.looked (query_in path q) c n) (λ l. bind (looked path q c n l) answers) (λ l. looked_so path c n q l)
         ∙ sym (bind-assoc (load_unless sizes.inodestart n content) (looked path q c n) answers)
 
 pub take_is_part : (sizes : Super) (path : List ℕ) (m : Notes) (n : ℕ) (q : Query) (h : Hand) (r : LockInode) → lock_left r h ≡ lock_loaded sizes.inodestart n → number_at (lock_seat r) h ≡ n → inode_at (lock_seat r) h ≡ None

@@ -1,9 +1,9 @@
 -- How an inode that is taken is looked at.
-use Rattle.inode_parts.proofs.Vocabulary.{◌≡◌, ℕ, List, Option, sym, ap, subst, ◌∙◌, Bool, Dinode, Ret, bind, P, Aim, Found, Goes, number_at, Hand, InodePlace, One, Two, record_in, beside_lock, LeavesBuffers as Leaves, HasLocked, goes_to, goes_with, search_left, Search, Carry, Heard, carry_in, handed, with_note, face_unless_free, IsAlone, Part, beside_in, looked, seen, IsTaken, Note, Notes}
+use Rattle.inode_parts.proofs.Vocabulary.{◌≡◌, ℕ, List, Option, sym, ap, subst, ◌∙◌, Bool, Dinode, Loaded, Searched, Ret, bind, P, Aim, Goes, number_at, Hand, InodePlace, One, Two, index_at, loaded_in, record_in, beside_index, beside_lock, HasLocked, goes_to, goes_with, search_left, Search, Carry, Heard, carry_in, handed, with_note, face_unless_free, IsAlone, Part, beside_in, looked, seen, IsTaken, Note, Notes}
 use Rattle.fs_machine.specs.Steps as steps
 use Rattle.path_walk.specs.declared.asks.Heard.TheVariants as heard
 use Rattle.path_walk.specs.declared.asks.Query.{Query}
-use Rattle.inode_parts.proofs.Basics.{had_now, lock_on, lock_over, other_stays, alone_still}
+use Rattle.inode_parts.proofs.Basics.{had_now, index_there, lock_on, lock_over, number_over, other_stays, alone_still, record_over, side_over}
 
 -- ---- while it is locked the reference stays
 
@@ -19,59 +19,50 @@ alone_locked k l before h is same alone =
 pub is_taken : (k l : InodePlace) (before h : Hand) → l ≡ k → beside_lock k h ≡ beside_lock k before → IsAlone (number_at k before) k before → HasLocked l h → IsTaken l h
 is_taken k l before h is same alone has = (has.0, has.1, alone_locked k l before h is same alone)
 
-module _ (path : List ℕ) (m : Notes) (q : Query) (k : InodePlace) (before h : Hand) (p : P Dinode) (answer : (o : steps.Op) → steps.Answer o) (same : beside_lock k h ≡ beside_lock k before) where
-  pub take_on : (l : InodePlace) (r : P Dinode) → l ≡ k → Goes p answer r
+module _ (path : List ℕ) (m : Notes) (q : Query) (k : InodePlace) (before h : Hand) (p : P Loaded) (answer : (o : steps.Op) → steps.Answer o) (same : beside_lock k h ≡ beside_lock k before) where
+  pub take_on : (l : InodePlace) (r : P Loaded) → l ≡ k → Goes p answer r
       → Goes (bind p (looked path q (beside_in path m k before) (number_at k before))) answer (bind r (looked path q (beside_in path m l h) (number_at l h)))
   take_on l r at goes =
       goes_to (bind p (looked path q (beside_in path m k before) (number_at k before))) (bind r (looked path q (beside_in path m l h) (number_at k before))) (bind r (looked path q (beside_in path m l h) (number_at l h))) answer
       (lock_on (λ c. looked path q c (number_at k before)) path m k before h p answer same l r at goes)
       (λ i. bind r (looked path q (beside_in path m l h) ((number_same k before h same ∙ (λ j. number_at (sym at j) h)) i)))
 
-  pub take_over : (l : InodePlace) (r : Part) → l ≡ k → looked path q (beside_in path m l h) (number_at l h) (record_in l h) ≡ r → Goes p answer (Ret (record_in l h)) → Goes (bind p (looked path q (beside_in path m k before) (number_at k before))) answer r
+  pub take_over : (l : InodePlace) (r : Part) → l ≡ k → looked path q (beside_in path m l h) (number_at l h) (loaded_in l h) ≡ r → Goes p answer (Ret (loaded_in l h)) → Goes (bind p (looked path q (beside_in path m k before) (number_at k before))) answer r
   take_over l r at e goes =
-      lock_over (λ c. looked path q c (number_at k before)) path m k before h p answer same (record_in l h) r
-      ((λ i. looked path q (beside_in path m (sym at i) h) ((number_same k before h same ∙ (λ j. number_at (sym at j) h)) i) (record_in l h)) ∙ e) goes
+      lock_over (λ c. looked path q c (number_at k before)) path m k before h p answer same (loaded_in l h) r
+      ((λ i. looked path q (beside_in path m (sym at i) h) ((number_same k before h same ∙ (λ j. number_at (sym at j) h)) i) (loaded_in l h)) ∙ e) goes
 
--- ---- while it is searched all but the buffers stays
+-- ---- while it is searched all stays but the buffers, and its index
 
-record_same : (k : InodePlace) (before h : Hand) → Leaves before h → record_in k before ≡ record_in k h
-record_same One before h same = sym (ap (record_in One) same)
-record_same Two before h same = sym (ap (record_in Two) same)
-
-pub taken_stays : (k : InodePlace) (before h : Hand) → Leaves before h → IsTaken k before → IsTaken k h
-taken_stays One before h same is = subst (λ (h : Hand). IsTaken One h) (sym same) is
-taken_stays Two before h same is = subst (λ (h : Hand). IsTaken Two h) (sym same) is
-
-module _ (ends : Carry → ℕ → Dinode → Option Found → Part) (path : List ℕ) (m : Notes) (k : InodePlace) (before h : Hand) (aim : Aim) (s : Search) (answer : (o : steps.Op) → steps.Answer o) (same : Leaves before h) (inode : Dinode) (is : inode ≡ record_in k h) where
-  abbrev at : Hand → Option Found → Part
+-- the ends count the index that the search left alone
+module _ (ends : Carry → ℕ → Dinode → Searched → Part) (path : List ℕ) (m : Notes) (k : InodePlace) (before h : Hand) (aim : Aim) (s : Search) (answer : (o : steps.Op) → steps.Answer o) (same : beside_index k h ≡ beside_index k before) where
+  abbrev at : Hand → Searched → Part
   at h = ends (beside_in path m k h) (number_at k h) (record_in k h)
 
   at_same : at before ≡ at h
-  at_same = by k
-    where
-      by : (k : InodePlace) → ends (beside_in path m k before) (number_at k before) (record_in k before) ≡ ends (beside_in path m k h) (number_at k h) (record_in k h)
-      by One = sym (ap (λ (h : Hand). ends (beside_in path m One h) (number_at One h) (record_in One h)) same)
-      by Two = sym (ap (λ (h : Hand). ends (beside_in path m Two h) (number_at Two h) (record_in Two h)) same)
+  at_same = λ i. ends (side_over k before h same path m i) (number_over k before h same i) (record_over k before h same i)
 
-  pub search_on : (t : Search) → Goes (search_left aim inode s before) answer (search_left aim inode t h) → Goes (bind (search_left aim (record_in k before) s before) (at before)) answer (bind (search_left aim (record_in k h) t h) (at h))
-  search_on t goes =
-      subst (λ (d : Dinode). Goes (bind (search_left aim d s before) (at before)) answer (bind (search_left aim (record_in k h) t h) (at h))) (sym (record_same k before h same))
-      (goes_with (search_left aim (record_in k h) s before) (search_left aim (record_in k h) t h) (at before) (at h) answer at_same
-      (subst (λ (d : Dinode). Goes (search_left aim d s before) answer (search_left aim d t h)) is goes))
+  pub search_on : (t : Search) → Goes (search_left aim k s before) answer (search_left aim k t h) → Goes (bind (search_left aim k s before) (at before)) answer (bind (search_left aim k t h) (at h))
+  search_on t goes = goes_with (search_left aim k s before) (search_left aim k t h) (at before) (at h) answer at_same goes
 
-  pub search_over : (o : Option Found) (r : Part) → at h o ≡ r → Goes (search_left aim inode s before) answer (Ret o) → Goes (bind (search_left aim (record_in k before) s before) (at before)) answer r
+  pub search_over : (o : Searched) (r : Part) → at h o ≡ r → Goes (search_left aim k s before) answer (Ret o) → Goes (bind (search_left aim k s before) (at before)) answer r
   search_over o r e goes =
-      subst (λ (d : Dinode). Goes (bind (search_left aim d s before) (at before)) answer r) (sym (record_same k before h same))
-      (goes_to (bind (search_left aim (record_in k h) s before) (at before)) (at h o) r answer
-      (goes_with (search_left aim (record_in k h) s before) (Ret o) (at before) (at h) answer at_same
-      (subst (λ (d : Dinode). Goes (search_left aim d s before) answer (Ret o)) is goes)) e)
+      goes_to (bind (search_left aim k s before) (at before)) (at h o) r answer (goes_with (search_left aim k s before) (Ret o) (at before) (at h) answer at_same goes) e
 
 -- ---- what was seen
 
 pub seen_ends : (path : List ℕ) (m m2 : Notes) (k : InodePlace) (h : Hand) (l : Note) (d : Dinode) (found : Option ℕ) (empty : Bool) (x : Heard) → d ≡ record_in k h → IsTaken k h
-    → x ≡ heard.Saw (record { face = face_unless_free d; found = found; empty = empty }) → m2 ≡ with_note k l m → seen path (beside_in path m k h) (number_at k h) (record_in k h) l found empty ≡ Ret (handed path m2 x h)
+    → x ≡ heard.Saw (record { face = face_unless_free d; found = found; empty = empty }) → m2 ≡ with_note k l m → seen path (beside_in path m k h) (number_at k h) (loaded_in k h) l found empty ≡ Ret (handed path m2 x h)
 seen_ends path m m2 k h l d found empty x is taken heard_so noted =
     λ i. Ret (record {
       answer = (path, (ap (λ (d : Dinode). heard.Saw (record { face = face_unless_free d; found = found; empty = empty })) (sym is) ∙ sym heard_so) i);
       carry = (had_now path m k h l (number_at k h) taken.0 taken.1 taken.2 ∙ ap (λ (m : Notes). carry_in path m h) (sym noted)) i;
     })
+
+-- .. with the index in hand
+pub seen_over : (path : List ℕ) (m m2 : Notes) (k : InodePlace) (h : Hand) (l : Note) (d : Dinode) (found : Option ℕ) (empty : Bool) (x : Heard) → d ≡ record_in k h → IsTaken k h
+    → x ≡ heard.Saw (record { face = face_unless_free d; found = found; empty = empty }) → m2 ≡ with_note k l m
+    → seen path (beside_in path m k h) (number_at k h) (record { inode = record_in k h; index = index_at k h }) l found empty ≡ Ret (handed path m2 x h)
+seen_over path m m2 k h l d found empty x is taken heard_so noted =
+    (λ i. seen path (beside_in path m k h) (number_at k h) (record { inode = record_in k h; index = index_there k h i }) l found empty)
+    ∙ seen_ends path m m2 k h l d found empty x is taken heard_so noted

@@ -1,6 +1,12 @@
 -- What this crate's proofs speak of: its own definitions, and what the crates below and the library call things.
-pub use Rattle.inode_parts.specs.Vocabulary.{Apart, Ask, AtEntries, AtName, AtNothing, Call, Carry, Claim, Claimed, Dinode, Do, Element, Emptied, EnteredState, Entry, Face, Filled, FilledMemory, Finds, First, Found, Given, Goes, GuardState, Had, Hand, Handover, Has, HasNoBuffer, HasRoomFor, Heard, Inode, IsAfter, IsEmpty, IsEmptying, IsLoadedAt, LockedState, Locks, Made, MatchOption, Name, Named, NothingMore, One, OpAbove as Op, OpenFile, P, Query, ReadReady, Refuses, Reply, Ret, Room, SearchReady, InodePlace, Second, Sight, Super, Take, Two, Whole, WholeFits, WritePart, WriteReady, WriteResult, Written, Wrote, above_op as op_in, answer_to, bare, below, beside_lock, beside_new, bind, call_in, cause_if, cause_of, clear_left, count_in, descriptor_count, doubled_by, doubled_to, emptying_of, enter_left, entries, file_left, file_seat, fill_left, filled_to, finish_left, first_listed, freeing_left, freeing_of, given_by, handlers, inode_at, inode_block, inode_blocks, inode_in, is_dying, is_free, is_listed, is_number, joined_by, kind_of, left_after, lock_left, lock_loaded, lock_seat, lookup, machine, name_in, new_file, new_left, new_value, no_inode, nothing, number_at, number_by, number_found, number_in, old_directory, open_left, open_seat, option_map, option_map_or, piece, program, query_in, read_count, read_left, read_of, record_in, record_left, record_of, record_place, reference_at, refused_by, refused_in, root, search_left, second_in, shut_by, shut_to, sight_in, type_of, text_in, truncate_left, unloaded, unmarked, whole_of, with_aside, with_buffer, with_dying, with_first, with_inode, with_listed, with_record, with_reference, with_seated, with_txn, write_left, yes_in}
-unfoldable pub use Rattle.inode_parts.specs.Vocabulary.{answer_in, put}
+pub use Rattle.inode_parts.specs.Vocabulary.{Apart, Ask, AtEntries, AtName, AtNothing, Call, Carry, Claim, Claimed, Dinode, Do, Element, Emptied, EnteredState, Entry, Face, Filled, FilledMemory, Finds, First, Found, Given, Goes, GuardState, Had, Hand, Handover, Has, HasNoBuffer, HasRoomFor, Heard, IndexState, Inode, IsAfter, IsEmpty, IsEmptying, IsLoadedAt, Loaded, LockedState, Locks, Made, MatchOption, Name, Named, NothingMore, One, OpAbove as Op, OpenFile, P, Query, ReadReady, Refuses, Reply, Ret, Room, SearchReady, InodePlace, Searched, Second, Sight, Super, Take, Two, Whole, WholeFits, WritePart, WriteReady, WriteResult, Written, Wrote, above_op as op_in, answer_to, bare, below, beside_lock, beside_new, bind, call_in, cause_if, cause_of, clear_left, count_in, descriptor_count, doubled_by, doubled_to, emptying_of, enter_left, enter_seat, entries, file_left, file_seat, fill_left, filled_to, finish_left, first_listed, found_with, freeing_left, freeing_of, given_by, handlers, index_at, inode_at, inode_block, inode_blocks, inode_in, is_dying, is_free, is_listed, is_number, joined_by, kind_of, left_after, loaded_in, lock_left, lock_loaded, lock_seat, lookup, machine, name_in, new_file, new_left, new_value, no_inode, nothing, number_at, number_by, number_found, number_in, old_directory, open_left, open_seat, option_map, option_map_or, piece, program, query_in, read_count, read_left, read_of, record_in, record_left, record_of, record_place, reference_at, refused_by, refused_in, root, search_left, second_in, shut_by, shut_to, sight_in, type_of, text_in, truncate_left, unloaded, unmarked, whole_of, with_aside, with_buffer, with_dying, with_first, with_index, with_inode, with_listed, with_record, with_reference, with_seated, with_txn, write_left, yes_in}
+unfoldable pub use Rattle.inode_parts.specs.Vocabulary.{answer_in, cleared, put}
+pub use Rattle.fs_machine.specs.Hands.{indexed}
+pub use Rattle.fs_machine.specs.InMemory.{index_of, no_index, unindexed, with_index_of, with_inode_of}
+pub use Rattle.inode_table.specs.Programs.{loaded_of}
+unfoldable pub use Rattle.directory.specs.Indexes.{first_of, raised, with_entry}
+pub use Rattle.inodes_on_blocks.specs.Storing.{reindexed, with_index as carry_index}
+pub use Rattle.directory.proofs.Indexed.{few_known}
 pub use Rattle.inodes_on_blocks.proofs.Vocabulary.{Acts, Aim, BlockInHand as FetchedBlock, Bool, IfSome, IsSome, Knowledge, List, LocksIt, None, OfDevice, OfDirectory, OfFile, Option, Prog, Some, InodeType, Unused, [], acts, address, after_leave, ap, append-nil, append_assoc, arith, bind-assoc, block_count, block_len, blocks_between, cast_unsigned, claim_at, claim_in, clear_bit, clear_in, clear_slot, commit_unless, commits, direct, dirents_per_block, drop, drop-drop, end_of, entered_to, eq_is, eq_self, face_in, false, fetch, fetch_at, fetch_block, fetch_named, fetch_number, file_locked, filled_with, free_block, free_in, free_in_table, free_indirect, free_numbers, free_table, freed, front_of, give_back, give_content, give_fetched, give_read, give_written, give_zeros, grown, holding, if◌then◌else◌, inl, inr, is_some, joining_to, learned, length, length-append, lent_to, load_unless, locate, locate_at, locate_in_table, located, look_at, look_last, look_up, marked_by, most_writes, name_direct, name_in_table, nat_lt, nat_tests, next_block, not, numbers_in, open_locked, or_next, overwrite, part_of, put_grown, put_inode, put_named, put_part, put_record, read_from, read_part, read_unless, record_had, refl, same_self, search, search_entries, seen_record, slice_index, slot_count, slot_for, slot_found, inode_type_at, spell_dirent, stat_loaded, stat_locked, store_inode, store_written, subst, suc, sym, table_of, take, take_first, take_one, true, unwrap_or, with_address, with_slot, with_table, write_in, write_located, write_unless, zero, zero_found, ℕ, ℤ, ◌%◌, ◌*◌, ◌++◌, ◌+◌, ◌-◌, ◌/◌, ◌<◌, ◌==◌, ◌^◌, ◌∙◌, ◌∷◌, ◌≡◌, ◌≢◌, ◌≤◌, ◌⊎◌}
 unfoldable pub use Rattle.inodes_on_blocks.proofs.Vocabulary.{claim_from, first_clear_below, found_in, read_blocks, search_from, search_full, with_dinode, with_dirent, write_blocks}
 pub use Rattle.inode_data.proofs.Vocabulary.{HasOne, beside_emptying, first, record_has, without_content, write_part}
@@ -27,7 +33,7 @@ pub use Rattle.inode_parts.specs.UnderWay.{GoesOrLeaves, OneAmid, UnderWay}
 pub use Rattle.inode_parts.specs.declared.part.InodePart.{InodePart}
 pub use Rattle.file_table.specs.LockingFiles.{HasFile, load_locked, load_open, lock_file_loaded, lock_open_loaded, opens}
 pub use Rattle.file_table.specs.declared.lock_file.HeldFile.{HeldFile}
-pub use Rattle.inode_parts.specs.Changes.{IsAmid, MayChange, beside_inode, changed}
+pub use Rattle.inode_parts.specs.Changes.{IsAmid, MayChange, beside_inode, changed, loads, recorded_at, rewritten, with_loaded}
 pub use Rattle.inode_parts.specs.Coming.{Comes}
 pub use Rattle.inode_parts.specs.Faces.{face_by, face_unless_free, type_by_number}
 pub use Rattle.inode_parts.specs.FileReads.{FillsFrom, MayMove, ReadFileAmid, read_file_left, read_over}
@@ -42,9 +48,8 @@ pub use Rattle.path_walk.specs.Asks.{asks, bool_in, claimed_in, claimed_of, face
 pub use Rattle.std.proofs.Math.Seq.{drop-append_seam, take-append_seam}
 pub use Rattle.fs_machine.specs.Ops.{IsDown, IsHanded, IsJoined, IsKept, IsLent, IsOpened, dropped_by, kept_by}
 pub use Rattle.inode_data.specs.Freeing.{store_record, truncate}
-pub use Rattle.inode_data.specs.Locating.{Leaves as LeavesBuffers}
 pub use Rattle.inode_parts.specs.Calls.{FillsOrStays, IsFilled, IsOnWay, IsReading, LoweredReady, RunsByParts, lowered_left, path_of, whole_with, with_text}
-pub use Rattle.inode_parts.specs.Clears.{ClearAmid, ClearBegins, HasFound, clear_part_left, slot_in}
+pub use Rattle.inode_parts.specs.Clears.{ClearAmid, ClearBegins, HasFound, clear_part_left, cleared_at, slot_in}
 pub use Rattle.inode_parts.specs.FileLocks.{LockBegins, LockFileAmid, LockOpenAmid, file_ends, lock_file_left, open_ends}
 pub use Rattle.inode_parts.specs.Frees.{FreeAmid, FreeBegins, free_ends}
 pub use Rattle.inode_parts.specs.LockedFiles.{moved}
@@ -58,22 +63,23 @@ pub use Rattle.inode_parts.specs.declared.locked_file.LockedFile.{LockedFile}
 pub use Rattle.inode_parts.specs.declared.relock_part.RelockPart.{RelockPart}
 pub use Rattle.inode_parts.specs.declared.stat_file_part.StatFilePart.{StatFilePart}
 pub use Rattle.inode_parts.specs.declared.store_part.StorePart.{StorePart}
-pub use Rattle.inodes_on_blocks.specs.Entering.{seek_free}
+pub use Rattle.inodes_on_blocks.specs.Entering.{seek_free, seek_full}
 pub use Rattle.whole_calls.specs.Wholes.{WholeAsks}
 pub use Rattle.atomic_programs.proofs.Below.{part_begins}
 pub use Rattle.directory.proofs.HasOnes.{clear_has, enter_has, fill_has, search_has}
-pub use Rattle.directory.specs.Entering.{enter as code_enter, enter_at, enter_in as code_enter_in, entered_by}
+pub use Rattle.directory.specs.Entering.{enter as code_enter, enter_at, enter_in as code_enter_in, entered_by, entered_if}
 pub use Rattle.directory.specs.Filling.{dots, fill as fill_names, filled_by}
 pub use Rattle.directory.specs.Programs.{give_record, is_directory, is_live_directory, put_dirent, put_entry}
+pub use Rattle.directory.specs.Searching.{beside_index}
 pub use Rattle.directory.specs.Sought.{IsSlot}
 pub use Rattle.directory.specs.declared.search.Search.TheVariants.{Fetching, Giving}
 pub use Rattle.file_table.proofs.HasOnes.{file_has, open_has}
 pub use Rattle.fs_machine.proofs.Going.{goes_bind}
 pub use Rattle.fs_machine.proofs.HasOnes.{finish_has}
 pub use Rattle.fs_machine.specs.Hands.{first_in}
-pub use Rattle.inode_data.proofs.Goings.{number-kept}
+pub use Rattle.inode_data.proofs.Goings.{freeing-kept, index-kept, number-kept}
 pub use Rattle.inode_data.proofs.HasOnes.{freeing_has, read_has, truncate_has}
-pub use Rattle.inode_data.specs.FreeingInodes.{IsUnloadedAt, free_record, store_free}
+pub use Rattle.inode_data.specs.FreeingInodes.{IsUnloadedAt, beside_freeing, free_record, store_free}
 pub use Rattle.inode_data.specs.PartWriting.{written_as}
 pub use Rattle.inode_parts.specs.Claims.{ClaimAmid, ClaimBegins, claim_ends, claimed_by}
 pub use Rattle.inode_parts.specs.Empties.{EmptyAmid, empty_part_left, empty_seat}
@@ -88,7 +94,7 @@ pub use Rattle.inode_parts.specs.declared.lock_open_part.LockOpenPart.{LockOpenP
 pub use Rattle.inode_parts.specs.declared.lowered.Lowered.{Lowered}
 pub use Rattle.inode_parts.specs.declared.read_file_part.ReadFilePart.TheVariants.{Ending, Reading}
 pub use Rattle.inode_parts.specs.declared.write_file_part.WriteFilePart.TheVariants.{Denied, Writing}
-pub use Rattle.inode_table.proofs.Goings.{recorded-in}
+pub use Rattle.inode_table.proofs.Goings.{loaded-there, recorded-in}
 pub use Rattle.inode_table.proofs.HasOnes.{lock_has, new_has}
 pub use Rattle.inode_table.specs.HeldInodes.{HasBlock, counted}
 pub use Rattle.inode_table.specs.LockingInodes.{HasLocked}

@@ -1,6 +1,6 @@
 -- The words that most of this crate's other definitions stand on.
 pub use Rattle.inode_parts.specs.Carries.{carry_in, had_of, handed, note_at, with_note}
-pub use Rattle.inode_parts.specs.Changes.{IsAmid, MayChange, changed}
+pub use Rattle.inode_parts.specs.Changes.{IsAmid, MayChange, changed, rewritten}
 pub use Rattle.inode_parts.specs.Coming.{Comes}
 pub use Rattle.inode_parts.specs.Faces.{face_by, face_unless_free}
 pub use Rattle.inode_parts.specs.LockedFiles.{IsOnly, moved}

@@ -1,17 +1,17 @@
 -- What a hart has in hand between two operations, as the theory of whole inodes knows it.
 use Rattle.std.specs.Prelude.{ℕ, List, Option, Some, None, ◌==◌, if◌then◌else◌}
-use Rattle.inode_parts.specs.Vocabulary.{GuardState, Dinode, Inode, Hand, NothingMore, Finds, Opened, Had, Apart, Has, Emptied, Carry, name_in, Heard, Handover, InodePlace, One, Two}
+use Rattle.inode_parts.specs.Vocabulary.{GuardState, Loaded, Inode, Hand, NothingMore, Finds, Opened, Had, Apart, Has, Emptied, Carry, name_in, Heard, Handover, InodePlace, One, Two}
 use Rattle.inode_parts.specs.Parts.{Message}
 use Rattle.inode_parts.specs.declared.note.Note.{Note}
 use Rattle.inode_parts.specs.declared.note.Note.TheVariants as note
 use Rattle.inode_parts.specs.declared.note.Notes.{Notes}
 
 -- what it has of a locked inode: names stand in the call's path
-abbrev pub had_of : List ℕ → Note → Option Dinode → Had
-had_of path note.Nothing (Some d) = Has d NothingMore
-had_of path (note.Finds e s) (Some d) = Has d (Finds (name_in path e) s)
-had_of path (note.Opened fd offset) (Some d) = Has d (Opened fd offset)
-had_of path note.Freed (Some d) = Has d NothingMore
+abbrev pub had_of : List ℕ → Note → Option Loaded → Had
+had_of path note.Nothing (Some l) = Has l NothingMore
+had_of path (note.Finds e s) (Some l) = Has l (Finds (name_in path e) s)
+had_of path (note.Opened fd offset) (Some l) = Has l (Opened fd offset)
+had_of path note.Freed (Some l) = Has l NothingMore
 had_of path note.Freed None = Emptied
 had_of path m None = Apart
 

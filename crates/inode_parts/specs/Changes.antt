@@ -1,6 +1,6 @@
 -- Operations that change an inode: what each asks of the hand, what stays while it is under way, and how it ends.
-use Rattle.std.specs.Prelude.{◌≡◌, ◌<◌, ◌^◌, ℕ, List, None, IsSome}
-use Rattle.inode_parts.specs.Vocabulary.{Dinode, Super, Ret, inode_block, Hand, First, Second, InodePlace, with_buffer, with_record, HasNoBuffer, unloaded, IsLoadedAt, Heard}
+use Rattle.std.specs.Prelude.{◌≡◌, ◌<◌, ◌^◌, ℕ, List, Some, None, IsSome}
+use Rattle.inode_parts.specs.Vocabulary.{option_map, GuardState, Dinode, Inode, Loaded, Super, Ret, inode_block, Hand, First, Second, InodePlace, index_at, inode_at, with_buffer, with_inode, HasNoBuffer, unloaded, IsLoadedAt, Heard}
 use Rattle.inode_parts.specs.Carries.{handed, with_note}
 use Rattle.inode_parts.specs.OneSteps.{HasLock, seat_of_lock}
 use Rattle.inode_parts.specs.Parts.{Part}
@@ -20,6 +20,22 @@ beside_inode k h = with_buffer First None (with_buffer Second None (unloaded k h
 abbrev pub IsAmid : ℕ → Hand → InodePlace → Hand → Type 0
 IsAmid n start k now = (k ≡ seat_of_lock n start) × HasNoBuffer start × (beside_inode k now ≡ beside_inode k start)
 
--- this is heard; the inode at a seat has this record, and nothing more is known of it
-abbrev pub changed : List ℕ → Notes → InodePlace → Heard → Hand → Dinode → Part
-changed path m k x h d = Ret (handed path (with_note k note.Nothing m) x (with_record k d h))
+-- a guard, where this is loaded
+abbrev pub loads : Loaded → GuardState Inode → GuardState Inode
+loads l g = record g { value = record g.value { content = Some l } }
+
+-- this is loaded of the inode at a seat from now on
+abbrev pub with_loaded : InodePlace → Loaded → Hand → Hand
+with_loaded k l h = with_inode k (option_map (loads l) (inode_at k h)) h
+
+-- what is loaded of it, with another record
+abbrev pub recorded_at : InodePlace → Hand → Dinode → Loaded
+recorded_at k h d = record { inode = d; index = index_at k h }
+
+-- this is heard; so much is loaded of the inode at a seat, and nothing more is known of it
+abbrev pub changed : List ℕ → Notes → InodePlace → Heard → Hand → Loaded → Part
+changed path m k x h l = Ret (handed path (with_note k note.Nothing m) x (with_loaded k l h))
+
+-- the same, where its record alone changes
+abbrev pub rewritten : List ℕ → Notes → InodePlace → Heard → Hand → Dinode → Part
+rewritten path m k x h d = changed path m k x h (recorded_at k h d)

@@ -1,6 +1,6 @@
 -- A name cleared, as a part.
-use Rattle.std.specs.Prelude.{◌≡◌, ◌<◌, ℕ, List, true, IsSome}
-use Rattle.inode_parts.specs.Vocabulary.{Name, same_name, Super, bind, most_slots, Hand, Op, inode_at, clear_left, clear_asked, ClearReady, name_in}
+use Rattle.std.specs.Prelude.{◌≡◌, ◌<◌, ℕ, List, true}
+use Rattle.inode_parts.specs.Vocabulary.{Name, same_name, Dinode, Super, bind, most_slots, cleared, Hand, InodePlace, Op, index_at, IsLoadedAt, clear_left, clear_asked, ClearReady, name_in}
 use Rattle.path_walk.specs.declared.asks.Heard.TheVariants as heard
 use Rattle.inode_parts.specs.Basics.{note_at, changed, IsAmid, MayChange, seat_of_lock, Part}
 use Rattle.inode_parts.specs.declared.note.Note.{Note}
@@ -8,14 +8,18 @@ use Rattle.inode_parts.specs.declared.note.Note.TheVariants as note
 use Rattle.inode_parts.specs.declared.note.Notes.{Notes}
 use Rattle.inode_parts.specs.declared.clear_part.ClearPart.{ClearPart}
 
+-- the directory has this record, and this slot no more in its index
+abbrev pub cleared_at : List ℕ → Notes → InodePlace → (slot : ℕ) → Hand → Dinode → Part
+cleared_at path m k slot h d = changed path m k heard.WasDone h (record { inode = d; index = cleared slot (index_at k h) })
+
 abbrev pub clear_part_left : List ℕ → Notes → ClearPart → Hand → Part
-clear_part_left path m p h = bind (clear_left p.clear h) (changed path m p.seat heard.WasDone h)
+clear_part_left path m p h = bind (clear_left p.clear h) (cleared_at path m p.seat p.slot h)
 
 abbrev pub clear_part_asked : ClearPart → Op
 clear_part_asked p = clear_asked p.clear
 
 abbrev pub ClearPartReady : ClearPart → Hand → Type 0
-ClearPartReady p h = ClearReady p.clear h × IsSome (inode_at p.seat h)
+ClearPartReady p h = ClearReady p.clear h × IsLoadedAt p.seat h
 
 -- in directory n
 abbrev pub ClearAmid : ℕ → Hand → ClearPart → Hand → Type 0

@@ -1,6 +1,6 @@
 -- A name entered, as a part.
 use Rattle.std.specs.Prelude.{◌≡◌, ◌*◌, ◌^◌, ◌<◌, ◌≤◌, ℕ, List, [], length}
-use Rattle.inode_parts.specs.Vocabulary.{piece_len, IsName, bits_per_block, Dinode, Super, Ret, bind, EnteredState, Room, There, NoBlock, NoSlot, Hand, InodePlace, Op, IsLoadedAt, enter_left, enter_asked, EnterReady, Ask}
+use Rattle.inode_parts.specs.Vocabulary.{piece_len, IsName, bits_per_block, Dinode, IndexState, Super, Ret, bind, EnteredState, Room, There, NoBlock, NoSlot, Hand, InodePlace, Op, with_index, enter_left, enter_asked, enter_seat, EnterReady, Ask}
 use Rattle.path_walk.specs.declared.asks.Ask.TheVariants as ask
 use Rattle.path_walk.specs.declared.asks.Entered.TheVariants as entry
 use Rattle.path_walk.specs.declared.asks.Heard.TheVariants as heard
@@ -8,27 +8,31 @@ use Rattle.inode_parts.specs.Basics.{handed, changed, IsAmid, MayChange, Part, S
 use Rattle.inode_parts.specs.declared.note.Notes.{Notes}
 use Rattle.inode_parts.specs.declared.enter_part.EnterPart.{EnterPart}
 
--- what is heard of the room for it; without a slot the directory is as it was
-abbrev pub entered_so : List ℕ → Notes → InodePlace → Hand → Dinode → Room → Part
-entered_so path m k h d There = changed path m k (heard.Entered entry.InPlace) h d
-entered_so path m k h d NoBlock = changed path m k (heard.Entered entry.NoBlock) h d
-entered_so path m k h d NoSlot = Ret (handed path m (heard.Entered entry.NoSlot) h)
+-- what is heard of the room for it; without a slot the directory is as it was, and this is its index
+abbrev pub entered_so : List ℕ → Notes → InodePlace → Hand → Dinode → IndexState → Room → Part
+entered_so path m k h d x There = changed path m k (heard.Entered entry.InPlace) h (record { inode = d; index = x })
+entered_so path m k h d x NoBlock = changed path m k (heard.Entered entry.NoBlock) h (record { inode = d; index = x })
+entered_so path m k h d x NoSlot = Ret (handed path m (heard.Entered entry.NoSlot) (with_index k x h))
 
 abbrev pub entered : List ℕ → Notes → InodePlace → Hand → EnteredState → Part
-entered path m k h r = entered_so path m k h r.inode r.room
+entered path m k h r = entered_so path m k h r.inode r.index r.room
+
+-- where the directory's lock is
+abbrev pub enter_part_seat : EnterPart → InodePlace
+enter_part_seat p = enter_seat p.enter
 
 abbrev pub enter_part_left : List ℕ → Notes → EnterPart → Hand → Part
-enter_part_left path m p h = bind (enter_left p.enter h) (entered path m p.seat h)
+enter_part_left path m p h = bind (enter_left p.enter h) (entered path m (enter_part_seat p) h)
 
 abbrev pub enter_part_asked : EnterPart → Op
 enter_part_asked p = enter_asked p.enter
 
 abbrev pub EnterPartReady : EnterPart → Hand → Type 0
-EnterPartReady p h = EnterReady p.enter h × IsLoadedAt p.seat h
+EnterPartReady p h = EnterReady p.enter h
 
 -- into directory n
 abbrev pub EnterAmid : ℕ → Hand → EnterPart → Hand → Type 0
-EnterAmid n start p now = IsAmid n start p.seat now
+EnterAmid n start p now = IsAmid n start (enter_part_seat p) now
 
 -- what it asks: the disk's blocks have bits, and the name is one
 abbrev pub EnterBegins : Super → ℕ → List ℕ → Hand → Type 0

@@ -1,6 +1,6 @@
 -- What a descriptor names locked, to read it and to write it, as parts.
 use Rattle.std.specs.Prelude.{◌≡◌, ℕ, List, Some, None}
-use Rattle.inode_parts.specs.Vocabulary.{put, Dinode, Super, Ret, bind, LockedState, Refuses, Locks, OpenFile, Hand, Op, inode_at, file_left, file_asked, file_seat, open_left, open_asked, open_seat, FileReady, HasInodeBlocks, OpenReady, cause_of, Carry}
+use Rattle.inode_parts.specs.Vocabulary.{put, Loaded, Super, Ret, bind, LockedState, Refuses, Locks, OpenFile, Hand, Op, inode_at, file_left, file_asked, file_seat, open_left, open_asked, open_seat, FileReady, HasInodeBlocks, OpenReady, cause_of, Carry}
 use Rattle.path_walk.specs.declared.asks.Heard.TheVariants as heard
 use Rattle.path_walk.specs.declared.asks.Locked.TheVariants as locked
 use Rattle.inode_parts.specs.Basics.{had_of, Comes, other, Part, beside_in}
@@ -38,7 +38,7 @@ LockFileAmid fd start p now = (p.fd ≡ fd) × Comes (file_seat p.lock) start no
 
 -- ---- to write it
 
-abbrev pub open_ends : List ℕ → (fd : ℕ) → Carry → OpenFile × Dinode → Part
+abbrev pub open_ends : List ℕ → (fd : ℕ) → Carry → OpenFile × Loaded → Part
 open_ends path fd c locked = Ret
     (record {
       answer = (path, heard.At locked.0.number locked.0.offset);

@@ -1,6 +1,6 @@
 -- What a descriptor names locked, to tell its state, as a part.
 use Rattle.std.specs.Prelude.{◌≡◌, ℕ, List, None}
-use Rattle.inode_parts.specs.Vocabulary.{option_map, put, Dinode, Ret, bind, LockedState, Refuses, Locks, Hand, Op, inode_at, file_left, file_asked, file_seat, FileReady, Carry, Face}
+use Rattle.inode_parts.specs.Vocabulary.{option_map, put, Loaded, Ret, bind, LockedState, Refuses, Locks, Hand, Op, inode_at, file_left, file_asked, file_seat, FileReady, Carry, Face}
 use Rattle.path_walk.specs.declared.asks.Heard.TheVariants as heard
 use Rattle.inode_parts.specs.Basics.{had_of, Comes, face_by, other, Part, beside_in}
 use Rattle.inode_parts.specs.declared.note.Note.TheVariants as note
@@ -8,8 +8,8 @@ use Rattle.inode_parts.specs.declared.note.Notes.{Notes}
 use Rattle.inode_parts.specs.declared.stat_file_part.StatFilePart.{StatFilePart}
 
 -- the state of inode n
-abbrev pub state_by : ℕ → Dinode → ℕ × Face
-state_by n d = (n, face_by d)
+abbrev pub state_by : ℕ → Loaded → ℕ × Face
+state_by n l = (n, face_by l.inode)
 
 abbrev pub stat_ends : List ℕ → Carry → LockedState → Part
 stat_ends path c (Refuses why) = Ret (record { answer = (path, heard.Stat None); carry = c })

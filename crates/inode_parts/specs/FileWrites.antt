@@ -1,6 +1,6 @@
 -- A piece of bytes written to an open file, as a part.
-use Rattle.std.specs.Prelude.{◌≡◌, ◌*◌, ◌+◌, ◌-◌, ◌==◌, ◌<◌, ◌≤◌, ◌^◌, ℕ, List, length, if◌then◌else◌, None, Some, IsSome}
-use Rattle.inode_parts.specs.Vocabulary.{piece, piece_len, bits_per_block, Super, Ret, Do, bind, unmarked, inode_block, WriteResult, Hand, InodePlace, Op, inode_at, inode_in, HasNoBuffer, number_in, IsLoadedAt, write_asked, write_left, WriteReady, WritePart, Written, nothing, Wrote}
+use Rattle.std.specs.Prelude.{◌≡◌, ◌*◌, ◌+◌, ◌-◌, ◌==◌, ◌<◌, ◌≤◌, ◌^◌, ℕ, List, length, if◌then◌else◌, None, IsSome}
+use Rattle.inode_parts.specs.Vocabulary.{piece, piece_len, bits_per_block, Super, Ret, Do, bind, unmarked, inode_block, WriteResult, Inode, Hand, InodePlace, Op, inode_at, inode_in, stands_so, HasNoBuffer, IsLoadedAt, write_asked, write_left, WriteReady, WritePart, Written, nothing, Wrote}
 use Rattle.fs_machine.specs.Steps as steps
 use Rattle.fs_machine.specs.declared.op.Op.TheVariants as ops
 use Rattle.inode_data.specs.declared.write_part.WritePart.TheVariants as write
@@ -18,14 +18,13 @@ abbrev pub wrote_upto : (offset : ℕ) → List ℕ → (upto : ℕ) → Wrote
 wrote_upto offset bytes upto = if upto == offset + length bytes then wrote.Whole else wrote.Short (upto - offset)
 
 -- the file moves to where they end that were written, and the inode's record is that with their blocks
-abbrev pub write_over : List ℕ → LockedFile → List ℕ → (n : ℕ) → WriteResult → Part
-write_over text f bytes n w =
-    moved f (record { number = n; content = Some w.inode }) w.upto text (heard.Wrote (wrote_upto f.offset bytes w.upto))
+abbrev pub write_over : List ℕ → LockedFile → List ℕ → Inode → WriteResult → Part
+write_over text f bytes v w = moved f (stands_so w.inode v) w.upto text (heard.Wrote (wrote_upto f.offset bytes w.upto))
 
 abbrev pub write_file_left : List ℕ → WriteFilePart → Hand → Part
 write_file_left text (Denied k why) h =
     Do (steps.Unlock (inode_in k h) None) unmarked (λ _. Ret (record { answer = (text, heard.Wrote (wrote.Refused why)); carry = nothing }))
-write_file_left text (Writing f i p) h = bind (write_left (piece text i) p h) (write_over text f (piece text i) (number_in f.seat h))
+write_file_left text (Writing f i p) h = bind (write_left (piece text i) p h) (write_over text f (piece text i) (inode_in f.seat h))
 write_file_left text (Ending f upto w) h = moved f (inode_in f.seat h) upto text (heard.Wrote w)
 
 abbrev pub write_file_asked : WriteFilePart → Op

@@ -1,6 +1,6 @@
 -- An inode locked, and what is looked for found in it, as a part.
 use Rattle.std.specs.Prelude.{◌≡◌, ◌<◌, ◌^◌, ℕ, List, Bool, true, not, Option, Some, None, is_some}
-use Rattle.inode_parts.specs.Vocabulary.{put, Dinode, Super, Ret, bind, inode_block, begun_of, Begun, Entry, Named, lookup, Found, Hand, InodePlace, Op, inode_at, number_at, HasNoBuffer, number_in, record_in, IsLoadedAt, lock_left, lock_asked, lock_seat, LockReady, entries, search_left, search_asked, SearchReady, Carry, number_found, query_in, sight_in, name_in, Heard, Element}
+use Rattle.inode_parts.specs.Vocabulary.{put, Loaded, Searched, Super, Ret, bind, inode_block, begun_of, Begun, Entry, Named, lookup, Found, Hand, InodePlace, Op, inode_at, number_at, HasNoBuffer, number_in, loaded_in, IsLoadedAt, lock_left, lock_asked, lock_seat, LockReady, entries, search_left, search_asked, SearchReady, Carry, number_found, query_in, sight_in, name_in, Heard, Element}
 use Rattle.inode_machine.specs.Inodes as whole
 use Rattle.path_walk.specs.declared.asks.Heard.TheVariants as heard
 use Rattle.path_walk.specs.declared.asks.Query.{Query}
@@ -14,11 +14,11 @@ use Rattle.inode_parts.specs.declared.take_part.TakePart.{TakePart}
 use Rattle.inode_parts.specs.declared.take_part.TakePart.TheVariants as take
 
 -- what was seen of inode n, and what is had of it
-abbrev pub seen : List ℕ → Carry → ℕ → Dinode → Note → Option ℕ → Bool → Part
-seen path c n d l found empty = Ret
+abbrev pub seen : List ℕ → Carry → ℕ → Loaded → Note → Option ℕ → Bool → Part
+seen path c n l note found empty = Ret
     (record {
-      answer = (path, heard.Saw (record { face = face_unless_free d; found = found; empty = empty }));
-      carry = put c n (had_of path l (Some d));
+      answer = (path, heard.Saw (record { face = face_unless_free l.inode; found = found; empty = empty }));
+      carry = put c n (had_of path note (Some l));
     })
 
 -- the slot under a name
@@ -26,23 +26,23 @@ abbrev pub note_of : Element → Option Found → Note
 note_of e None = note.Nothing
 note_of e (Some f) = note.Finds e f.slot
 
-abbrev pub named_ends : List ℕ → Carry → ℕ → Dinode → Element → Option Found → Part
-named_ends path c n d e o = seen path c n d (note_of e o) (number_found o) true
+abbrev pub named_ends : List ℕ → Carry → ℕ → Loaded → Element → Searched → Part
+named_ends path c n l e o = seen path c n (record l { index = o.index }) (note_of e o.found) (number_found o.found) true
 
-abbrev pub listed_ends : List ℕ → Carry → ℕ → Dinode → Option Found → Part
-listed_ends path c n d o = seen path c n d note.Nothing None (not (is_some o))
+abbrev pub listed_ends : List ℕ → Carry → ℕ → Loaded → Searched → Part
+listed_ends path c n l o = seen path c n (record l { index = o.index }) note.Nothing None (not (is_some o.found))
 
-abbrev pub looked : List ℕ → Query → Carry → ℕ → Dinode → Part
-looked path query.Nothing c n d = seen path c n d note.Nothing None true
-looked path (query.Name e) c n d = bind (lookup (name_in path e) d) (named_ends path c n d e)
-looked path query.Entries c n d = bind (entries d) (listed_ends path c n d)
+abbrev pub looked : List ℕ → Query → Carry → ℕ → Loaded → Part
+looked path query.Nothing c n l = seen path c n l note.Nothing None true
+looked path (query.Name e) c n l = bind (lookup (name_in path e) l) (named_ends path c n l e)
+looked path query.Entries c n l = bind (entries l) (listed_ends path c n l)
 
 abbrev pub take_left : List ℕ → Notes → TakePart → Hand → Part
 take_left path m (take.Locking q r) h = bind (lock_left r h) (looked path q (beside_in path m (lock_seat r) h) (number_at (lock_seat r) h))
-take_left path m (take.Naming k e s) h = bind (search_left (Named (name_in path e)) (record_in k h) s h)
-    (named_ends path (beside_in path m k h) (number_at k h) (record_in k h) e)
+take_left path m (take.Naming k e s) h =
+    bind (search_left (Named (name_in path e)) k s h) (named_ends path (beside_in path m k h) (number_at k h) (loaded_in k h) e)
 take_left path m (take.Listing k s) h =
-    bind (search_left Entry (record_in k h) s h) (listed_ends path (beside_in path m k h) (number_at k h) (record_in k h))
+    bind (search_left Entry k s h) (listed_ends path (beside_in path m k h) (number_at k h) (loaded_in k h))
 
 -- one that has begun to look, or has seen it at once
 abbrev pub taken_left : List ℕ → Notes → Begun TakePart Heard → Hand → Part
@@ -70,8 +70,8 @@ TakeTold path second (take.Listing k s) = Unit {0}
 
 abbrev pub TakeReady : TakePart → Hand → Type 0
 TakeReady (take.Locking q r) h = LockReady r h × IsAlone (number_at (lock_seat r) h) (lock_seat r) h × (h.second ≡ None)
-TakeReady (take.Naming k e s) h = SearchReady s h × IsTaken k h
-TakeReady (take.Listing k s) h = SearchReady s h × IsTaken k h
+TakeReady (take.Naming k e s) h = SearchReady k s h × IsTaken k h
+TakeReady (take.Listing k s) h = SearchReady k s h × IsTaken k h
 
 -- where the lock comes, and what is looked for
 abbrev pub take_seat : TakePart → InodePlace

@@ -8,7 +8,7 @@ pub use Rattle.directory.specs.Vocabulary.{IfBegun, IsName, WriteReady, begun_of
 pub use Rattle.file_table.specs.Vocabulary.{beside_lock}
 pub use Rattle.inode_data.specs.Emptying.{HasNoBuffer, IsEmptying, TruncateReady, emptying_of, truncate_asked, truncate_left}
 pub use Rattle.inodes_on_blocks.specs.Lowering.{Apart, Carry, Emptied, Finds, Had, Has, NothingMore, Opened, below, nothing}
-pub use Rattle.fs_machine.specs.Hands.{first_listed, no_inode, number_at, reference_at, with_aside, with_first, with_inode, with_listed, with_record, with_reference, with_seated, with_txn}
+pub use Rattle.fs_machine.specs.Hands.{first_listed, index_at, indexed, no_inode, number_at, reference_at, with_aside, with_first, with_index, with_inode, with_listed, with_record, with_reference, with_seated, with_txn}
 pub use Rattle.fs_machine.specs.Empty.{IsEmpty}
 pub use Rattle.inode_machine.specs.World.{Answer, Free, Op as OpAbove}
 pub use Rattle.inodes_on_blocks.specs.Handlers.{cause_if, cause_of, doubled_to, is_dying, is_listed, old_directory, shut_to, with_dying}
@@ -21,11 +21,12 @@ pub use Rattle.inodes_on_blocks.specs.Reading.{natural, number_found}
 pub use Rattle.inodes_on_blocks.specs.ShownTables.{kind_of, new_file}
 pub use Rattle.path_walk.specs.declared.asks.Face.{Face}
 pub use Rattle.directory.specs.Clearing.{ClearReady, clear_asked, clear_left}
-pub use Rattle.directory.specs.EnterParts.{EnterReady, enter_asked, enter_left, entered_as}
+pub use Rattle.directory.specs.EnterParts.{EnterReady, enter_asked, enter_left, enter_seat, entered_as}
 pub use Rattle.directory.specs.Entering.{EnteredState}
 pub use Rattle.directory.specs.Filling.{FillReady, fill_asked, fill_left}
-pub use Rattle.directory.specs.Programs.{Entry}
-pub use Rattle.directory.specs.Searching.{SearchReady, entries, search_asked, search_left}
+pub use Rattle.directory.specs.Programs.{Entry, Searched}
+unfoldable pub use Rattle.directory.specs.Indexes.{cleared}
+pub use Rattle.directory.specs.Searching.{SearchReady, entries, found_with, search_asked, search_left}
 pub use Rattle.directory.specs.declared.enter.Room.{Room}
 pub use Rattle.directory.specs.declared.enter.Room.TheVariants.{NoBlock, NoSlot, There}
 pub use Rattle.directory.specs.declared.fill.Filled.{Filled}
@@ -50,7 +51,8 @@ pub use Rattle.whole_calls.specs.declared.whole.Whole.{Whole}
 pub use Rattle.directory.specs.declared.found.Found.{Found}
 pub use Rattle.fs_layout.specs.declared.inode.Dinode.{Dinode}
 pub use Rattle.fs_layout.specs.declared.superblock.Super.{Super}
-pub use Rattle.fs_machine.specs.declared.entries.Inode.{Inode}
+pub use Rattle.fs_machine.specs.InMemory.{IndexState, Inode, Loaded, no_index, stands_so, unindexed}
+pub use Rattle.inode_table.specs.HeldInodes.{loaded_in}
 pub use Rattle.fs_machine.specs.declared.files.OpenFile.{OpenFile}
 pub use Rattle.fs_machine.specs.declared.hand.Hand.{Hand}
 pub use Rattle.fs_machine.specs.declared.hand.Place.TheVariants.{First, Second}

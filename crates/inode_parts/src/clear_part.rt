@@ -11,7 +11,7 @@ ghost use Rattle.inode_parts.specs.declared.note.Notes.{Notes as NotesState};
 use crate::note::{Note, Notes};
 use crate::places::lock_seat;
 use crate::records::{change, record_at};
-use directory::{Clear, Slot};
+use directory::{Clear, Slot, clear_in_index};
 use fs_layout::Super;
 use fs_machine::{Answer, Hand, InodePlace, Op, Routine};
 use path_walk::Heard;
@@ -20,6 +20,8 @@ use path_walk::Heard;
 #[derive(Drop)]
 pub struct ClearPart {
     pub seat: InodePlace,
+    /// Counted from the directory's first one.
+    pub slot: u32,
     pub clear: Clear,
 }
 
@@ -35,13 +37,14 @@ impl ClearPart {
         ensures amid { ClearAmid number hand.now result hand.now }
     {
         let seat = lock_seat(hand, number);
+        let slot = found_slot(notes, seat);
         let clear = Clear::new(Slot {
             inode: record_at(hand, seat),
             number,
             inodestart: sizes.inodestart,
-            slot: found_slot(notes, seat),
+            slot,
         });
-        ClearPart { seat, clear }
+        ClearPart { seat, slot, clear }
     }
 
     /// The next operation. Bytes to be recorded are written in their buffer.
@@ -56,7 +59,8 @@ impl ClearPart {
         self.clear.op(hand)
     }
 
-    /// How it goes on: true where it is over, with what is heard left in `heard`. At its end the directory has its new record.
+    /// How it goes on: true where it is over, with what is heard left in `heard`. At its end the directory has its new record, and the
+    /// slot is gone from its index.
     #[tactic(auto, using(crate::proofs::Clears::clear_on, crate::proofs::Clears::clear_ends))]
     pub fn next(
         &mut self,
@@ -82,6 +86,7 @@ impl ClearPart {
         match self.clear.next(answer, hand) {
             None => false,
             Some(inode) => {
+                clear_in_index(hand, self.seat, self.slot);
                 change(self.seat, inode, notes, hand);
                 *heard = Heard::WasDone;
                 true

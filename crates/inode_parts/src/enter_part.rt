@@ -12,17 +12,16 @@ ghost use Rattle.inode_parts.specs.declared.note.Notes.{Notes as NotesState};
 
 use crate::note::Notes;
 use crate::places::lock_seat;
-use crate::records::{change, record_at};
+use crate::records::change;
 use directory::{Enter, Entered, Room};
 use fs_layout::Super;
-use fs_machine::{Answer, Hand, InodePlace, Op, Routine};
+use fs_machine::{Answer, Hand, Op, Routine};
 use inode_data::Begun;
 use path_walk::{Entered as Entry, Heard};
 
-/// A name is entered in the directory whose lock is at this seat.
+/// A name is entered in a directory whose lock is in hand.
 #[derive(Drop)]
 pub struct EnterPart {
-    pub seat: InodePlace,
     pub enter: Enter,
 }
 
@@ -37,9 +36,8 @@ impl EnterPart {
         ensures amid { EnterAmid number hand.now result hand.now }
     {
         let seat = lock_seat(hand, number);
-        let inode = record_at(hand, seat);
-        match Enter::begin(number, &inode, sizes, child, name) {
-            Begun::Runs(enter) => EnterPart { seat, enter },
+        match Enter::begin(number, seat, sizes, child, name, hand) {
+            Begun::Runs(enter) => EnterPart { enter },
             Begun::Is(_) => unreachable!(),
         }
     }
@@ -56,7 +54,7 @@ impl EnterPart {
         self.enter.op(hand)
     }
 
-    /// How it goes on: true where it is over, with what is heard left in `heard`. At its end the directory has its new record.
+    /// How it goes on: true where it is over, with what is heard left in `heard`. At its end the directory has its new record and index.
     #[tactic(auto, using(crate::proofs::Enters::enter_on, crate::proofs::Enters::enter_ends))]
     pub fn next(
         &mut self,
@@ -82,19 +80,19 @@ impl EnterPart {
         match self.enter.next(answer, hand) {
             None => false,
             Some(entered) => {
-                *heard = hear(self.seat, &entered, notes, hand);
+                *heard = hear(&entered, notes, hand);
                 true
             }
         }
     }
 }
 
-// What is heard of it. The directory at this seat was stored, but where it has no slot left.
-fn hear(seat: InodePlace, outcome: &Entered, notes: &mut Notes, hand: &mut Hand) -> Heard
-    requires { IsLoadedAt seat hand.old }
+// What is heard of it. The directory was stored, but where it has no slot left.
+fn hear(outcome: &Entered, notes: &mut Notes, hand: &mut Hand) -> Heard
+    requires { IsLoadedAt outcome.now.seat hand.old }
     ensures is { (path : List ℕ)
-        → entered path notes.old seat hand.old (entered_as outcome.now) ≡ Ret (handed path notes.new result hand.new) }
-    ensures leaves { (n : ℕ) (start : HandState) → IsAmid n start seat hand.old → HasNoBuffer hand.old
+        → entered path notes.old outcome.now.seat hand.old (entered_as outcome.now hand.old) ≡ Ret (handed path notes.new result hand.new) }
+    ensures leaves { (n : ℕ) (start : HandState) → IsAmid n start outcome.now.seat hand.old → HasNoBuffer hand.old
         → Changed n start hand.new × StandBeside n (having start notes.old) (having hand.new notes.new) }
     ensures hand { bare hand.new ≡ bare hand.old }
 {
@@ -103,6 +101,6 @@ fn hear(seat: InodePlace, outcome: &Entered, notes: &mut Notes, hand: &mut Hand)
         Room::NoBlock => Entry::NoBlock,
         Room::NoSlot => return Heard::Entered(Entry::NoSlot),
     };
-    change(seat, outcome.inode, notes, hand);
+    change(outcome.seat, outcome.inode, notes, hand);
     Heard::Entered(room)
 }

@@ -10,7 +10,7 @@ ghost use Rattle.inode_parts.specs.declared.note.Notes.{Notes as NotesState};
 
 use crate::note::Notes;
 use crate::places::lock_seat;
-use crate::records::{change, record_at};
+use crate::records::{change, clear_index_at, record_at};
 use directory::Fill;
 use fs_layout::Super;
 use fs_machine::{Answer, Hand, InodePlace, Op, Routine};
@@ -51,7 +51,8 @@ impl FillPart {
         self.fill.op(hand)
     }
 
-    /// How it goes on: true where it is over, with what is heard left in `heard`. At its end the directory has its new record.
+    /// How it goes on: true where it is over, with what is heard left in `heard`. At its end the directory has its new record, and
+    /// none of its names is indexed.
     #[tactic(auto, using(crate::proofs::Fills::fill_on, crate::proofs::Fills::fill_ends))]
     pub fn next(
         &mut self,
@@ -77,6 +78,7 @@ impl FillPart {
         match self.fill.next(answer, hand) {
             None => false,
             Some(filled) => {
+                clear_index_at(self.seat, hand);
                 change(self.seat, filled.inode, notes, hand);
                 *heard = Heard::Is(filled.whole);
                 true

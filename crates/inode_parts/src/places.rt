@@ -36,7 +36,7 @@ fn has_number(place: &Option<Guard<Inode>>, number: u32) -> bool
     ensures { result ≡ locks number place.now }
 {
     match place {
-        Some(guard) => number == guard.value().number,
+        Some(guard) => number == guard.value().number(),
         None => false,
     }
 }

@@ -1,6 +1,6 @@
 // Inodes changed whose locks are in hand.
 ghost use Rattle.std.specs.Prelude.{◌≡◌, IsSome};
-ghost use Rattle.inode_parts.specs.Vocabulary.{MatchOption, option_map_or, record_of, bare, inode_at, no_inode, with_record, record_in, IsLoadedAt};
+ghost use Rattle.inode_parts.specs.Vocabulary.{MatchOption, option_map, option_map_or, record_of, bare, indexed, inode_at, no_index, no_inode, with_index, with_record, record_in, IsLoadedAt};
 ghost use Rattle.inode_parts.specs.Carries.{with_note};
 ghost use Rattle.inode_parts.specs.declared.note.Note.TheVariants as note;
 
@@ -41,4 +41,27 @@ pub(crate) fn change(seat: InodePlace, inode: Dinode, notes: &mut Notes, hand: &
 {
     hand.set_record(seat, inode);
     notes.set(seat, Note::Nothing);
+}
+
+fn clear_index(place: &mut Option<Guard<Inode>>)
+    requires { MatchOption place.old ⊥ (λ g. IsSome g.value.content) }
+    ensures { place.new ≡ option_map (indexed no_index) place.old }
+{
+    match place {
+        Some(guard) => guard.value_mut().index_mut().clear(),
+        None => unreachable!(),
+    }
+}
+
+// None of the names of the directory at a seat is indexed from now on.
+#[tactic(auto, using(crate::proofs::Changing::bare_index))]
+pub(crate) fn clear_index_at(seat: InodePlace, hand: &mut Hand)
+    requires { IsLoadedAt seat hand.old }
+    ensures index { hand.new ≡ with_index seat no_index hand.old }
+    ensures hand { bare hand.new ≡ bare hand.old }
+{
+    match seat {
+        InodePlace::One => clear_index(&mut hand.one),
+        InodePlace::Two => clear_index(&mut hand.two),
+    }
 }

@@ -1,6 +1,6 @@
 //! The first listed inode locked, to be freed.
 ghost use Rattle.std.specs.Prelude.{◌≡◌, ℕ, List, Some, IfNone};
-ghost use Rattle.inode_parts.specs.Vocabulary.{Ret, asks, number_at, op_in, answer_in, CanDo, Prepared, IsAfter, Goes, left_after, bare, Hand as HandState, record_in, AtNothing, Take};
+ghost use Rattle.inode_parts.specs.Vocabulary.{Ret, asks, number_at, op_in, answer_in, CanDo, Prepared, IsAfter, Goes, left_after, bare, Hand as HandState, loaded_in, AtNothing, Take};
 ghost use Rattle.inode_parts.specs.Carries.{carry_in, handed};
 ghost use Rattle.inode_parts.specs.Leaving.{heard_if, having, StaysOrLeaves};
 ghost use Rattle.inode_parts.specs.Parts.{IsPart};
@@ -105,7 +105,7 @@ impl RelockPart {
 fn seen(seat: InodePlace, notes: &mut Notes, hand: &Hand) -> Heard
     requires { IsTaken seat hand.now }
     ensures program { (path : List ℕ) → Ret (handed path notes.new result hand.now)
-        ≡ looked path query.Nothing (beside_in path notes.old seat hand.now) (number_at seat hand.now) (record_in seat hand.now) }
+        ≡ looked path query.Nothing (beside_in path notes.old seat hand.now) (number_at seat hand.now) (loaded_in seat hand.now) }
     ensures sees { (path : List ℕ) → Sees path AtNothing seat result notes.old notes.new }
 {
     let inode = record_at(hand, seat);

@@ -1,6 +1,6 @@
 //! An inode locked, and what is looked for found in it.
 ghost use Rattle.std.specs.Prelude.{◌≡◌, ◌++◌, ℕ, List, true, not, Some, None, is_some, IfNone};
-ghost use Rattle.inode_parts.specs.Vocabulary.{asks, number_at, op_in, answer_in, CanDo, Prepared, IsAfter, Goes, left_after, bare, Hand as HandState, HasNoBuffer, record_in, IfBegun, Take, number_found, query_in, sight_in};
+ghost use Rattle.inode_parts.specs.Vocabulary.{asks, number_at, op_in, answer_in, CanDo, Prepared, IsAfter, Goes, left_after, bare, Hand as HandState, HasNoBuffer, loaded_in, IfBegun, Take, number_found, query_in, sight_in};
 ghost use Rattle.inode_machine.specs.Inodes as whole;
 ghost use Rattle.inode_parts.specs.Carries.{carry_in, handed, with_note};
 ghost use Rattle.inode_parts.specs.Faces.{face_unless_free};
@@ -94,7 +94,7 @@ impl TakePart {
         match self {
             TakePart::Locking(query, lock) => match lock.next(answer, hand) {
                 None => false,
-                Some(seat) => match look(*query, seat, notes, hand) {
+                Some(seat) => match look(*query, path, second, seat, notes, hand) {
                     Begun::Is(seen) => {
                         *heard = seen;
                         true
@@ -106,21 +106,21 @@ impl TakePart {
                 },
             },
             TakePart::Naming(seat, element, search) => {
-                let inode = record_at(hand, *seat);
                 let sought = Sought::Name(name(path, second, element));
-                match search.next(&inode, sought, answer, hand) {
+                match search.next(*seat, sought, answer, hand) {
                     None => false,
                     Some(found) => {
+                        let inode = record_at(hand, *seat);
                         *heard = named(&inode, *seat, *element, found, notes);
                         true
                     }
                 }
             }
             TakePart::Listing(seat, search) => {
-                let inode = record_at(hand, *seat);
-                match search.next(&inode, Sought::Entry, answer, hand) {
+                match search.next(*seat, Sought::Entry, answer, hand) {
                     None => false,
                     Some(found) => {
+                        let inode = record_at(hand, *seat);
                         *heard = listed(&inode, *seat, found, notes);
                         true
                     }
@@ -130,17 +130,25 @@ impl TakePart {
     }
 }
 
-// Looks for this in the inode at a seat, which is locked and loaded.
-fn look(query: Query, seat: InodePlace, notes: &mut Notes, hand: &Hand) -> Begun<TakePart, Heard>
+// Looks for this in the inode at a seat, which is locked and loaded, in a call with this path and a second one.
+fn look(
+    query: Query,
+    path: &[u8],
+    second: &[u8],
+    seat: InodePlace,
+    notes: &mut Notes,
+    hand: &Hand,
+) -> Begun<TakePart, Heard>
     requires taken { IsTaken seat hand.now }
     requires free { HasNoBuffer hand.now }
-    ensures program { (path : List ℕ) → taken_left path notes.new result hand.now
-        ≡ looked path query (beside_in path notes.old seat hand.now) (number_at seat hand.now) (record_in seat hand.now) }
+    requires told { IsTold path.now second.now query }
+    ensures program { let text = path.now ++ second.now in taken_left text notes.new result hand.now
+        ≡ looked text query (beside_in text notes.old seat hand.now) (number_at seat hand.now) (loaded_in seat hand.now) }
     ensures ready { IfBegun (λ p. TakeReady p hand.now) (λ _. Unit {0}) result }
-    ensures told { (path second : List ℕ) → IsTold path second query → IfBegun (λ p. TakeTold path second p) (λ _. Unit {0}) result }
+    ensures told { IfBegun (λ p. TakeTold path.now second.now p) (λ _. Unit {0}) result }
     ensures looks { IfBegun (λ p. (take_seat p ≡ seat) × (take_query p ≡ query) × (notes.new ≡ notes.old)) (λ _. Unit {0}) result }
-    ensures sees { (path : List ℕ)
-        → IfBegun (λ _. Unit {0}) (λ heard. Sees path (query_in path query) seat heard notes.old notes.new) result }
+    ensures sees { let text = path.now ++ second.now in
+        IfBegun (λ _. Unit {0}) (λ heard. Sees text (query_in text query) seat heard notes.old notes.new) result }
 {
     let inode = record_at(hand, seat);
     match query {
@@ -148,11 +156,11 @@ fn look(query: Query, seat: InodePlace, notes: &mut Notes, hand: &Hand) -> Begun
             notes.set(seat, Note::Nothing);
             Begun::Is(saw(&inode, None, true))
         }
-        Query::Name(element) => match Search::lookup(&inode) {
+        Query::Name(element) => match Search::lookup(hand, seat, name(path, second, &element)) {
             Begun::Is(found) => Begun::Is(named(&inode, seat, element, found, notes)),
             Begun::Runs(search) => Begun::Runs(TakePart::Naming(seat, element, search)),
         },
-        Query::Entries => match Search::entries(&inode) {
+        Query::Entries => match Search::entries(hand, seat) {
             Begun::Is(found) => Begun::Is(listed(&inode, seat, found, notes)),
             Begun::Runs(search) => Begun::Runs(TakePart::Listing(seat, search)),
         },

@@ -11,7 +11,7 @@ pub use Rattle.fs_layout.proofs.Numbers.{u16_at-part}
 pub use Rattle.fs_machine.proofs.Goings.{fetched_goes, first-beside, inode-there, no-place, reference-beside}
 pub use Rattle.fs_machine.specs.Fetching.{block_in, bytes_in}
 pub use Rattle.fs_machine.specs.Ops.{claimed_by}
-pub use Rattle.inode_table.proofs.Goings.{not-loaded, recorded-in}
+pub use Rattle.inode_table.proofs.Goings.{loaded-there, not-loaded, recorded-in, stands}
 pub use Rattle.inode_table.proofs.Stored.{stores_one}
 pub use Rattle.inode_table.specs.Making.{rest_of}
 pub use Rattle.inode_table.specs.Programs.{give_back, load, load_unless, record_of, store}
@@ -21,6 +21,6 @@ pub use Rattle.std.proofs.Common.{add-one, rules, w16}
 pub use Rattle.std.proofs.Math.Seq.{take-suc-set}
 pub use Rattle.std.proofs.lemmas.List.{length-set}
 pub use Rattle.fs_layout.specs.declared.inode.Dinode.{Dinode}
-pub use Rattle.fs_machine.specs.declared.entries.Inode.{Inode}
+pub use Rattle.fs_machine.specs.InMemory.{Inode, Loaded, stands_so, unindexed}
 pub use Rattle.fs_machine.specs.declared.hand.Hand.{Hand}
 pub use Rattle.fs_machine.specs.declared.op.Answer.TheVariants.{Is}

@@ -1,5 +1,5 @@
 -- What this crate's proofs speak of: its own definitions, and what the crates below and the library call things.
-pub use Rattle.fs_machine.proofs.Vocabulary.{GuardState, IsSome, MatchOption, None, Option, P, Some, ap, arith, false, fetch_left, inode_in, is_some, no_inode, option_map, option_map_or, refl, ℕ, ◌∙◌, ◌≡◌}
+pub use Rattle.fs_machine.proofs.Vocabulary.{GuardState, IsSome, MatchOption, None, Option, P, Some, ap, arith, false, fetch_left, inode_at, inode_in, is_some, no_inode, option_map, option_map_or, refl, ℕ, ◌∙◌, ◌≡◌}
 pub use Rattle.fs_layout.proofs.Vocabulary.{dinode_of, spell_dinode, ◌*◌}
 pub use Rattle.fs_layout.proofs.Inodes.{dinode_of-spell, length-spell_dinode}
 pub use Rattle.fs_layout.proofs.Overwrites.{part-overwrite, record_at-overwrite}
@@ -10,7 +10,7 @@ pub use Rattle.inode_table.specs.Laws.{StoresOneInode}
 pub use Rattle.inode_table.specs.Loading.{load_left}
 pub use Rattle.inode_table.specs.LockingInodes.{lock_left}
 pub use Rattle.inode_table.specs.Making.{new_left}
-pub use Rattle.inode_table.specs.Programs.{load, load_unless, place_of}
+pub use Rattle.inode_table.specs.Programs.{load, load_unless, place_of, record_of}
 unfoldable pub use Rattle.inode_table.specs.Programs.{with_dinode}
 pub use Rattle.inode_table.specs.Storing.{store_left}
 pub use Rattle.inode_table.specs.StoringRecords.{record_left}
@@ -20,7 +20,7 @@ pub use Rattle.inode_table.specs.declared.new_inode.NewInode.{NewInode}
 pub use Rattle.inode_table.specs.declared.store_inode.StoreInode.{StoreInode}
 pub use Rattle.inode_table.specs.declared.store_record.StoreRecord.{StoreRecord}
 pub use Rattle.fs_layout.specs.declared.inode.Dinode.{Dinode}
-pub use Rattle.fs_machine.specs.declared.entries.Inode.{Inode}
+pub use Rattle.fs_machine.specs.InMemory.{Inode, Loaded, stands_so, unindexed, with_inode_of}
 pub use Rattle.fs_machine.specs.declared.hand.Hand.{Hand}
 pub use Rattle.fs_machine.specs.declared.hand.InodePlace.{InodePlace}
 pub use Rattle.fs_machine.specs.declared.hand.InodePlace.TheVariants.{One, Two}

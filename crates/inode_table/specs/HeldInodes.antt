@@ -1,14 +1,17 @@
 -- Inodes whose locks are in hand.
 use Rattle.std.specs.Prelude.{◌<◌, ◌^◌, ℕ, pos, None, IsSome}
-use Rattle.inode_table.specs.Vocabulary.{MatchOption, option_map, Dinode, GuardState, Inode, Hand, InodePlace, inode_at, inode_in, with_inode}
-use Rattle.inode_table.specs.Programs.{record_of, inode_block}
+use Rattle.inode_table.specs.Vocabulary.{MatchOption, option_map, Dinode, GuardState, Inode, Loaded, Hand, InodePlace, inode_at, inode_in, with_inode}
+use Rattle.inode_table.specs.Programs.{loaded_of, inode_block}
 
--- the number and the record of the inode at a seat
+-- the number of the inode at a seat, what was loaded of it, and its record
 abbrev pub number_in : InodePlace → Hand → ℕ
 number_in k h = (inode_in k h).number
 
+abbrev pub loaded_in : InodePlace → Hand → Loaded
+loaded_in k h = loaded_of (inode_in k h)
+
 abbrev pub record_in : InodePlace → Hand → Dinode
-record_in k h = record_of (inode_in k h)
+record_in k h = (loaded_in k h).inode
 
 -- it is loaded
 abbrev pub IsLoadedAt : InodePlace → Hand → Type 0

@@ -1,18 +1,18 @@
 -- The inode whose lock is at a seat, loaded where it isn't.
 use Rattle.std.specs.Prelude.{◌≡◌, Option, Some, None, IsSome}
-use Rattle.inode_table.specs.Vocabulary.{Dinode, Ret, P, Hand, First, InodePlace, inode_at, with_buffer, with_inode}
-use Rattle.inode_table.specs.HeldInodes.{record_in, IsLoadedAt}
+use Rattle.inode_table.specs.Vocabulary.{Loaded, Ret, P, Hand, First, InodePlace, inode_at, inode_in, with_buffer, with_inode}
+use Rattle.inode_table.specs.HeldInodes.{loaded_in, IsLoadedAt}
 use Rattle.inode_table.specs.Loading.{load_left, load_place, LoadReady}
 use Rattle.inode_table.specs.declared.load_inode.LoadInode.{LoadInode}
 
 -- a loading that has begun, where there is one
-abbrev pub begun_left : Option LoadInode → InodePlace → Hand → P Dinode
-begun_left None k h = Ret (record_in k h)
+abbrev pub begun_left : Option LoadInode → InodePlace → Hand → P Loaded
+begun_left None k h = Ret (loaded_in k h)
 begun_left (Some m) k h = load_left m h
 
--- it is loaded by way of the first place
+-- it is loaded by way of the first place, and wasn't loaded before
 abbrev pub IsLoading : InodePlace → LoadInode → Hand → Type 0
-IsLoading k m h = LoadReady m h × (load_place m ≡ First) × IsSome (inode_at k h)
+IsLoading k m h = LoadReady m h × (load_place m ≡ First) × IsSome (inode_at k h) × ((inode_in k h).content ≡ None)
 
 abbrev pub HasBegun : InodePlace → Option LoadInode → Hand → Type 0
 HasBegun k None h = IsLoadedAt k h

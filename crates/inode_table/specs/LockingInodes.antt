@@ -1,26 +1,26 @@
 -- An inode locked, and loaded.
 use Rattle.std.specs.Prelude.{◌≡◌, ◌<◌, ◌^◌, ℕ, Option, Some, None, IsSome}
-use Rattle.inode_table.specs.Vocabulary.{Dinode, Ret, Do, unmarked, P, Hand, InodePlace, Op, inode_at, number_at, reference_at}
+use Rattle.inode_table.specs.Vocabulary.{Loaded, Ret, Do, unmarked, P, Hand, InodePlace, Op, inode_at, number_at, reference_at}
 use Rattle.fs_machine.specs.Steps as steps
 use Rattle.inode_table.specs.Programs.{inode_block, load_unless}
 use Rattle.fs_machine.specs.declared.op.Op.TheVariants as ops
-use Rattle.inode_table.specs.HeldInodes.{number_in, record_in, IsLoadedAt}
+use Rattle.inode_table.specs.HeldInodes.{number_in, loaded_in, IsLoadedAt}
 use Rattle.inode_table.specs.Loading.{load_left, load_asked}
 use Rattle.inode_table.specs.LoadingHeld.{IsLoading}
 use Rattle.inode_table.specs.declared.lock_inode.LockInode.{LockInode}
 use Rattle.inode_table.specs.declared.lock_inode.LockInode.TheVariants.{Lock, Loading}
 
 -- the lock of inode n is taken, and it is loaded where it isn't
-abbrev pub lock_loaded : (inodestart n : ℕ) → P Dinode
+abbrev pub lock_loaded : (inodestart n : ℕ) → P Loaded
 lock_loaded inodestart n = Do (steps.Lock n) unmarked (load_unless inodestart n)
 
-abbrev pub lock_left : LockInode → Hand → P Dinode
+abbrev pub lock_left : LockInode → Hand → P Loaded
 lock_left (Lock k inodestart) h = lock_loaded inodestart (number_at k h)
 lock_left (Loading k m) h = load_left m h
 
 -- where the lock came already
-abbrev pub held_left : Option LockInode → InodePlace → Hand → P Dinode
-held_left None k h = Ret (record_in k h)
+abbrev pub held_left : Option LockInode → InodePlace → Hand → P Loaded
+held_left None k h = Ret (loaded_in k h)
 held_left (Some m) k h = lock_left m h
 
 abbrev pub lock_asked : LockInode → Op

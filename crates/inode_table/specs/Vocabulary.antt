@@ -18,7 +18,7 @@ pub use Rattle.fs_machine.specs.declared.hand.Place.{Place}
 pub use Rattle.fs_machine.specs.Programs.{fetch}
 pub use Rattle.fs_machine.specs.Steps.{Answer, Claim, ClaimResult, Claims, NoInode as HasNoInode, NoPlace, Put}
 pub use Rattle.fs_machine.specs.Tied.{bytes_of}
-pub use Rattle.fs_machine.specs.declared.entries.Inode.{Inode}
+pub use Rattle.fs_machine.specs.InMemory.{Inode, Loaded, unindexed}
 pub use Rattle.fs_layout.specs.Bytes.{i16_at}
 pub use Rattle.fs_layout.specs.declared.inode.Dinode.{Dinode}
 pub use Rattle.fs_layout.specs.declared.superblock.Super.{Super}

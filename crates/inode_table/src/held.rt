@@ -13,7 +13,7 @@ pub fn record(guard: &Guard<Inode>) -> Dinode
     requires { IsSome guard.now.value.content }
     ensures { result ≡ record_of guard.now.value }
 {
-    match guard.value().content {
+    match guard.value().dinode() {
         Some(inode) => inode,
         None => unreachable!(),
     }
@@ -45,7 +45,7 @@ fn unload(place: &mut Option<Guard<Inode>>)
     ensures { place.new ≡ option_map without_content place.old }
 {
     match place {
-        Some(guard) => guard.value_mut().content = None,
+        Some(guard) => guard.value_mut().unload(),
         None => unreachable!(),
     }
 }

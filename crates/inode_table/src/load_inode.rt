@@ -1,6 +1,6 @@
 //! An inode loaded.
 ghost use Rattle.std.specs.Prelude.{◌≡◌, ◌<◌, ◌^◌, None, IfSome, IfNone};
-ghost use Rattle.inode_table.specs.Vocabulary.{Dinode as DinodeState, buffer_at, IsAfter, answer_in, Goes, left_after, bare, Hand as HandState};
+ghost use Rattle.inode_table.specs.Vocabulary.{Loaded, unindexed, buffer_at, IsAfter, answer_in, Goes, left_after, bare, Hand as HandState};
 ghost use Rattle.inode_table.specs.Programs.{inode_block, load};
 ghost use Rattle.inode_table.specs.Loading.{load_left, load_asked, load_place, LoadReady};
 
@@ -32,9 +32,9 @@ impl LoadInode {
 impl Part for LoadInode {
     type Out = Dinode;
 
-    ghost Value = { DinodeState };
+    ghost Value = { Loaded };
 
-    ghost value = { λ d _. d };
+    ghost value = { λ d _. unindexed d };
 
     ghost left = { load_left };
 

@@ -1,8 +1,8 @@
 //! An inode locked, and loaded.
 ghost use Rattle.std.specs.Prelude.{◌≡◌, ◌<◌, ◌^◌, None, IsSome, IfSome, IfNone, MatchOption};
-ghost use Rattle.inode_table.specs.Vocabulary.{Dinode as DinodeState, inode_at, inode_in, number_at, reference_at, IsAfter, answer_in, Goes, left_after, bare, Hand as HandState, InodePlace};
+ghost use Rattle.inode_table.specs.Vocabulary.{Loaded, inode_at, inode_in, number_at, reference_at, IsAfter, answer_in, Goes, left_after, bare, Hand as HandState, InodePlace};
 ghost use Rattle.inode_table.specs.Programs.{inode_block, load_unless};
-ghost use Rattle.inode_table.specs.HeldInodes.{number_in, record_in, HasBlock};
+ghost use Rattle.inode_table.specs.HeldInodes.{loaded_in, number_in, HasBlock};
 ghost use Rattle.inode_table.specs.LoadingHeld.{beside_lock};
 ghost use Rattle.inode_table.specs.LockingInodes.{held_left, lock_loaded, lock_left, lock_asked, lock_seat, HasLocked, LockReady};
 
@@ -50,9 +50,9 @@ impl LockInode {
 impl Routine for LockInode {
     type Out = InodePlace;
 
-    ghost Value = { DinodeState };
+    ghost Value = { Loaded };
 
-    ghost value = { record_in };
+    ghost value = { loaded_in };
 
     ghost left = { lock_left };
 

@@ -20,6 +20,7 @@ pub use Rattle.inodes_on_blocks.proofs.ImageBlocks.{block_true}
 pub use Rattle.inodes_on_blocks.proofs.ImageNodes.{at_index, length_front, length_slots, whole_data}
 pub use Rattle.inodes_on_blocks.proofs.ImagePlaces.{HasPlaces, all_by_places, contains_at, contains_place, number_place, once_by_places, one_place, place_apart, place_same, within}
 unfoldable pub use Rattle.inodes_on_blocks.proofs.ImagePlaces.{place}
+pub use Rattle.inodes_on_blocks.proofs.IndexedNodes.{emptied_slots, indexed_file, indexed_in, indexed_less, indexed_none, indexed_same}
 pub use Rattle.inodes_on_blocks.proofs.LaidInodes.{addrs_alone, block_alone, count_laid, device_kept, empty_laid, empty_named, freed_held, laid_before, node_held}
 pub use Rattle.inodes_on_blocks.proofs.Layer.{AllInHand, base_marked, below_laws, hand_then, hands_marked, hart_is, held_back, in_hand_then, is_here, kept_alike, kept_disk, lent_then, tables_left, through_put, through_then, untouched_same, untouched_then}
 pub use Rattle.inodes_on_blocks.proofs.Lists.{no_hit, times_cons, times_filtered, times_nil}

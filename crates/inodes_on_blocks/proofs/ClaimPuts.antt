@@ -1,5 +1,5 @@
 -- An inode claimed, and its record put with a type: what is shown of both.
-use Rattle.inodes_on_blocks.proofs.Vocabulary.{◌≡◌, ◌≢◌, inl, inr, ℕ, ◌+◌, ◌<◌, ◌≤◌, Bool, true, false, ◌&&◌, ◌==◌, List, length, Option, Some, None, refl, sym, ◌∙◌, ap, subst, arith, if◌then◌else◌, zero, suc, replicate, ◌^◌, w16, FitsSigned, AllByRecursion, IsSome, none-some, same_Some, Dinode, Super, IsDinode, sizes_of, Node, put, hart_count, same_or, eq_not, put_same, put_other, is_free, is_number, HoldsAt, IsRecord, IsInodePut, IsRunning, is_held_by, holder_of, kept, has, HasRoom, IsHome, Put, IsGoodSeen, Owners, TablesState, lock_holder, LogPart, put_block, Own, seen_of, new_record, inode_block, with_dinode, InodeType, OfDirectory, OfFile, OfDevice, is_nothing, blank, claimed, counted_up, is_hart, if_kept, Inv, Idle, one_refs, opens_slots, loaded, kind_of, is_joined, AreOnBlocks, World, log_of, tables_of, disk_of, inode_in, owners_of, untyped, owners_after, Shows, IsNew, if_joined, ghost_of, on_blocks, unless_new, Same, Kept, Carry, IsLoaded, commit_in, Base, IsMade, CanPut, PutLeaves}
+use Rattle.inodes_on_blocks.proofs.Vocabulary.{◌≡◌, ◌≢◌, inl, inr, ℕ, ◌+◌, ◌<◌, ◌≤◌, Bool, true, false, ◌&&◌, ◌==◌, List, length, Option, Some, None, refl, sym, ◌∙◌, ap, subst, arith, if◌then◌else◌, zero, suc, replicate, ◌^◌, w16, FitsSigned, AllByRecursion, IsSome, none-some, same_Some, Dinode, Super, IsDinode, sizes_of, Node, put, hart_count, same_or, eq_not, put_same, put_other, is_free, is_number, HoldsAt, IsRecord, IsInodePut, IsRunning, is_held_by, holder_of, kept, has, HasRoom, IsHome, Put, IsGoodSeen, Owners, TablesState, lock_holder, LogPart, put_block, Own, seen_of, new_record, inode_block, with_dinode, InodeType, OfDirectory, OfFile, OfDevice, is_nothing, blank, claimed, counted_up, is_hart, if_kept, Inv, Idle, one_refs, opens_slots, loaded, kind_of, is_joined, AreOnBlocks, World, log_of, tables_of, disk_of, inode_in, owners_of, untyped, owners_after, Shows, IsNew, if_joined, ghost_of, on_blocks, unless_new, Same, Kept, Carry, IsLoaded, commit_in, Base, IsMade, CanPut, PutLeaves, IsIndexOf}
 use Rattle.inodes_on_blocks.proofs.Basics.{untouched, inode_is, good_seen, is_member, nobody_commits, commit_none, put_grows, same_view, AllInHand, hands_marked, hart_is, held_back, in_hand_then, is_here, kept_disk, tables_left, SameCode, new_holds, new_kept, old_node, unkept_old, open_alike, open_then, lock_range, load_range, whole_put, own_put, seen_then, good_then, bytes_then, members_joined, put_hand, record_put, quiet_leaves, quiet_owners, inode_home, untaken, stored_long, stored_bytes, with_tables, unlocked_holds}
 use Rattle.buffer_cache.specs.Lists.{count_of}
 use Rattle.inode_machine.specs.World as above
@@ -96,6 +96,10 @@ module _ (h : ℕ) (lt : h < hart_count) (inode_type : InodeType) (v : World) (g
         typed = λ i e. elim (same_or i n) [
           | inl q ↦ absurd (none-some (blank inode_type) (sym e ∙ ap (put g.disk n node) q ∙ put_same g.disk n node))
           | inr ne ↦ sym (after.places.loads i) ∙ shows.loads.typed i (sym (put_other g.disk n node i ne) ∙ e)
+        ];
+        indexed = λ i d e. elim (same_or i n) [
+          | inl q ↦ absurd (none-some d (sym (ap (loaded (tables_of v)) q ∙ shows.loads.typed n empty) ∙ after.places.loads i ∙ e))
+          | inr ne ↦ subst (IsIndexOf d.index) (sym (put_other g.disk n node i ne)) (shows.loads.indexed i d (after.places.loads i ∙ e))
         ];
       };
       offsets = shows.offsets;
@@ -349,6 +353,7 @@ module _ (h : ℕ) (n : ℕ) (inode_type : InodeType) (c : Carry) (r : World) (g
         ];
         dead = shows.loads.dead;
         typed = shows.loads.typed;
+        indexed = shows.loads.indexed;
       };
       offsets = shows.offsets;
     }

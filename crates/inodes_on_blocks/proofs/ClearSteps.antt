@@ -1,16 +1,23 @@
 -- A name cleared acts where the directory's record is put, after its slot was put free.
-use Rattle.inodes_on_blocks.proofs.Vocabulary.{◌≡◌, ◌≢◌, ℕ, zero, suc, ◌+◌, ◌-◌, ◌*◌, ◌/◌, ◌%◌, ◌<◌, ◌≤◌, ◌==◌, ◌&&◌, nat_lt, Bool, true, false, List, [], ◌∷◌, length, max, Option, Some, None, refl, sym, ◌∙◌, ap, subst, arith, if◌then◌else◌, IsSome, option_map, unwrap_or, none-some, Found, Named, block_count, search, search_from, with_dirent, with_slot, Free, Dinode, Super, IsBytes, IsDinode, recovered, All, IsData, is_free, numbers_of, block_number, content_block, HoldsAt, IsOwned, size_in, IsPut, IsLaidOut, Becomes, slots_with, Slot, Node, NodeKind, Directory, File, Device, cleared, node_or, Name, same_name, live_directory, look, first_slot, all_slots, put, hart_count, eq_is, Ret, bind, Ran, Laws, Machine, P, Wp, Both, joined, Below, Lasts, Handover, ToAct, to_act, may_act, bind-assoc, Wp-more, lock_holder, fetch, seen_of, Direct, InTable, BlockInHand, fetch_at, fetch_block, no_record, inode_block, Clear, without_entry, with_record, Inv, World, log_of, tables_of, disk_of, inode_in, KeepsRoom, in_hand, HasBuffer, KeepsInode, NothingMore, Finds, Opened, Had, Apart, Has, Emptied, Same, Kept, Carry, record_had, IsFirstNamed, IsKnown, InHand, Stands, below, Labels, labelled, Keeps, put_named, slot_found, clear_in, clear_slot, clear, learned, number_found, IsChanging, GivesRoom, Shows, record_in}
+use Rattle.inodes_on_blocks.proofs.Vocabulary.{◌≡◌, ◌≢◌, ℕ, zero, suc, ◌+◌, ◌-◌, ◌*◌, ◌/◌, ◌%◌, ◌<◌, ◌≤◌, ◌==◌, ◌&&◌, nat_lt, Bool, true, false, List, [], ◌∷◌, length, max, get_or, Option, Some, None, refl, sym, ◌∙◌, ap, subst, arith, if◌then◌else◌, IsSome, option_map, unwrap_or, none-some, Found, Named, block_count, look_at, search_from, with_dirent, with_slot, Free, Dinode, Super, IsBytes, IsDinode, recovered, All, IsData, is_free, numbers_of, block_number, content_block, HoldsAt, IsOwned, entry_of, size_in, IsPut, IsLaidOut, Becomes, slots_with, Slot, Node, NodeKind, Directory, File, Device, cleared, node_or, Name, same_name, live_directory, look, first_slot, all_slots, put, hart_count, eq_is, Ret, bind, Ran, Laws, Machine, P, Wp, Both, joined, Below, Lasts, Handover, ToAct, to_act, may_act, bind-assoc, Wp-more, lock_holder, fetch, seen_of, Direct, InTable, BlockInHand, fetch_at, fetch_block, no_record, inode_block, Clear, without_entry, with_record, Inv, World, log_of, tables_of, disk_of, inode_in, KeepsRoom, in_hand, HasBuffer, KeepsInode, NothingMore, Finds, Opened, Had, Apart, Has, Emptied, Same, Kept, Carry, record_had, IsFirstNamed, IsKnown, InHand, Stands, below, Labels, labelled, Keeps, put_named, slot_found, clear_in, clear_slot, clear, learned, number_found, IsChanging, GivesRoom, Shows, record_in}
 use Rattle.inodes_on_blocks.proofs.Basics.{at_index, good_seen, kept_then, kept_same, same_inode, same_numbers, holds_now, used_now, block_stays, but_same, but_then, below_laws, lock_range, seen_dinode, TakesStep, s-here}
+use Rattle.directory.proofs.IndexChanges.{index_cleared}
+use Rattle.directory.specs.Indexes.{cleared as cleared_index, first_of}
+use Rattle.directory.specs.Programs.{Searched, or_next, search}
+use Rattle.directory.specs.Slots as sought
+use Rattle.fs_machine.specs.InMemory.{IndexState, Loaded, unindexed}
 use Rattle.plain_tree.specs.Tree as tree
 use Rattle.plain_tree.specs.Tree.{slots_of}
 use Rattle.inode_machine.specs.World as above
 use Rattle.inode_machine.specs.Rules as rules
+use Rattle.inodes_on_blocks.specs.Indexes.{IsIndexOf, slot_read}
 use Rattle.inodes_on_blocks.specs.Naming.{slot_of}
 use Rattle.inodes_on_blocks.proofs.Changing.{owner_with, Changing, LeftTo, left_but, changing_start, changing_then, numbers_stay}
 use Rattle.inodes_on_blocks.proofs.ContentFetch.{s-content}
 use Rattle.inodes_on_blocks.proofs.ContentReads.{touches, touches_are}
 use Rattle.inodes_on_blocks.proofs.DataPuts.{data_home, s-data}
 use Rattle.inodes_on_blocks.proofs.DirectorySearches.{s-search}
+use Rattle.inodes_on_blocks.proofs.FreeSlots.{read_here, read_other}
 use Rattle.inodes_on_blocks.proofs.Looks as looks
 use Rattle.inodes_on_blocks.proofs.NamingSteps.{naming_acts}
 use Rattle.inodes_on_blocks.proofs.SlotPuts.{dirent_long, dirent_bytes, free_bytes, slot_makes, cleared_first}
@@ -57,21 +64,35 @@ module _ (sizes : Super) (l : Labels) (laws : Laws (labelled l)) (keeps : Keeps 
       by true = tt
       by false = tt
 
-  search_takes : (d : Dinode) (i : ℕ) → TakesStep sizes l laws keeps h lt B (bind (bind (search_from i (Named e) d 0) slot_found) (clear_slot sizes n e c m))
+  blocks_take : (d : Dinode) (i k : ℕ) (y : IndexState) → TakesStep sizes l laws keeps h lt B (bind (bind (search_from i (Named e) d k y) slot_found) (clear_slot sizes n e c m))
   unfolding search_from
-  search_takes d zero = tt
-  search_takes d (suc i) = tt
+  blocks_take d zero k y = tt
+  blocks_take d (suc i) k y = by (nat_lt k 12)
+    where
+      next : BlockInHand → P M Searched
+      next = look_at (Named e) d k y (search_from i (Named e) d (k + 1))
+
+      by : (b : Bool) → TakesStep sizes l laws keeps h lt B (bind (bind (bind (fetch_at d (if b then Direct k else InTable (k - 12))) next) slot_found) (clear_slot sizes n e c m))
+      by true = tt
+      by false = tt
+
+  search_takes : (x : Loaded) → TakesStep sizes l laws keeps h lt B (bind (bind (search (Named e) x) slot_found) (clear_slot sizes n e c m))
+  search_takes x = by (first_of (Named e) x.inode x.index)
+    where
+      by : (o : Option Found) → TakesStep sizes l laws keeps h lt B (bind (bind (or_next o x.index (search_from (block_count x.inode - x.index.blocks) (Named e) x.inode x.index.blocks)) slot_found) (clear_slot sizes n e c m))
+      by (Some f) = block_takes (record_in c n) (f.slot / 64) (clear_in sizes n e c m (f.slot, x.index))
+      by None = blocks_take x.inode (block_count x.inode - x.index.blocks) x.index.blocks x.index
 
   takes : (had : Had) → TakesStep sizes l laws keeps h lt B (bind (slot_of had e) (clear_slot sizes n e c m))
   takes Apart = tt
   takes Emptied = tt
-  takes (Has d NothingMore) = search_takes d (block_count d)
-  takes (Has d (Opened fd offset)) = search_takes d (block_count d)
-  takes (Has d (Finds name s)) = by (same_name name e)
+  takes (Has x NothingMore) = search_takes x
+  takes (Has x (Opened fd offset)) = search_takes x
+  takes (Has x (Finds name s)) = by (same_name name e)
     where
-      by : (b : Bool) → TakesStep sizes l laws keeps h lt B (bind (if b then Ret s else bind (search (Named e) d) slot_found) (clear_slot sizes n e c m))
-      by true = block_takes (record_in c n) (s / 64) (clear_in sizes n e c m s)
-      by false = search_takes d (block_count d)
+      by : (b : Bool) → TakesStep sizes l laws keeps h lt B (bind (if b then Ret (s, x.index) else bind (search (Named e) x) slot_found) (clear_slot sizes n e c m))
+      by true = block_takes (record_in c n) (s / 64) (clear_in sizes n e c m (s, x.index))
+      by false = search_takes x
 
   -- ---- from v on, where the lock is the hart's
 
@@ -126,7 +147,7 @@ module _ (sizes : Super) (l : Labels) (laws : Laws (labelled l)) (keeps : Keeps 
     module _ (record_is : record_in c n ≡ d) where
       -- ---- the slot is known
 
-      module _ (s : ℕ) (known : IsFirstNamed (all_slots (Some node)) e s) where
+      module _ (s : ℕ) (y : IndexState) (right : IsIndexOf y (Some node)) (known : IsFirstNamed (all_slots (Some node)) e s) where
         first : IsFirstNamed slots e s
         first = subst (λ (k : NodeKind). IsFirstNamed (slots_of k) e s) directory.1 known
 
@@ -144,6 +165,15 @@ module _ (sizes : Super) (l : Labels) (laws : Laws (labelled l)) (keeps : Keeps 
 
         after_is : record { count = node.count; kind = Directory (slots_with slots s None) } ≡ after
         after_is = ap (λ (ss : List (Option Slot)). record { count = node.count; kind = Directory ss }) (sym (cleared_first slots e s first) ∙ ap (λ (q : NodeKind). cleared (slots_of q) e) (sym directory.1))
+
+        -- the index without it is right then
+        right_then : IsIndexOf (cleared_index s y) (Some after)
+        right_then =
+            let past : s ≤ length slots = (let low = first.below in omega (arith, low)) in
+            let without : Node = record { count = node.count; kind = Directory (slots_with slots s None) } in
+            subst (λ (x : Node). IsIndexOf (cleared_index s y) (Some x)) after_is
+            (index_cleared y (slot_read (Some node)) (slot_read (Some without)) s right (ap (λ (x : Option Slot). sought.is_used (entry_of x)) (read_here slots s None past))
+            (λ q ne. ap entry_of (read_other slots s None q past ne) ∙ sym (ap (λ (x : NodeKind). entry_of (get_or (slots_of x) q None)) directory.1)))
 
         abbrev f : Dinode
         f = record d { size = max d.size (16 * suc s) }
@@ -172,10 +202,10 @@ module _ (sizes : Super) (l : Labels) (laws : Laws (labelled l)) (keeps : Keeps 
 
         -- the slot is free, and the record is put
         ends : (w : W) (gs : List l.Step) → Todo gs w.seen → Shows w.real w.seen → Changing h n c (Some node) f after w.real w.seen → in_hand h w.real ≡ 0 → (log_of w.real).sizes ≡ sizes → Then w.real
-            → Wp M h B Q (bind (fetch (inode_block sizes.inodestart n)) (put_named (Clear n e) above.Room m tt (inode_block sizes.inodestart n) n (with_slot s (record_in c n)) c)) 3 gs w
+            → Wp M h B Q (bind (fetch (inode_block sizes.inodestart n)) (put_named (Clear n e) above.Room m tt (inode_block sizes.inodestart n) n (record { inode = with_slot s (record_in c n); index = cleared_index s y }) c)) 3 gs w
         ends w gs stage shows_w changing none at then_ =
-            subst (λ (x : Dinode). Wp M h B Q (bind (fetch (inode_block sizes.inodestart n)) (put_named (Clear n e) above.Room m tt (inode_block sizes.inodestart n) n x c)) 3 gs w) (sym put_is)
-            (naming_acts sizes l laws keeps h lt n (Clear n e) above.Room m tt c (Some node) f after fits (λ u. tt) (λ g asked. (record { lock = asked.1.0.0; joined = asked.1.0.1 }, asked.0))
+            subst (λ (x : Dinode). Wp M h B Q (bind (fetch (inode_block sizes.inodestart n)) (put_named (Clear n e) above.Room m tt (inode_block sizes.inodestart n) n (record { inode = x; index = cleared_index s y }) c)) 3 gs w) (sym put_is)
+            (naming_acts sizes l laws keeps h lt n (Clear n e) above.Room m tt c (Some node) f after (cleared_index s y) right_then fits (λ u. tt) (λ g asked. (record { lock = asked.1.0.0; joined = asked.1.0.1 }, asked.0))
             (λ g asked was. ap (λ (o : Option Node). Ran tt (with_record g n (Some (without_entry e (node_or o))))) was) Then gives B C lasts gs w stage shows_w changing none at then_)
 
         makes : (old : List ℕ) → length old ≡ 1024 → (disk new : List (List ℕ)) (owner : ℕ → ℕ) → IsLaidOut disk owner n d node → numbers_of disk d ≡ numbers → recovered disk b ≡ old → IsPut disk new b
@@ -187,7 +217,7 @@ module _ (sizes : Super) (l : Labels) (laws : Laws (labelled l)) (keeps : Keeps 
 
         -- its block is in hand
         puts : (w u : W) (gs : List l.Step) → Todo gs u.seen → Shows u.real u.seen → LeftTo h v.real u.real → Kept h v.seen u.seen → (old : List ℕ) → HasBuffer h b old u.real → seen_of (log_of u.real) b ≡ old → in_hand h u.real ≡ 1 → Knows u.real
-            → Wp M h B Q (clear_in sizes n e c m s (record { number = b; bytes = old })) 4 gs u
+            → Wp M h B Q (clear_in sizes n e c m (s, y) (record { number = b; bytes = old })) 4 gs u
         puts w u gs stage shows_u left kept old buffer old_is one knows_u =
             let start = changing_start h n c node v.real v.seen stands.0 mine is in
             let changing = changing_then h n c (Some node) d node v.real u.real v.seen u.seen shows shows_u left kept start in
@@ -202,18 +232,18 @@ module _ (sizes : Super) (l : Labels) (laws : Laws (labelled l)) (keeps : Keeps 
             s-data sizes l laws keeps h lt B Q Todo (to_act (labelled l) (below sizes) laws (below_laws sizes l keeps) h B (Clear n e) m C lasts) n changes c (Some node) d f node after b old (with_dirent (s % 64) Free old) numbers
             (subst (λ (z : Super). IsData z b) at block_there) (dirent_long (s % 64) Free old (omega arith) tt long)
             (dirent_bytes (s % 64) Free old (subst IsBytes old_is (shows_u.bytes b home.within home.outside)) free_bytes) (makes old long) Knows Then (room b)
-            (λ _. bind (fetch (inode_block sizes.inodestart n)) (put_named (Clear n e) above.Room m tt (inode_block sizes.inodestart n) n (with_slot s (record_in c n)) c)) 3 gs u stage shows_u changing names buffer at own.owner_is knows_u
+            (λ _. bind (fetch (inode_block sizes.inodestart n)) (put_named (Clear n e) above.Room m tt (inode_block sizes.inodestart n) n (record { inode = with_slot s (record_in c n); index = cleared_index s y }) c)) 3 gs u stage shows_u changing names buffer at own.owner_is knows_u
             (λ z hs p. ends z hs p.stage p.shows p.changing (let down = p.count in omega (arith, down, one)) (p.sizes_same ∙ at) p.known)
 
-        clears : (w : W) (gs : List l.Step) → Same h v.real w.real → Kept h v.seen w.seen → Todo gs w.seen → Wp M h B Q (clear_slot sizes n e c m s) 9 gs w
+        clears : (w : W) (gs : List l.Step) → Same h v.real w.real → Kept h v.seen w.seen → Todo gs w.seen → Wp M h B Q (clear_slot sizes n e c m (s, y)) 9 gs w
         clears w gs same kept stage =
-            subst (λ (x : Dinode). Wp M h B Q (bind (fetch_block x k) (clear_in sizes n e c m s)) 9 gs w) (inode ∙ sym record_is)
-            (s-content sizes l laws keeps h lt B Q Todo (to_act (labelled l) (below sizes) laws (below_laws sizes l keeps) h B (Clear n e) m C lasts) n k (Some node) (clear_in sizes n e c m s) 4 w holds_w used_w stays.lock within_w (same.held ∙ stands.0.free)
+            subst (λ (x : Dinode). Wp M h B Q (bind (fetch_block x k) (clear_in sizes n e c m (s, y))) 9 gs w) (inode ∙ sym record_is)
+            (s-content sizes l laws keeps h lt B Q Todo (to_act (labelled l) (below sizes) laws (below_laws sizes l keeps) h B (Clear n e) m C lasts) n k (Some node) (clear_in sizes n e c m (s, y)) 4 w holds_w used_w stays.lock within_w (same.held ∙ stands.0.free)
             (λ u hs got.
             let since = but_then h (block_in w.real) v.real w.real u.real (but_same h (block_in w.real) v.real w.real same) got.since in
             let bytes_is = (block_stays h n w.real u.real (got.since.inodes n stays.lock) (Some node) holds_w used_w u.seen got.shows k within_w).seen in
             let old = content_block (disk_of (log_of w.real)) (inode_in (log_of w.real) n) k in
-            subst (λ (q : ℕ). Wp M h B Q (clear_in sizes n e c m s (record { number = q; bytes = old })) 4 hs u) (sym b_is)
+            subst (λ (q : ℕ). Wp M h B Q (clear_in sizes n e c m (s, y) (record { number = q; bytes = old })) 4 hs u) (sym b_is)
             (puts w u hs got.stage got.shows (left_but h (block_in w.real) v.real u.real since) (kept_then h v.seen w.seen u.seen kept got.kept) old
             (subst (λ (q : ℕ). HasBuffer h q old u.real) b_is (subst (λ (x : List ℕ). HasBuffer h (block_in w.real) x u.real) bytes_is got.buffer)) (ap (seen_of (log_of u.real)) (sym b_is) ∙ bytes_is)
             (got.count ∙ ap suc (same.held ∙ stands.0.free)) ((room (block_in w.real)).gives.fetched (block_in w.real) w.real u.real got.since ((room (block_in w.real)).gives.lasts v.real w.real same knows))))
@@ -239,41 +269,51 @@ module _ (sizes : Super) (l : Labels) (laws : Laws (labelled l)) (keeps : Keeps 
 
       -- ---- it is looked for
 
-      abbrev found : Option Found
-      found = looks.search_finds (disk_of (log_of v.real)) v.real.owner n node holds used (Named e)
+      module _ (y : IndexState) (right : IsIndexOf y (Some node)) where
+        abbrev found : Searched
+        found = looks.search_finds (disk_of (log_of v.real)) v.real.owner n node holds used y right (Named e)
 
-      searches : (x : Dinode) → x ≡ d → Wp M h B Q (bind (bind (search (Named e) x) slot_found) (clear_slot sizes n e c m)) 1621 fs v
-      searches x is_d =
-          subst (λ (p : P M (Handover (Unit {0}) Carry)). Wp M h B Q p 1621 fs v) (sym (bind-assoc (search (Named e) x) slot_found (clear_slot sizes n e c m)))
-          (subst (λ (y : Dinode). Wp M h B Q (bind (search (Named e) y) goes) 1621 fs v) (sym is_d)
-          (Wp-more M h (bind (search (Named e) d) goes) B Q (touches (block_count d) 9) 1621 fs v (let few = looks.few_blocks d in let steps_ = touches_are (block_count d) 9 in omega (arith, few, steps_))
-          (s-search sizes l laws keeps h lt B Q Todo (to_act (labelled l) (below sizes) laws (below_laws sizes l keeps) h B (Clear n e) m C lasts) n (Some node) (Named e) goes 9 v holds used mine stands.0.free (block_count d) 0 v fs
-          ((below_laws sizes l keeps).same h v.real) (kept_same h v.seen) todo (λ q low. let part = looks.block_within (disk_of (log_of v.real)) v.real.owner n node holds used q low in omega (arith, part))
-          (λ w gs same kept stage. by found (looks.name_found (disk_of (log_of v.real)) v.real.owner n node holds used e live) (looks.slot_found (disk_of (log_of v.real)) v.real.owner n node holds used e live) w gs same kept stage))))
-        where
-          goes : Option Found → P M (Handover (Unit {0}) Carry)
-          goes o = clear_slot sizes n e c m (unwrap_or (option_map (λ q. q.slot) o) 0)
+        abbrev goes : Searched → P M (Handover (Unit {0}) Carry)
+        goes o = clear_slot sizes n e c m (unwrap_or (option_map (λ q. q.slot) o.found) 0, o.index)
 
-          by : (o : Option Found) → number_found o ≡ look (λ j. Some node) n e → IsKnown (learned e o) (Some node) → (w : W) (gs : List l.Step) → Same h v.real w.real → Kept h v.seen w.seen → Todo gs w.seen → Wp M h B Q (goes o) 9 gs w
-          by None number known w gs same kept stage = absurd (let z : IsSome {T = ℕ} None = subst IsSome (sym number) may.1.1.fits in cc z)
-          by (Some g) number known w gs same kept stage = clears g.slot known w gs same kept stage
+        by : (o : Option Found) → number_found o ≡ look (λ j. Some node) n e → IsKnown (learned e o) (Some node) → (w : W) (gs : List l.Step) → Same h v.real w.real → Kept h v.seen w.seen → Todo gs w.seen
+            → Wp M h B Q (goes (record { found = o; index = found.index })) 9 gs w
+        by None number known w gs same kept stage = absurd (let z : IsSome {T = ℕ} None = subst IsSome (sym number) may.1.1.fits in cc z)
+        by (Some g) number known w gs same kept stage =
+            clears g.slot found.index (looks.still_right (disk_of (log_of v.real)) v.real.owner n node holds used y right (Named e) (ap tree.is_directory directory.1)) known w gs same kept stage
+
+        searches_it : Wp M h B Q (bind (bind (search (Named e) (record { inode = d; index = y })) slot_found) (clear_slot sizes n e c m)) 1621 fs v
+        searches_it =
+            subst (λ (p : P M (Handover (Unit {0}) Carry)). Wp M h B Q p 1621 fs v) (sym (bind-assoc (search (Named e) (record { inode = d; index = y })) slot_found (clear_slot sizes n e c m)))
+            (Wp-more M h (bind (search (Named e) (record { inode = d; index = y })) goes) B Q (touches (block_count d) 9) 1621 fs v (let few = looks.few_blocks d in let steps_ = touches_are (block_count d) 9 in omega (arith, few, steps_))
+            (s-search sizes l laws keeps h lt B Q Todo (to_act (labelled l) (below sizes) laws (below_laws sizes l keeps) h B (Clear n e) m C lasts) n (Some node) (Named e) goes 9 v holds used mine stands.0.free y v fs
+            ((below_laws sizes l keeps).same h v.real) (kept_same h v.seen) todo (looks.block_within (disk_of (log_of v.real)) v.real.owner n node holds used)
+            (λ w gs same kept stage.
+            by found.found (looks.name_found (disk_of (log_of v.real)) v.real.owner n node holds used y right e live) (looks.slot_found (disk_of (log_of v.real)) v.real.owner n node holds used y right e live) w gs same kept stage)))
+
+      searches : (x : Loaded) → x.inode ≡ d → IsIndexOf x.index (Some node) → Wp M h B Q (bind (bind (search (Named e) x) slot_found) (clear_slot sizes n e c m)) 1621 fs v
+      searches x is_d right =
+          subst (λ (y : Dinode). Wp M h B Q (bind (bind (search (Named e) (record { inode = y; index = x.index })) slot_found) (clear_slot sizes n e c m)) 1621 fs v) (sym is_d) (searches_it x.index right)
 
     -- by what the hart has of the directory
     by_had : (had : Had) → c n ≡ had → InHand h n had v.real v.seen → Wp M h B Q (bind (slot_of had e) (clear_slot sizes n e c m)) 1621 fs v
     by_had Apart q hand = absurd hand.loaded_is
     by_had Emptied q hand = absurd (none-some node (sym hand.loaded_is.0 ∙ is))
-    by_had (Has x NothingMore) q hand = searches (ap (λ (o : Had). unwrap_or (record_had o) no_record) q ∙ hand.loaded_is.0) x hand.loaded_is.0
-    by_had (Has x (Opened fd offset)) q hand = searches (ap (λ (o : Had). unwrap_or (record_had o) no_record) q ∙ hand.loaded_is.0) x hand.loaded_is.0
+    by_had (Has x NothingMore) q hand = searches (ap (λ (o : Had). (unwrap_or (record_had o) (unindexed no_record)).inode) q ∙ hand.loaded_is.0) x hand.loaded_is.0 (subst (IsIndexOf x.index) is hand.loaded_is.3)
+    by_had (Has x (Opened fd offset)) q hand = searches (ap (λ (o : Had). (unwrap_or (record_had o) (unindexed no_record)).inode) q ∙ hand.loaded_is.0) x hand.loaded_is.0 (subst (IsIndexOf x.index) is hand.loaded_is.3)
     by_had (Has x (Finds name s)) q hand = by (same_name name e) refl
       where
         record_is : record_in c n ≡ d
-        record_is = ap (λ (o : Had). unwrap_or (record_had o) no_record) q ∙ hand.loaded_is.0
+        record_is = ap (λ (o : Had). (unwrap_or (record_had o) (unindexed no_record)).inode) q ∙ hand.loaded_is.0
 
-        by : (t : Bool) → same_name name e ≡ t → Wp M h B Q (bind (if t then Ret s else bind (search (Named e) x) slot_found) (clear_slot sizes n e c m)) 1621 fs v
+        right : IsIndexOf x.index (Some node)
+        right = subst (IsIndexOf x.index) is hand.loaded_is.3
+
+        by : (t : Bool) → same_name name e ≡ t → Wp M h B Q (bind (if t then Ret (s, x.index) else bind (search (Named e) x) slot_found) (clear_slot sizes n e c m)) 1621 fs v
         by true one =
             let known : IsFirstNamed (all_slots (Some node)) e s = subst (λ (a : Name). IsFirstNamed (all_slots (Some node)) a s) (same_is name e one) (subst (λ (o : Option Node). IsFirstNamed (all_slots o) name s) is hand.loaded_is.2) in
-            Wp-more M h (clear_slot sizes n e c m s) B Q 9 1621 fs v (omega arith) (clears record_is s known v fs ((below_laws sizes l keeps).same h v.real) (kept_same h v.seen) todo)
-        by false other = searches record_is x hand.loaded_is.0
+            Wp-more M h (clear_slot sizes n e c m (s, x.index)) B Q 9 1621 fs v (omega arith) (clears record_is s x.index right known v fs ((below_laws sizes l keeps).same h v.real) (kept_same h v.seen) todo)
+        by false other = searches record_is x hand.loaded_is.0 right
 
     clears_here : Wp M h B Q (clear sizes n e c m) 1621 fs v
     clears_here = by_had (c n) refl (stands.0.inodes n mine)

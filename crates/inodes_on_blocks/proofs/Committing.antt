@@ -112,7 +112,7 @@ module _ (h : ℕ) (v : World) (g : above.World) (shows : Shows v g) (contents :
     taken = shows.taken;
     commit = commit;
     news = λ n k e. new_alike n k l m g.lock g.keeper (loaded (tables_of v)) refl refl (ap (λ (x : List (List ℕ)). inode_of x n) disk_same) (shows.news n k e);
-    loads = record { seen = λ n d e. shows.loads.seen n d e ∙ sym (ap (λ (x : List (List ℕ)). inode_of x n) disk_same); dead = shows.loads.dead; typed = shows.loads.typed };
+    loads = record { seen = λ n d e. shows.loads.seen n d e ∙ sym (ap (λ (x : List (List ℕ)). inode_of x n) disk_same); dead = shows.loads.dead; typed = shows.loads.typed; indexed = shows.loads.indexed };
     offsets = shows.offsets;
   }
 

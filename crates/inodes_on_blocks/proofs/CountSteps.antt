@@ -1,5 +1,5 @@
 -- The operations that count references act at their one step.
-use Rattle.inodes_on_blocks.proofs.Vocabulary.{◌≡◌, ◌≢◌, inl, inr, ℕ, pos, ◌+◌, ◌-◌, ◌^◌, ◌<◌, ◌==◌, nat_lt, Bool, true, false, Option, Some, None, refl, sym, ◌∙◌, ap, subst, arith, if◌then◌else◌, IsSome, is_some, slice_get, nat_tests, none-some, Dinode, Node, put, hart_count, root, same_or, and_true, eq_is, eq_not, put_same, put_other, sum_part, HoldsAt, IsRecord, ExecResult, Waits, Ran, Stops, exec_result_in, Laws, Both, TablesState, references_of, up_inode, up_directory, directory_of, dead_of, DroppedState, Counts, Stays, Dies, drop_inode, drop_walked, Number, Walked, UpStart, Up, WalkDown, Down, counted_up, has_place, up_if, start_if, counted_down, reserved, is_last, walk_down_if, down_if, Inv, put_elim, ours_none, ours_some, two_refs, opens_slots, Numbered, found_number, start_is_number, loaded, BothCame, MayDie, load_after, World, log_of, tables_of, disk_of, inode_in, Shows, Had, Carry, IsLoaded, Base, Labels, labelled, Keeps, IsOpened, up_start, walk_down, down, is_listed, is_dying, had_of, with_dying, ActsOnce}
+use Rattle.inodes_on_blocks.proofs.Vocabulary.{◌≡◌, ◌≢◌, inl, inr, ℕ, pos, ◌+◌, ◌-◌, ◌^◌, ◌<◌, ◌==◌, nat_lt, Bool, true, false, Option, Some, None, refl, sym, ◌∙◌, ap, subst, arith, if◌then◌else◌, IsSome, is_some, slice_get, nat_tests, none-some, Dinode, Node, put, hart_count, root, same_or, and_true, eq_is, eq_not, put_same, put_other, sum_part, HoldsAt, IsRecord, ExecResult, Waits, Ran, Stops, exec_result_in, Laws, Both, TablesState, references_of, up_inode, up_directory, directory_of, dead_of, DroppedState, Counts, Stays, Dies, drop_inode, drop_walked, Number, Walked, UpStart, Up, WalkDown, Down, counted_up, has_place, up_if, start_if, counted_down, reserved, is_last, walk_down_if, down_if, Inv, put_elim, ours_none, ours_some, two_refs, opens_slots, Numbered, found_number, start_is_number, loaded, BothCame, MayDie, load_after, World, log_of, tables_of, disk_of, inode_in, Shows, Had, Carry, IsLoaded, Base, Labels, labelled, Keeps, IsOpened, up_start, walk_down, down, is_listed, is_dying, had_of, with_dying, ActsOnce, Loaded, IsIndexOf}
 use Rattle.fs_machine.specs.Inodes.{is_positive}
 use Rattle.fs_machine.specs.Steps as steps
 use Rattle.fs_machine.specs.Steps.{Directory, Held}
@@ -8,7 +8,7 @@ use Rattle.inode_machine.specs.World as above
 use Rattle.inode_machine.specs.Exec as above_exec
 use Rattle.inode_machine.specs.Rules as rules
 use Rattle.inodes_on_blocks.specs.ShownTables as tables
-use Rattle.inodes_on_blocks.proofs.Basics.{by_place, directories_are_starts, unkept_old, tables_left, Came, CameTo, one_step, with_tables, unlocked_holds, shows_then, base_then, fewer_owed, open_alike}
+use Rattle.inodes_on_blocks.proofs.Basics.{by_place, directories_are_starts, unkept_old, tables_left, Came, CameTo, one_step, with_tables, unlocked_holds, shows_then, base_then, fewer_owed, open_alike, indexed_less}
 use Rattle.inodes_on_blocks.proofs.Drops.{walks_drop_references, references_are_dropped}
 use Rattle.inodes_on_blocks.specs.Handlers.{up}
 use Rattle.inodes_on_blocks.proofs.SlotSteps.{in_tables_is, came_quiet, all_same}
@@ -41,6 +41,7 @@ module _ (l : Labels) (laws : Laws (labelled l)) (keeps : Keeps l) (h : ℕ) (lt
             | inr ne ↦ shows.loads.dead i (subst (λ (k : ℕ). 0 < k) (put_other v.seen.refs n (v.seen.refs n + 1) i ne) some) unlocked loose dead
           ];
           typed = shows.loads.typed;
+          indexed = shows.loads.indexed;
         }) shows.offsets;
     same = tables_left h v.real t v.seen (counted_up h n v.seen) (loaded (tables_of v.real)) (loaded (tables_of v.real)) shows.tables after (λ i. inl refl);
     base = base_then h lt v.real v.seen shows c c t (counted_up h n v.seen) (loaded (tables_of v.real)) base after free
@@ -136,7 +137,7 @@ module _ (l : Labels) (laws : Laws (labelled l)) (keeps : Keeps l) (h : ℕ) (lt
             | inr p ↦ (let two = two_refs w g h n inv kept.0 lt ne in omega (arith, two, p, some, one))
           ])
 
-  count_is : (k : ℕ) (d : Dinode) → is_some (if nat_lt 0 k then None else Some d) ≡ (k == 0)
+  count_is : (k : ℕ) (d : Loaded) → is_some (if nat_lt 0 k then None else Some d) ≡ (k == 0)
   count_is k d = elim (same_or k 0) [
     | inl e ↦ subst (λ (z : ℕ). is_some (if nat_lt 0 z then None else Some d) ≡ (z == 0)) (sym e) refl
     | inr ne ↦ ap (λ (b : Bool). is_some (if b then None else Some d)) (positive k ne) ∙ sym (eq_not k 0 ne)
@@ -148,16 +149,16 @@ module _ (l : Labels) (laws : Laws (labelled l)) (keeps : Keeps l) (h : ℕ) (lt
   dies_alike : (n : ℕ) (v : W) → Shows v.real v.seen → v.real.new n ≡ None → 0 < v.seen.refs n → v.seen.lock n ≡ None → (above_exec.is_dead (v.seen.disk n) ≡ true → v.seen.keeper n ≡ None) → is_some (dead_of (loaded (tables_of v.real) n)) ≡ above_exec.is_dead (v.seen.disk n)
   dies_alike n v shows old some free loose = by (loaded (tables_of v.real) n) refl (v.seen.disk n) refl (unlocked_holds h lt v.real v.seen shows n free old (shows.tables.range n some).0 (shows.tables.range n some).1).inode
     where
-      by : (o : Option Dinode) → loaded (tables_of v.real) n ≡ o → (x : Option Node) → v.seen.disk n ≡ x → IsRecord (inode_in (log_of v.real) n) (v.seen.disk n) → is_some (dead_of o) ≡ above_exec.is_dead x
+      by : (o : Option Loaded) → loaded (tables_of v.real) n ≡ o → (x : Option Node) → v.seen.disk n ≡ x → IsRecord (inode_in (log_of v.real) n) (v.seen.disk n) → is_some (dead_of o) ≡ above_exec.is_dead x
       by None e x q r = alive (above_exec.is_dead x) refl
         where
           alive : (b : Bool) → above_exec.is_dead x ≡ b → false ≡ above_exec.is_dead x
           alive false z = sym z
-          alive true z = absurd (let s : IsSome {T = Dinode} None = subst IsSome e (shows.loads.dead n some free (loose (ap above_exec.is_dead q ∙ z)) (ap above_exec.is_dead q ∙ z)) in cc s)
+          alive true z = absurd (let s : IsSome {T = Loaded} None = subst IsSome e (shows.loads.dead n some free (loose (ap above_exec.is_dead q ∙ z)) (ap above_exec.is_dead q ∙ z)) in cc s)
       by (Some d) e None q r = absurd (none-some d (sym (shows.loads.typed n q) ∙ e))
       by (Some d) e (Some x) q r =
           let in_ : IsRecord (inode_in (log_of v.real) n) (Some x) = subst (IsRecord (inode_in (log_of v.real) n)) q r in
-          let link : d.nlink ≡ pos x.count = ap (λ (y : Dinode). y.nlink) (shows.loads.seen n d e) ∙ in_.count in
+          let link : d.inode.nlink ≡ pos x.count = ap (λ (y : Dinode). y.nlink) (shows.loads.seen n d e) ∙ in_.count in
           (λ z. is_some (if is_positive (link z) then None else Some d)) ∙ count_is x.count d
 
   pub some_here : (n : ℕ) (w : above.World) → rules.Spares h n w → 0 < (w.harts h).refs n
@@ -186,16 +187,17 @@ module _ (l : Labels) (laws : Laws (labelled l)) (keeps : Keeps l) (h : ℕ) (lt
             | inr ne ↦ subst IsSome (sym (other (v.seen.refs n == 1) i ne)) (shows.loads.dead i (subst (λ (z : ℕ). 0 < z) (put_other v.seen.refs n (v.seen.refs n - 1) i ne) some) unlocked (sym (keeper (v.seen.alone n) i ne) ∙ loose) dead)
           ];
           typed = λ i e. typed (v.seen.refs n == 1) i e;
+          indexed = λ i d e. indexed (v.seen.refs n == 1) i d e;
         }) shows.offsets;
     same = tables_left h v.real t v.seen (counted_down h n v.seen) load (left (v.seen.refs n == 1)) shows.tables after (λ i. inl refl);
     base = base_then h lt v.real v.seen shows c c t (counted_down h n v.seen) (left (v.seen.refs n == 1)) base after free
         (λ i e. inl (e, keeper (v.seen.alone n) i (λ q. not_mine (ap v.seen.lock (sym q) ∙ e)) ∙ (base.inodes i (sym (shows.tables.places.holders i) ∙ e)).keeps, refl, refl, open_alike h i v.seen (counted_down h n v.seen) refl refl));
   }
     where
-      load : ℕ → Option Dinode
+      load : ℕ → Option Loaded
       load = loaded (tables_of v.real)
 
-      left : Bool → ℕ → Option Dinode
+      left : Bool → ℕ → Option Loaded
       left b = if b then put load n None else load
 
       keeper : (b : Bool) (i : ℕ) → i ≢ n → (if b then put v.seen.keeper n None else v.seen.keeper) i ≡ v.seen.keeper i
@@ -224,7 +226,7 @@ module _ (l : Labels) (laws : Laws (labelled l)) (keeps : Keeps l) (h : ℕ) (lt
       other true i ne = put_other load n None i ne
       other false i ne = refl
 
-      seen : (b : Bool) (i : ℕ) (d : Dinode) → left b i ≡ Some d → d ≡ inode_in (log_of v.real) i
+      seen : (b : Bool) (i : ℕ) (d : Loaded) → left b i ≡ Some d → d.inode ≡ inode_in (log_of v.real) i
       seen false i d e = shows.loads.seen i d e
       seen true i d e = elim (same_or i n) [
         | inl q ↦ absurd (none-some d (sym (ap (put load n None) q ∙ put_same load n None) ∙ e))
@@ -235,6 +237,10 @@ module _ (l : Labels) (laws : Laws (labelled l)) (keeps : Keeps l) (h : ℕ) (lt
       typed false i e = shows.loads.typed i e
       typed true i e = elim (same_or i n) [ inl q ↦ ap (put load n None) q ∙ put_same load n None | inr ne ↦ put_other load n None i ne ∙ shows.loads.typed i e ]
 
+      indexed : (b : Bool) (i : ℕ) (d : Loaded) → left b i ≡ Some d → IsIndexOf d.index (v.seen.disk i)
+      indexed false i d e = shows.loads.indexed i d e
+      indexed true i d e = indexed_less load n v.seen.disk shows.loads.indexed i d e
+
   -- it stays, for the hart to free
   reserved_came : (op : above.Op) (n : ℕ) (v : W) (c : Carry) (b : above.Answer op) (t : TablesState) → Shows v.real v.seen → Base h v.real v.seen c → (v.seen.desks h).lender ≡ None → v.real.new n ≡ None
       → above_exec.exec h above.Room op v.seen ≡ Ran b (reserved h n v.seen) → tables.Shows t (reserved h n v.seen) (loaded (tables_of v.real)) → Came l laws keeps h op v b (with_tables v.real t) c
@@ -244,7 +250,7 @@ module _ (l : Labels) (laws : Laws (labelled l)) (keeps : Keeps l) (h : ℕ) (lt
     free = free;
     shows = shows_then h lt v.real v.seen shows t (reserved h n v.seen) (loaded (tables_of v.real)) after refl refl (λ j. refl) (λ i. inl refl)
         (λ i k e. ((shows.news i k e).unlocked, put_elim v.seen.keeper n (Some h) i (λ (z : Option ℕ). z ≡ Some k) (λ q. absurd (none-some k (sym old ∙ ap v.real.new (sym q) ∙ e))) (λ ne. (shows.news i k e).kept), (shows.news i k e).unloaded))
-        (record { seen = shows.loads.seen; dead = λ i some unlocked loose dead. shows.loads.dead i some unlocked (was_loose i loose) dead; typed = shows.loads.typed }) shows.offsets;
+        (record { seen = shows.loads.seen; dead = λ i some unlocked loose dead. shows.loads.dead i some unlocked (was_loose i loose) dead; typed = shows.loads.typed; indexed = shows.loads.indexed }) shows.offsets;
     same = tables_left h v.real t v.seen (reserved h n v.seen) (loaded (tables_of v.real)) (loaded (tables_of v.real)) shows.tables after (λ i. inl refl);
     base = base_then h lt v.real v.seen shows c c t (reserved h n v.seen) (loaded (tables_of v.real)) base after free
         (λ i e. inl (e, put_elim v.seen.keeper n (Some h) i (λ (z : Option ℕ). z ≡ Some h) (λ q. refl) (λ ne. (base.inodes i (sym (shows.tables.places.holders i) ∙ e)).keeps), refl, refl, open_alike h i v.seen (reserved h n v.seen) refl refl));
@@ -280,6 +286,7 @@ module _ (l : Labels) (laws : Laws (labelled l)) (keeps : Keeps l) (h : ℕ) (lt
             | inr ne ↦ subst IsSome (sym (put_other load n None i ne)) (shows.loads.dead i more (sym (put_other v.seen.lock n (Some h) i ne) ∙ loose) (sym (put_other v.seen.keeper n (Some h) i ne) ∙ lax) gone)
           ];
           typed = λ i e. elim (same_or i n) [ inl q ↦ ap (put load n None) q ∙ put_same load n None | inr ne ↦ put_other load n None i ne ∙ shows.loads.typed i e ];
+          indexed = indexed_less load n v.seen.disk shows.loads.indexed;
         }) shows.offsets;
     same = tables_left h v.real t v.seen (record (reserved h n v.seen) { lock = put v.seen.lock n (Some h) }) load (put load n None) shows.tables after
         (λ i. elim (same_or i n) [
@@ -300,16 +307,16 @@ module _ (l : Labels) (laws : Laws (labelled l)) (keeps : Keeps l) (h : ℕ) (lt
         ]);
   }
     where
-      load : ℕ → Option Dinode
+      load : ℕ → Option Loaded
       load = loaded (tables_of v.real)
 
-      nothing_open : (o : Option Dinode) → IsOpened h n (had_of o) (record (reserved h n v.seen) { lock = put v.seen.lock n (Some h) })
+      nothing_open : (o : Option Loaded) → IsOpened h n (had_of o) (record (reserved h n v.seen) { lock = put v.seen.lock n (Some h) })
       nothing_open None = tt
       nothing_open (Some d) = tt
 
-      is_loaded : (o : Option Dinode) → load n ≡ o → IsLoaded (had_of o) (v.seen.disk n) (inode_in (log_of v.real) n)
-      is_loaded None e = absurd (let s : IsSome {T = Dinode} None = subst IsSome e (shows.loads.dead n some unlocked unkept dead) in cc s)
-      is_loaded (Some d) e = (shows.loads.seen n d e, (λ z. none-some d (sym (shows.loads.typed n z) ∙ e)), tt)
+      is_loaded : (o : Option Loaded) → load n ≡ o → IsLoaded (had_of o) (v.seen.disk n) (inode_in (log_of v.real) n)
+      is_loaded None e = absurd (let s : IsSome {T = Loaded} None = subst IsSome e (shows.loads.dead n some unlocked unkept dead) in cc s)
+      is_loaded (Some d) e = (shows.loads.seen n d e, (λ z. none-some d (sym (shows.loads.typed n z) ∙ e)), tt, shows.loads.indexed n d e)
 
   last_is : (n : ℕ) (w : above.World) → is_last w n ≡ true → (w.refs n ≡ 1) × (above_exec.is_dead (w.disk n) ≡ true)
   last_is n w e = let both = and_true (w.refs n == 1) (above_exec.is_dead (w.disk n)) e in (eq_is (w.refs n) 1 both.0, both.1)

@@ -1,5 +1,5 @@
 -- Desks, and the places of open files, after a change of one hart's desk.
-use Rattle.inodes_on_blocks.proofs.Vocabulary.{◌≡◌, ◌≢◌, inl, inr, ℕ, suc, ◌+◌, ◌<◌, ◌≤◌, nat_lt, cond, Bool, true, false, if◌then◌else◌, List, [], ◌∷◌, length, Option, Some, None, refl, sym, ◌∙◌, ap, subst, arith, slice_get, slice_set, position, is_none, position_from, position_from-zero, Dinode, nat_tests, slice_get_within, slice_get_past, same_Some, none-some, slice_get-set_same, slice_get-set_other, put, lowest, lowest_from, has_room, hart_count, descriptor_count, same_or, put_same, put_other, any_same, first_empty, TablesState, place_named, at_descriptor, if_there, Desk, is_at, slot_at, first_from, put_elim, Runs, DeskShows, DesksShow, descriptor, first, lent_by, is_taken}
+use Rattle.inodes_on_blocks.proofs.Vocabulary.{◌≡◌, ◌≢◌, inl, inr, ℕ, suc, ◌+◌, ◌<◌, ◌≤◌, nat_lt, cond, Bool, true, false, if◌then◌else◌, List, [], ◌∷◌, length, Option, Some, None, refl, sym, ◌∙◌, ap, subst, arith, slice_get, slice_set, position, is_none, position_from, position_from-zero, nat_tests, slice_get_within, slice_get_past, same_Some, none-some, slice_get-set_same, slice_get-set_other, put, lowest, lowest_from, has_room, hart_count, descriptor_count, same_or, put_same, put_other, any_same, first_empty, TablesState, place_named, at_descriptor, if_there, Desk, is_at, slot_at, first_from, put_elim, Runs, DeskShows, DesksShow, descriptor, first, lent_by, is_taken, Loaded}
 use Rattle.fs_machine.specs.declared.desk.Desk as cards
 use Rattle.inode_machine.specs.World.{World}
 use Rattle.inodes_on_blocks.specs.ShownTables.{Shows}
@@ -104,7 +104,7 @@ pub lenders_set : (desks : ℕ → Desk) (h : ℕ) (new : Desk) → new.lender �
 lenders_set desks h new same lenders g l e = lenders g l (sym (part_same (λ d. d.lender) desks h new g same) ∙ e)
 
 -- the hart's own desk, as it is
-pub own_desk : (h : ℕ) (t : TablesState) (w : World) (load : ℕ → Option Dinode) → Shows t w load → Runs h w → (d : cards.Desk) × (slice_get t.desks h ≡ Some d) × DeskShows d (w.desks h).fds (w.desks h).directory (w.desks h).hand
+pub own_desk : (h : ℕ) (t : TablesState) (w : World) (load : ℕ → Option Loaded) → Shows t w load → Runs h w → (d : cards.Desk) × (slice_get t.desks h ≡ Some d) × DeskShows d (w.desks h).fds (w.desks h).directory (w.desks h).hand
 own_desk h t w load shows runs =
     let was = shows.desks h runs.below in (
       was.0,
@@ -126,7 +126,7 @@ pub taken_same : (desks : ℕ → Desk) (h : ℕ) (new : Desk) (k : ℕ) → is_
 taken_same desks h new k same = any_same hart_count _ _ (λ g lt. part_same (λ d. is_at d.hand k) desks h new g same)
 
 -- what a descriptor names
-pub named_is : (h fd : ℕ) (t : TablesState) (w : World) (load : ℕ → Option Dinode) → Shows t w load → Runs h w → place_named h fd t ≡ slot_at w h fd
+pub named_is : (h fd : ℕ) (t : TablesState) (w : World) (load : ℕ → Option Loaded) → Shows t w load → Runs h w → place_named h fd t ≡ slot_at w h fd
 named_is h fd t w load shows runs =
     let own = own_desk h t w load shows runs in
     ap (at_descriptor fd) own.1 ∙ at own.0 own.2 (nat_lt fd descriptor_count) refl

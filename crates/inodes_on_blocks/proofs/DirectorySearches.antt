@@ -1,12 +1,17 @@
--- The blocks of a locked directory searched, one after the other: what is found is what its content had when the lock was had.
-use Rattle.inodes_on_blocks.proofs.Vocabulary.{◌≡◌, ℕ, zero, suc, ◌+◌, ◌*◌, ◌<◌, false, List, Option, Some, None, sym, ◌∙◌, ap, subst, arith, Found, Aim, found_in, or_next, look_at, search_from, else_found, found_from, Dinode, Super, block_len, is_free, content_block, HoldsAt, Node, hart_count, Do, bind, unmarked, Machine, Laws, P, Wp, Both, joined, Stable, bind-assoc, Wp-more, lock_holder, Put, BlockInHand, fetch_block, World, log_of, tables_of, disk_of, inode_in, KeepsInode, Same, Kept, below, Labels, labelled, Keeps, in_hand}
+-- A locked directory searched, by its index and then its other blocks, one after the other: what is found is what its content had when the lock was had.
+use Rattle.inodes_on_blocks.proofs.Vocabulary.{◌≡◌, ℕ, zero, suc, ◌+◌, ◌-◌, ◌*◌, ◌<◌, false, List, Option, Some, None, sym, ◌∙◌, ap, subst, arith, Found, Aim, block_count, found_in, look_at, search_from, Dinode, Super, block_len, is_free, content_block, HoldsAt, Node, hart_count, Do, bind, unmarked, Machine, Laws, P, Wp, Both, joined, Stable, bind-assoc, Wp-more, lock_holder, Put, BlockInHand, fetch_block, World, log_of, tables_of, disk_of, inode_in, KeepsInode, Same, Kept, below, Labels, labelled, Keeps, in_hand}
+use Rattle.directory.proofs.Indexed.{else_searched, searched}
+use Rattle.directory.proofs.Indexed.{searched_from}
+use Rattle.directory.specs.Indexes.{first_of, raised}
+use Rattle.directory.specs.Programs.{Searched, or_next, search}
+use Rattle.fs_machine.specs.InMemory.{IndexState, Loaded}
 use Rattle.inode_machine.specs.World as above
 use Rattle.inodes_on_blocks.proofs.Basics.{kept_then, same_inode, holds_now, used_now, content_stays, below_laws}
 use Rattle.inodes_on_blocks.proofs.ContentFetch.{s-touch}
 use Rattle.inodes_on_blocks.proofs.ContentReads.{touches, touches_are}
 
 module _ (sizes : Super) (l : Labels) (laws : Laws (labelled l)) (keeps : Keeps l) (h : ℕ) (lt : h < hart_count) (B : List l.Step → Type 0) {A : Type 0} (Q : A → List l.Step → Both World above.World → Type 0) (G : List l.Step → above.World → Type 0)
-    (stable : Stable (labelled l) (below sizes) laws (below_laws sizes l keeps) h B G) (i : ℕ) (o : Option Node) (aim : Aim) (g : Option Found → P (joined (labelled l) (below sizes)) A) (j : ℕ) (w : Both World above.World)
+    (stable : Stable (labelled l) (below sizes) laws (below_laws sizes l keeps) h B G) (i : ℕ) (o : Option Node) (aim : Aim) (g : Searched → P (joined (labelled l) (below sizes)) A) (j : ℕ) (w : Both World above.World)
     (holds : HoldsAt (disk_of (log_of w.real)) w.real.owner i o) (used : is_free (inode_in (log_of w.real) i) ≡ false) (mine : lock_holder i (tables_of w.real) ≡ Some h) (none : in_hand h w.real ≡ 0) where
   abbrev W : Type 0
   W = Both World above.World
@@ -21,23 +26,32 @@ module _ (sizes : Super) (l : Labels) (laws : Laws (labelled l)) (keeps : Keeps 
   content q = content_block (disk_of (log_of w.real)) d q
 
   -- where it goes on with what was found
-  abbrev Rest : Option Found → Type 0
+  abbrev Rest : Searched → Type 0
   Rest found = (v : W) (fs : List l.Step) → Same h w.real v.real → Kept h w.seen v.seen → G fs v.seen → Wp M h B Q (g found) j fs v
 
-  pub s-search : (n k : ℕ) (u : W) (es : List l.Step) → Same h w.real u.real → Kept h w.seen u.seen → G es u.seen → ((q : ℕ) → q < n → block_len * (k + q) < d.size)
-      → Rest (found_from n aim d content k) → Wp M h B Q (bind (search_from n aim d k) g) (touches n j) es u
-  unfolding search_from touches found_from
-  s-search zero k u es same kept stage within rest = rest u es same kept stage
-  s-search (suc n) k u es same kept stage within rest =
-      subst (λ (p : P M A). Wp M h B Q p (touches (suc n) j) es u) (sym (bind-assoc (fetch_block d k) (look_at aim d k (search_from n aim d (k + 1))) g))
-      (subst (λ (x : Dinode). Wp M h B Q (bind (fetch_block x k) (λ f. Do (Put f.number None) unmarked (λ _. next f))) (touches (suc n) j) es u) inode
+  -- what was sought was found, or it is looked for behind that
+  by : (n : ℕ) (v : W) (fs : List l.Step) → Same h w.real v.real → Kept h w.seen v.seen → G fs v.seen → (here : Option Found) (x : IndexState) (behind : IndexState → Searched) (next : IndexState → P M Searched) → Rest (else_searched here x behind)
+      → (Rest (behind x) → Wp M h B Q (bind (next x) g) (touches n j) fs v) → Wp M h B Q (bind (or_next here x next) g) (touches n j) fs v
+  by n v fs same kept stage (Some f) x behind next rest goes = Wp-more M h (g (record { found = Some f; index = x })) B Q j (touches n j) fs v (let more = touches_are n j in omega (arith, more)) (rest v fs same kept stage)
+  by n v fs same kept stage None x behind next rest goes = goes rest
+
+  -- so many blocks
+  s-blocks : (n k : ℕ) (x : IndexState) (u : W) (es : List l.Step) → Same h w.real u.real → Kept h w.seen u.seen → G es u.seen → ((q : ℕ) → q < n → block_len * (k + q) < d.size)
+      → Rest (searched_from n aim d content k x) → Wp M h B Q (bind (search_from n aim d k x) g) (touches n j) es u
+  unfolding search_from touches searched_from
+  s-blocks zero k x u es same kept stage within rest = rest u es same kept stage
+  s-blocks (suc n) k x u es same kept stage within rest =
+      subst (λ (p : P M A). Wp M h B Q p (touches (suc n) j) es u) (sym (bind-assoc (fetch_block d k) (look_at aim d k x (search_from n aim d (k + 1))) g))
+      (subst (λ (y : Dinode). Wp M h B Q (bind (fetch_block y k) (λ f. Do (Put f.number None) unmarked (λ _. next f))) (touches (suc n) j) es u) inode
       (s-touch sizes l laws keeps h lt B Q G stable i k o next (touches n j) u (holds_now h i w.real u.real stays o holds used) (used_now h i w.real u.real stays o holds used) stays.lock
-      (subst (λ (x : Dinode). block_len * k < x.size) (sym inode) first) (same.held ∙ none)
+      (subst (λ (y : Dinode). block_len * k < y.size) (sym inode) first) (same.held ∙ none)
       (λ v fs t.
-      subst (λ (x : List ℕ). Wp M h B Q (bind (or_next (found_in aim d k x) (search_from n aim d (k + 1))) g) (touches n j) fs v)
-      (sym (ap (λ (x : Dinode). content_block (disk_of (log_of u.real)) x k) inode ∙ content_stays h i w.real u.real stays o holds used k first))
-      (by v fs ((below_laws sizes l keeps).trans h w.real u.real v.real same t.same) (kept_then h w.seen u.seen v.seen kept t.kept) t.stage (found_in aim d k (content k)) rest
-      (λ behind. s-search n (k + 1) v fs ((below_laws sizes l keeps).trans h w.real u.real v.real same t.same) (kept_then h w.seen u.seen v.seen kept t.kept) t.stage (λ q lt_q. let b = within (q + 1) (omega (arith, lt_q)) in omega (arith, b)) behind)))
+      subst (λ (bytes : List ℕ). Wp M h B Q (bind (or_next (found_in aim d k bytes) (raised d k bytes x) (search_from n aim d (k + 1))) g) (touches n j) fs v)
+      (sym (ap (λ (y : Dinode). content_block (disk_of (log_of u.real)) y k) inode ∙ content_stays h i w.real u.real stays o holds used k first))
+      (let same_v = (below_laws sizes l keeps).trans h w.real u.real v.real same t.same in
+      let kept_v = kept_then h w.seen u.seen v.seen kept t.kept in
+      by n v fs same_v kept_v t.stage (found_in aim d k (content k)) (raised d k (content k) x) (searched_from n aim d content (k + 1)) (search_from n aim d (k + 1)) rest
+      (λ behind. s-blocks n (k + 1) (raised d k (content k) x) v fs same_v kept_v t.stage (λ q lt_q. let b = within (q + 1) (omega (arith, lt_q)) in omega (arith, b)) behind)))
       es stage))
     where
       stays : KeepsInode h i w.real u.real
@@ -50,11 +64,18 @@ module _ (sizes : Super) (l : Labels) (laws : Laws (labelled l)) (keeps : Keeps 
       first = let b = within 0 (omega arith) in omega (arith, b)
 
       next : BlockInHand → P M A
-      next f = bind (or_next (found_in aim d k f.bytes) (search_from n aim d (k + 1))) g
+      next f = bind (or_next (found_in aim d k f.bytes) (raised d k f.bytes x) (search_from n aim d (k + 1))) g
 
-      -- what was sought stands in this block, or the blocks behind it are searched
-      by : (v : W) (fs : List l.Step) → Same h w.real v.real → Kept h w.seen v.seen → G fs v.seen → (here : Option Found) → Rest (else_found here (found_from n aim d content (k + 1)))
-          → (Rest (found_from n aim d content (k + 1)) → Wp M h B Q (bind (search_from n aim d (k + 1)) g) (touches n j) fs v) → Wp M h B Q (bind (or_next here (search_from n aim d (k + 1))) g) (touches n j) fs v
-      by v fs same kept stage (Some f) rest behind =
-          Wp-more M h (g (Some f)) B Q j (touches n j) fs v (let more = touches_are n j in omega (arith, more)) (rest v fs same kept stage)
-      by v fs same kept stage None rest behind = behind rest
+  -- the inode as it was when the lock was had, with an index
+  abbrev with_it : IndexState → Loaded
+  with_it x = record { inode = d; index = x }
+
+  -- all of it
+  pub s-search : (x : IndexState) (u : W) (es : List l.Step) → Same h w.real u.real → Kept h w.seen u.seen → G es u.seen → ((q : ℕ) → q < block_count d → block_len * q < d.size) → Rest (searched aim (with_it x) content)
+      → Wp M h B Q (bind (search aim (with_it x)) g) (touches (block_count d) j) es u
+  s-search x u es same kept stage within rest =
+      by (block_count d) u es same kept stage (first_of aim d x) x (searched_from (block_count d - x.blocks) aim d content x.blocks) (search_from (block_count d - x.blocks) aim d x.blocks) rest
+      (λ behind.
+      Wp-more M h (bind (search_from (block_count d - x.blocks) aim d x.blocks x) g) B Q (touches (block_count d - x.blocks) j) (touches (block_count d) j) es u
+      (let few = touches_are (block_count d - x.blocks) j in let all = touches_are (block_count d) j in omega (arith, few, all))
+      (s-blocks (block_count d - x.blocks) x.blocks x u es same kept stage (λ q low. within (x.blocks + q) (omega (arith, low))) behind))

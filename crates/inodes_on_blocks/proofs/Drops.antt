@@ -1,5 +1,5 @@
 -- References counted down.
-use Rattle.inodes_on_blocks.proofs.Vocabulary.{◌≡◌, ◌≢◌, inl, inr, ℕ, ◌-◌, ◌<◌, ◌≤◌, ◌==◌, ◌&&◌, Bool, true, false, if◌then◌else◌, List, Option, Some, None, refl, sym, ◌∙◌, ap, subst, arith, slice_get, slice_set, is_some, IsSome, slice_get_within, same_Some, SlotState, taken, slice_get-set_same, Dinode, put, eq_not, same_or, put_other, change_at, Inode, place_of, references_in, references_at, holder_in, TablesState, one_less, uncounted_at, dying, dead_in, dead_of, Counts, Stays as Keeps, Dies, IsSoundInodes, PlaceFits, InsideFits, found, placed, change_set, uncounted_good, at_set, drop_counted, drop_dies, walked_counted, walked_kept, counted_down, is_last, walk_down_if, down_if, reserved, PlacesShow, loaded_of, loaded_in, MayDie, load_after, WalksDropReferences, ReferencesAreDropped}
+use Rattle.inodes_on_blocks.proofs.Vocabulary.{◌≡◌, ◌≢◌, inl, inr, ℕ, ◌-◌, ◌<◌, ◌≤◌, ◌==◌, ◌&&◌, Bool, true, false, if◌then◌else◌, List, Option, Some, None, refl, sym, ◌∙◌, ap, subst, arith, slice_get, slice_set, is_some, IsSome, slice_get_within, same_Some, SlotState, taken, slice_get-set_same, put, eq_not, same_or, put_other, change_at, Inode, place_of, references_in, references_at, holder_in, TablesState, one_less, uncounted_at, dying, dead_in, dead_of, Counts, Stays as Keeps, Dies, IsSoundInodes, PlaceFits, InsideFits, found, placed, change_set, uncounted_good, at_set, drop_counted, drop_dies, walked_counted, walked_kept, counted_down, is_last, walk_down_if, down_if, reserved, PlacesShow, loaded_of, loaded_in, MayDie, load_after, WalksDropReferences, ReferencesAreDropped, Loaded}
 use Rattle.fs_machine.specs.declared.entries.Entry.{Entry}
 use Rattle.fs_machine.proofs.Places.{Found}
 use Rattle.fs_machine.proofs.Locking.{slot_at}
@@ -9,7 +9,7 @@ use Rattle.inode_machine.specs.Exec as above
 use Rattle.inodes_on_blocks.specs.ShownTables.{Shows}
 use Rattle.inodes_on_blocks.proofs.Basics.{places_set, both_ran, place_there, slot_with, shown_locked, load_same}
 
-module _ (h n k : ℕ) (t : TablesState) (w : World) (load : ℕ → Option Dinode) (shows : Shows t w load) (may : MayDie n w load) (e : place_of n t.entries ≡ Some k) where
+module _ (h n k : ℕ) (t : TablesState) (w : World) (load : ℕ → Option Loaded) (shows : Shows t w load) (may : MayDie n w load) (e : place_of n t.entries ≡ Some k) where
   sound : IsSoundInodes t.entries t.locks
   sound = shows.sound.inodes
 
@@ -49,11 +49,11 @@ module _ (h n k : ℕ) (t : TablesState) (w : World) (load : ℕ → Option Dino
     | inr ne ↦ shows.range m (subst (λ (z : ℕ). 0 < z) (put_other w.refs n (w.refs n - 1) m ne) lt)
   ]
 
-  set_so : (d : Option Dinode) → references_in (slice_set t.entries k new) (place_of n (slice_set t.entries k new)) ≡ w.refs n - 1 → holder_in t.locks (place_of n (slice_set t.entries k new)) ≡ w.lock n
+  set_so : (d : Option Loaded) → references_in (slice_set t.entries k new) (place_of n (slice_set t.entries k new)) ≡ w.refs n - 1 → holder_in t.locks (place_of n (slice_set t.entries k new)) ≡ w.lock n
       → loaded_in t.locks (place_of n (slice_set t.entries k new)) ≡ d → PlacesShow (slice_set t.entries k new) t.locks (put w.refs n (w.refs n - 1)) w.lock (put load n d)
   set_so d refs lock is = places_set t.entries k n f.entry new f.there (λ _. f.number) (λ _. f.number) sound.once good_set.once t.locks t.locks (λ j ne. refl) w.refs w.lock load (w.refs n - 1) d shows.places refs lock is
 
-  shown_with : (l : ℕ → Option Dinode) → PlacesShow (slice_set t.entries k new) t.locks (put w.refs n (w.refs n - 1)) w.lock l → Shows (uncounted_at k t) (counted_down h n w) l
+  shown_with : (l : ℕ → Option Loaded) → PlacesShow (slice_set t.entries k new) t.locks (put w.refs n (w.refs n - 1)) w.lock l → Shows (uncounted_at k t) (counted_down h n w) l
   shown_with l places = record {
     sound = record { inodes = good; files = shows.sound.files; desks = shows.sound.desks };
     places = subst (λ (z : List Entry). PlacesShow z t.locks (put w.refs n (w.refs n - 1)) w.lock l) (sym changed) places;
@@ -125,7 +125,7 @@ module _ (h n k : ℕ) (t : TablesState) (w : World) (load : ℕ → Option Dino
       last_is : f.entry.references ≡ 1 → is_last w n ≡ is_some (dead_of (load n))
       last_is one = ap (λ (b : Bool). b && above.is_dead (w.disk n)) (is_one one) ∙ sym (may.alike (count ∙ one))
 
-      by_dead : f.entry.references ≡ 1 → (v : Inode) → s.inside ≡ Some v → (o : Option Dinode) → dead_of (load n) ≡ o → P
+      by_dead : f.entry.references ≡ 1 → (v : Inode) → s.inside ≡ Some v → (o : Option Loaded) → dead_of (load n) ≡ o → P
       by_dead one v q None z =
           counts (is_dying ∙ (λ i. if ap (λ (x : ℕ). x == 1) one i then dead_in (q i) else None) ∙ ap dead_of (sym (load_is q)) ∙ z) (last_is one ∙ ap is_some z)
           (subst (λ (b : Bool). Shows (uncounted_at k t) (counted_down h n w) (if b then put load n None else load)) (sym (is_one one)) (shown_gone one))

@@ -1,7 +1,7 @@
 -- A file's content is given back: the operation acts where its record is put without it.
-use Rattle.inodes_on_blocks.proofs.Vocabulary.{◌≡◌, ℕ, zero, suc, pos, ◌^◌, ◌<◌, ◌≤◌, ◌==◌, Bool, true, false, List, [], ◌∷◌, length, take, replicate, Option, Some, None, refl, sym, ◌∙◌, subst, arith, if◌then◌else◌, AllByRecursion, unwrap_or, none-some, same_Some, Super, Dinode, IsDinode, sizes_of, Node, NodeKind, Directory, File, Device, emptied, node_or, hart_count, HoldsAt, IsInode, NamesOwned, size_in, type_in, numbers_by_free, bind, once, Ran, Laws, Machine, P, Wp, Both, joined, Below, Lasts, Handover, ToAct, to_act, may_act, Stable, Wp-more, lock_holder, fetch, seen_of, free_block, table_of, free_numbers, free_indirect, free_in_table, without_content, direct, no_record, inode_block, Empty, with_record, with_no_bytes, Inv, Idle, more, World, log_of, tables_of, disk_of, inode_in, empty, Owns, KeepsRoom, KeepsInode, Kept, NothingMore, Had, Apart, Has, Emptied, Carry, record_had, IsLoaded, InHand, Base, Stands, below, Labels, labelled, Keeps, IsChanging, GivesRoom, Shows, record_in, put_record}
+use Rattle.inodes_on_blocks.proofs.Vocabulary.{◌≡◌, ℕ, zero, suc, pos, ◌^◌, ◌<◌, ◌≤◌, ◌==◌, Bool, true, false, List, [], ◌∷◌, length, take, replicate, Option, Some, None, refl, sym, ◌∙◌, ap, subst, arith, if◌then◌else◌, AllByRecursion, unwrap_or, none-some, same_Some, Super, Dinode, IsDinode, sizes_of, Node, NodeKind, Directory, File, Device, emptied, node_or, hart_count, HoldsAt, IsInode, NamesOwned, size_in, type_in, numbers_by_free, bind, once, Ran, Laws, Machine, P, Wp, Both, joined, Below, Lasts, Handover, ToAct, to_act, may_act, Stable, Wp-more, lock_holder, fetch, seen_of, free_block, table_of, free_numbers, free_indirect, free_in_table, without_content, direct, no_record, inode_block, Empty, with_record, with_no_bytes, Inv, Idle, more, World, log_of, tables_of, disk_of, inode_in, empty, Owns, KeepsRoom, KeepsInode, Kept, NothingMore, Had, Apart, Has, Emptied, Carry, record_had, IsLoaded, InHand, Base, Stands, below, Labels, labelled, Keeps, IsChanging, GivesRoom, Shows, record_in, put_record, Loaded, unindexed, IsIndexOf, index_in, recorded_had, all_slots, had_in}
 use Rattle.plain_tree.specs.Steps.{is_file}
-use Rattle.inodes_on_blocks.proofs.Basics.{laid_before, node_held, empty_laid, empty_named, good_seen, kept_same, below_laws, hand_then, kept_disk, lent_then, untouched_same, through_then, given_order, order_owned, order_named, lock_range, TakesStep, s-here, AllBut, Ready, seen_dinode, untaken}
+use Rattle.inodes_on_blocks.proofs.Basics.{laid_before, node_held, empty_laid, empty_named, good_seen, kept_same, below_laws, hand_then, kept_disk, lent_then, untouched_same, through_then, given_order, order_owned, order_named, lock_range, TakesStep, s-here, AllBut, Ready, seen_dinode, untaken, indexed_file, indexed_none, emptied_slots}
 use Rattle.inode_machine.specs.World as above
 use Rattle.inode_machine.specs.Rules as rules
 use Rattle.inodes_on_blocks.proofs.ContentGiven.{Between, content_steps, named_kept, s-content}
@@ -88,16 +88,17 @@ module _ (sizes : Super) (l : Labels) (laws : Laws (labelled l)) (keeps : Keeps 
       by false = tt
 
   -- an inode that the hart has in hand, with this record, before it gives the content back
-  pub record Begins (n : ℕ) (d : Dinode) (v : Option Node) (r : World) (g : above.World) : Type 0 where
+  pub record Begins (n : ℕ) (x : Loaded) (v : Option Node) (r : World) (g : above.World) : Type 0 where
     pub mine : lock_holder n (tables_of r) ≡ Some h
     pub kept : g.keeper n ≡ Some h
     pub node : g.disk n ≡ v
-    pub inode : (u : Node) → v ≡ Some u → IsInode d u
-    pub fits : IsDinode (without_content d)
-    pub owns : Owns sizes r.owner n (given_order (disk_of (log_of r)) d)
-    pub named : NamesOwned (disk_of (log_of r)) r.owner n (given_order (disk_of (log_of r)) d)
+    pub inode : (u : Node) → v ≡ Some u → IsInode x.inode u
+    pub fits : IsDinode (without_content x.inode)
+    pub owns : Owns sizes r.owner n (given_order (disk_of (log_of r)) x.inode)
+    pub named : NamesOwned (disk_of (log_of r)) r.owner n (given_order (disk_of (log_of r)) x.inode)
+    pub indexed : IsIndexOf x.index v
 
-  begins : (n : ℕ) (c : Carry) (r : World) (g : above.World) → Shows r g → (log_of r).sizes ≡ sizes → g.lock n ≡ Some h → InHand h n (c n) r g → Begins n (record_in c n) (g.disk n) r g
+  begins : (n : ℕ) (c : Carry) (r : World) (g : above.World) → Shows r g → (log_of r).sizes ≡ sizes → g.lock n ≡ Some h → InHand h n (c n) r g → Begins n (had_in c n) (g.disk n) r g
   begins n c r g shows at lock hand = by (c n) refl (g.disk n) refl hand.loaded_is
     where
       old : Dinode
@@ -106,7 +107,7 @@ module _ (sizes : Super) (l : Labels) (laws : Laws (labelled l)) (keeps : Keeps 
       here : sizes_of (disk_of (log_of r)) ≡ sizes
       here = (good_seen (log_of r).sizes (seen_of (log_of r)) (length (log_of r).contents) shows.blocks.seen).sizes_are ∙ at
 
-      by : (o : Had) → c n ≡ o → (v : Option Node) → g.disk n ≡ v → IsLoaded o v old → Begins n (unwrap_or (record_had o) no_record) v r g
+      by : (o : Had) → c n ≡ o → (v : Option Node) → g.disk n ≡ v → IsLoaded o v old → Begins n (unwrap_or (record_had o) (unindexed no_record)) v r g
       by Apart e v is none = absurd none
       by Emptied e v is none =
           let unused : NamesOwned (disk_of (log_of r)) r.owner n [] =
@@ -119,12 +120,13 @@ module _ (sizes : Super) (l : Labels) (laws : Laws (labelled l)) (keeps : Keeps 
             fits = no_record_fits;
             owns = (λ some. absurd (some refl), tt);
             named = λ b block own. absurd (let l = (unused b block own).1 in omega (arith, l));
+            indexed = indexed_none v;
           }
       by (Has d l) e None is some = absurd (some.1 refl)
       by (Has d l) e (Some v) is some =
           let laid = laid_before (disk_of (log_of r)) r.owner n v (subst (λ (o : Option Node). HoldsAt (disk_of (log_of r)) r.owner n o) is hand.holds) in
           let dinode = seen_dinode r g shows n (lock_range n h r g shows lock).1 in
-          subst (λ (x : Dinode). Begins n x (Some v) r g) (sym some.0)
+          subst (λ (x : Dinode). Begins n (record { inode = x; index = d.index }) (Some v) r g) (sym some.0)
           (record {
             mine = sym (shows.tables.places.holders n) ∙ lock;
             kept = hand.keeps;
@@ -133,11 +135,12 @@ module _ (sizes : Super) (l : Labels) (laws : Laws (labelled l)) (keeps : Keeps 
             fits = emptied_fits old dinode;
             owns = order_owned (disk_of (log_of r)) old dinode.thirteen sizes r.owner n v laid.0 here;
             named = order_named (disk_of (log_of r)) old dinode.thirteen r.owner n laid.1;
+            indexed = some.3;
           })
 
   module _ (n : ℕ) (Knows : World → Type 0) (room : KeepsRoom h sizes.bmapstart Knows Knows) (B : List l.Step → Type 0) where
     -- with its blocks given back
-    none_left : (c : Carry) (d : Dinode) (v : Option Node) {A : Type 0} (Q : A → List l.Step → W → Type 0) (G : List l.Step → above.World → Type 0) (stable : Stable (labelled l) (below sizes) laws (below_laws sizes l keeps) h B G)
+    none_left : (c : Carry) (d : Loaded) (v : Option Node) {A : Type 0} (Q : A → List l.Step → W → Type 0) (G : List l.Step → above.World → Type 0) (stable : Stable (labelled l) (below sizes) laws (below_laws sizes l keeps) h B G)
         (changing : (fs : List l.Step) (g : above.World) → G fs g → Inv g → IsChanging h n g) (w x : W) (gs : List l.Step) → Base h w.real w.seen c → Begins n d v w.real w.seen
         → Between sizes l laws keeps h lt B Q G stable n changing Knows room w [] gs x → Ready sizes h (HasNone h n c v) x.real x.seen
     none_left c d v Q G stable changing w x gs base begin_ between =
@@ -162,7 +165,7 @@ module _ (sizes : Super) (l : Labels) (laws : Laws (labelled l)) (keeps : Keeps 
     -- The content is given back from where the first step is taken on, by an operation that may be made only where the hart has the lock and is in a transaction.
     pub s-none : {A : Type 0} (c : Carry) (k : P M A) (j : ℕ) (Q : A → List l.Step → W → Type 0) (G : List l.Step → above.World → Type 0) (stable : Stable (labelled l) (below sizes) laws (below_laws sizes l keeps) h B G)
         (changing : (fs : List l.Step) (g : above.World) → G fs g → Inv g → IsChanging h n g) (es : List l.Step) (w : W) → TakesStep sizes l laws keeps h lt B k → G es w.seen → Stands sizes h w.real w.seen c → Knows w.real
-        → ((u : W) → Begins n (record_in c n) (u.seen.disk n) u.real u.seen → (x : W) (gs : List l.Step) → G gs x.seen → Knows x.real → Ready sizes h (HasNone h n c (u.seen.disk n)) x.real x.seen → Wp M h B Q k j gs x)
+        → ((u : W) → Begins n (had_in c n) (u.seen.disk n) u.real u.seen → (x : W) (gs : List l.Step) → G gs x.seen → Knows x.real → Ready sizes h (HasNone h n c (u.seen.disk n)) x.real x.seen → Wp M h B Q k j gs x)
         → Wp M h B Q (free_numbers sizes.bmapstart (take direct (record_in c n).addrs) (free_indirect sizes.bmapstart (table_of (record_in c n)) k)) (content_steps j) es w
     s-none c k j Q G stable changing es w step stage stands knows rest =
         s-here sizes l laws keeps h lt B (free_numbers sizes.bmapstart (take direct (record_in c n).addrs) (free_indirect sizes.bmapstart (table_of (record_in c n)) k)) Q G stable (content_step B (record_in c n) k step) (content_steps j) es w stage
@@ -189,7 +192,7 @@ module _ (sizes : Super) (l : Labels) (laws : Laws (labelled l)) (keeps : Keeps 
           named = begin_.named;
           knows = room.gives.lasts w.real u.real here.same knows;
         })
-        (λ x gs between. rest u begin_ x gs between.stage between.knows (none_left c (record_in c n) (u.seen.disk n) Q G stable changing u x gs base.0 begin_ between)))
+        (λ x gs between. rest u begin_ x gs between.stage between.knows (none_left c (had_in c n) (u.seen.disk n) Q G stable changing u x gs base.0 begin_ between)))
 
   -- ---- the record is put
 
@@ -201,7 +204,7 @@ module _ (sizes : Super) (l : Labels) (laws : Laws (labelled l)) (keeps : Keeps 
       Wp-more M h (empty sizes n c m) B Q (content_steps 3) (suc (more (Empty n))) es w (omega arith)
       (s-none n Knows room B c last 3 Q Todo todo_stays changing es w tt todo stands knows
       (λ u begin_ x gs stage_x knows_x ready.
-      record_acts sizes l laws keeps h lt n (Empty n) m tt d (Has d NothingMore) c (λ z. tt) (HasNone h n c (u.seen.disk n)) (none_lasts h n c (u.seen.disk n)) (λ r g has. has.others)
+      record_acts sizes l laws keeps h lt n (Empty n) m tt d (Has (recorded_had c n d) NothingMore) c (λ z. tt) (HasNone h n c (u.seen.disk n)) (none_lasts h n c (u.seen.disk n)) (λ r g has. has.others)
       (λ z shows inv_z may has. puts u begin_ z shows may has) Knows gives B C lasts gs x stage_x ready knows_x))
     where
       d : Dinode
@@ -217,7 +220,7 @@ module _ (sizes : Super) (l : Labels) (laws : Laws (labelled l)) (keeps : Keeps 
       todo_stays = to_act (labelled l) (below sizes) laws (below_laws sizes l keeps) h B (Empty n) m C lasts
 
       last : P M (Handover (Unit {0}) Carry)
-      last = bind (fetch (inode_block sizes.inodestart n)) (put_record (Empty n) m tt (inode_block sizes.inodestart n) n d (Has d NothingMore) c)
+      last = bind (fetch (inode_block sizes.inodestart n)) (put_record (Empty n) m tt (inode_block sizes.inodestart n) n d (Has (recorded_had c n d) NothingMore) c)
 
       may_there : (fs : List l.Step) (g : above.World) → Todo fs g → Inv g → rules.May h (Empty n) g
       may_there fs g stage inv = may_act (labelled l) (below sizes) laws (below_laws sizes l keeps) h B (Empty n) m C lasts fs g stage inv
@@ -225,7 +228,7 @@ module _ (sizes : Super) (l : Labels) (laws : Laws (labelled l)) (keeps : Keeps 
       changing : (fs : List l.Step) (g : above.World) → Todo fs g → Inv g → IsChanging h n g
       changing fs g stage inv = let may = may_there fs g stage inv in record { lock = may.1.0.0; joined = may.1.0.1 }
 
-      puts : (u : W) → Begins n (record_in c n) (u.seen.disk n) u.real u.seen → (z : W) → Shows z.real z.seen → rules.May h (Empty n) z.seen → HasNone h n c (u.seen.disk n) z.real z.seen → PutsRecord h (Empty n) n tt d (Has d NothingMore) z.real z.seen
+      puts : (u : W) → Begins n (had_in c n) (u.seen.disk n) u.real u.seen → (z : W) → Shows z.real z.seen → rules.May h (Empty n) z.seen → HasNone h n c (u.seen.disk n) z.real z.seen → PutsRecord h (Empty n) n tt d (Has (recorded_had c n d) NothingMore) z.real z.seen
       puts u begin_ z shows may has =
           let disk = disk_of (log_of z.real) in
           let v : Node = may.1.1.node in
@@ -244,6 +247,6 @@ module _ (sizes : Super) (l : Labels) (laws : Laws (labelled l)) (keeps : Keeps 
             joined = may.1.0.1;
             free = may.0;
             is = begin_.fits;
-            has = (refl, (λ e. none-some (with_no_bytes v) (sym e)), tt);
+            has = (refl, (λ e. none-some (with_no_bytes v) (sym e)), tt, indexed_file (index_in c n) (u.seen.disk n) (Some (with_no_bytes v)) (ap all_slots (sym has.node ∙ may.1.1.is) ∙ sym (emptied_slots v)) begin_.indexed);
             holds = λ new put_. node_held disk new z.real.owner n d (with_no_bytes v) shows.blocks.running.front bound put_ laid named;
           }

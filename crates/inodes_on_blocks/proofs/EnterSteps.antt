@@ -1,18 +1,27 @@
 -- A name entered acts where the directory's record is put, after its entry was written; or, where the directory has no slot left, where its last block is given back.
-use Rattle.inodes_on_blocks.proofs.Vocabulary.{◌≡◌, ℕ, zero, suc, ◌+◌, ◌-◌, ◌*◌, ◌/◌, ◌<◌, ◌≤◌, ◌==◌, ◌&&◌, nat_lt, Bool, true, false, List, [], length, drop, max, Option, Some, None, refl, sym, ◌∙◌, ap, subst, arith, if◌then◌else◌, slice_index, nat_tests, Found, slot_for, IsFirst, Unused, block_count, search, search_from, slot_count, found_from, Used, Dinode, Super, IsDirent, spell_dirent, length-spell_dirent, is_free, content_block, HoldsAt, size_in, slots_with, Slot, Node, NodeKind, Directory, File, Device, node_or, Name, hart_count, eq_not, eq_self, Ret, bind, Ran, Laws, Machine, P, Wp, Both, joined, Below, Lasts, Handover, ToAct, to_act, may_act, Wp-more, lock_holder, blocks_between, WriteResult, front_of, write_blocks, inode_block, Spent, size, with_contents, most_recorded, Enter, all_used, enter_if, is_full_directory, with_entry, with_record, marked, Inv, IsSpent, World, log_of, tables_of, disk_of, inode_in, enter, entered_to, put_grown, search_full, Acts, acts, Same, Kept, Carry, InHand, Stands, below, Labels, labelled, Keeps, IsChanging, HasSpent, Shows, record_in, One}
-use Rattle.directory.specs.Laws.{slot_at}
+use Rattle.inodes_on_blocks.proofs.Vocabulary.{◌≡◌, inl, inr, ℕ, zero, suc, ◌+◌, ◌-◌, ◌*◌, ◌/◌, ◌<◌, ◌≤◌, ◌==◌, ◌&&◌, nat_lt, Bool, true, false, List, [], length, drop, max, min, get_or, take, none-some, Option, Some, None, refl, sym, ◌∙◌, ap, subst, arith, if◌then◌else◌, slice_index, nat_tests, Found, slot_for, IsFirst, Unused, block_count, look_at, search_from, slot_count, Used, Dinode, Dirent, Super, IsDirent, spell_dirent, length-spell_dirent, is_free, content_block, HoldsAt, entry_of, size_in, slots_with, Slot, Node, NodeKind, Directory, File, Device, node_or, Name, hart_count, same_or, put_same, put_other, eq_not, eq_self, Ret, bind, Ran, Laws, Machine, P, Wp, Both, joined, Below, Lasts, Handover, ToAct, to_act, may_act, Wp-more, lock_holder, Direct, InTable, BlockInHand, fetch_at, fetch_block, blocks_between, WriteResult, front_of, write_blocks, inode_block, Spent, size, with_contents, most_recorded, Enter, all_used, enter_if, is_full_directory, with_entry, with_record, marked, Inv, IsSpent, World, log_of, tables_of, disk_of, inode_in, enter, entered_to, put_grown, look_last, search_full, Acts, acts, Same, Kept, Knowledge, NothingMore, Finds, Opened, Had, Apart, Has, Emptied, IsOpened, Carry, InHand, Base, Stands, below, Labels, labelled, Keeps, IsChanging, HasSpent, Shows, record_in, One}
+use Rattle.directory.proofs.Indexed.{else_searched, few_known, searched_from}
+use Rattle.directory.proofs.IndexChanges.{index_entered}
+use Rattle.directory.specs.Indexes.{first_gap, first_of, index_room, slots_known, with_entry as entered_index}
+use Rattle.directory.specs.Programs.{Searched, or_next, search}
+use Rattle.directory.specs.Slots as sought
+use Rattle.fs_layout.proofs.Entries.{dirent_of-spell}
+use Rattle.fs_machine.specs.InMemory.{IndexState, Loaded}
 use Rattle.plain_tree.specs.Steps.{first_free}
 use Rattle.plain_tree.specs.Tree as tree
 use Rattle.plain_tree.specs.Tree.{slots_of}
 use Rattle.inode_machine.specs.World as above
 use Rattle.inode_machine.specs.Rules as rules
+use Rattle.inodes_on_blocks.specs.Entering.{seek_full}
+use Rattle.inodes_on_blocks.specs.Indexes.{IsIndexOf, slot_read}
+use Rattle.inodes_on_blocks.specs.Storing.{index_in, loaded_in, reindexed, with_index}
 use Rattle.inodes_on_blocks.proofs.Basics.{kept_same, kept_then, HasBlocks, blocks_start, blocks_end, extra, extra_missing, below_laws, base_marked, kept_disk, marked_same, lock_range, seen_dinode, spent_stays, TakesStep, s-here}
 use Rattle.inodes_on_blocks.proofs.Changing.{Changing, left_same, changing_start, changing_then}
 use Rattle.inodes_on_blocks.proofs.ContentReads.{touches, touches_are}
 use Rattle.inodes_on_blocks.proofs.DirectorySearches.{s-search}
 use Rattle.inodes_on_blocks.proofs.EntryParts.{directory_of, entry_makes, slot_front}
-use Rattle.inodes_on_blocks.proofs.FillSteps.{record_here, takes_write}
-use Rattle.inodes_on_blocks.proofs.FreeSlots.{entry_bytes, entry_is, new_slot, none_left, slot_below, slot_of, some_left}
+use Rattle.inodes_on_blocks.proofs.FillSteps.{index_here, record_here, takes_write}
+use Rattle.inodes_on_blocks.proofs.FreeSlots.{entry_bytes, entry_is, new_slot, none_left, read_here, read_other, slot_below, slot_of, slot_unused, some_left}
 use Rattle.inodes_on_blocks.proofs.FullSteps.{Rests, s-full}
 use Rattle.inodes_on_blocks.proofs.GrownSteps.{record_same, s-grown}
 use Rattle.inodes_on_blocks.proofs.LocateSteps.{Between, Fits}
@@ -26,6 +35,45 @@ one_block : (slot : ℕ) → blocks_between (16 * slot) (16 * slot + 16) ≡ 1
 one_block slot =
     let some : nat_lt (16 * slot) (16 * slot + 16) ≡ true = grind (arith, nat_tests) in
     ap (λ (t : Bool). if t then ((16 * slot + 16 - 1) / 1024 + 1) - 16 * slot / 1024 else 0) some ∙ (let e : ((16 * slot + 16 - 1) / 1024 + 1) - 16 * slot / 1024 ≡ 1 = omega arith in e)
+
+-- a free slot that the index tells is one of the directory's
+abbrev slot_or : ℕ → Option Found → ℕ
+slot_or count None = count
+slot_or count (Some f) = f.slot
+
+free_low : (d : Dinode) (x : IndexState) (f : Found) → first_of Unused d x ≡ Some f → f.slot < slot_count d
+unfolding first_of
+free_low d x f is = by (first_gap 0 (take index_room x.slots)) (nat_lt (first_gap 0 (take index_room x.slots)) (min (slots_known x) (slot_count d))) refl is
+  where
+    by : (gap : ℕ) (b : Bool) → nat_lt gap (min (slots_known x) (slot_count d)) ≡ b → (if b then Some (record { slot = gap; number = 0 }) else None) ≡ Some f → f.slot < slot_count d
+    by gap true low same = let there : gap ≡ f.slot = ap (slot_or 0) same in grind (arith, nat_tests, low, there)
+    by gap false low same = absurd (none-some f same)
+
+-- a hart knows an index that is right, in place of what it had
+indexed_base : (h n : ℕ) (c : Carry) (x : IndexState) (r : World) (g : above.World) → IsIndexOf x (g.disk n) → Base h r g c → Base h r g (with_index c n x)
+indexed_base h n c x r g right base = record {
+  free = base.free;
+  taken = base.taken;
+  through = base.through;
+  inodes = λ i z. elim (same_or i n) [
+    | inl e ↦ subst (λ (k : ℕ). InHand h k (with_index c n x k) r g) (sym e) (here (subst (λ (k : ℕ). InHand h k (c k) r g) e (base.inodes i z)))
+    | inr ne ↦ subst (λ (o : Had). InHand h i o r g) (sym (put_other c n (reindexed x (c n)) i ne)) (base.inodes i z)
+  ];
+  lent = base.lent;
+}
+  where
+    opened : (y : Loaded) (k : Knowledge) → IsOpened h n (Has y k) g → IsOpened h n (Has (record y { index = x }) k) g
+    opened y NothingMore was = tt
+    opened y (Finds e s) was = tt
+    opened y (Opened fd offset) was = was
+
+    with_it : (had : Had) → InHand h n had r g → InHand h n (reindexed x had) r g
+    with_it Apart was = was
+    with_it Emptied was = was
+    with_it (Has y k) was = record { keeps = was.keeps; loaded_is = (was.loaded_is.0, was.loaded_is.1, was.loaded_is.2, right); holds = was.holds; opened = opened y k was.opened }
+
+    here : InHand h n (c n) r g → InHand h n (with_index c n x n) r g
+    here was = subst (λ (o : Had). InHand h n o r g) (sym (put_same c n (reindexed x (c n)))) (with_it (c n) was)
 
 module _ (sizes : Super) (l : Labels) (laws : Laws (labelled l)) (keeps : Keeps l) (h : ℕ) (lt : h < hart_count) (n : ℕ) (e : Name) (q : ℕ) (m : above.EntryResult → Option above.Mark) (s : Spent) (bitmap : s.bitmap ≡ true)
     (named : IsSpent sizes s (inode_block sizes.inodestart n)) (room : size s + 2 ≤ most_recorded) (c : Carry) (B : List l.Step → Type 0) (C : above.EntryResult → List l.Step → above.World → Type 0) (lasts : Lasts (labelled l) h B C) where
@@ -57,35 +105,60 @@ module _ (sizes : Super) (l : Labels) (laws : Laws (labelled l)) (keeps : Keeps 
   act = acts (Enter n e q) above.Room m
 
   -- the program where the record is x
-  abbrev goes_in : Dinode → ℕ → P M (Handover above.EntryResult Carry)
-  goes_in x slot =
-      if nat_lt slot 17152 then bind (write_blocks (blocks_between (16 * slot) (16 * slot + length bytes)) sizes (16 * slot) bytes x) (entered_to sizes n e q c m slot) else Ret (record { answer = above.NoSlot; carry = c })
+  abbrev goes_in : Dinode → IndexState → ℕ → P M (Handover above.EntryResult Carry)
+  goes_in x y slot =
+      if nat_lt slot 17152 then bind (write_blocks (blocks_between (16 * slot) (16 * slot + length bytes)) sizes (16 * slot) bytes x) (entered_to sizes n e q c m y slot)
+      else Ret (record { answer = above.NoSlot; carry = with_index c n y })
 
-  abbrev goes : Dinode → Option Found → P M (Handover above.EntryResult Carry)
-  goes x found = goes_in x (slot_for x found)
+  abbrev goes : Dinode → Searched → P M (Handover above.EntryResult Carry)
+  goes x o = goes_in x o.index (slot_for x o.found)
 
   -- ---- it takes a step
 
-  ends_take : (slot : ℕ) (w : WriteResult) → TakesStep sizes l laws keeps h lt B (entered_to sizes n e q c m slot w)
-  ends_take slot w = by (w.upto == 16 * (slot + 1))
+  ends_take : (y : IndexState) (slot : ℕ) (w : WriteResult) → TakesStep sizes l laws keeps h lt B (entered_to sizes n e q c m y slot w)
+  ends_take y slot w = by (w.upto == 16 * (slot + 1))
     where
-      by : (t : Bool) → TakesStep sizes l laws keeps h lt B (if t then put_grown (Enter n e q) above.Room m above.InPlace sizes n c w else put_grown (Enter n e q) (above.RoomFor 0) m above.NoBlock sizes n c w)
+      by : (t : Bool) → TakesStep sizes l laws keeps h lt B (if t then put_grown (Enter n e q) above.Room m above.InPlace sizes n c (entered_index slot bytes y) w else put_grown (Enter n e q) (above.RoomFor 0) m above.NoBlock sizes n c y w)
       by true = tt
       by false = tt
 
-  in_takes : (x : Dinode) (slot : ℕ) → nat_lt slot 17152 ≡ true → TakesStep sizes l laws keeps h lt B (goes_in x slot)
-  in_takes x slot is =
-      subst (λ (t : Bool). TakesStep sizes l laws keeps h lt B (if t then bind (write_blocks (blocks_between (16 * slot) (16 * slot + length bytes)) sizes (16 * slot) bytes x) (entered_to sizes n e q c m slot) else Ret (record { answer = above.NoSlot; carry = c }))) (sym is)
-      (takes_write sizes l laws keeps h lt B (blocks_between (16 * slot) (16 * slot + length bytes)) (16 * slot) bytes x (entered_to sizes n e q c m slot) (ends_take slot))
+  in_takes : (x : Dinode) (y : IndexState) (slot : ℕ) → nat_lt slot 17152 ≡ true → TakesStep sizes l laws keeps h lt B (goes_in x y slot)
+  in_takes x y slot is =
+      subst (λ (t : Bool). TakesStep sizes l laws keeps h lt B (if t then bind (write_blocks (blocks_between (16 * slot) (16 * slot + length bytes)) sizes (16 * slot) bytes x) (entered_to sizes n e q c m y slot) else Ret (record { answer = above.NoSlot; carry = with_index c n y }))) (sym is)
+      (takes_write sizes l laws keeps h lt B (blocks_between (16 * slot) (16 * slot + length bytes)) (16 * slot) bytes x (entered_to sizes n e q c m y slot) (ends_take y slot))
 
-  seek_takes : (x : Dinode) (t : Bool) → nat_lt (slot_count x) 17152 ≡ t → TakesStep sizes l laws keeps h lt B (bind (if t then search Unused x else search_full act 267 x 0) (goes x))
-  unfolding search_from search_full
-  seek_takes x false isnt = tt
-  seek_takes x true is = by (block_count x)
+  block_takes : (d : Dinode) (k : ℕ) (f : BlockInHand → P M Searched) (x : Dinode) → TakesStep sizes l laws keeps h lt B (bind (bind (fetch_block d k) f) (goes x))
+  block_takes d k f x = by (nat_lt k 12)
     where
-      by : (i : ℕ) → TakesStep sizes l laws keeps h lt B (bind (search_from i Unused x 0) (goes x))
-      by zero = in_takes x (slot_count x) is
-      by (suc i) = tt
+      by : (b : Bool) → TakesStep sizes l laws keeps h lt B (bind (bind (fetch_at d (if b then Direct k else InTable (k - 12))) f) (goes x))
+      by true = tt
+      by false = tt
+
+  blocks_take : (x : Dinode) (i k : ℕ) (y : IndexState) → nat_lt (slot_count x) 17152 ≡ true → TakesStep sizes l laws keeps h lt B (bind (search_from i Unused x k y) (goes x))
+  unfolding search_from
+  blocks_take x zero k y is = in_takes x y (slot_count x) is
+  blocks_take x (suc i) k y is = block_takes x k (look_at Unused x k y (search_from i Unused x (k + 1))) x
+
+  full_takes : (x : Dinode) (i k : ℕ) (y : IndexState) → TakesStep sizes l laws keeps h lt B (bind (search_full act i x k y) (goes x))
+  unfolding search_full
+  full_takes x zero k y = block_takes x k (look_last act x k y) x
+  full_takes x (suc i) k y = block_takes x k (look_at Unused x k y (search_full act i x (k + 1))) x
+
+  low_slot : (x : Loaded) (f : Found) → first_of Unused x.inode x.index ≡ Some f → nat_lt f.slot 17152 ≡ true
+  low_slot x f is = let low = free_low x.inode x.index f is in grind (arith, nat_tests, low)
+
+  seek_takes : (x : Loaded) (t : Bool) → nat_lt (slot_count x.inode) 17152 ≡ t → TakesStep sizes l laws keeps h lt B (bind (if t then search Unused x else seek_full act x) (goes x.inode))
+  seek_takes x false isnt = by (first_of Unused x.inode x.index) refl
+    where
+      by : (o : Option Found) → first_of Unused x.inode x.index ≡ o → TakesStep sizes l laws keeps h lt B (bind (or_next o x.index (search_full act (267 - x.index.blocks) x.inode x.index.blocks)) (goes x.inode))
+      by (Some f) is = in_takes x.inode x.index f.slot (low_slot x f is)
+      by None is = full_takes x.inode (267 - x.index.blocks) x.index.blocks x.index
+  seek_takes x true room_ = by (first_of Unused x.inode x.index) refl
+    where
+      by : (o : Option Found) → first_of Unused x.inode x.index ≡ o
+          → TakesStep sizes l laws keeps h lt B (bind (or_next o x.index (search_from (block_count x.inode - x.index.blocks) Unused x.inode x.index.blocks)) (goes x.inode))
+      by (Some f) is = in_takes x.inode x.index f.slot (low_slot x f is)
+      by None is = blocks_take x.inode (block_count x.inode - x.index.blocks) x.index.blocks x.index room_
 
   -- ---- from v on, where the lock is the hart's
 
@@ -149,14 +222,27 @@ module _ (sizes : Super) (l : Labels) (laws : Laws (labelled l)) (keeps : Keeps 
     abbrev content : ℕ → List ℕ
     content k = content_block (disk_of (log_of v.real)) d k
 
-    abbrev found : Option Found
-    found = looks.search_finds (disk_of (log_of v.real)) v.real.owner n node holds used Unused
+    -- the index that it has
+    abbrev known : IndexState
+    known = index_in c n
 
-    first : IsFirst Unused (slot_at content) (length slots) found
-    first = looks.is_first (disk_of (log_of v.real)) v.real.owner n node holds used Unused slots directory.1
+    right_known : IsIndexOf known (Some node)
+    right_known = index_here h n c v.real v.seen node hand is
 
-    are : looks.AreRead (slot_at content) slots
-    are = (looks.shown (disk_of (log_of v.real)) v.real.owner n node holds used slots directory.1).0
+    abbrev found : Searched
+    found = looks.search_finds (disk_of (log_of v.real)) v.real.owner n node holds used known right_known Unused
+
+    abbrev read : ℕ → Option Dirent
+    read = slot_read (Some node)
+
+    first : IsFirst Unused read (length slots) found.found
+    first = looks.is_first (disk_of (log_of v.real)) v.real.owner n node holds used known right_known Unused slots directory.1
+
+    still_right : IsIndexOf found.index (Some node)
+    still_right = looks.still_right (disk_of (log_of v.real)) v.real.owner n node holds used known right_known Unused (ap tree.is_directory directory.1)
+
+    are : looks.AreRead read slots
+    are = looks.read_is (disk_of (log_of v.real)) v.real.owner n node holds used slots directory.1
 
     count_is : slot_count d ≡ length slots
     count_is = (looks.shown (disk_of (log_of v.real)) v.real.owner n node holds used slots directory.1).1
@@ -169,7 +255,8 @@ module _ (sizes : Super) (l : Labels) (laws : Laws (labelled l)) (keeps : Keeps 
 
     -- ---- the slot is known
 
-    module _ (slot : ℕ) (past : slot ≤ length slots) (low : slot < 17152) (free : first_free slots entry ≡ slots_with slots slot (Some entry)) (open_ : is_full_directory (Some node) ≡ false) where
+    module _ (slot : ℕ) (past : slot ≤ length slots) (low : slot < 17152) (free : first_free slots entry ≡ slots_with slots slot (Some entry)) (open_ : is_full_directory (Some node) ≡ false)
+        (y : IndexState) (right : IsIndexOf y (Some node)) (unused : sought.is_used (read slot) ≡ false) where
       abbrev after : Node
       after = directory_of node.count (slots_with slots slot (Some entry))
 
@@ -178,6 +265,13 @@ module _ (sizes : Super) (l : Labels) (laws : Laws (labelled l)) (keeps : Keeps 
 
       entered_is : with_entry e q node ≡ after
       entered_is = let same = ap (λ (k : NodeKind). first_free (slots_of k) entry) directory.1 ∙ free in λ z. directory_of node.count (same z)
+
+      -- the index with it is right then
+      right_then : IsIndexOf (entered_index slot bytes y) (Some after)
+      right_then =
+          let spelled = dirent_of-spell One (Used q e) dirent in
+          index_entered y read (slot_read (Some after)) slot bytes right unused (ap sought.is_used spelled) (ap entry_of (read_here slots slot (Some entry) past) ∙ sym spelled)
+          (λ p ne. ap entry_of (read_other slots slot (Some entry) p past ne) ∙ sym (ap (λ (k : NodeKind). entry_of (get_or (slots_of k) p None)) directory.1))
 
       place : 16 * slot / 1024 ≡ slot / 64
       place = omega arith
@@ -189,11 +283,11 @@ module _ (sizes : Super) (l : Labels) (laws : Laws (labelled l)) (keeps : Keeps 
 
       -- no block was free
       lacks : (x : Dinode) (bs : List ℕ) (u : W) (gs : List l.Step) → Between sizes h n (Todo gs) c (Some node) (sized (16 * length slots) x) (directory_of node.count slots) (HasBlocks sizes h s bs) u → Fits (16 * length slots) x → length bs ≤ 1
-          → Wp M h B Q (entered_to sizes n e q c m slot (record { inode = x; upto = 16 * slot })) 3 gs u
+          → Wp M h B Q (entered_to sizes n e q c m y slot (record { inode = x; upto = 16 * slot })) 3 gs u
       lacks x bs u gs there fit few =
-          subst (λ (t : Bool). Wp M h B Q (if t then put_grown (Enter n e q) above.Room m above.InPlace sizes n c (record { inode = x; upto = 16 * slot }) else put_grown (Enter n e q) (above.RoomFor 0) m above.NoBlock sizes n c (record { inode = x; upto = 16 * slot })) 3 gs u)
+          subst (λ (t : Bool). Wp M h B Q (if t then put_grown (Enter n e q) above.Room m above.InPlace sizes n c (entered_index slot bytes y) (record { inode = x; upto = 16 * slot }) else put_grown (Enter n e q) (above.RoomFor 0) m above.NoBlock sizes n c y (record { inode = x; upto = 16 * slot })) 3 gs u)
           (sym (eq_not (16 * slot) (16 * (slot + 1)) (λ z. absurd (omega (arith, z)))))
-          (s-grown sizes l laws keeps h lt n (Enter n e q) m c asks B C lasts (Some node) s named 2 room (above.RoomFor 0) above.NoBlock (directory_of node.count slots) (16 * length slots) (16 * length slots) (16 * slot) x bs (λ y. tt)
+          (s-grown sizes l laws keeps h lt n (Enter n e q) m c asks B C lasts (Some node) s named 2 room (above.RoomFor 0) above.NoBlock (directory_of node.count slots) y (subst (λ (x : Node). IsIndexOf y (Some x)) was_is right) (16 * length slots) (16 * length slots) (16 * slot) x bs (λ y. tt)
           (λ g asked was.
           ap (λ (o : Option Node). enter_if n e q g (above.RoomFor 0) (is_full_directory o)) was ∙ ap (enter_if n e q g (above.RoomFor 0)) open_
           ∙ ap (λ (y : above.World). Ran above.NoBlock y) (sym (record_same g n (directory_of node.count slots) (was ∙ ap (λ (y : Node). Some y) was_is))))
@@ -207,21 +301,21 @@ module _ (sizes : Super) (l : Labels) (laws : Laws (labelled l)) (keeps : Keeps 
 
       -- the entry was written
       ends : (x : Dinode) (bs : List ℕ) (u : W) (gs : List l.Step) → Between sizes h n (Todo gs) c (Some node) (sized grew x) after (HasBlocks sizes h s bs) u → Fits (16 * length slots) x → length bs ≤ 2
-          → Wp M h B Q (entered_to sizes n e q c m slot (record { inode = x; upto = upto })) 3 gs u
+          → Wp M h B Q (entered_to sizes n e q c m y slot (record { inode = x; upto = upto })) 3 gs u
       ends x bs u gs there fit few =
-          subst (λ (t : Bool). Wp M h B Q (if t then put_grown (Enter n e q) above.Room m above.InPlace sizes n c (record { inode = x; upto = upto }) else put_grown (Enter n e q) (above.RoomFor 0) m above.NoBlock sizes n c (record { inode = x; upto = upto })) 3 gs u)
+          subst (λ (t : Bool). Wp M h B Q (if t then put_grown (Enter n e q) above.Room m above.InPlace sizes n c (entered_index slot bytes y) (record { inode = x; upto = upto }) else put_grown (Enter n e q) (above.RoomFor 0) m above.NoBlock sizes n c y (record { inode = x; upto = upto })) 3 gs u)
           (sym (ap (λ (k : ℕ). k == 16 * (slot + 1)) upto_is ∙ eq_self (16 * (slot + 1))))
-          (s-grown sizes l laws keeps h lt n (Enter n e q) m c asks B C lasts (Some node) s named 2 room above.Room above.InPlace after (16 * length slots) grew upto x bs (λ y. tt)
+          (s-grown sizes l laws keeps h lt n (Enter n e q) m c asks B C lasts (Some node) s named 2 room above.Room above.InPlace after (entered_index slot bytes y) right_then (16 * length slots) grew upto x bs (λ y. tt)
           (λ g asked was.
           ap (λ (o : Option Node). enter_if n e q g above.Room (is_full_directory o)) was ∙ ap (enter_if n e q g above.Room) open_
           ∙ ap (λ (o : Option Node). Ran above.InPlace (with_record g n (Some (with_entry e q (node_or o))))) was ∙ ap (λ (y : Node). Ran above.InPlace (with_record g n (Some y))) entered_is)
           fit (omega (arith, upto_is)) (omega (arith, size_is, limit, low)) few gs u there)
 
       -- the blocks are written, from where the slot was found
-      writes : (w : W) (gs : List l.Step) → Same h v.real w.real → Kept h v.seen w.seen → Todo gs w.seen → Wp M h B Q (goes_in d slot) 21 gs w
+      writes : (w : W) (gs : List l.Step) → Same h v.real w.real → Kept h v.seen w.seen → Todo gs w.seen → Wp M h B Q (goes_in d y slot) 21 gs w
       unfolding write_blocks
       writes w gs same kept stage =
-          s-here sizes l laws keeps h lt B (goes_in d slot) Q Todo (to_act (labelled l) (below sizes) laws (below_laws sizes l keeps) h B (Enter n e q) m C lasts) (in_takes d slot is_low) 21 gs w stage
+          s-here sizes l laws keeps h lt B (goes_in d y slot) Q Todo (to_act (labelled l) (below sizes) laws (below_laws sizes l keeps) h B (Enter n e q) m C lasts) (in_takes d y slot is_low) 21 gs w stage
           (λ u hs here.
           let same_u = (below_laws sizes l keeps).trans h v.real w.real u.real same here.same in
           let kept_u = kept_then h v.seen w.seen u.seen kept here.kept in
@@ -241,13 +335,13 @@ module _ (sizes : Super) (l : Labels) (laws : Laws (labelled l)) (keeps : Keeps 
           cost : (t : ℕ) → length {A = ℕ} [] + extra true [] t ≤ 1
           cost t = let one = extra_missing [] t refl in omega (arith, one)
 
-          written : (u : W) (hs : List l.Step) → Between sizes h n (Todo hs) c (Some node) (sized (16 * length slots) d) (directory_of node.count slots) (HasBlocks sizes h s []) u → Wp M h B Q (goes_in d slot) 21 hs u
+          written : (u : W) (hs : List l.Step) → Between sizes h n (Todo hs) c (Some node) (sized (16 * length slots) d) (directory_of node.count slots) (HasBlocks sizes h s []) u → Wp M h B Q (goes_in d y slot) 21 hs u
           written u hs start =
-              subst (λ (t : Bool). Wp M h B Q (if t then bind (write_blocks (blocks_between (16 * slot) (16 * slot + length bytes)) sizes (16 * slot) bytes d) (entered_to sizes n e q c m slot) else Ret (record { answer = above.NoSlot; carry = c })) 21 hs u) (sym is_low)
-              (subst (λ (k : ℕ). Wp M h B Q (bind (write_blocks k sizes (16 * slot) bytes d) (entered_to sizes n e q c m slot)) 21 hs u) (sym (ap (λ (k : ℕ). blocks_between (16 * slot) (16 * slot + k)) long ∙ one_block slot))
+              subst (λ (t : Bool). Wp M h B Q (if t then bind (write_blocks (blocks_between (16 * slot) (16 * slot + length bytes)) sizes (16 * slot) bytes d) (entered_to sizes n e q c m y slot) else Ret (record { answer = above.NoSlot; carry = with_index c n y })) 21 hs u) (sym is_low)
+              (subst (λ (k : ℕ). Wp M h B Q (bind (write_blocks k sizes (16 * slot) bytes d) (entered_to sizes n e q c m y slot)) 21 hs u) (sym (ap (λ (k : ℕ). blocks_between (16 * slot) (16 * slot + k)) long ∙ one_block slot))
               (s-part sizes l laws keeps h lt B Q Todo (to_act (labelled l) (below sizes) laws (below_laws sizes l keeps) h B (Enter n e q) m C lasts) n changes c (Some node) (directory_of node.count slots) after s bitmap true (16 * slot / 1024)
               (16 * length slots) grew (16 * length slots) 1 (omega (arith, room)) (16 * slot) bytes (entry_bytes q e may.1.3) makes
-              (write_blocks 0 sizes upto (drop (length (front_of (16 * slot) bytes)) bytes)) (entered_to sizes n e q c m slot) 3 lacks
+              (write_blocks 0 sizes upto (drop (length (front_of (16 * slot) bytes)) bytes)) (entered_to sizes n e q c m y slot) 3 lacks
               (λ x bs y is_ there fit few. ends x bs y is_ there fit (omega (arith, few))) d fits [] (omega (arith, low)) (cost (slice_index d.addrs 12)) u hs start (λ z. absurd (let no : true ≡ false = z in cc))))
 
     -- ---- it is sought
@@ -257,60 +351,81 @@ module _ (sizes : Super) (l : Labels) (laws : Laws (labelled l)) (keeps : Keeps 
     slot_is (Some f) = refl
 
     -- where there is room for it
-    here_goes : (o : Option Found) → IsFirst Unused (slot_at content) (length slots) o → slot_of slots o < 17152 → (w : W) (gs : List l.Step) → Same h v.real w.real → Kept h v.seen w.seen → Todo gs w.seen → Wp M h B Q (goes d o) 21 gs w
-    here_goes o is_first low w gs same kept stage =
-        subst (λ (k : ℕ). Wp M h B Q (goes_in d k) 21 gs w) (sym (slot_is o))
-        (writes (slot_of slots o) (slot_below slots (slot_at content) are o is_first) low (new_slot slots (slot_at content) are o is_first entry) (full_is ∙ some_left slots (slot_at content) are o is_first low) w gs same kept stage)
+    here_goes : (o : Option Found) (y : IndexState) → IsIndexOf y (Some node) → IsFirst Unused read (length slots) o → slot_of slots o < 17152 → (w : W) (gs : List l.Step) → Same h v.real w.real → Kept h v.seen w.seen → Todo gs w.seen
+        → Wp M h B Q (goes d (record { found = o; index = y })) 21 gs w
+    here_goes o y right is_first low w gs same kept stage =
+        subst (λ (k : ℕ). Wp M h B Q (goes_in d y k) 21 gs w) (sym (slot_is o))
+        (writes (slot_of slots o) (slot_below slots read are o is_first) low (new_slot slots read are o is_first entry) (full_is ∙ some_left slots read are o is_first low) y right (unused o is_first) w gs same kept stage)
+      where
+        unused : (o : Option Found) → IsFirst Unused read (length slots) o → sought.is_used (read (slot_of slots o)) ≡ false
+        unused o is_first =
+            ap (λ (k : NodeKind). sought.is_used (entry_of (get_or (slots_of k) (slot_of slots o) None))) directory.1 ∙ looks.used_as (get_or slots (slot_of slots o) None) ∙ slot_unused slots read are o is_first
 
     -- where all slots are there
-    full_goes : 17152 ≤ length slots → Wp M h B Q (bind (search_full act 267 d 0) (goes d)) 1641 fs v
-    full_goes all =
-        Wp-more M h (bind (search_full act 267 d 0) (goes d)) B Q (touches 268 21) 1641 fs v (let steps_ = touches_are 268 21 in omega (arith, steps_))
-        (s-full sizes l laws keeps h lt B (Enter n e q) m C lasts above.Room above.NoSlot (λ y. tt) Q n (Some node) (goes d) 21 v holds used mine stands.0.free 267 0 v fs ((below_laws sizes l keeps).same h v.real) (kept_same h v.seen) todo
-        (λ k low. omega (arith, size_is, all, low)) (subst (λ (k : ℕ). Rests sizes l laws keeps h lt B (Enter n e q) m C lasts above.Room above.NoSlot (λ y. tt) Q n (Some node) (goes d) 21 v holds used mine stands.0.free (found_from k Unused d content 0)) blocks_are rests))
+    full_goes : 17152 ≤ length slots → Wp M h B Q (bind (seek_full act (record { inode = d; index = known })) (goes d)) 1641 fs v
+    full_goes all = by (first_of Unused d known) refl
       where
         blocks_are : block_count d ≡ 268
         blocks_are = omega (arith, size_is, all, limit)
 
-        found_low : (f : Found) → found ≡ Some f → f.slot < 17152
-        found_low f z = let below_ = (subst (IsFirst Unused (slot_at content) (length slots)) z first).0 in omega (arith, below_, size_is, limit)
+        found_low : (f : Found) → found.found ≡ Some f → slot_of slots found.found < 17152
+        found_low f z = subst (λ (o : Option Found). slot_of slots o < 17152) (sym z) (let below_ = (subst (IsFirst Unused read (length slots)) z first).0 in omega (arith, below_, size_is, limit))
 
-        still : found ≡ None → (u : W) → Kept h v.seen u.seen → is_full_directory (u.seen.disk n) ≡ true
+        still : found.found ≡ None → (u : W) → Kept h v.seen u.seen → is_full_directory (u.seen.disk n) ≡ true
         still none u kept =
             ap is_full_directory ((kept_disk h n v.seen u.seen kept stands.0.lent hand.keeps).1 ∙ is) ∙ full_is
             ∙ ap (λ (t : Bool). t && all_used slots) (ap (λ (k : ℕ). k == 17152) (let exact : length slots ≡ 17152 = omega (arith, size_is, limit, all) in exact))
-            ∙ none_left slots (slot_at content) are (subst (IsFirst Unused (slot_at content) (length slots)) none first)
+            ∙ none_left slots read are (subst (IsFirst Unused read (length slots)) none first)
 
         rests : Rests sizes l laws keeps h lt B (Enter n e q) m C lasts above.Room above.NoSlot (λ y. tt) Q n (Some node) (goes d) 21 v holds used mine stands.0.free found
         rests = record {
-          some = λ f z w gs same kept stage. here_goes (Some f) (subst (IsFirst Unused (slot_at content) (length slots)) z first) (found_low f z) w gs same kept stage;
+          some = λ f z w gs same kept stage. here_goes found.found found.index still_right first (found_low f z) w gs same kept stage;
           none = λ z u r gs same kept asked done.
               let stands_r = (below_laws sizes l keeps).base h v.real r v.seen u.seen c same kept stands in
               let g = marked h (m above.NoSlot) u.seen in
-              let no : nat_lt (slot_count d) 17152 ≡ false = (let exact = count_is in grind (arith, nat_tests, exact, all)) in
-              subst (λ (t : Bool). Wp M h B Q (if t then bind (write_blocks (blocks_between (16 * slot_count d) (16 * slot_count d + length bytes)) sizes (16 * slot_count d) bytes d) (entered_to sizes n e q c m (slot_count d)) else Ret (record { answer = above.NoSlot; carry = c })) 21 gs (record { real = r; seen = g })) (sym no)
-              (Wp-more M h (Ret (record { answer = above.NoSlot; carry = c })) B Q 0 21 gs (record { real = r; seen = g }) (omega arith)
-              ((done, (base_marked h r u.seen g c (marked_same h (m above.NoSlot) u.seen) asked.0 stands_r.0, stands_r.1)), blocks_end sizes h s [] 2 r (omega arith) (blocks_start sizes h s r (spent_stays sizes h s v.real r same knows))));
+              let there : IsIndexOf found.index (u.seen.disk n) = subst (IsIndexOf found.index) (sym ((kept_disk h n v.seen u.seen kept stands.0.lent hand.keeps).1 ∙ is)) still_right in
+              let no : nat_lt (slot_for d found.found) 17152 ≡ false = ap (λ (o : Option Found). nat_lt (slot_for d o) 17152) z ∙ (let exact = count_is in grind (arith, nat_tests, exact, all)) in
+              subst (λ (t : Bool). Wp M h B Q (if t then bind (write_blocks (blocks_between (16 * slot_for d found.found) (16 * slot_for d found.found + length bytes)) sizes (16 * slot_for d found.found) bytes d) (entered_to sizes n e q c m found.index (slot_for d found.found)) else Ret (record { answer = above.NoSlot; carry = with_index c n found.index })) 21 gs (record { real = r; seen = g })) (sym no)
+              (Wp-more M h (Ret (record { answer = above.NoSlot; carry = with_index c n found.index })) B Q 0 21 gs (record { real = r; seen = g }) (omega arith)
+              ((done, (base_marked h r u.seen g (with_index c n found.index) (marked_same h (m above.NoSlot) u.seen) asked.0 (indexed_base h n c found.index r u.seen there stands_r.0), stands_r.1)), blocks_end sizes h s [] 2 r (omega arith) (blocks_start sizes h s r (spent_stays sizes h s v.real r same knows))));
           stays = λ z u kept asked. ap (enter_if n e q u.seen above.Room) (still z u kept);
         }
 
-    seeks : (t : Bool) → nat_lt (slot_count d) 17152 ≡ t → Wp M h B Q (bind (if t then search Unused d else search_full act 267 d 0) (goes d)) 1641 fs v
+        by : (o : Option Found) → first_of Unused d known ≡ o → Wp M h B Q (bind (or_next o known (search_full act (267 - known.blocks) d known.blocks)) (goes d)) 1641 fs v
+        by (Some f) z =
+            let there : found.found ≡ Some f = ap (λ (o : Option Found). (else_searched o known (searched_from (block_count d - known.blocks) Unused d content known.blocks)).found) z in
+            let is_first = subst (IsFirst Unused read (length slots)) there first in
+            Wp-more M h (goes d (record { found = Some f; index = known })) B Q 21 1641 fs v (omega arith)
+            (here_goes (Some f) known right_known is_first (let below_ = is_first.0 in omega (arith, below_, size_is, limit)) v fs ((below_laws sizes l keeps).same h v.real) (kept_same h v.seen) todo)
+        by None z =
+            let few : known.blocks ≤ 1 = few_known (record { inode = d; index = known }) (omega (arith, size_is, all, limit)) z in
+            let many : block_count d - known.blocks ≡ suc (267 - known.blocks) = omega (arith, blocks_are, few) in
+            let there : found ≡ searched_from (suc (267 - known.blocks)) Unused d content known.blocks known =
+            ap (λ (o : Option Found). else_searched o known (searched_from (block_count d - known.blocks) Unused d content known.blocks)) z ∙ ap (λ (k : ℕ). searched_from k Unused d content known.blocks known) many in
+            Wp-more M h (bind (search_full act (267 - known.blocks) d known.blocks known) (goes d)) B Q (touches (suc (267 - known.blocks)) 21) 1641 fs v (let steps_ = touches_are (suc (267 - known.blocks)) 21 in omega (arith, steps_))
+            (s-full sizes l laws keeps h lt B (Enter n e q) m C lasts above.Room above.NoSlot (λ y. tt) Q n (Some node) (goes d) 21 v holds used mine stands.0.free (267 - known.blocks) known.blocks known v fs
+            ((below_laws sizes l keeps).same h v.real) (kept_same h v.seen) todo (λ k low. omega (arith, size_is, all, low, few))
+            (subst (Rests sizes l laws keeps h lt B (Enter n e q) m C lasts above.Room above.NoSlot (λ y. tt) Q n (Some node) (goes d) 21 v holds used mine stands.0.free) there rests))
+
+    seeks : (t : Bool) → nat_lt (slot_count d) 17152 ≡ t → Wp M h B Q (bind (if t then search Unused (record { inode = d; index = known }) else seek_full act (record { inode = d; index = known })) (goes d)) 1641 fs v
     seeks true room_ =
-        Wp-more M h (bind (search Unused d) (goes d)) B Q (touches (block_count d) 21) 1641 fs v (let few = looks.few_blocks d in let steps_ = touches_are (block_count d) 21 in omega (arith, few, steps_))
-        (s-search sizes l laws keeps h lt B Q Todo (to_act (labelled l) (below sizes) laws (below_laws sizes l keeps) h B (Enter n e q) m C lasts) n (Some node) Unused (goes d) 21 v holds used mine stands.0.free (block_count d) 0 v fs
-        ((below_laws sizes l keeps).same h v.real) (kept_same h v.seen) todo (λ k low. let part = looks.block_within (disk_of (log_of v.real)) v.real.owner n node holds used k low in omega (arith, part))
-        (λ w gs same kept stage. here_goes found first (below_all found first) w gs same kept stage))
+        Wp-more M h (bind (search Unused (record { inode = d; index = known })) (goes d)) B Q (touches (block_count d) 21) 1641 fs v (let few = looks.few_blocks d in let steps_ = touches_are (block_count d) 21 in omega (arith, few, steps_))
+        (s-search sizes l laws keeps h lt B Q Todo (to_act (labelled l) (below sizes) laws (below_laws sizes l keeps) h B (Enter n e q) m C lasts) n (Some node) Unused (goes d) 21 v holds used mine stands.0.free known v fs
+        ((below_laws sizes l keeps).same h v.real) (kept_same h v.seen) todo (looks.block_within (disk_of (log_of v.real)) v.real.owner n node holds used)
+        (λ w gs same kept stage. here_goes found.found found.index still_right first (below_all found.found first) w gs same kept stage))
       where
-        below_all : (o : Option Found) → IsFirst Unused (slot_at content) (length slots) o → slot_of slots o < 17152
+        below_all : (o : Option Found) → IsFirst Unused read (length slots) o → slot_of slots o < 17152
         below_all None z = (let exact = count_is in grind (arith, nat_tests, room_, exact))
         below_all (Some f) z = let low = z.0 in omega (arith, low, size_is, limit)
     seeks false isnt = full_goes (let exact = count_is in grind (arith, nat_tests, isnt, exact))
 
     enters : Wp M h B Q (enter sizes n e q c m) 1641 fs v
-    enters = subst (λ (x : Dinode). Wp M h B Q (bind (if nat_lt (slot_count x) 17152 then search Unused x else search_full act 267 x 0) (goes x)) 1641 fs v) (sym (record_here h n c v.real v.seen node hand is)) (seeks (nat_lt (slot_count d) 17152) refl)
+    enters =
+        subst (λ (x : Dinode). Wp M h B Q (bind (if nat_lt (slot_count x) 17152 then search Unused (record { inode = x; index = known }) else seek_full act (record { inode = x; index = known })) (goes x)) 1641 fs v)
+        (sym (record_here h n c v.real v.seen node hand is)) (seeks (nat_lt (slot_count d) 17152) refl)
 
   pub enter_acts : (es : List l.Step) (w : W) → Todo es w.seen → Stands sizes h w.real w.seen c → HasSpent sizes h s w.real → Wp M h B Q (enter sizes n e q c m) 1641 es w
   enter_acts es w todo stands knows =
-      s-here sizes l laws keeps h lt B (enter sizes n e q c m) Q Todo (to_act (labelled l) (below sizes) laws (below_laws sizes l keeps) h B (Enter n e q) m C lasts) (seek_takes (record_in c n) (nat_lt (slot_count (record_in c n)) 17152) refl) 1641 es w todo
+      s-here sizes l laws keeps h lt B (enter sizes n e q c m) Q Todo (to_act (labelled l) (below sizes) laws (below_laws sizes l keeps) h B (Enter n e q) m C lasts) (seek_takes (loaded_in c n) (nat_lt (slot_count (record_in c n)) 17152) refl) 1641 es w todo
       (λ v fs here.
       enters v fs here.stage here.shows here.inv ((below_laws sizes l keeps).base h w.real v.real w.seen v.seen c here.same here.kept stands) (spent_stays sizes h s w.real v.real here.same knows))

@@ -104,7 +104,7 @@ module _ (h : ℕ) (v : World) (g : above.World) (shows : Shows v g) (ss : List 
     taken = shows.taken;
     commit = shows.commit;
     news = λ n k e. new_alike n k (log_of v) (with_seats (log_of v) ss) g.lock g.keeper (loaded (tables_of v)) refl refl (ap (λ (x : List (List ℕ)). inode_of x n) quiet_disk) (shows.news n k e);
-    loads = record { seen = λ n d e. shows.loads.seen n d e ∙ sym (ap (λ (x : List (List ℕ)). inode_of x n) quiet_disk); dead = shows.loads.dead; typed = shows.loads.typed };
+    loads = record { seen = λ n d e. shows.loads.seen n d e ∙ sym (ap (λ (x : List (List ℕ)). inode_of x n) quiet_disk); dead = shows.loads.dead; typed = shows.loads.typed; indexed = shows.loads.indexed };
     offsets = shows.offsets;
   }
 

@@ -1,7 +1,11 @@
 -- A new directory's two names written act where its record is put.
 use Rattle.inodes_on_blocks.proofs.Vocabulary.{◌≡◌, ◌≢◌, ℕ, zero, suc, ◌+◌, ◌-◌, ◌/◌, ◌<◌, ◌≤◌, ◌==◌, nat_lt, Bool, true, false, List, [], ◌∷◌, length, length-take, drop, Option, Some, None, refl, sym, ◌∙◌, ap, subst, arith, if◌then◌else◌, slice_index, unwrap_or, none-some, Dinode, Super, spell_dirent, Used, HoldsAt, size_in, Node, node_or, dot, dotdot, hart_count, bind, Ran, Laws, Machine, P, Wp, Both, joined, Below, Lasts, Handover, ToAct, to_act, may_act, Wp-more, lock_holder, Direct, InTable, table_of, blocks_between, WriteResult, front_of, take_one, located, name_direct, with_table, locate_in_table, locate_at, write_located, write_blocks, no_record, inode_block, Spent, size, with_contents, most_recorded, Fill, with_dots, with_record, Inv, IsSpent, World, log_of, tables_of, disk_of, inode_in, dots, filled_to, fill, put_grown, Had, Apart, Has, Emptied, Carry, record_had, InHand, Stands, below, Labels, labelled, Keeps, IsChanging, HasSpent, Shows, record_in}
+use Rattle.directory.proofs.IndexChanges.{index_none}
+use Rattle.fs_machine.specs.InMemory.{no_index, unindexed}
 use Rattle.inode_machine.specs.World as above
 use Rattle.inode_machine.specs.Rules as rules
+use Rattle.inodes_on_blocks.specs.Indexes.{IsIndexOf, slot_read}
+use Rattle.inodes_on_blocks.specs.Storing.{index_in}
 use Rattle.inodes_on_blocks.proofs.Basics.{HasBlocks, blocks_start, below_laws, lock_range, append_bytes, seen_dinode, spent_stays, TakesStep, s-here}
 use Rattle.inodes_on_blocks.proofs.Changing.{Changing, changing_start}
 use Rattle.inodes_on_blocks.proofs.EntryParts.{directory_of, dots_long, dots_make}
@@ -17,7 +21,16 @@ record_here h n c r g node hand is = by (c n) refl hand
   where
     by : (had : Had) → c n ≡ had → InHand h n had r g → record_in c n ≡ inode_in (log_of r) n
     by Apart q hand = absurd hand.loaded_is
-    by (Has x l) q hand = ap (λ (o : Had). unwrap_or (record_had o) no_record) q ∙ hand.loaded_is.0
+    by (Has x l) q hand = ap (λ (o : Had). (unwrap_or (record_had o) (unindexed no_record)).inode) q ∙ hand.loaded_is.0
+    by Emptied q hand = absurd (none-some node (sym hand.loaded_is.0 ∙ is))
+
+-- and the index that it has is right
+pub index_here : (h n : ℕ) (c : Carry) (r : World) (g : above.World) (node : Node) → InHand h n (c n) r g → g.disk n ≡ Some node → IsIndexOf (index_in c n) (Some node)
+index_here h n c r g node hand is = by (c n) refl hand
+  where
+    by : (had : Had) → c n ≡ had → InHand h n had r g → IsIndexOf (index_in c n) (Some node)
+    by Apart q hand = absurd hand.loaded_is
+    by (Has x l) q hand = subst (λ (o : Had). IsIndexOf (unwrap_or (record_had o) (unindexed no_record)).index (Some node)) (sym q) (subst (IsIndexOf x.index) is hand.loaded_is.3)
     by Emptied q hand = absurd (none-some node (sym hand.loaded_is.0 ∙ is))
 
 module _ (sizes : Super) (l : Labels) (laws : Laws (labelled l)) (keeps : Keeps l) (h : ℕ) (lt : h < hart_count) (B : List l.Step → Type 0) where
@@ -71,7 +84,7 @@ module _ (sizes : Super) (l : Labels) (laws : Laws (labelled l)) (keeps : Keeps 
   ends_take : (w : WriteResult) → TakesStep sizes l laws keeps h lt B (filled_to sizes n p c m w)
   ends_take w = by (w.upto == 32)
     where
-      by : (t : Bool) → TakesStep sizes l laws keeps h lt B (if t then put_grown (Fill n p) above.Room m true sizes n c w else put_grown (Fill n p) (above.RoomFor 0) m false sizes n c w)
+      by : (t : Bool) → TakesStep sizes l laws keeps h lt B (if t then put_grown (Fill n p) above.Room m true sizes n c no_index w else put_grown (Fill n p) (above.RoomFor 0) m false sizes n c no_index w)
       by true = tt
       by false = tt
 
@@ -135,19 +148,22 @@ module _ (sizes : Super) (l : Labels) (laws : Laws (labelled l)) (keeps : Keeps 
     -- no block was free
     lacks : (x : Dinode) (bs : List ℕ) (u : W) (gs : List l.Step) → Between sizes h n (Todo gs) c (Some node) (sized 0 x) (directory_of node.count []) (HasBlocks sizes h s bs) u → Fits 0 x → length bs ≤ 0 → Wp N h B Q (filled_to sizes n p c m (record { inode = x; upto = 0 })) 3 gs u
     lacks x bs u gs there fit few =
-        s-grown sizes l laws keeps h lt n (Fill n p) m c asks B C lasts (Some node) s named 1 room (above.RoomFor 0) false (directory_of node.count []) 0 0 0 x bs (λ y. tt)
+        s-grown sizes l laws keeps h lt n (Fill n p) m c asks B C lasts (Some node) s named 1 room (above.RoomFor 0) false (directory_of node.count []) no_index (index_none (slot_read (Some (directory_of node.count [])))) 0 0 0 x bs (λ y. tt)
         (λ g asked was. ap (λ (q : above.World). Ran false q) (sym (record_same g n (directory_of node.count []) (was ∙ ap (λ (q : Node). Some q) was_is)))) fit refl (omega arith) (omega (arith, few)) gs u there
 
     -- both were written
     long : 0 + length (front_of 0 (dots n p)) ≡ 32
     long = let all = dots_long n p some_n small_n some_p small_p in omega (arith, all, length-take 1024 (dots n p))
 
+    abbrev filled : Node
+    filled = directory_of node.count (Some (record { name = dot; number = n }) ∷ Some (record { name = dotdot; number = p }) ∷ [])
+
     goes : (x : Dinode) (bs : List ℕ) (u : W) (gs : List l.Step) → Between sizes h n (Todo gs) c (Some node) (sized 32 x) (directory_of node.count (Some (record { name = dot; number = n }) ∷ Some (record { name = dotdot; number = p }) ∷ [])) (HasBlocks sizes h s bs) u → Fits 0 x → length bs ≤ 1
         → Wp N h B Q (filled_to sizes n p c m (record { inode = x; upto = 0 + length (front_of 0 (dots n p)) })) 3 gs u
     goes x bs u gs there fit few =
-        subst (λ (t : Bool). Wp N h B Q (if t then put_grown (Fill n p) above.Room m true sizes n c (record { inode = x; upto = 0 + length (front_of 0 (dots n p)) }) else put_grown (Fill n p) (above.RoomFor 0) m false sizes n c (record { inode = x; upto = 0 + length (front_of 0 (dots n p)) })) 3 gs u)
+        subst (λ (t : Bool). Wp N h B Q (if t then put_grown (Fill n p) above.Room m true sizes n c no_index (record { inode = x; upto = 0 + length (front_of 0 (dots n p)) }) else put_grown (Fill n p) (above.RoomFor 0) m false sizes n c no_index (record { inode = x; upto = 0 + length (front_of 0 (dots n p)) })) 3 gs u)
         (sym (ap (λ (q : ℕ). q == 32) long))
-        (s-grown sizes l laws keeps h lt n (Fill n p) m c asks B C lasts (Some node) s named 1 room above.Room true (directory_of node.count (Some (record { name = dot; number = n }) ∷ Some (record { name = dotdot; number = p }) ∷ [])) 0 32 (0 + length (front_of 0 (dots n p))) x bs (λ y. tt)
+        (s-grown sizes l laws keeps h lt n (Fill n p) m c asks B C lasts (Some node) s named 1 room above.Room true filled no_index (index_none (slot_read (Some filled))) 0 32 (0 + length (front_of 0 (dots n p))) x bs (λ y. tt)
         (λ g asked was. ap (λ (o : Option Node). Ran true (with_record g n (Some (with_dots n p (node_or o))))) was) fit (omega (arith, long)) (omega arith) few gs u there)
 
     fills : Wp N h B Q (fill sizes n p c m) 13 fs v

@@ -1,5 +1,5 @@
 -- The reference that is left to a freed inode goes in one step.
-use Rattle.inodes_on_blocks.proofs.Vocabulary.{◌≡◌, ℕ, ◌<◌, ◌==◌, ◌&&◌, Bool, false, true, Option, Some, None, refl, sym, ◌∙◌, ap, subst, if◌then◌else◌, slice_get, Dinode, SlotState, pick, Node, hart_count, ExecResult, Waits, Ran, Stops, exec_result_in, Laws, Both, Inode, TablesState, place_of, DroppedState, Counts, Dies, dead_in, dying, drop_inode, drop_at, drop_dying, drop_freed, uncounted_freed as freed_at, Freed, Forget, is_last, down_if, counted_down, Inv, load_after, BothCame, loaded, loaded_at, loaded_of, World, tables_of, Shows, Carry, Base, Labels, labelled, Keeps, forget, ActsOnce}
+use Rattle.inodes_on_blocks.proofs.Vocabulary.{◌≡◌, ℕ, ◌<◌, ◌==◌, ◌&&◌, Bool, false, true, Option, Some, None, refl, sym, ◌∙◌, ap, subst, if◌then◌else◌, slice_get, SlotState, pick, Node, hart_count, ExecResult, Waits, Ran, Stops, exec_result_in, Laws, Both, Inode, TablesState, place_of, DroppedState, Counts, Dies, dead_in, dying, drop_inode, drop_at, drop_dying, drop_freed, uncounted_freed as freed_at, Freed, Forget, is_last, down_if, counted_down, Inv, load_after, BothCame, loaded, loaded_at, loaded_of, World, tables_of, Shows, Carry, Base, Labels, labelled, Keeps, forget, ActsOnce, Loaded}
 use Rattle.fs_machine.specs.declared.entries.Entry.{Entry}
 use Rattle.fs_machine.specs.Steps as steps
 use Rattle.fs_machine.specs.Premises as premises
@@ -17,13 +17,13 @@ dead_none : (o : Option Inode) → loaded_of o ≡ None → dead_in o ≡ None
 dead_none None e = refl
 dead_none (Some v) e = ap dead_of_content e
   where
-    dead_of_content : Option Dinode → Option Dinode
+    dead_of_content : Option Loaded → Option Loaded
     dead_of_content o = dead_in (Some (record v { content = o }))
 
 dying_none : (e : Option Entry) (s : Option (SlotState Inode)) → loaded_at s ≡ None → dying e s ≡ None
 dying_none None s q = refl
 dying_none (Some e) None q = refl
-dying_none (Some e) (Some s) q = ap (λ (o : Option Dinode). if e.references == 1 then o else None) (dead_none s.inside q) ∙ pick (e.references == 1) (λ t. ◌≡◌ {A = Option Dinode} (if t then None else None) None) (λ _. refl) (λ _. refl)
+dying_none (Some e) (Some s) q = ap (λ (o : Option Loaded). if e.references == 1 then o else None) (dead_none s.inside q) ∙ pick (e.references == 1) (λ t. ◌≡◌ {A = Option Loaded} (if t then None else None) None) (λ _. refl) (λ _. refl)
 
 -- so that a drop counts down
 freed_is : (h n : ℕ) (t : TablesState) → loaded t n ≡ None → drop_freed n t ≡ drop_inode h n t

@@ -1,8 +1,9 @@
 -- The slot of a new name: what a search for a free slot finds is where the node has it; and the entry that is put there.
-use Rattle.inodes_on_blocks.proofs.Vocabulary.{◌≡◌, ℕ, zero, suc, ◌-◌, ◌==◌, ◌<◌, ◌≤◌, nat_lt, nat_le, ◌&&◌, not, Bool, true, false, List, [], ◌∷◌, ◌++◌, length, replicate, get_or, Option, Some, None, refl, sym, ◌∙◌, ap, arith, list_all, nat_tests, Found, IsFirst, Unused, Dirent, Used, IsBytes, u16_bytes, IsDirent, spell_dirent, entry_of, slots_with, Slot, Name, dot, dotdot, eq_not, all_used, IsName, IsText}
+use Rattle.inodes_on_blocks.proofs.Vocabulary.{◌≡◌, ◌≢◌, ℕ, zero, suc, ◌-◌, ◌==◌, ◌<◌, ◌≤◌, nat_lt, nat_le, ◌&&◌, not, Bool, true, false, List, [], ◌∷◌, ◌++◌, length, replicate, get_or, Option, Some, None, refl, sym, ◌∙◌, ap, arith, list_all, nat_tests, Found, IsFirst, Unused, Dirent, Used, IsBytes, u16_bytes, IsDirent, spell_dirent, entry_of, slots_with, Slot, Name, dot, dotdot, eq_not, all_used, IsName, IsText}
 use Rattle.directory.specs.Slots as sought
 use Rattle.fs_layout.specs.Name as names
 use Rattle.fs_layout.specs.VersionOne as layout
+use Rattle.std.proofs.lemmas.List.{get_or_past}
 use Rattle.plain_tree.specs.Steps.{first_free, is_used}
 use Rattle.inodes_on_blocks.proofs.Basics.{AreRead, append_bytes, u16s}
 use Rattle.inodes_on_blocks.proofs.SlotPuts.{zero_bytes}
@@ -39,6 +40,23 @@ some_isnt (y ∷ slots) (suc s) lt is = by (is_used y) (some_isnt slots s (omega
     by true e = e
     by false e = refl
 
+-- ---- slots read after one was put
+
+pub read_here : (slots : List (Option Slot)) (s : ℕ) (x : Option Slot) → s ≤ length slots → get_or (slots_with slots s x) s None ≡ x
+read_here [] zero x le = refl
+read_here [] (suc s) x le = absurd (omega (arith, le))
+read_here (y ∷ slots) zero x le = refl
+read_here (y ∷ slots) (suc s) x le = read_here slots s x (omega (arith, le))
+
+pub read_other : (slots : List (Option Slot)) (s : ℕ) (x : Option Slot) (q : ℕ) → s ≤ length slots → q ≢ s → get_or (slots_with slots s x) q None ≡ get_or slots q None
+read_other [] zero x zero le ne = absurd (ne refl)
+read_other [] zero x (suc q) le ne = refl
+read_other [] (suc s) x q le ne = absurd (omega (arith, le))
+read_other (y ∷ slots) zero x zero le ne = absurd (ne refl)
+read_other (y ∷ slots) zero x (suc q) le ne = refl
+read_other (y ∷ slots) (suc s) x zero le ne = refl
+read_other (y ∷ slots) (suc s) x (suc q) le ne = read_other slots s x q (omega (arith, le)) (λ e. ne (ap (λ (k : ℕ). suc k) e))
+
 -- ---- what was found
 
 free_as : (y : Option Slot) → sought.is_free (entry_of y) ≡ not (is_used y)
@@ -73,6 +91,11 @@ module _ (slots : List (Option Slot)) (read : ℕ → Option Dirent) (are : AreR
   pub slot_below : (o : Option Found) → IsFirst Unused read (length slots) o → slot_of slots o ≤ length slots
   slot_below None first = omega arith
   slot_below (Some f) first = let lt = first.0 in omega (arith, lt)
+
+  -- it isn't used
+  pub slot_unused : (o : Option Found) → IsFirst Unused read (length slots) o → is_used (get_or slots (slot_of slots o) None) ≡ false
+  slot_unused None first = ap is_used (get_or_past slots (length slots) None (omega arith))
+  slot_unused (Some f) first = turned_off (is_used (get_or slots f.slot None)) (sym (is_so f.slot first.0) ∙ first.1)
 
   -- there is none more
   pub none_left : IsFirst Unused read (length slots) None → all_used slots ≡ true

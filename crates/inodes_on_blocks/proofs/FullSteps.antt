@@ -1,5 +1,9 @@
 -- A directory that has all its slots, and none free: the operation acts where the last block that is searched is given back, and changes nothing.
-use Rattle.inodes_on_blocks.proofs.Vocabulary.{◌≡◌, ℕ, zero, suc, ◌+◌, ◌*◌, ◌<◌, false, List, Option, Some, None, refl, sym, ◌∙◌, ap, subst, arith, Found, Unused, found_in, look_at, or_next, else_found, found_from, Dinode, Super, IsOutsideLog, block_len, holder_of, given_back, is_free, numbers_of, block_number, content_block, HoldsAt, Node, hart_count, Do, bind, unmarked, Ran, Machine, Laws, P, Wp, Both, joined, Lasts, ToAct, to_act, s-act, bind-assoc, Wp-more, lock_holder, Passes, Put, keeps_whole, leaves_own, shows_its_puts, BlockInHand, fetch_block, marked, with_mark, World, log_of, tables_of, disk_of, inode_in, if_none, look_last, search_full, Acts, acts, in_hand, SameBut, IsFetched, KeepsInode, Same, Kept, below, Labels, labelled, Keeps}
+use Rattle.inodes_on_blocks.proofs.Vocabulary.{◌≡◌, ℕ, zero, suc, ◌+◌, ◌*◌, ◌<◌, false, List, Option, Some, None, refl, sym, ◌∙◌, ap, subst, arith, Found, Unused, found_in, look_at, Dinode, Super, IsOutsideLog, block_len, holder_of, given_back, is_free, numbers_of, block_number, content_block, HoldsAt, Node, hart_count, Do, bind, unmarked, Ran, Machine, Laws, P, Wp, Both, joined, Lasts, ToAct, to_act, s-act, bind-assoc, Wp-more, lock_holder, Passes, Put, keeps_whole, leaves_own, shows_its_puts, BlockInHand, fetch_block, marked, with_mark, World, log_of, tables_of, disk_of, inode_in, if_none, look_last, search_full, Acts, acts, in_hand, SameBut, IsFetched, KeepsInode, Same, Kept, below, Labels, labelled, Keeps}
+use Rattle.directory.proofs.Indexed.{else_searched, searched_from}
+use Rattle.directory.specs.Indexes.{raised}
+use Rattle.directory.specs.Programs.{Searched, or_next}
+use Rattle.fs_machine.specs.InMemory.{IndexState}
 use Rattle.fs_machine.specs.Premises as premises
 use Rattle.fs_machine.specs.Steps as steps
 use Rattle.inode_machine.specs.World as above
@@ -8,6 +12,10 @@ use Rattle.inode_machine.specs.Rules as rules
 use Rattle.inodes_on_blocks.proofs.Basics.{kept_then, same_inode, holds_now, used_now, block_stays, content_stays, IsQuiet, with_buffers, but_same, but_then, held_then, quiet_shows, quiet_others, quiet_but, s-back, back_hand, below_laws, same_again, marked_same, shows_marked}
 use Rattle.inodes_on_blocks.proofs.ContentFetch.{s-content, s-touch}
 use Rattle.inodes_on_blocks.proofs.ContentReads.{touches, touches_are}
+
+-- nothing is found behind the last block
+abbrev none_behind : IndexState → Searched
+none_behind x = record { found = None; index = x }
 
 module _ (sizes : Super) (l : Labels) (laws : Laws (labelled l)) (keeps : Keeps l) (h : ℕ) (lt : h < hart_count) (B : List l.Step → Type 0) where
   abbrev W : Type 0
@@ -68,7 +76,7 @@ module _ (sizes : Super) (l : Labels) (laws : Laws (labelled l)) (keeps : Keeps 
 
     -- ---- the search
 
-    module _ {A : Type 0} (Q : A → List l.Step → W → Type 0) (i : ℕ) (o : Option Node) (g : Option Found → P M A) (j : ℕ) (w : W)
+    module _ {A : Type 0} (Q : A → List l.Step → W → Type 0) (i : ℕ) (o : Option Node) (g : Searched → P M A) (j : ℕ) (w : W)
         (holds : HoldsAt (disk_of (log_of w.real)) w.real.owner i o) (used : is_free (inode_in (log_of w.real) i) ≡ false) (mine : lock_holder i (tables_of w.real) ≡ Some h) (empty : in_hand h w.real ≡ 0) where
       abbrev d : Dinode
       d = inode_in (log_of w.real) i
@@ -80,11 +88,11 @@ module _ (sizes : Super) (l : Labels) (laws : Laws (labelled l)) (keeps : Keeps 
       act = acts op outside m
 
       -- where a free slot was found it is still to act; else it has
-      pub record Rests (found : Option Found) : Type 0 where
-        pub some : (f : Found) → found ≡ Some f → (v : W) (fs : List l.Step) → Same h w.real v.real → Kept h w.seen v.seen → Todo fs v.seen → Wp M h B Q (g (Some f)) j fs v
-        pub none : found ≡ None → (v : W) (r : World) (gs : List l.Step) → Same h w.real r → Kept h w.seen v.seen → rules.May h op v.seen → C answer gs (marked h (m answer) v.seen) → Wp M h B Q (g None) j gs (record { real = r; seen = marked h (m answer) v.seen })
+      pub record Rests (found : Searched) : Type 0 where
+        pub some : (f : Found) → found.found ≡ Some f → (v : W) (fs : List l.Step) → Same h w.real v.real → Kept h w.seen v.seen → Todo fs v.seen → Wp M h B Q (g found) j fs v
+        pub none : found.found ≡ None → (v : W) (r : World) (gs : List l.Step) → Same h w.real r → Kept h w.seen v.seen → rules.May h op v.seen → C answer gs (marked h (m answer) v.seen) → Wp M h B Q (g found) j gs (record { real = r; seen = marked h (m answer) v.seen })
         -- nothing was found: what is above stays
-        pub stays : found ≡ None → (v : W) → Kept h w.seen v.seen → rules.May h op v.seen → above_exec.exec h outside op v.seen ≡ Ran answer v.seen
+        pub stays : found.found ≡ None → (v : W) → Kept h w.seen v.seen → rules.May h op v.seen → above_exec.exec h outside op v.seen ≡ Ran answer v.seen
 
       -- at u, in the same way
       module _ (u : W) (same : Same h w.real u.real) (kept : Kept h w.seen u.seen) (k : ℕ) (within : block_len * k < d.size) where
@@ -110,58 +118,61 @@ module _ (sizes : Super) (l : Labels) (laws : Laws (labelled l)) (keeps : Keeps 
         none_u = same.held ∙ empty
 
         -- the last block
-        last : (es : List l.Step) → Todo es u.seen → Rests (else_found (found_in Unused d k (content k)) None) → Wp M h B Q (bind (bind (fetch_block d k) (look_last act d k)) g) (suc (suc (suc (suc (suc (suc j)))))) es u
-        last es todo rests =
-            subst (λ (p : P M A). Wp M h B Q p (suc (suc (suc (suc (suc (suc j)))))) es u) (sym (bind-assoc (fetch_block d k) (look_last act d k) g))
-            (subst (λ (x : Dinode). Wp M h B Q (bind (fetch_block x k) (λ f. bind (look_last act d k f) g)) (suc (suc (suc (suc (suc (suc j)))))) es u) inode
-            (s-content sizes l laws keeps h lt B Q Todo (to_act (labelled l) (below sizes) laws (below_laws sizes l keeps) h B op m C lasts) i k o (λ f. bind (look_last act d k f) g) (suc j) u holds_u used_u stays_u.lock within_u none_u
+        last : (x : IndexState) (es : List l.Step) → Todo es u.seen → Rests (else_searched (found_in Unused d k (content k)) (raised d k (content k) x) none_behind)
+            → Wp M h B Q (bind (bind (fetch_block d k) (look_last act d k x)) g) (suc (suc (suc (suc (suc (suc j)))))) es u
+        last x es todo rests =
+            subst (λ (p : P M A). Wp M h B Q p (suc (suc (suc (suc (suc (suc j)))))) es u) (sym (bind-assoc (fetch_block d k) (look_last act d k x) g))
+            (subst (λ (y : Dinode). Wp M h B Q (bind (fetch_block y k) (λ f. bind (look_last act d k x f) g)) (suc (suc (suc (suc (suc (suc j)))))) es u) inode
+            (s-content sizes l laws keeps h lt B Q Todo (to_act (labelled l) (below sizes) laws (below_laws sizes l keeps) h B op m C lasts) i k o (λ f. bind (look_last act d k x f) g) (suc j) u holds_u used_u stays_u.lock within_u none_u
             (λ v fs got.
             let stays_v = got.since.inodes i stays_u.lock in
             let there = block_stays h i u.real v.real stays_v o holds_u used_u v.seen got.shows k within_u in
-            subst (λ (x : List ℕ). Wp M h B Q (bind (look_last act d k (record { number = b; bytes = x })) g) (suc j) fs v) (sym block_is)
-            (by v fs got there.place.0 (found_in Unused d k (content k)) rests))
+            subst (λ (bytes : List ℕ). Wp M h B Q (bind (look_last act d k x (record { number = b; bytes = bytes })) g) (suc j) fs v) (sym block_is)
+            (by v fs got there.place.0 (found_in Unused d k (content k)) (raised d k (content k) x) rests))
             es todo))
           where
             b : ℕ
             b = block_number (numbers_of (disk_of (log_of u.real)) (inode_in (log_of u.real) i)) k
 
-            by : (v : W) (fs : List l.Step) → IsFetched h b (Todo fs) u v → IsOutsideLog (log_of v.real).sizes b → (found : Option Found) → Rests (else_found found None) → Wp M h B Q (Do (Put b None) (λ _. if_none found act) (λ _. g found)) (suc j) fs v
-            by v fs got out (Some f) rests =
-                s-back sizes l laws keeps h lt B Q Todo (to_act (labelled l) (below sizes) laws (below_laws sizes l keeps) h B op m C lasts) b (λ _. g (Some f)) j fs v got.stage got.buffer.holder out
+            by : (v : W) (fs : List l.Step) → IsFetched h b (Todo fs) u v → IsOutsideLog (log_of v.real).sizes b → (here : Option Found) (y : IndexState) → Rests (else_searched here y none_behind)
+                → Wp M h B Q (Do (Put b None) (λ _. if_none here act) (λ _. g (record { found = here; index = y }))) (suc j) fs v
+            by v fs got out (Some f) y rests =
+                s-back sizes l laws keeps h lt B Q Todo (to_act (labelled l) (below sizes) laws (below_laws sizes l keeps) h B op m C lasts) b (λ _. g (record { found = Some f; index = y })) j fs v got.stage got.buffer.holder out
                 (λ z gs back.
                 let same_z = same_again h b u.real z.real (but_then h b u.real v.real z.real got.since back.since) none_u (let up = got.count in let down = back.count in let zero_ = none_u in omega (arith, up, down, zero_)) in
                 rests.some f refl z gs ((below_laws sizes l keeps).trans h w.real u.real z.real same same_z) (kept_then h w.seen u.seen z.seen kept (kept_then h u.seen v.seen z.seen got.kept back.kept)) back.stage)
-            by v fs got out None rests =
-                s-back-acts Q b (λ _. g None) j fs v got.stage got.buffer.holder out
+            by v fs got out None y rests =
+                s-back-acts Q b (λ _. g (record { found = None; index = y })) j fs v got.stage got.buffer.holder out
                 (λ z kept_z asked. rests.stays refl z (kept_then h w.seen u.seen z.seen kept (kept_then h u.seen v.seen z.seen got.kept kept_z)) asked)
                 (λ z r gs acted.
                 let same_r = same_again h b u.real r (but_then h b u.real v.real r got.since acted.since) none_u (let up = got.count in let down = acted.count in let zero_ = none_u in omega (arith, up, down, zero_)) in
                 rests.none refl z r gs ((below_laws sizes l keeps).trans h w.real u.real r same same_r) (kept_then h w.seen u.seen z.seen kept (kept_then h u.seen v.seen z.seen got.kept acted.kept)) acted.may acted.done)
 
-      pub s-full : (n k : ℕ) (u : W) (es : List l.Step) → Same h w.real u.real → Kept h w.seen u.seen → Todo es u.seen → ((q : ℕ) → q < suc n → block_len * (k + q) < d.size) → Rests (found_from (suc n) Unused d content k)
-          → Wp M h B Q (bind (search_full act n d k) g) (touches (suc n) j) es u
-      unfolding search_full touches found_from
-      s-full zero k u es same kept todo within rests = last u same kept k (let b = within 0 (omega arith) in omega (arith, b)) es todo rests
-      s-full (suc n) k u es same kept todo within rests =
-          subst (λ (p : P M A). Wp M h B Q p (touches (suc (suc n)) j) es u) (sym (bind-assoc (fetch_block d k) (look_at Unused d k (search_full act n d (k + 1))) g))
-          (subst (λ (x : Dinode). Wp M h B Q (bind (fetch_block x k) (λ f. Do (Put f.number None) unmarked (λ _. next f))) (touches (suc (suc n)) j) es u) (inode u same kept k first)
+      pub s-full : (n k : ℕ) (x : IndexState) (u : W) (es : List l.Step) → Same h w.real u.real → Kept h w.seen u.seen → Todo es u.seen → ((q : ℕ) → q < suc n → block_len * (k + q) < d.size) → Rests (searched_from (suc n) Unused d content k x)
+          → Wp M h B Q (bind (search_full act n d k x) g) (touches (suc n) j) es u
+      unfolding search_full touches searched_from
+      s-full zero k x u es same kept todo within rests = last u same kept k (let b = within 0 (omega arith) in omega (arith, b)) x es todo rests
+      s-full (suc n) k x u es same kept todo within rests =
+          subst (λ (p : P M A). Wp M h B Q p (touches (suc (suc n)) j) es u) (sym (bind-assoc (fetch_block d k) (look_at Unused d k x (search_full act n d (k + 1))) g))
+          (subst (λ (y : Dinode). Wp M h B Q (bind (fetch_block y k) (λ f. Do (Put f.number None) unmarked (λ _. next f))) (touches (suc (suc n)) j) es u) (inode u same kept k first)
           (s-touch sizes l laws keeps h lt B Q Todo (to_act (labelled l) (below sizes) laws (below_laws sizes l keeps) h B op m C lasts) i k o next (touches (suc n) j) u (holds_u u same kept k first) (used_u u same kept k first) (stays_u u same kept k first).lock
           (within_u u same kept k first) (none_u u same kept k first)
           (λ v fs t.
           let same_v = (below_laws sizes l keeps).trans h w.real u.real v.real same t.same in
           let kept_v = kept_then h w.seen u.seen v.seen kept t.kept in
-          subst (λ (x : List ℕ). Wp M h B Q (bind (or_next (found_in Unused d k x) (search_full act n d (k + 1))) g) (touches (suc n) j) fs v) (sym (block_is u same kept k first))
-          (by v fs same_v kept_v t.stage (found_in Unused d k (content k)) rests
-          (λ behind. s-full n (k + 1) v fs same_v kept_v t.stage (λ q lt_q. let b = within (q + 1) (omega (arith, lt_q)) in omega (arith, b)) behind)))
+          subst (λ (bytes : List ℕ). Wp M h B Q (bind (or_next (found_in Unused d k bytes) (raised d k bytes x) (search_full act n d (k + 1))) g) (touches (suc n) j) fs v) (sym (block_is u same kept k first))
+          (by v fs same_v kept_v t.stage (found_in Unused d k (content k)) (raised d k (content k) x) rests
+          (λ behind. s-full n (k + 1) (raised d k (content k) x) v fs same_v kept_v t.stage (λ q lt_q. let b = within (q + 1) (omega (arith, lt_q)) in omega (arith, b)) behind)))
           es todo))
         where
           first : block_len * k < d.size
           first = let b = within 0 (omega arith) in omega (arith, b)
 
           next : BlockInHand → P M A
-          next f = bind (or_next (found_in Unused d k f.bytes) (search_full act n d (k + 1))) g
+          next f = bind (or_next (found_in Unused d k f.bytes) (raised d k f.bytes x) (search_full act n d (k + 1))) g
 
-          by : (v : W) (fs : List l.Step) → Same h w.real v.real → Kept h w.seen v.seen → Todo fs v.seen → (here : Option Found) → Rests (else_found here (found_from (suc n) Unused d content (k + 1)))
-              → (Rests (found_from (suc n) Unused d content (k + 1)) → Wp M h B Q (bind (search_full act n d (k + 1)) g) (touches (suc n) j) fs v) → Wp M h B Q (bind (or_next here (search_full act n d (k + 1))) g) (touches (suc n) j) fs v
-          by v fs same kept stage (Some f) rests behind = Wp-more M h (g (Some f)) B Q j (touches (suc n) j) fs v (let more = touches_are (suc n) j in omega (arith, more)) (rests.some f refl v fs same kept stage)
-          by v fs same kept stage None rests behind = behind rests
+          by : (v : W) (fs : List l.Step) → Same h w.real v.real → Kept h w.seen v.seen → Todo fs v.seen → (here : Option Found) (y : IndexState) → Rests (else_searched here y (searched_from (suc n) Unused d content (k + 1)))
+              → (Rests (searched_from (suc n) Unused d content (k + 1) y) → Wp M h B Q (bind (search_full act n d (k + 1) y) g) (touches (suc n) j) fs v) → Wp M h B Q (bind (or_next here y (search_full act n d (k + 1))) g) (touches (suc n) j) fs v
+          by v fs same kept stage (Some f) y rests behind =
+              Wp-more M h (g (record { found = Some f; index = y })) B Q j (touches (suc n) j) fs v (let more = touches_are (suc n) j in omega (arith, more)) (rests.some f refl v fs same kept stage)
+          by v fs same kept stage None y rests behind = behind rests

@@ -1,5 +1,5 @@
 -- What a hart hands on to the child that it serves.
-use Rattle.inodes_on_blocks.proofs.Vocabulary.{◌≡◌, ◌≢◌, inl, inr, ℕ, zero, suc, ◌+◌, ◌-◌, ◌<◌, ◌≤◌, not, cond, if◌then◌else◌, Bool, true, false, List, [], ◌∷◌, drop, length, Option, Some, None, refl, sym, ◌∙◌, ap, subst, arith, slice_get, slice_set, is_some, position_from, option_map, position_from-zero, length-drop, slice_get_within, slice_get-set_same, slice_get-set_other, Dinode, Ran, put, hart_count, descriptor_count, same_or, put_same, put_other, any_same, change_at, next_full, FilePlace, TablesState, place_of, place_named, with_desk, counted_at, directory_of, give_next, give_by, give_at, given_directory, has_more, descriptors_of, with_descriptor, change_set, length-change_at, Desk, Entry, Lent, Moved, counted_up, first_from, is_at, is_nothing, slot_or, more_users, next_used, with_lent, handed, moved_in, lend_last, lend_if, released, serving, child_of, Inv, Lends, LendsNone, one_refs, below_is, NextUsed, next_is, next_past, serving_none, BothCame, DeskShows, DesksShow, FilesShow, Runs, descriptor, first, lent_by, place_with, is_taken, given_as, DescriptorsAreGiven, DirectoriesAreGiven, ChildrenAreReleased}
+use Rattle.inodes_on_blocks.proofs.Vocabulary.{◌≡◌, ◌≢◌, inl, inr, ℕ, zero, suc, ◌+◌, ◌-◌, ◌<◌, ◌≤◌, not, cond, if◌then◌else◌, Bool, true, false, List, [], ◌∷◌, drop, length, Option, Some, None, refl, sym, ◌∙◌, ap, subst, arith, slice_get, slice_set, is_some, position_from, option_map, position_from-zero, length-drop, slice_get_within, slice_get-set_same, slice_get-set_other, Ran, put, hart_count, descriptor_count, same_or, put_same, put_other, any_same, change_at, next_full, FilePlace, TablesState, place_of, place_named, with_desk, counted_at, directory_of, give_next, give_by, give_at, given_directory, has_more, descriptors_of, with_descriptor, change_set, length-change_at, Desk, Entry, Lent, Moved, counted_up, first_from, is_at, is_nothing, slot_or, more_users, next_used, with_lent, handed, moved_in, lend_last, lend_if, released, serving, child_of, Inv, Lends, LendsNone, one_refs, below_is, NextUsed, next_is, next_past, serving_none, BothCame, DeskShows, DesksShow, FilesShow, Runs, descriptor, first, lent_by, place_with, is_taken, given_as, DescriptorsAreGiven, DirectoriesAreGiven, ChildrenAreReleased, Loaded}
 use Rattle.fs_machine.specs.declared.desk.Desk as cards
 use Rattle.fs_machine.specs.declared.slots.Given.TheVariants as given
 use Rattle.inode_machine.specs.World.{World}
@@ -148,7 +148,7 @@ more_place : (b : Bool) (o : Option Entry) → place_with b (more_users o) ≡ p
 more_place b None = refl
 more_place b (Some e) = refl
 
-module _ (h c : ℕ) (t : TablesState) (w : World) (load : ℕ → Option Dinode) (shows : Shows t w load) (inv : Inv w) (runs : Runs h w) (lc : c < hart_count) (lender : (w.desks c).lender ≡ Some h) where
+module _ (h c : ℕ) (t : TablesState) (w : World) (load : ℕ → Option Loaded) (shows : Shows t w load) (inv : Inv w) (runs : Runs h w) (lc : c < hart_count) (lender : (w.desks c).lender ≡ Some h) where
   lends : Lends w h c
   lends = inv.lent c h lc lender
 

@@ -1,8 +1,10 @@
 -- An operation that puts an inode's record after its blocks were written acts at the put.
 use Rattle.inodes_on_blocks.proofs.Vocabulary.{◌≡◌, inl, inr, ℕ, ◌+◌, ◌^◌, ◌<◌, ◌≤◌, List, length, max, Option, Some, None, sym, ◌∙◌, ap, subst, arith, Dinode, Super, IsDinode, Node, put, hart_count, same_or, put_same, put_other, Ran, bind, Laws, Machine, Wp, Both, joined, Below, Lasts, Handover, ToAct, Wp-weaker, fetch, inode_block, Spent, size, with_contents, most_recorded, IsSpent, World, put_grown, Carry, below, Labels, labelled, Keeps, put_named, IsChanging, HasSpent}
+use Rattle.fs_machine.specs.InMemory.{IndexState}
 use Rattle.inode_machine.specs.World as above
 use Rattle.inode_machine.specs.Exec as above_exec
 use Rattle.inode_machine.specs.Rules as rules
+use Rattle.inodes_on_blocks.specs.Indexes.{IsIndexOf}
 use Rattle.inodes_on_blocks.proofs.Basics.{HasBlocks, blocks_end, named_room, below_laws}
 use Rattle.inodes_on_blocks.proofs.LocateSteps.{Between, Fits}
 use Rattle.inodes_on_blocks.proofs.NamingSteps.{naming_keeps}
@@ -35,15 +37,15 @@ module _ (sizes : Super) (l : Labels) (laws : Laws (labelled l)) (keeps : Keeps 
     Ends r fs u = Below (labelled l) (below sizes) h C r fs u × HasSpent sizes h (with_contents most s) u.real
 
     -- the record d that the program has, of size `was`, goes back with what was written up to an offset; it is laid out so for node x
-    pub s-grown : (outside : above.Outside) (answer : above.Answer op) (x : Node) (was z upto : ℕ) (d : Dinode) (bs : List ℕ) → ((v : W) → rules.Honest h op v.seen outside)
+    pub s-grown : (outside : above.Outside) (answer : above.Answer op) (x : Node) (index : IndexState) (right : IsIndexOf index (Some x)) (was z upto : ℕ) (d : Dinode) (bs : List ℕ) → ((v : W) → rules.Honest h op v.seen outside)
         → ((g : above.World) → rules.May h op g → g.disk n ≡ o → above_exec.exec h outside op g ≡ Ran answer (above_exec.with_record g n (Some x)))
         → Fits was d → max was upto ≡ z → z < 2 ^ 32 → length bs ≤ most → (es : List l.Step) (w : W)
         → Between sizes h n (ToAct (labelled l) (below sizes) laws (below_laws sizes l keeps) h B op m C lasts es) c o (sized z d) x (HasBlocks sizes h s bs) w
-        → Wp M h B Ends (put_grown op outside m answer sizes n c (record { inode = d; upto = upto })) 3 es w
-    s-grown outside answer x was z upto d bs honest ran fits whole small few es w there =
+        → Wp M h B Ends (put_grown op outside m answer sizes n c index (record { inode = d; upto = upto })) 3 es w
+    s-grown outside answer x index right was z upto d bs honest ran fits whole small few es w there =
         let grew : max d.size upto ≡ z = ap (λ (q : ℕ). max q upto) fits.1 ∙ whole in
-        Wp-weaker M h (put_grown op outside m answer sizes n c (record { inode = d; upto = upto })) B B (λ r fs u. Below (labelled l) (below sizes) h C r fs u × HasBlocks sizes h s bs u.real) Ends 3 es w (λ fs e. e)
+        Wp-weaker M h (put_grown op outside m answer sizes n c index (record { inode = d; upto = upto })) B B (λ r fs u. Below (labelled l) (below sizes) h C r fs u × HasBlocks sizes h s bs u.real) Ends 3 es w (λ fs e. e)
         (λ r fs u e. (e.0, blocks_end sizes h s bs most u.real few e.1))
-        (subst (λ (q : ℕ). Wp M h B (λ r fs u. Below (labelled l) (below sizes) h C r fs u × HasBlocks sizes h s bs u.real) (bind (fetch (inode_block sizes.inodestart n)) (put_named op outside m answer (inode_block sizes.inodestart n) n (sized q d) c)) 3 es w) (sym grew)
-        (naming_keeps sizes l laws keeps h lt n op outside m answer c o (sized z d) x (sized_fits z d small fits.0) honest asks ran (HasBlocks sizes h s bs) (HasBlocks sizes h s bs)
+        (subst (λ (q : ℕ). Wp M h B (λ r fs u. Below (labelled l) (below sizes) h C r fs u × HasBlocks sizes h s bs u.real) (bind (fetch (inode_block sizes.inodestart n)) (put_named op outside m answer (inode_block sizes.inodestart n) n (record { inode = sized q d; index = index }) c)) 3 es w) (sym grew)
+        (naming_keeps sizes l laws keeps h lt n op outside m answer c o (sized z d) x index right (sized_fits z d small fits.0) honest asks ran (HasBlocks sizes h s bs) (HasBlocks sizes h s bs)
         (named_room sizes h (inode_block sizes.inodestart n) s bs named (omega (arith, room, few))) B C lasts es w there.stage there.shows there.changing there.none there.at there.known))

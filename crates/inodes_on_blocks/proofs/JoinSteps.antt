@@ -44,7 +44,7 @@ module _ (l : Labels) (laws : Laws (labelled l)) (keeps : Keeps l) (h : ℕ) (lt
     taken = shows.taken;
     commit = shows.commit;
     news = λ n k e. let is = shows.news n k e in record { low = is.low; bound = is.bound; free = is.free; unlocked = is.unlocked; kept = is.kept; joined = still_joined (log_of v.real).members h 0 k is.joined; unloaded = is.unloaded };
-    loads = record { seen = shows.loads.seen; dead = shows.loads.dead; typed = shows.loads.typed };
+    loads = record { seen = shows.loads.seen; dead = shows.loads.dead; typed = shows.loads.typed; indexed = shows.loads.indexed };
     offsets = shows.offsets;
   }
     where

@@ -1,5 +1,5 @@
 -- What the others leave to a hart below, and what a step on the tables leaves to them.
-use Rattle.inodes_on_blocks.proofs.Vocabulary.{◌≡◌, ◌≢◌, ◌⊎◌, inl, inr, ℕ, true, false, List, Option, Some, None, refl, sym, ◌∙◌, ap, subst, none-some, Dinode, Super, IsData, is_free, Node, HoldsAt, IsUntouched, LowerLaws, TablesState, lock_holder, seen_of, LogPart, eq_is, eq_self, Held, is_hart, if_kept, above_own as own_of, view, Idle, Ours, not_ours, kept_is, kept_here, has_inode, World, log_of, tables_of, disk_of, inode_in, untyped, KeepsInode, commit_in, undertaken, IsThrough, Same, Kept, Had, Apart, Has, Emptied, Carry, IsKnown, IsLoaded, InHand, Base, below, Labels, labelled, Keeps, IsOpened}
+use Rattle.inodes_on_blocks.proofs.Vocabulary.{◌≡◌, ◌≢◌, ◌⊎◌, inl, inr, ℕ, true, false, List, Option, Some, None, refl, sym, ◌∙◌, ap, subst, none-some, Dinode, Super, IsData, is_free, Node, HoldsAt, IsUntouched, LowerLaws, TablesState, lock_holder, seen_of, LogPart, eq_is, eq_self, Held, is_hart, if_kept, above_own as own_of, view, Idle, Ours, not_ours, kept_is, kept_here, has_inode, World, log_of, tables_of, disk_of, inode_in, untyped, KeepsInode, commit_in, undertaken, IsThrough, Same, Kept, Had, Apart, Has, Emptied, Carry, IsKnown, IsLoaded, InHand, Base, below, Labels, labelled, Keeps, IsOpened, Loaded, IsIndexOf}
 use Rattle.inodes_on_blocks.proofs.HeldFrames.{untouched}
 use Rattle.inode_machine.specs.World as above
 use Rattle.inode_machine.specs.Rules.{Own}
@@ -81,7 +81,7 @@ kept_alike h i v w lock disk owner = record {
 
 still_loaded : (o : Had) (m n : Option Node) (d e : Dinode) → n ≡ m → e ≡ d → IsLoaded o m d → IsLoaded o n e
 still_loaded Apart m n d e q p x = x
-still_loaded (Has f l) m n d e q p x = (x.0 ∙ sym p, λ z. x.1 (sym q ∙ z), subst (IsKnown l) (sym q) x.2)
+still_loaded (Has f l) m n d e q p x = (x.0 ∙ sym p, λ z. x.1 (sym q ∙ z), subst (IsKnown l) (sym q) x.2, subst (IsIndexOf f.index) (sym q) x.3)
 still_loaded Emptied m n d e q p x = (q ∙ x.0, ap is_free p ∙ x.1)
 
 -- of each inode whose lock it has
@@ -144,7 +144,7 @@ below_laws sizes l keeps =
 -- ---- a step on the tables
 
 -- another hart has its locks still, where only this hart's changed
-pub tables_left : (h : ℕ) (v : World) (t : TablesState) (g u : above.World) (load load_then : ℕ → Option Dinode) → tables.Shows (tables_of v) g load → tables.Shows t u load_then
+pub tables_left : (h : ℕ) (v : World) (t : TablesState) (g u : above.World) (load load_then : ℕ → Option Loaded) → tables.Shows (tables_of v) g load → tables.Shows t u load_then
     → ((i : ℕ) → (u.lock i ≡ g.lock i) ⊎ (Ours h (g.lock i) × Ours h (u.lock i))) → (other : ℕ) → other ≢ h → Same other v (record v { state = record (v.state) { tables = t } })
 tables_left h v t g u load load_then shows after change other ne =
     record {

@@ -1,5 +1,5 @@
 -- A transaction is left in one step, and the writes of the commit that begins with it follow in silence.
-use Rattle.inodes_on_blocks.proofs.Vocabulary.{◌≡◌, ◌≢◌, inl, inr, ℕ, zero, suc, ◌+◌, ◌-◌, ◌<◌, ◌≤◌, ◌==◌, Bool, true, false, List, [], ◌∷◌, Option, Some, None, length, get_or-set_other, is_some, refl, sym, ◌∙◌, ap, subst, arith, if◌then◌else◌, slice_set, eqb-true, eqb-false, slice_get-set_other, Dinode, Super, IsOutsideLog, is_held_by, AfterLeave, Commits, Phase, Open, Staging, Installing, Halted, joined_count, IsMember, IsUnderWay, next_phase, group_in, phase_at_leave, turn_is_out, seats_after, seats_at_fault, left_at, pick, under_way, put, hart_count, same_or, put_same, put_other, Ret, bind, ExecResult, Ran, Machine, Laws, P, Wp, Both, joined, Below, Lasts, Handover, holding, Silent, s-silent, Acting, s-act, acted, TablesState, lock_holder, LogPart, Outside, Passes, Fails, written, commit_if, is_open, failed, commits, commit_unless, after_leave, own_of, seen_of, Commit, IsWholeLog, After, keeps_whole, leaves_own, SameFor, same_after, shows_its_puts, Desk, Leave, is_at, marked, Inv, LocksNone, more, if_kept, is_hart, loaded, descriptor, first, lent_by, place_with, is_joined, Ghost, AreOnBlocks, World, log_of, tables_of, came_to, exec, Shows, CommitShows, if_joined, ghost_of, on_blocks, Same, Kept, Carry, Base, Stands, commit_in, below, Labels, labelled, Keeps, leave, ActsOnce}
+use Rattle.inodes_on_blocks.proofs.Vocabulary.{◌≡◌, ◌≢◌, inl, inr, ℕ, zero, suc, ◌+◌, ◌-◌, ◌<◌, ◌≤◌, ◌==◌, Bool, true, false, List, [], ◌∷◌, Option, Some, None, length, get_or-set_other, is_some, refl, sym, ◌∙◌, ap, subst, arith, if◌then◌else◌, slice_set, eqb-true, eqb-false, slice_get-set_other, Super, IsOutsideLog, is_held_by, AfterLeave, Commits, Phase, Open, Staging, Installing, Halted, joined_count, IsMember, IsUnderWay, next_phase, group_in, phase_at_leave, turn_is_out, seats_after, seats_at_fault, left_at, pick, under_way, put, hart_count, same_or, put_same, put_other, Ret, bind, ExecResult, Ran, Machine, Laws, P, Wp, Both, joined, Below, Lasts, Handover, holding, Silent, s-silent, Acting, s-act, acted, TablesState, lock_holder, LogPart, Outside, Passes, Fails, written, commit_if, is_open, failed, commits, commit_unless, after_leave, own_of, seen_of, Commit, IsWholeLog, After, keeps_whole, leaves_own, SameFor, same_after, shows_its_puts, Desk, Leave, is_at, marked, Inv, LocksNone, more, if_kept, is_hart, loaded, descriptor, first, lent_by, place_with, is_joined, Ghost, AreOnBlocks, World, log_of, tables_of, came_to, exec, Shows, CommitShows, if_joined, ghost_of, on_blocks, Same, Kept, Carry, Base, Stands, commit_in, below, Labels, labelled, Keeps, leave, ActsOnce, Loaded}
 use Rattle.std.proofs.lemmas.List.{get_or-set_same}
 use Rattle.buffer_cache.specs.Lists.{count_of}
 use Rattle.group_log.specs.declared.log.AfterLeave.TheVariants.{Free}
@@ -75,7 +75,7 @@ leave_runs j (b ∷ ks) e = pick (j == 0) (λ t. (if t then Staging 0 else Open)
 
 -- ---- a desk that differs in what the tables don't have
 
-pub tables_desk : (h : ℕ) (new : Desk) (t : TablesState) (w : above.World) (load : ℕ → Option Dinode) → new.fds ≡ (w.desks h).fds → new.hand ≡ (w.desks h).hand → new.directory ≡ (w.desks h).directory → new.lent ≡ (w.desks h).lent → new.lender ≡ (w.desks h).lender
+pub tables_desk : (h : ℕ) (new : Desk) (t : TablesState) (w : above.World) (load : ℕ → Option Loaded) → new.fds ≡ (w.desks h).fds → new.hand ≡ (w.desks h).hand → new.directory ≡ (w.desks h).directory → new.lent ≡ (w.desks h).lent → new.lender ≡ (w.desks h).lender
     → tables.Shows t w load → tables.Shows t (record w { desks = put w.desks h new }) load
 tables_desk h new t w load fds hand directory lends lender shows = record {
   sound = shows.sound;
@@ -333,7 +333,7 @@ module _ (l : Labels) (laws : Laws (labelled l)) (keeps : Keeps l) (h : ℕ) (lt
       taken = shows.taken;
       commit = commit;
       news = λ n k e. let is = shows.news n k e in record { low = is.low; bound = is.bound; free = is.free; unlocked = is.unlocked; kept = is.kept; joined = ap is_some (get_or-set_other before.members h k None None (λ q. through n (e ∙ ap (λ (z : ℕ). Some z) q))) ∙ is.joined; unloaded = is.unloaded };
-      loads = record { seen = shows.loads.seen; dead = shows.loads.dead; typed = shows.loads.typed };
+      loads = record { seen = shows.loads.seen; dead = shows.loads.dead; typed = shows.loads.typed; indexed = shows.loads.indexed };
       offsets = shows.offsets;
     }
       where

@@ -129,3 +129,4 @@ pub mod LaidBytes
 pub mod LaidNumbers
 pub mod RunningBlocks
 pub mod SeenDisks
+pub mod IndexedNodes

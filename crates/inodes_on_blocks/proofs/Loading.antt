@@ -1,5 +1,5 @@
 -- An inode whose lock a hart has is loaded: its record is the one that is seen.
-use Rattle.inodes_on_blocks.proofs.Vocabulary.{◌≡◌, ◌≢◌, inr, ℕ, suc, ◌+◌, ◌/◌, ◌%◌, ◌<◌, List, Option, Some, None, length, refl, sym, ◌∙◌, ap, subst, arith, option_and_then, SeatState, is_held_by, has_block, holder_of, seat_of, seen_in, first_counted, Dinode, Super, dinode_at, IsOutsideLog, recovered, inodes_per_block, seat_in, inode_of, IsGoodSeen, hart_count, eq_self, eq_not, bind, Machine, Laws, P, Wp, Both, joined, Stable, bind-assoc, Wp-more, lock_holder, fetch, seen_of, if_kept, inode_block, give_back, load_unless, World, log_of, tables_of, disk_of, inode_in, Shows, Same, Kept, Carry, Stands, below, buffer_in, Labels, labelled, Keeps, in_hand, SameBut}
+use Rattle.inodes_on_blocks.proofs.Vocabulary.{◌≡◌, ◌≢◌, inr, ℕ, suc, ◌+◌, ◌/◌, ◌%◌, ◌<◌, List, Option, Some, None, length, refl, sym, ◌∙◌, ap, subst, arith, option_and_then, SeatState, is_held_by, has_block, holder_of, seat_of, seen_in, first_counted, Dinode, Super, dinode_at, IsOutsideLog, recovered, inodes_per_block, seat_in, inode_of, IsGoodSeen, hart_count, eq_self, eq_not, bind, Machine, Laws, P, Wp, Both, joined, Stable, bind-assoc, Wp-more, lock_holder, fetch, seen_of, if_kept, inode_block, give_back, load_unless, World, log_of, tables_of, disk_of, inode_in, Shows, Same, Kept, Carry, Stands, below, buffer_in, Labels, labelled, Keeps, in_hand, SameBut, Loaded, unindexed, unwrap_or}
 use Rattle.buffer_cache.specs.Seats.{is_number}
 use Rattle.inodes_on_blocks.proofs.SeenDisks.{good_seen}
 use Rattle.inode_machine.specs.World as above
@@ -77,26 +77,24 @@ module _ (sizes : Super) (l : Labels) (laws : Laws (labelled l)) (keeps : Keeps 
   M = joined (labelled l) (below sizes)
 
   module _ {A : Type 0} (Q : A → List l.Step → W → Type 0) (G : List l.Step → above.World → Type 0) (stable : Stable (labelled l) (below sizes) laws (below_laws sizes l keeps) h B G) where
-    -- A hart that has an inode's lock goes on with its record, whether that was loaded or isn't yet.
-    pub s-load : (n : ℕ) (content : Option Dinode) (c : Carry) (k : Dinode → P M A) (j : ℕ) (es : List l.Step) (w : W) → G es w.seen → Stands sizes h w.real w.seen c → lock_holder n (tables_of w.real) ≡ Some h → n < sizes.ninodes
-        → ((d : Dinode) → content ≡ Some d → d ≡ inode_in (log_of w.real) n)
-        → ((v : W) (fs : List l.Step) → Same h w.real v.real → Kept h w.seen v.seen → G fs v.seen → Stands sizes h v.real v.seen c → Wp M h B Q (k (inode_in (log_of w.real) n)) j fs v)
+    -- A hart that has an inode's lock goes on with what was loaded of it, or with its record, whose names aren't indexed.
+    pub s-load : (n : ℕ) (content : Option Loaded) (c : Carry) (k : Loaded → P M A) (j : ℕ) (es : List l.Step) (w : W) → G es w.seen → Stands sizes h w.real w.seen c → lock_holder n (tables_of w.real) ≡ Some h → n < sizes.ninodes
+        → ((v : W) (fs : List l.Step) → Same h w.real v.real → Kept h w.seen v.seen → G fs v.seen → Stands sizes h v.real v.seen c → Wp M h B Q (k (unwrap_or content (unindexed (inode_in (log_of w.real) n)))) j fs v)
         → Wp M h B Q (bind (load_unless sizes.inodestart n content) k) (suc (suc (suc j))) es w
-    s-load n (Some d) c k j es w stage stands mine low fits rest =
-        Wp-more M h (k d) B Q j (suc (suc (suc j))) es w (omega arith)
-        (subst (λ (x : Dinode). Wp M h B Q (k x) j es w) (sym (fits d refl)) (rest w es ((below_laws sizes l keeps).same h w.real) (kept_same h w.seen) stage stands))
-    s-load n None c k j es w stage stands mine low fits rest =
+    s-load n (Some d) c k j es w stage stands mine low rest =
+        Wp-more M h (k d) B Q j (suc (suc (suc j))) es w (omega arith) (rest w es ((below_laws sizes l keeps).same h w.real) (kept_same h w.seen) stage stands)
+    s-load n None c k j es w stage stands mine low rest =
         subst (λ (p : P M A). Wp M h B Q p (suc (suc (suc j))) es w) (sym (bind-assoc (fetch b) (give_back b n) k))
         (s-fetch sizes l laws keeps h lt B Q G stable b (λ bytes. bind (give_back b n bytes) k) (suc j) es w stage (let none = stands.0.free in omega (arith, none))
         (λ v fs here. place v.real v.seen here.shows (here.same.sizes ∙ stands.1)) (empty_hand h b w.real stands.0.free)
         (λ u gs got.
         let at : (log_of u.real).sizes ≡ sizes = got.since.sizes ∙ stands.1 in
         let record_is : dinode_at (place_of n) (seen_of (log_of u.real) b) ≡ inode_in (log_of w.real) n = read u.real u.seen got.shows at ∙ (got.since.inodes n mine).untouched.inode in
-        s-back sizes l laws keeps h lt B Q G stable b (λ _. k (dinode_at (place_of n) (seen_of (log_of u.real) b))) j gs u got.stage got.buffer.holder (place u.real u.seen got.shows at).0
+        s-back sizes l laws keeps h lt B Q G stable b (λ _. k (unindexed (dinode_at (place_of n) (seen_of (log_of u.real) b)))) j gs u got.stage got.buffer.holder (place u.real u.seen got.shows at).0
         (λ v fs back.
         let same = same_again h b w.real v.real (but_then h b w.real u.real v.real got.since back.since) stands.0.free (let up = got.count in let down = back.count in let none = stands.0.free in omega (arith, up, down, none)) in
         let kept = kept_then h w.seen u.seen v.seen got.kept back.kept in
-        subst (λ (x : Dinode). Wp M h B Q (k x) j fs v) (sym record_is)
+        subst (λ (x : Dinode). Wp M h B Q (k (unindexed x)) j fs v) (sym record_is)
         (rest v fs same kept back.stage ((below_laws sizes l keeps).base h w.real v.real w.seen v.seen c same kept stands)))))
       where
         b : ℕ

@@ -1,5 +1,5 @@
 -- The lock of an open file's inode, taken by its descriptor, acts where it is had.
-use Rattle.inodes_on_blocks.proofs.Vocabulary.{◌≡◌, ◌≢◌, ℕ, ◌<◌, ◌^◌, Bool, true, false, List, Option, Some, None, refl, sym, ◌∙◌, ap, subst, arith, option_map, MatchOption, none-some, same_Some, Dinode, Super, Cause, BadDescriptor, put, hart_count, put_same, bind, ExecResult, Waits, Ran, exec_result_in, Laws, Wp, Both, joined, Below, Lasts, Acting, acted, s-act, TablesState, file_named, lock_holder, LockedState, Refuses, Locks, lock_file as lock_named, lock_unless, lock_inode, with_file as with_locked, Outside, lock_opened, with_open, MayLockFile, IsElsewhere, InodeType, OfDirectory, OfFile, OfDevice, Entry, LockResult, NotLocked, LocksIt, LockOpen, entry_at, slot_at, lock_at, lock_if, locked, mode_refusal, offset_of, read_refused, Inv, loaded, file_of, refused_as, World, log_of, tables_of, inode_in, exec, Shows, Opened, NothingMore, Has, Carry, HasOpen, Stands, below, Labels, labelled, Keeps, cause_of, ActsOnceAt, file_locked, open_locked, lock_open, load_unless}
+use Rattle.inodes_on_blocks.proofs.Vocabulary.{◌≡◌, ◌≢◌, ℕ, ◌<◌, ◌^◌, Bool, true, false, List, Option, Some, None, refl, sym, ◌∙◌, ap, subst, arith, option_map, MatchOption, none-some, same_Some, Super, Cause, BadDescriptor, put, hart_count, put_same, bind, ExecResult, Waits, Ran, exec_result_in, Laws, Wp, Both, joined, Below, Lasts, Acting, acted, s-act, TablesState, file_named, lock_holder, LockedState, Refuses, Locks, lock_file as lock_named, lock_unless, lock_inode, with_file as with_locked, Outside, lock_opened, with_open, MayLockFile, IsElsewhere, InodeType, OfDirectory, OfFile, OfDevice, Entry, LockResult, NotLocked, LocksIt, LockOpen, entry_at, slot_at, lock_at, lock_if, locked, mode_refusal, offset_of, read_refused, Inv, loaded, file_of, refused_as, World, tables_of, exec, Shows, Opened, NothingMore, Has, Carry, HasOpen, Stands, below, Labels, labelled, Keeps, cause_of, ActsOnceAt, file_locked, open_locked, lock_open, load_unless, Loaded}
 use Rattle.fs_machine.specs.declared.files.Want.TheVariants as want
 use Rattle.fs_machine.specs.declared.files.OpenFile as files
 use Rattle.fs_machine.specs.Steps as steps
@@ -12,7 +12,7 @@ use Rattle.inodes_on_blocks.specs.ShownTables as tables
 use Rattle.inodes_on_blocks.proofs.Basics.{by_lock, place_there, names_at, file_is, descriptors_name_files, below_laws, s-load, SameCode, open_alike, open_kept, open_then, with_tables}
 use Rattle.inodes_on_blocks.specs.Files.{with_file, lock_file}
 use Rattle.inodes_on_blocks.proofs.SlotSteps.{in_tables_is, came_quiet, all_same}
-use Rattle.inodes_on_blocks.proofs.StatSteps.{file_typed, file_referred, lock_came, came_acting, file_old}
+use Rattle.inodes_on_blocks.proofs.StatSteps.{file_typed, file_referred, lock_came, came_acting, file_old, loads_of}
 use Rattle.inodes_on_blocks.proofs.TakeSteps.{learned_base}
 
 -- what stands behind a descriptor is open by it
@@ -52,18 +52,17 @@ module _ (l : Labels) (laws : Laws (labelled l)) (keeps : Keeps l) (h : ℕ) (lt
   loads : (op : above.Op) (m : above.Answer op → Option above.Mark) (c : Carry) (B : List l.Step → Type 0) (C : above.Answer op → List l.Step → above.World → Type 0) → Lasts (labelled l) h B C → (b : above.Answer op) (v : W) (e : Entry)
       → Shows v.real v.seen → Inv v.seen → (v.seen.desks h).lender ≡ None → entry_of v.seen h fd ≡ Some e → 0 < v.seen.refs e.file.number → (u : TablesState) (g : above.World)
       → tables.Shows u (locked h e.file.number v.seen) (put (loaded (tables_of v.real)) e.file.number None) → SameCode (locked h e.file.number v.seen) g
-      → Stands sizes h (with_tables v.real u) g (put c e.file.number (Has (inode_in (log_of v.real) e.file.number) NothingMore)) → (gs : List l.Step) → C b gs g
+      → Stands sizes h (with_tables v.real u) g (put c e.file.number (Has (loads_of v.real e.file.number) NothingMore)) → (gs : List l.Step) → C b gs g
       → Wp (joined (labelled l) (below sizes)) h B (Below (labelled l) (below sizes) h C) (bind (load_unless sizes.inodestart e.file.number (loaded (tables_of v.real) e.file.number)) (with_file b c fd e.file.number e.file.offset)) 3 gs (record { real = with_tables v.real u; seen = g })
   loads op m c B C lasts b v e shows inv free is some u g after same stands gs done =
       let n = e.file.number in
-      let d = inode_in (log_of v.real) n in
+      let d = loads_of v.real n in
       let range = shows.tables.range n some in
       let has = open_then h n (Has d (Opened fd e.file.offset)) v.seen g (open_alike h n v.seen g (same.desks h).fds same.files) (has_open h fd v.seen e inv lt is) in
       let keeps_it : g.keeper n ≡ Some h = (λ z. same.keeper z n) ∙ put_same v.seen.keeper n (Some h) in
       s-load sizes l laws keeps h lt B (Below (labelled l) (below sizes) h C) (C b) (acted (labelled l) (below sizes) laws (below_laws sizes l keeps) h B op m C lasts b)
       n (loaded (tables_of v.real) n) (put c n (Has d NothingMore)) (with_file b c fd n e.file.offset) 0 gs (record { real = with_tables v.real u; seen = g }) done stands
       (sym (after.places.holders n) ∙ put_same v.seen.lock n (Some h)) (let top = range.1 in let size = shows.size in subst (λ (s : Super). n < s.ninodes) stands.1 (omega (arith, top, size)))
-      (λ x q. shows.loads.seen n x q)
       (λ z fs same_z kept_z stage stands_z. (
         stage,
         (learned_base h n z.real z.seen c d (Opened fd e.file.offset) tt (open_kept h n (Has d (Opened fd e.file.offset)) g z.seen ((same.desks h).lender ∙ free) kept_z keeps_it has) stands_z.0, stands_z.1),
@@ -137,7 +136,7 @@ module _ (l : Labels) (laws : Laws (labelled l)) (keeps : Keeps l) (h : ℕ) (lt
                   on_tables v x (Ran (Locks (file_of e) (loaded t n)) u) (lower ∙ ap (with_locked (file_of e)) ran)
                   (let ran_to : lock_at h v.seen (entry_of v.seen h fd) (read_refused (entry_of v.seen h fd)) ≡ Ran (LocksIt n e.file.offset) (locked h n v.seen) = (λ z. lock_at h v.seen (is z) (r z)) ∙ ap (lock_if h n (LocksIt n e.file.offset) v.seen (locked h n v.seen)) free in
                   let came = lock_came l laws keeps h lt (LockFile fd) n v c (LocksIt n e.file.offset) u shows stands_v.0 may.0 referred.2 free (file_old v.real v.seen shows referred.0 e inv referred.1) (file_typed v.seen referred.0 e inv referred.1 free) ran_to after in
-                  came_acting l laws keeps h lt sizes (LockFile fd) m B C lasts v (premises.MayWait h (steps.LockFile want.Read fd) v.real.state) (Locks (file_of e) (loaded t n)) (with_tables v.real u) (LocksIt n e.file.offset) (put c n (Has (inode_in (log_of v.real) n) NothingMore)) Next tt stands_v.1 came
+                  came_acting l laws keeps h lt sizes (LockFile fd) m B C lasts v (premises.MayWait h (steps.LockFile want.Read fd) v.real.state) (Locks (file_of e) (loaded t n)) (with_tables v.real u) (LocksIt n e.file.offset) (put c n (Has (loads_of v.real n) NothingMore)) Next tt stands_v.1 came
                   (λ g same_g stands_g gs inv_g done.
                   loads (LockFile fd) m c B C lasts (LocksIt n e.file.offset) v e shows inv may.0 is referred.2 u g after (subst (λ (x : above.World). SameCode x g) (ran_is (LocksIt n e.file.offset) _ came.then_ (locked h n v.seen) came.ran ran_to) same_g) stands_g gs done))),
             )
@@ -152,7 +151,7 @@ module _ (l : Labels) (laws : Laws (labelled l)) (keeps : Keeps l) (h : ℕ) (lt
         (λ v fs here may. by v here.shows here.inv ((below_laws sizes l keeps).base h w.real v.real w.seen v.seen c here.same here.kept stands) may may.1.1.entry may.1.1.at may.1.1.number)
       where
         A : Type 0
-        A = files.OpenFile × Option Dinode
+        A = files.OpenFile × Option Loaded
 
         Next : A → ℕ × ℕ → World → above.World → Type 0
         Next a b u g = (gs : List l.Step) → Inv g → C b gs g → Wp (joined (labelled l) (below sizes)) h B (Below (labelled l) (below sizes) h C) (open_locked sizes fd c a) 3 gs (record { real = u; seen = g })
@@ -184,7 +183,7 @@ module _ (l : Labels) (laws : Laws (labelled l)) (keeps : Keeps l) (h : ℕ) (lt
                   on_tables v x (Ran (file_of e, loaded t k) u) (lower ∙ ap (with_open (file_of e)) ran)
                   (let ran_to : lock_if h n (n, offset_of (entry_of v.seen h fd)) v.seen (locked h n v.seen) (v.seen.lock n) ≡ Ran (k, e.file.offset) (locked h k v.seen) = (λ z. lock_if h (sym number z) (sym number z, offset_of (is z)) v.seen (locked h (sym number z) v.seen) (v.seen.lock (sym number z))) ∙ ap (lock_if h k (k, e.file.offset) v.seen (locked h k v.seen)) free in
                   let came = lock_came l laws keeps h lt (LockOpen fd n) k v c (k, e.file.offset) u shows stands_v.0 may.0 referred.2 free (file_old v.real v.seen shows referred.0 e inv referred.1) (file_typed v.seen referred.0 e inv referred.1 free) ran_to after in
-                  came_acting l laws keeps h lt sizes (LockOpen fd n) m B C lasts v (premises.MayWait h (steps.LockOpen fd) v.real.state) (file_of e, loaded t k) (with_tables v.real u) (k, e.file.offset) (put c k (Has (inode_in (log_of v.real) k) NothingMore)) Next tt stands_v.1 came
+                  came_acting l laws keeps h lt sizes (LockOpen fd n) m B C lasts v (premises.MayWait h (steps.LockOpen fd) v.real.state) (file_of e, loaded t k) (with_tables v.real u) (k, e.file.offset) (put c k (Has (loads_of v.real k) NothingMore)) Next tt stands_v.1 came
                   (λ g same_g stands_g gs inv_g done.
                   loads (LockOpen fd n) m c B C lasts (k, e.file.offset) v e shows inv may.0 is referred.2 u g after (subst (λ (x : above.World). SameCode x g) (ran_is (k, e.file.offset) _ came.then_ (locked h k v.seen) came.ran ran_to) same_g) stands_g gs done))),
             )

@@ -1,5 +1,5 @@
 -- The locks of inodes, taken and given back.
-use Rattle.inodes_on_blocks.proofs.Vocabulary.{◌≡◌, ◌≢◌, ℕ, ◌<◌, List, length-set, Option, Some, None, refl, sym, ◌∙◌, ap, subst, arith, slice_get, slice_set, IsSome, option_map, option_map_or, slice_get_within, SlotState, taken, filled, lock_row_at, lock_of, Dinode, ExecResult, Waits, Ran, put, Inode, TablesState, place_of, references_in, holder_in, holder_at, lock_inode, unlock_inode, unlock_at, locked_as, IsSoundInodes, PlaceFits, InsideFits, found, all_placed_set, lock_ran, lock_good, lock_if, locked, PlacesShow, BothCame, loaded_of, loaded_at, loaded_in, LocksAreTaken, LocksAreGiven}
+use Rattle.inodes_on_blocks.proofs.Vocabulary.{◌≡◌, ◌≢◌, ℕ, ◌<◌, List, length-set, Option, Some, None, refl, sym, ◌∙◌, ap, subst, arith, slice_get, slice_set, IsSome, option_map, option_map_or, slice_get_within, SlotState, taken, filled, lock_row_at, lock_of, ExecResult, Waits, Ran, put, Inode, TablesState, place_of, references_in, holder_in, holder_at, lock_inode, unlock_inode, unlock_at, locked_as, IsSoundInodes, PlaceFits, InsideFits, found, all_placed_set, lock_ran, lock_good, lock_if, locked, PlacesShow, BothCame, loaded_of, loaded_at, loaded_in, LocksAreTaken, LocksAreGiven, Loaded}
 use Rattle.sleep_lock.specs.SleepLock.{guard_of}
 use Rattle.fs_machine.proofs.Places.{Found}
 use Rattle.fs_machine.proofs.Locking.{slot_at}
@@ -18,23 +18,23 @@ unfolding lock_of
 lock_row locks k h s e = sym (ap (lock_row_at locks k h) e)
 
 -- both ran, or both wait
-pub both_ran : {A B : Type 0} (Fits : A → B → Type 0) (load : A → ℕ → Option Dinode) (d : ExecResult A TablesState) (e : ExecResult B World) (a : A) (b : B) (t : TablesState) (w : World)
+pub both_ran : {A B : Type 0} (Fits : A → B → Type 0) (load : A → ℕ → Option Loaded) (d : ExecResult A TablesState) (e : ExecResult B World) (a : A) (b : B) (t : TablesState) (w : World)
     → d ≡ Ran a t → e ≡ Ran b w → Fits a b → Shows t w (load a) → BothCame Fits load d e
 both_ran {A} {B} Fits load d e a b t w is is_too fits shows =
     subst (λ (x : ExecResult A TablesState). BothCame Fits load x e) (sym is) (subst (λ (y : ExecResult B World). BothCame Fits load (Ran a t) y) (sym is_too) (fits, shows))
 
-pub both_wait : {A B : Type 0} (Fits : A → B → Type 0) (load : A → ℕ → Option Dinode) (d : ExecResult A TablesState) (e : ExecResult B World) → d ≡ Waits → e ≡ Waits → BothCame Fits load d e
+pub both_wait : {A B : Type 0} (Fits : A → B → Type 0) (load : A → ℕ → Option Loaded) (d : ExecResult A TablesState) (e : ExecResult B World) → d ≡ Waits → e ≡ Waits → BothCame Fits load d e
 both_wait {A} {B} Fits load d e is is_too = subst (λ (x : ExecResult A TablesState). BothCame Fits load x e) (sym is) (subst (λ (y : ExecResult B World). BothCame Fits load Waits y) (sym is_too) tt)
 
 -- an inode to which a reference stands has a place
-pub place_there : (n : ℕ) (t : TablesState) (w : World) (load : ℕ → Option Dinode) → Shows t w load → 0 < w.refs n → (k : ℕ) × (place_of n t.entries ≡ Some k)
+pub place_there : (n : ℕ) (t : TablesState) (w : World) (load : ℕ → Option Loaded) → Shows t w load → 0 < w.refs n → (k : ℕ) × (place_of n t.entries ≡ Some k)
 place_there n t w load shows lt = at (place_of n t.entries) refl
   where
     at : (o : Option ℕ) → place_of n t.entries ≡ o → (k : ℕ) × (place_of n t.entries ≡ Some k)
     at (Some k) e = (k, e)
     at None e = absurd (let c : w.refs n ≡ 0 = shows.places.counts n ∙ ap (references_in t.entries) e in omega (arith, c, lt))
 
-module _ (h n k : ℕ) (t : TablesState) (w : World) (load : ℕ → Option Dinode) (shows : Shows t w load) (e : place_of n t.entries ≡ Some k) where
+module _ (h n k : ℕ) (t : TablesState) (w : World) (load : ℕ → Option Loaded) (shows : Shows t w load) (e : place_of n t.entries ≡ Some k) where
   inodes : IsSoundInodes t.entries t.locks
   inodes = shows.sound.inodes
 
@@ -85,7 +85,7 @@ module _ (h n k : ℕ) (t : TablesState) (w : World) (load : ℕ → Option Dino
       by_inside s there (Some v) q fits =
           had (record t { locks = slice_set t.locks k (taken s h) })
           (ran s there ∙ ap (λ (x : Option Inode). locked_as (option_map (λ v. record { number = s.number; hart = h; value = v }) x) (record t { locks = slice_set t.locks k (taken s h) })) q
-          ∙ ap (λ (c : Option Dinode). Ran c (record t { locks = slice_set t.locks k (taken s h) })) (sym ((slot_with s there).1 ∙ ap loaded_of q)))
+          ∙ ap (λ (c : Option Loaded). Ran c (record t { locks = slice_set t.locks k (taken s h) })) (sym ((slot_with s there).1 ∙ ap loaded_of q)))
           ((slot_with s there).0 ∙ fits.0)
           (shown_locked s there fits.0 (λ z. absurd (let y : None ≡ Some v = sym z ∙ q in cc)))
 

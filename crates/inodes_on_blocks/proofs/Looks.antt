@@ -1,9 +1,13 @@
 -- What a search of a directory's blocks finds is what its node has: under a name, and past its first two entries.
-use Rattle.inodes_on_blocks.proofs.Vocabulary.{◌≡◌, ⊎_elim, ℕ, zero, suc, ◌-◌, ◌*◌, ◌/◌, ◌<◌, ◌≤◌, nat_lt, ◌&&◌, ◌||◌, not, ℤ, pos, Bool, true, false, List, [], ◌∷◌, length, drop, get_or, Option, Some, None, is_some, refl, sym, ◌∙◌, ap, subst, arith, if◌then◌else◌, cases_lt, le-leb, get_or_append_left, get_or-append_right, get_or-map, Found, is_sought, number_of, IsFirst, Aim, Named, block_count, slot_count, is_used, found_from, found_first, Dinode, Dirent, block_len, inode_of, is_free, content_block, slot_on, first_slots, HoldsAt, HasContent, entry_of, size_in, type_in, Slot, Node, NodeKind, Directory, File, Device, any_used, Name, first_slot, live_directory, look, same_name, same_pointwise, is_empty_kind, is_empty_node, has_name, IsFirstNamed, IsKnown, number_found, learned, first_slots_by, slot_by}
-use Rattle.directory.specs.Laws.{slot_at}
-use Rattle.directory.specs.Programs.{Entry, is_number, is_positive, is_directory, is_live_directory}
+use Rattle.inodes_on_blocks.proofs.Vocabulary.{◌≡◌, ◌≢◌, ⊎_elim, ℕ, zero, suc, ◌-◌, ◌*◌, ◌/◌, ◌<◌, ◌≤◌, nat_lt, ◌&&◌, ◌||◌, not, ℤ, pos, Bool, true, false, List, [], ◌∷◌, length, drop, get_or, Option, Some, None, is_some, refl, sym, ◌∙◌, ap, subst, arith, if◌then◌else◌, cases_lt, le-leb, get_or_append_left, get_or-append_right, get_or-map, none-some, Free, Used, Found, is_sought, number_of, IsFirst, Aim, Named, block_count, slot_count, is_used, Dinode, Dirent, block_len, inode_of, is_free, content_block, slot_on, first_slots, HoldsAt, HasContent, entry_of, size_in, type_in, Slot, Node, NodeKind, Directory, File, Device, any_used, Name, first_slot, live_directory, look, same_name, same_pointwise, is_empty_kind, is_empty_node, has_name, IsFirstNamed, IsKnown, number_found, learned, first_slots_by, slot_by}
+use Rattle.directory.proofs.Indexed.{searched, searched_right}
+use Rattle.directory.specs.Laws.{AreSlots, slot_at}
+use Rattle.directory.specs.Programs.{Entry, Searched, is_number, is_positive, is_directory, is_live_directory}
 use Rattle.directory.specs.Slots.{is_named}
+use Rattle.fs_machine.specs.InMemory.{IndexState}
+use Rattle.inodes_on_blocks.specs.Indexes.{IsIndexOf, slot_read}
 use Rattle.inodes_on_blocks.proofs.ImageNodes.{length_slots}
+use Rattle.std.proofs.lemmas.List.{get_or_past}
 use Rattle.plain_tree.specs.Steps as steps
 use Rattle.plain_tree.specs.Tree as tree
 use Rattle.plain_tree.specs.Tree.{slots_of}
@@ -66,7 +70,7 @@ slot_is slots e read (Some f) are is =
 
 -- ---- used slots
 
-used_as : (x : Option Slot) → is_used (entry_of x) ≡ steps.is_used x
+pub used_as : (x : Option Slot) → is_used (entry_of x) ≡ steps.is_used x
 used_as None = refl
 used_as (Some s) = refl
 
@@ -111,6 +115,10 @@ past (x ∷ y ∷ slots) read (Some f) are is = ap not (sym (by f.slot is.0 is.1
     by (suc (suc k)) lt is =
         some_used slots (λ s. read (suc (suc s))) k (behind (λ s. read (suc s)) y slots (behind read x (y ∷ slots) are)) (omega (arith, lt))
         (sym (ap (λ (b : Bool). b && is_used (read (suc (suc k)))) (le-leb 2 (suc (suc k)) (omega arith))) ∙ is)
+
+is_entry : (x : Option Slot) → entry_of x ≢ None
+is_entry None e = none-some Free (sym e)
+is_entry (Some s) e = none-some (Used s.number s.name) (sym e)
 
 -- ---- an inode that holds a directory
 
@@ -175,49 +183,79 @@ module _ (disk : List (List ℕ)) (owner : ℕ → ℕ) (i : ℕ) (v : Node) (ho
         omega (arith, size, limit),
       )
 
-  abbrev pub search_finds : Aim → Option Found
-  search_finds aim = found_from (block_count d) aim d content 0
+  -- they are the slots that the node has
+  pub read_is : (slots : List (Option Slot)) → v.kind ≡ Directory slots → AreRead (slot_read (Some v)) slots
+  read_is slots is s lt = ap (λ (k : NodeKind). entry_of (get_or (slots_of k) s None)) is
 
-  pub is_first : (aim : Aim) (slots : List (Option Slot)) → v.kind ≡ Directory slots → IsFirst aim (slot_at content) (length slots) (search_finds aim)
-  is_first aim slots is = subst (λ (n : ℕ). IsFirst aim (slot_at content) n (search_finds aim)) (shown slots is).1 (found_first content aim d)
+  pub are_slots : (slots : List (Option Slot)) → v.kind ≡ Directory slots → AreSlots (slot_count d) content (slot_read (Some v))
+  are_slots slots is =
+      let same : slot_count d ≡ length slots = (shown slots is).1 in
+      record {
+        shown = λ s lt. (shown slots is).0 s (omega (arith, lt, same)) ∙ sym (read_is slots is s (omega (arith, lt, same)));
+        entries = λ s lt. is_entry (get_or (slots_of v.kind) s None);
+        beyond = λ s le. ap (λ (x : Option Slot). is_used (entry_of x)) (ap (λ (k : NodeKind). get_or (slots_of k) s None) is ∙ get_or_past slots s None (omega (arith, le, same)));
+      }
 
-  -- what a live directory finds
-  pub name_found : (e : Name) → live_directory (Some v) ≡ true → number_found (search_finds (Named e)) ≡ look (λ j. Some v) i e
-  unfolding look
-  name_found e live = by v.kind refl ∙ sym (ap (λ (b : Bool). if b then first_slot (slots_of v.kind) e else None) live)
-    where
-      by : (k : NodeKind) → v.kind ≡ k → number_found (search_finds (Named e)) ≡ first_slot (slots_of v.kind) e
-      by (Directory slots) is = found_is slots e (slot_at content) (search_finds (Named e)) (shown slots is).0 (is_first (Named e) slots is) ∙ ap (λ (k : NodeKind). first_slot (slots_of k) e) (sym is)
-      by (File bytes) is = absurd (no_directory v.count (ap (λ (k : NodeKind). nat_lt 0 v.count && tree.is_directory k) (sym is) ∙ live))
-      by (Device major minor size) is = absurd (no_directory v.count (ap (λ (k : NodeKind). nat_lt 0 v.count && tree.is_directory k) (sym is) ∙ live))
+  -- by an index that is right
+  module _ (index : IndexState) (right : IsIndexOf index (Some v)) where
+    abbrev pub search_finds : Aim → Searched
+    search_finds aim = searched aim (record { inode = d; index = index }) content
 
-  -- and its slot
-  pub slot_found : (e : Name) → live_directory (Some v) ≡ true → IsKnown (learned e (search_finds (Named e))) (Some v)
-  slot_found e live = by v.kind refl
-    where
-      by : (k : NodeKind) → v.kind ≡ k → IsKnown (learned e (search_finds (Named e))) (Some v)
-      by (Directory slots) is = of_slots (search_finds (Named e)) (slot_is slots e (slot_at content) (search_finds (Named e)) (shown slots is).0 (is_first (Named e) slots is))
-        where
-          of_slots : (o : Option Found) → IsKnown (learned e o) (Some (record { count = 0; kind = Directory slots })) → IsKnown (learned e o) (Some v)
-          of_slots None known = tt
-          of_slots (Some f) known = subst (λ (k : NodeKind). IsFirstNamed (slots_of k) e f.slot) (sym is) known
-      by (File bytes) is = absurd (no_directory v.count (ap (λ (k : NodeKind). nat_lt 0 v.count && tree.is_directory k) (sym is) ∙ live))
-      by (Device major minor size) is = absurd (no_directory v.count (ap (λ (k : NodeKind). nat_lt 0 v.count && tree.is_directory k) (sym is) ∙ live))
+    pub is_first : (aim : Aim) (slots : List (Option Slot)) → v.kind ≡ Directory slots → IsFirst aim (slot_read (Some v)) (length slots) (search_finds aim).found
+    is_first aim slots is =
+        subst (λ (n : ℕ). IsFirst aim (slot_read (Some v)) n (search_finds aim).found) (shown slots is).1
+        (searched_right content (record { inode = d; index = index }) (slot_read (Some v)) (are_slots slots is) right aim).0
 
-  -- and another one
+    -- it stays right with the blocks that were read
+    index_of : (aim : Aim) (slots : List (Option Slot)) → v.kind ≡ Directory slots → IsIndexOf (search_finds aim).index (Some v)
+    index_of aim slots is = (searched_right content (record { inode = d; index = index }) (slot_read (Some v)) (are_slots slots is) right aim).1
+
+    pub still_right : (aim : Aim) → tree.is_directory v.kind ≡ true → IsIndexOf (search_finds aim).index (Some v)
+    still_right aim directory = by v.kind refl
+      where
+        by : (k : NodeKind) → v.kind ≡ k → IsIndexOf (search_finds aim).index (Some v)
+        by (Directory slots) is = index_of aim slots is
+        by (File bytes) is = let no : false ≡ true = ap tree.is_directory (sym is) ∙ directory in cc
+        by (Device major minor size) is = let no : false ≡ true = ap tree.is_directory (sym is) ∙ directory in cc
+
+    -- what a live directory finds
+    pub name_found : (e : Name) → live_directory (Some v) ≡ true → number_found (search_finds (Named e)).found ≡ look (λ j. Some v) i e
+    unfolding look
+    name_found e live = by v.kind refl ∙ sym (ap (λ (b : Bool). if b then first_slot (slots_of v.kind) e else None) live)
+      where
+        by : (k : NodeKind) → v.kind ≡ k → number_found (search_finds (Named e)).found ≡ first_slot (slots_of v.kind) e
+        by (Directory slots) is = found_is slots e (slot_read (Some v)) (search_finds (Named e)).found (read_is slots is) (is_first (Named e) slots is) ∙ ap (λ (k : NodeKind). first_slot (slots_of k) e) (sym is)
+        by (File bytes) is = absurd (no_directory v.count (ap (λ (k : NodeKind). nat_lt 0 v.count && tree.is_directory k) (sym is) ∙ live))
+        by (Device major minor size) is = absurd (no_directory v.count (ap (λ (k : NodeKind). nat_lt 0 v.count && tree.is_directory k) (sym is) ∙ live))
+
+    -- and its slot
+    pub slot_found : (e : Name) → live_directory (Some v) ≡ true → IsKnown (learned e (search_finds (Named e)).found) (Some v)
+    slot_found e live = by v.kind refl
+      where
+        by : (k : NodeKind) → v.kind ≡ k → IsKnown (learned e (search_finds (Named e)).found) (Some v)
+        by (Directory slots) is = of_slots (search_finds (Named e)).found (slot_is slots e (slot_read (Some v)) (search_finds (Named e)).found (read_is slots is) (is_first (Named e) slots is))
+          where
+            of_slots : (o : Option Found) → IsKnown (learned e o) (Some (record { count = 0; kind = Directory slots })) → IsKnown (learned e o) (Some v)
+            of_slots None known = tt
+            of_slots (Some f) known = subst (λ (k : NodeKind). IsFirstNamed (slots_of k) e f.slot) (sym is) known
+        by (File bytes) is = absurd (no_directory v.count (ap (λ (k : NodeKind). nat_lt 0 v.count && tree.is_directory k) (sym is) ∙ live))
+        by (Device major minor size) is = absurd (no_directory v.count (ap (λ (k : NodeKind). nat_lt 0 v.count && tree.is_directory k) (sym is) ∙ live))
+
+    -- whether a directory is empty
+    pub entries_found : tree.is_directory v.kind ≡ true → not (is_some (search_finds Entry).found) ≡ is_empty_node (Some v)
+    entries_found directory = by v.kind refl
+      where
+        by : (k : NodeKind) → v.kind ≡ k → not (is_some (search_finds Entry).found) ≡ is_empty_kind v.kind
+        by (Directory slots) is = past slots (slot_read (Some v)) (search_finds Entry).found (read_is slots is) (is_first Entry slots is) ∙ ap is_empty_kind (sym is)
+        by (File bytes) is = let no : false ≡ true = ap tree.is_directory (sym is) ∙ directory in cc
+        by (Device major minor size) is = let no : false ≡ true = ap tree.is_directory (sym is) ∙ directory in cc
+
+  -- what another directory finds
   pub name_lost : (e : Name) → live_directory (Some v) ≡ false → None ≡ look (λ j. Some v) i e
   unfolding look
   name_lost e dead = sym (ap (λ (b : Bool). if b then first_slot (slots_of v.kind) e else None) dead)
 
-  -- whether a directory is empty
-  pub entries_found : tree.is_directory v.kind ≡ true → not (is_some (search_finds Entry)) ≡ is_empty_node (Some v)
-  entries_found directory = by v.kind refl
-    where
-      by : (k : NodeKind) → v.kind ≡ k → not (is_some (search_finds Entry)) ≡ is_empty_kind v.kind
-      by (Directory slots) is = past slots (slot_at content) (search_finds Entry) (shown slots is).0 (is_first Entry slots is) ∙ ap is_empty_kind (sym is)
-      by (File bytes) is = let no : false ≡ true = ap tree.is_directory (sym is) ∙ directory in cc
-      by (Device major minor size) is = let no : false ≡ true = ap tree.is_directory (sym is) ∙ directory in cc
-
+  -- what is no directory has no entries
   pub no_entries : tree.is_directory v.kind ≡ false → true ≡ is_empty_node (Some v)
   no_entries other = by v.kind refl
     where

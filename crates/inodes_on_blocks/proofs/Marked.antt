@@ -1,5 +1,5 @@
 -- What an operation above is marked with changes nothing that the machine below shows.
-use Rattle.inodes_on_blocks.proofs.Vocabulary.{inl, inr, ◌≡◌, ℕ, ◌<◌, Bool, true, false, List, [], ◌∷◌, Option, Some, None, refl, sym, ◌∙◌, ap, subst, if◌then◌else◌, Dinode, Cause, Node, Action, OpenStep as Open, Truncate, ReadStep as Read, WritePart, Find, Bump, EnterStep as Enter, Unbump, Unlink, Mkdir, Chdir, Dup, Close, Fstat, Inherit, Hold, OpenFile, Name, Tree, put, look, elements, resolve, parent, creates, has_room, lowest, file_at, effect_with, effect_by, refusal, refusal_with, path_of, hart_count, any_same, either, Walk, Move, Begin, Look, GiveUpWalk, OwnMove as Own, Desk, Mark, Makes, Frees, Orphans, Fills, Mends, Spoils, type_of, is_at, is_dead, put_elim, marked, made_by, with_made, with_opened, with_noted, with_left, spoiled, act_all, new_id, unheld, unmoved, unopened, TablesState, descriptor, first, lent_by, place_with, loaded, Ghost, AreOnBlocks, log_of, tables_of, Shows, if_joined, ghost_of, on_blocks}
+use Rattle.inodes_on_blocks.proofs.Vocabulary.{inl, inr, ◌≡◌, ℕ, ◌<◌, Bool, true, false, List, [], ◌∷◌, Option, Some, None, refl, sym, ◌∙◌, ap, subst, if◌then◌else◌, Cause, Node, Action, OpenStep as Open, Truncate, ReadStep as Read, WritePart, Find, Bump, EnterStep as Enter, Unbump, Unlink, Mkdir, Chdir, Dup, Close, Fstat, Inherit, Hold, OpenFile, Name, Tree, put, look, elements, resolve, parent, creates, has_room, lowest, file_at, effect_with, effect_by, refusal, refusal_with, path_of, hart_count, any_same, either, Walk, Move, Begin, Look, GiveUpWalk, OwnMove as Own, Desk, Mark, Makes, Frees, Orphans, Fills, Mends, Spoils, type_of, is_at, is_dead, put_elim, marked, made_by, with_made, with_opened, with_noted, with_left, spoiled, act_all, new_id, unheld, unmoved, unopened, TablesState, descriptor, first, lent_by, place_with, loaded, Ghost, AreOnBlocks, log_of, tables_of, Shows, if_joined, ghost_of, on_blocks, Loaded, IsIndexOf}
 use Rattle.plain_tree.specs.Steps as plain
 use Rattle.inode_machine.specs.World.{World}
 use Rattle.inode_machine.specs.Marks as marks
@@ -237,7 +237,7 @@ descriptor_same v w s g i =
     by None = refl
     by (Some l) = λ z. (s.desks l).lent z i
 
-pub tables_marked : (t : TablesState) (v w : World) (load : ℕ → Option Dinode) → SameCode v w → tables.Shows t v load → tables.Shows t w load
+pub tables_marked : (t : TablesState) (v w : World) (load : ℕ → Option Loaded) → SameCode v w → tables.Shows t v load → tables.Shows t w load
 tables_marked t v w load s shows = record {
   sound = shows.sound;
   places = record {
@@ -276,6 +276,7 @@ shows_marked r v w s shows = record {
     seen = shows.loads.seen;
     dead = λ n lt free loose dead. shows.loads.dead n (subst (λ (z : ℕ). 0 < z) (λ z. s.refs z n) lt) ((λ z. sym s.lock z n) ∙ free) ((λ z. sym s.keeper z n) ∙ loose) (ap (λ (f : ℕ → Option Node). is_dead (f n)) (sym s.disk) ∙ dead);
     typed = λ n e. shows.loads.typed n ((λ z. sym s.disk z n) ∙ e);
+    indexed = λ n d e. subst (IsIndexOf d.index) (λ z. sym s.disk z n) (shows.loads.indexed n d e);
   };
   offsets = λ k e at. shows.offsets k e ((λ z. sym s.files z k) ∙ at);
 }

@@ -94,6 +94,7 @@ module _ (disk : List (List ℕ)) (failures : ℕ) (m : IsMountable disk) where
     seen = λ n d e. absurd (none-some d (sym (nothing_loaded n) ∙ e));
     dead = λ n some free loose dead. absurd (let q : false ≡ true = sym (referred_lives n some) ∙ dead in cc q);
     typed = λ n none. nothing_loaded n;
+    indexed = λ n d e. absurd (none-some d (sym (nothing_loaded n) ∙ e));
   }
 
   -- ---- all of it

@@ -1,5 +1,5 @@
 -- What descriptors name: doubled, shut, asked for; and the directory.
-use Rattle.inodes_on_blocks.proofs.Vocabulary.{◌≡◌, inl, inr, ℕ, ◌+◌, ◌<◌, nat_lt, Bool, true, false, if◌then◌else◌, Option, Some, None, refl, sym, ◌∙◌, ap, subst, arith, List, slice_get, slice_set, option_map, none-some, Dinode, Ran, put, lowest, has_room, hart_count, descriptor_count, same_or, put_same, put_other, FilePlace, TablesState, place_named, file_named, file_in, open_at, with_desk, unlock_inode, settle_inode, settled, directory_of, with_directory, refusal_of, mode_refuses, lock_file, lock_unless, with_file, lock_inode, moved_at, unlocked_in, LockedState, Refuses, Locks, tables_offset, double_descriptor, double_at, double_to, with_descriptor, IsSoundTables, InodeType, OfDirectory, OfFile, OfDevice, face_of, face_or, Cause, Desk, Entry, LockResult, NotLocked, LocksIt, file_count, slot_at, entry_at, is_at, double_if, entry_moved, lock_if, locked, unlocked, mode_refusal, read_refused, with_offset, write_refused, Inv, opens_slots, BothCame, DeskShows, DesksShow, FilesShow, Runs, kind_of, file_of, place_with, is_taken, doubled_as, refused_as, DescriptorsAreDoubled, DirectoriesAreSettled, DescriptorsNameFiles, FitsStat, FitsRead, load_locked, FilesAreLocked, FilesAreLockedToRead, OffsetsAreMoved}
+use Rattle.inodes_on_blocks.proofs.Vocabulary.{◌≡◌, inl, inr, ℕ, ◌+◌, ◌<◌, nat_lt, Bool, true, false, if◌then◌else◌, Option, Some, None, refl, sym, ◌∙◌, ap, subst, arith, List, slice_get, slice_set, option_map, none-some, Ran, put, lowest, has_room, hart_count, descriptor_count, same_or, put_same, put_other, FilePlace, TablesState, place_named, file_named, file_in, open_at, with_desk, unlock_inode, settle_inode, settled, directory_of, with_directory, refusal_of, mode_refuses, lock_file, lock_unless, with_file, lock_inode, moved_at, unlocked_in, LockedState, Refuses, Locks, tables_offset, double_descriptor, double_at, double_to, with_descriptor, IsSoundTables, InodeType, OfDirectory, OfFile, OfDevice, face_of, face_or, Cause, Desk, Entry, LockResult, NotLocked, LocksIt, file_count, slot_at, entry_at, is_at, double_if, entry_moved, lock_if, locked, unlocked, mode_refusal, read_refused, with_offset, write_refused, Inv, opens_slots, BothCame, DeskShows, DesksShow, FilesShow, Runs, kind_of, file_of, place_with, is_taken, doubled_as, refused_as, DescriptorsAreDoubled, DirectoriesAreSettled, DescriptorsNameFiles, FitsStat, FitsRead, load_locked, FilesAreLocked, FilesAreLockedToRead, OffsetsAreMoved, Loaded}
 use Rattle.fs_machine.specs.declared.desk.Desk as cards
 use Rattle.fs_machine.specs.declared.files.FilePlace.TheVariants.{Open}
 use Rattle.fs_machine.specs.declared.files.Want.TheVariants as want
@@ -34,7 +34,7 @@ names_at h fd s w inv lt e = at (nat_lt fd descriptor_count) refl e
 
 -- ---- what is named
 
-module _ (h fd : ℕ) (t : TablesState) (w : World) (load : ℕ → Option Dinode) (shows : Shows t w load) (inv : Inv w) (runs : Runs h w) where
+module _ (h fd : ℕ) (t : TablesState) (w : World) (load : ℕ → Option Loaded) (shows : Shows t w load) (inv : Inv w) (runs : Runs h w) where
   pub open_there : (s : ℕ) (n : Names h fd s w) → open_at (slice_get t.files s) ≡ Some (file_of n.entry)
   open_there s n = ap open_at (shows.files s n.within) ∙ ap (λ (o : Option Entry). open_at (Some (place_with (is_taken w.desks s) o))) n.at
 
@@ -71,7 +71,7 @@ pub card_named : (d : cards.Desk) (fds : ℕ → Option ℕ) (cwd : ℕ) (hand :
 card_named d fds cwd hand fd o s lt = let c = card_set d fds cwd hand hand fd o s lt in record { long = c.long; descriptors = c.descriptors; directory = c.directory; hand = s.hand }
 
 -- the places where an open file's count of descriptors changed
-pub files_counted : (h fd s r : ℕ) (o : Option ℕ) (t : TablesState) (w : World) (load : ℕ → Option Dinode) → Shows t w load → (n : Names h fd s w) → (new : Desk) → new.hand ≡ (w.desks h).hand
+pub files_counted : (h fd s r : ℕ) (o : Option ℕ) (t : TablesState) (w : World) (load : ℕ → Option Loaded) → Shows t w load → (n : Names h fd s w) → (new : Desk) → new.hand ≡ (w.desks h).hand
     → FilesShow t.files (put w.files s (Some (record { file = n.entry.file; inode_type = n.entry.inode_type; references = r }))) (put w.desks h new)
 files_counted h fd s r o t w load shows n new same j lt = elim (same_or j s) [
   | inl q ↦

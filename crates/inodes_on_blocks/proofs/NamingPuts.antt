@@ -1,7 +1,9 @@
 -- The record put of an inode that a hart is changing: what it has taken and the record names is the inode's then, which holds its node.
 use Rattle.inodes_on_blocks.proofs.Vocabulary.{◌≡◌, ◌≢◌, inl, inr, ℕ, ◌<◌, ◌≤◌, Bool, true, false, List, length, Option, Some, None, refl, sym, ◌∙◌, ap, subst, arith, if◌then◌else◌, none-some, Dinode, Super, IsDinode, sizes_of, IsData, HoldsAt, IsInodePut, Node, put, either, same_or, put_same, put_other, lock_holder, seen_of, inode_block, is_hart, World, log_of, tables_of, disk_of, inode_in, owners_of, world_with, in_hand, NothingMore, Had, Has, Carry, IsLoaded, IsOpened, InHand, Base, Owners, is_named, inode_put, CanPut, IsChanging, PutLeaves, log_with, owners_with, Shows}
 use Rattle.inodes_on_blocks.proofs.Basics.{inode_is, node_held, good_seen, hart_is, is_here, through_put, open_same, open_then, lock_range, shows_put, record_put, node_then, put_hand}
+use Rattle.fs_machine.specs.InMemory.{IndexState, Loaded}
 use Rattle.inode_machine.specs.World as above
+use Rattle.inodes_on_blocks.specs.Indexes.{IsIndexOf}
 use Rattle.inode_machine.specs.Exec as above_exec
 use Rattle.inodes_on_blocks.specs.Recording.{with_record}
 use Rattle.inodes_on_blocks.proofs.Changing.{owner_with, Changing, others_put}
@@ -98,26 +100,29 @@ module _ (h n : ℕ) (c : Carry) (o : Option Node) (d : Dinode) (x : Node) (r : 
   pub shows_both : Shows then_ seen_then
   shows_both = node_then h n then_ g (Some x) naming_shows is.lock is.joined
 
-  pub base_then : in_hand h r ≡ 1 → (g.desks h).lender ≡ None → Base h then_ seen_then (put c n (Has d NothingMore))
-  base_then one free = record {
+  pub base_then : (index : IndexState) → IsIndexOf index (Some x) → in_hand h r ≡ 1 → (g.desks h).lender ≡ None → Base h then_ seen_then (put c n (Has (record { inode = d; index = index }) NothingMore))
+  base_then index right one free = record {
     free = let back = (put_hand h b (with_record n d r) (log_of r).seats can.holder).count in omega (arith, back, one);
     taken = none_taken;
     through = through_put h r then_ (log_of then_) refl refl changing.through;
     inodes = λ i e. elim (same_or i n) [
-      | inl q ↦ subst (λ (j : ℕ). InHand h j (put c n (Has d NothingMore) j) then_ seen_then) (sym q) this
-      | inr ne ↦ subst (λ (z : Had). InHand h i z then_ seen_then) (sym (put_other c n (Has d NothingMore) i ne)) (other i ne (others_put h n b (with_record n d r) r g shows naming_leaves c changing.others i ne e))
+      | inl q ↦ subst (λ (j : ℕ). InHand h j (put c n (Has loads NothingMore) j) then_ seen_then) (sym q) this
+      | inr ne ↦ subst (λ (z : Had). InHand h i z then_ seen_then) (sym (put_other c n (Has loads NothingMore) i ne)) (other i ne (others_put h n b (with_record n d r) r g shows naming_leaves c changing.others i ne e))
     ];
     lent = λ some. absurd (some free);
   }
     where
-      this : InHand h n (put c n (Has d NothingMore) n) then_ seen_then
+      loads : Loaded
+      loads = record { inode = d; index = index }
+
+      this : InHand h n (put c n (Has loads NothingMore) n) then_ seen_then
       this = record {
         keeps = changing.keeps;
         loaded_is =
-            subst (λ (z : Had). IsLoaded z (put g.disk n (Some x) n) (inode_in (log_of then_) n)) (sym (put_same c n (Has d NothingMore)))
-            (sym inode_then, (λ z. none-some x (sym z ∙ put_same g.disk n (Some x))), tt);
+            subst (λ (z : Had). IsLoaded z (put g.disk n (Some x) n) (inode_in (log_of then_) n)) (sym (put_same c n (Has loads NothingMore)))
+            (sym inode_then, (λ z. none-some x (sym z ∙ put_same g.disk n (Some x))), tt, subst (IsIndexOf index) (sym (put_same g.disk n (Some x))) right);
         holds = subst (λ (v : Option Node). HoldsAt (disk_of (log_of then_)) then_.owner n v) (sym (put_same g.disk n (Some x))) holds_then;
-        opened = subst (λ (z : Had). IsOpened h n z seen_then) (sym (put_same c n (Has d NothingMore))) tt;
+        opened = subst (λ (z : Had). IsOpened h n z seen_then) (sym (put_same c n (Has loads NothingMore))) tt;
       }
 
       other : (i : ℕ) → i ≢ n → InHand h i (c i) then_ g → InHand h i (c i) then_ seen_then

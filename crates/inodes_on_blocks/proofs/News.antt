@@ -1,5 +1,5 @@
 -- New inodes, which a hart has claimed and not put yet: how long they are so, and which inodes are none.
-use Rattle.inodes_on_blocks.proofs.Vocabulary.{◌≡◌, inl, inr, ℕ, ◌<◌, Bool, true, false, List, Option, Some, None, refl, sym, ◌∙◌, ap, subst, if◌then◌else◌, none-some, Dinode, Super, is_free, Node, put, same_or, put_same, put_other, LogPart, is_joined, World, inode_in, untyped, IsNew, on_blocks, unless_new, Shows}
+use Rattle.inodes_on_blocks.proofs.Vocabulary.{◌≡◌, inl, inr, ℕ, ◌<◌, Bool, true, false, List, Option, Some, None, refl, sym, ◌∙◌, ap, subst, if◌then◌else◌, none-some, Super, is_free, Node, put, same_or, put_same, put_other, LogPart, is_joined, World, inode_in, untyped, IsNew, on_blocks, unless_new, Shows, Loaded}
 use Rattle.inode_machine.specs.World as above
 
 -- no inode is new by a put
@@ -11,7 +11,7 @@ untyped_less l was n k e = at (is_free (inode_in l n)) e
     at false q = absurd (none-some k q)
 
 -- a new one is so still where its record is as it was
-pub new_alike : (n k : ℕ) (l m : LogPart) (lock keeper : ℕ → Option ℕ) (load : ℕ → Option Dinode) → m.sizes ≡ l.sizes → m.members ≡ l.members → inode_in m n ≡ inode_in l n → IsNew n k l lock keeper load → IsNew n k m lock keeper load
+pub new_alike : (n k : ℕ) (l m : LogPart) (lock keeper : ℕ → Option ℕ) (load : ℕ → Option Loaded) → m.sizes ≡ l.sizes → m.members ≡ l.members → inode_in m n ≡ inode_in l n → IsNew n k l lock keeper load → IsNew n k m lock keeper load
 new_alike n k l m lock keeper load sizes members same is = record {
   low = is.low;
   bound = subst (λ (s : Super). n < s.ninodes) (sym sizes) is.bound;
@@ -23,7 +23,7 @@ new_alike n k l m lock keeper load sizes members same is = record {
 }
 
 -- and where nobody has taken its lock, and its hart keeps it
-pub new_kept : (n k : ℕ) (l : LogPart) (lock keeper lock' keeper' : ℕ → Option ℕ) (load load' : ℕ → Option Dinode) → lock' n ≡ None → keeper' n ≡ Some k → load' n ≡ None → IsNew n k l lock keeper load → IsNew n k l lock' keeper' load'
+pub new_kept : (n k : ℕ) (l : LogPart) (lock keeper lock' keeper' : ℕ → Option ℕ) (load load' : ℕ → Option Loaded) → lock' n ≡ None → keeper' n ≡ Some k → load' n ≡ None → IsNew n k l lock keeper load → IsNew n k l lock' keeper' load'
 new_kept n k l lock keeper lock' keeper' load load' free keeps none is = record { low = is.low; bound = is.bound; free = is.free; unlocked = free; kept = keeps; joined = is.joined; unloaded = none }
 
 module _ (r : World) (g : above.World) (shows : Shows r g) (n : ℕ) where

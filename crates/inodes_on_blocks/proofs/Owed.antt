@@ -1,5 +1,5 @@
 -- A reference in hand is one that the tables don't have.
-use Rattle.inodes_on_blocks.proofs.Vocabulary.{◌≡◌, inl, inr, ℕ, zero, suc, ◌+◌, ◌<◌, ◌≤◌, ◌==◌, Bool, true, false, cond, List, [], ◌∷◌, length, Option, Some, None, refl, sym, ◌∙◌, ap, subst, arith, slice_get, count_by, same_Some, slice_get_within, sum_by-cons, Dinode, hart_count, sum_below, one_if, same_or, eq_not, eq_self, one_yes, one_no, FilePlace, TablesState, owed, references_of, is_file_of, is_directory_of, Entry, Inv, Spares, number_is, place_with, is_taken}
+use Rattle.inodes_on_blocks.proofs.Vocabulary.{◌≡◌, inl, inr, ℕ, zero, suc, ◌+◌, ◌<◌, ◌≤◌, ◌==◌, Bool, true, false, cond, List, [], ◌∷◌, length, Option, Some, None, refl, sym, ◌∙◌, ap, subst, arith, slice_get, count_by, same_Some, slice_get_within, sum_by-cons, hart_count, sum_below, one_if, same_or, eq_not, eq_self, one_yes, one_no, FilePlace, TablesState, owed, references_of, is_file_of, is_directory_of, Entry, Inv, Spares, number_is, place_with, is_taken, Loaded}
 use Rattle.fs_machine.specs.declared.desk.Desk as cards
 use Rattle.inode_machine.specs.World.{World}
 use Rattle.inodes_on_blocks.specs.ShownTables as tables
@@ -45,7 +45,7 @@ sum_fewer (suc n) h f g lt less each = elim (same_or h n) [
 
 -- ---- what the tables have
 
-module _ (n : ℕ) (t : TablesState) (w : World) (load : ℕ → Option Dinode) (shows : tables.Shows t w load) (inv : Inv w) where
+module _ (n : ℕ) (t : TablesState) (w : World) (load : ℕ → Option Loaded) (shows : tables.Shows t w load) (inv : Inv w) where
   file_at : (o : Option Entry) (b : Bool) → one_if (is_file_of n (place_with b o)) ≡ number_is o n
   file_at (Some e) b = refl
   file_at None true = one_no false refl

@@ -1,5 +1,5 @@
 -- Where inodes have their places after an entry or a lock changed.
-use Rattle.inodes_on_blocks.proofs.Vocabulary.{Dinode, ◌≡◌, ◌≢◌, ◌⊎◌, inl, inr, ℕ, ◌<◌, List, length, Option, Some, None, refl, sym, ◌∙◌, ap, subst, slice_get, slice_set, same_Some, none-some, SlotState, slice_get-set_same, slice_get-set_other, put, same_or, put_same, put_other, Inode, place_of, references_in, references_at, holder_in, holder_at, found, placed, at_set, PlacesShow, loaded_of, loaded_in, loaded_at}
+use Rattle.inodes_on_blocks.proofs.Vocabulary.{◌≡◌, ◌≢◌, ◌⊎◌, inl, inr, ℕ, ◌<◌, List, length, Option, Some, None, refl, sym, ◌∙◌, ap, subst, slice_get, slice_set, same_Some, none-some, SlotState, slice_get-set_same, slice_get-set_other, put, same_or, put_same, put_other, Inode, place_of, references_in, references_at, holder_in, holder_at, found, placed, at_set, PlacesShow, loaded_of, loaded_in, loaded_at, Loaded}
 use Rattle.fs_machine.specs.declared.entries.Entry.{Entry}
 use Rattle.fs_machine.specs.Soundness.{IsOnce}
 use Rattle.fs_machine.proofs.Places.{Found}
@@ -56,7 +56,7 @@ module _ (entries : List Entry) (k n : ℕ) (e f : Entry) (there : slice_get ent
         at (Some j) e = ap loaded_at (same j (apart m j ne (found m entries j e)))
 
     -- what the places show then, by what is so at inode n's place
-    pub places_set : (refs : ℕ → ℕ) (lock : ℕ → Option ℕ) (load : ℕ → Option Dinode) (r : ℕ) (d : Option Dinode) → PlacesShow entries locks refs lock load
+    pub places_set : (refs : ℕ → ℕ) (lock : ℕ → Option ℕ) (load : ℕ → Option Loaded) (r : ℕ) (d : Option Loaded) → PlacesShow entries locks refs lock load
         → references_in (slice_set entries k f) (place_of n (slice_set entries k f)) ≡ r
         → holder_in new (place_of n (slice_set entries k f)) ≡ lock n
         → loaded_in new (place_of n (slice_set entries k f)) ≡ d → PlacesShow (slice_set entries k f) new (put refs n r) lock (put load n d)
@@ -84,7 +84,7 @@ module _ (entries : List Entry) (locks : List (SlotState Inode)) (k n : ℕ) (s 
       let same : f.entry ≡ g.entry = same_Some f.entry g.entry (sym f.there ∙ ap (slice_get entries) q ∙ g.there) in
       ne (sym f.number ∙ ap (λ (v : Entry). v.number) same ∙ g.number)
 
-  pub locks_set : (refs : ℕ → ℕ) (lock : ℕ → Option ℕ) (load : ℕ → Option Dinode) → PlacesShow entries locks refs lock load
+  pub locks_set : (refs : ℕ → ℕ) (lock : ℕ → Option ℕ) (load : ℕ → Option Loaded) → PlacesShow entries locks refs lock load
       → PlacesShow entries (slice_set locks k s) refs (put lock n s.holder) (put load n (loaded_of s.inside))
   locks_set refs lock load shows = record { counts = shows.counts; holders = λ m. held m (same_or m n); loads = λ m. load_at m (same_or m n) }
     where

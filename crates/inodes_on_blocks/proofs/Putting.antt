@@ -1,5 +1,5 @@
 -- A block recorded for an inode that the hart is changing: the others have theirs, and what is shown stays.
-use Rattle.inodes_on_blocks.proofs.Vocabulary.{◌≡◌, ◌≢◌, ℕ, ◌<◌, ◌≤◌, Bool, true, List, length, Option, Some, None, refl, sym, ◌∙◌, ap, subst, inl, inr, if◌then◌else◌, false, slice_get, none-some, same_Some, Super, Dinode, sizes_of, same_or, is_free, IsRunning, TablesState, place_of, lock_holder, holder_in, holder_at, references_in, references_at, found, InsideFits, PlaceFits, Inode, SlotState, LogPart, put_block, Own, seen_of, is_hart, loaded, loaded_in, loaded_at, loaded_of, is_joined, AreOnBlocks, Owners, World, log_of, tables_of, disk_of, inode_in, untyped, Shows, if_joined, ghost_of, on_blocks, Same, commit_in, undertaken, CanPut, PutLeaves}
+use Rattle.inodes_on_blocks.proofs.Vocabulary.{◌≡◌, ◌≢◌, ℕ, ◌<◌, ◌≤◌, Bool, true, List, length, Option, Some, None, refl, sym, ◌∙◌, ap, subst, inl, inr, if◌then◌else◌, false, slice_get, none-some, same_Some, Super, sizes_of, same_or, is_free, IsRunning, TablesState, place_of, lock_holder, holder_in, holder_at, references_in, references_at, found, InsideFits, PlaceFits, Inode, SlotState, LogPart, put_block, Own, seen_of, is_hart, loaded, loaded_in, loaded_at, loaded_of, is_joined, AreOnBlocks, Owners, World, log_of, tables_of, disk_of, inode_in, untyped, Shows, if_joined, ghost_of, on_blocks, Same, commit_in, undertaken, CanPut, PutLeaves, Loaded}
 use Rattle.inodes_on_blocks.proofs.SeenDisks.{good_seen}
 use Rattle.inodes_on_blocks.proofs.HeldFrames.{untouched}
 use Rattle.fs_machine.proofs.Places.{Found}
@@ -28,7 +28,7 @@ lock_referred n k t e = at (place_of n t.entries) refl
     at (Some p) q = referred_at n p t q
 
 -- one of which something is loaded is too
-load_referred : (n : ℕ) (d : Dinode) (t : TablesState) → loaded t n ≡ Some d → 0 < references_in t.entries (place_of n t.entries)
+load_referred : (n : ℕ) (d : Loaded) (t : TablesState) → loaded t n ≡ Some d → 0 < references_in t.entries (place_of n t.entries)
 load_referred n d t e = at (place_of n t.entries) refl
   where
     at : (o : Option ℕ) → place_of n t.entries ≡ o → 0 < references_in t.entries (place_of n t.entries)
@@ -63,7 +63,7 @@ pub lock_range : (n k : ℕ) (r : World) (g : above.World) → Shows r g → g.l
 lock_range n k r g shows e = referred_range n r g shows (lock_referred n k (tables_of r) (sym (shows.tables.places.holders n) ∙ e))
 
 -- and one of which something is loaded
-pub load_range : (n : ℕ) (d : Dinode) (r : World) (g : above.World) → Shows r g → loaded (tables_of r) n ≡ Some d → (1 ≤ n) × (n < (log_of r).sizes.ninodes)
+pub load_range : (n : ℕ) (d : Loaded) (r : World) (g : above.World) → Shows r g → loaded (tables_of r) n ≡ Some d → (1 ≤ n) × (n < (log_of r).sizes.ninodes)
 load_range n d r g shows e = referred_range n r g shows (load_referred n d (tables_of r) e)
 
 -- ---- a put
@@ -177,6 +177,7 @@ module _ (h b i : ℕ) (bytes : List ℕ) (r : World) (g : above.World) (shows :
       ];
       dead = shows.loads.dead;
       typed = shows.loads.typed;
+      indexed = shows.loads.indexed;
     };
     offsets = shows.offsets;
   }

@@ -1,5 +1,5 @@
 -- A part of a locked file is read, and the operation acts where the lock is given up and the offset moves.
-use Rattle.inodes_on_blocks.proofs.Vocabulary.{◌≡◌, ◌≢◌, ℕ, zero, suc, ◌+◌, ◌-◌, ◌/◌, ◌<◌, ◌≤◌, nat_lt, Bool, true, false, List, [], length, Option, Some, None, refl, sym, ◌∙◌, ap, subst, arith, if◌then◌else◌, option_map, unwrap_or, IfSome, none-some, same_Some, Dinode, Super, largest_size, HoldsAt, Node, put, hart_count, put_other, Ret, bind, Ran, Machine, Laws, Wp, Both, Handover, joined, Below, Lasts, Acting, ToAct, to_act, may_act, s-act, Wp-more, Inode, unlock_inode, TablesState, file_named, lock_holder, Outside, no_record, Direct, InTable, FilledMemory, blocks_between, end_of, fetch_at, next_block, read_blocks, read_from, read_part, Entry, ReadFile, entry_at, entry_moved, offset_of, read_at, slot_at, unlocked, with_offset, Inv, loaded, file_of, ActsOnceAt, World, log_of, tables_of, disk_of, inode_in, exec, give_read, read_file, Apart, Emptied, Has, Had, Carry, InHand, IsLoaded, Stands, below, Labels, labelled, Keeps, record_had, Shows, OffsetsShow, record_in}
+use Rattle.inodes_on_blocks.proofs.Vocabulary.{◌≡◌, ◌≢◌, ℕ, zero, suc, ◌+◌, ◌-◌, ◌/◌, ◌<◌, ◌≤◌, nat_lt, Bool, true, false, List, [], length, Option, Some, None, refl, sym, ◌∙◌, ap, subst, arith, if◌then◌else◌, option_map, unwrap_or, IfSome, none-some, same_Some, Dinode, Super, largest_size, HoldsAt, Node, put, hart_count, put_other, Ret, bind, Ran, Machine, Laws, Wp, Both, Handover, joined, Below, Lasts, Acting, ToAct, to_act, may_act, s-act, Wp-more, Inode, unlock_inode, TablesState, file_named, lock_holder, Outside, no_record, Direct, InTable, FilledMemory, blocks_between, end_of, fetch_at, next_block, read_blocks, read_from, read_part, Entry, ReadFile, entry_at, entry_moved, offset_of, read_at, slot_at, unlocked, with_offset, Inv, loaded, file_of, ActsOnceAt, World, log_of, tables_of, disk_of, inode_in, exec, give_read, read_file, Apart, Emptied, Has, Had, Carry, InHand, IsLoaded, Stands, below, Labels, labelled, Keeps, record_had, Shows, OffsetsShow, record_in, Loaded, unindexed}
 use Rattle.fs_machine.specs.declared.files.OpenFile as files
 use Rattle.fs_machine.specs.Premises as premises
 use Rattle.fs_machine.specs.Steps as steps
@@ -19,7 +19,7 @@ use Rattle.inodes_on_blocks.proofs.TableSteps.{GivesBack, given_came}
 -- ---- a lock given up, and an offset that moves in the same step
 
 -- an inode that is kept alone stays so, which the tables don't show
-moved_shows : (t : TablesState) (n : ℕ) (g : above.World) (load : ℕ → Option Dinode) (o : Option ℕ) (e : Entry) (by : ℕ) (b : Bool) → tables.Shows t (with_offset (record g { lock = put g.lock n None }) o e by) load → tables.Shows t (with_offset (unlocked n g b) o e by) load
+moved_shows : (t : TablesState) (n : ℕ) (g : above.World) (load : ℕ → Option Loaded) (o : Option ℕ) (e : Entry) (by : ℕ) (b : Bool) → tables.Shows t (with_offset (record g { lock = put g.lock n None }) o e by) load → tables.Shows t (with_offset (unlocked n g b) o e by) load
 moved_shows t n g load None e by true s = record { sound = s.sound; places = s.places; files = s.files; desks = s.desks; lenders = s.lenders; range = s.range }
 moved_shows t n g load None e by false s = record { sound = s.sound; places = s.places; files = s.files; desks = s.desks; lenders = s.lenders; range = s.range }
 moved_shows t n g load (Some k) e by true s = record { sound = s.sound; places = s.places; files = s.files; desks = s.desks; lenders = s.lenders; range = s.range }
@@ -165,7 +165,7 @@ module _ (l : Labels) (laws : Laws (labelled l)) (keeps : Keeps l) (h : ℕ) (lt
         by Apart is hand = absurd (subst (λ (o : Had). IsLoaded o (v.seen.disk n) d) is hand.loaded_is)
         by Emptied is hand = absurd (none-some node (sym (subst (λ (o : Had). IsLoaded o (v.seen.disk n) d) is hand.loaded_is).0 ∙ there))
         by (Has x learned) is hand =
-            let record_is : record_in c n ≡ d = ap (λ (o : Had). unwrap_or (record_had o) no_record) is ∙ (subst (λ (o : Had). IsLoaded o (v.seen.disk n) d) is hand.loaded_is).0 in
+            let record_is : record_in c n ≡ d = ap (λ (o : Had). (unwrap_or (record_had o) (unindexed no_record)).inode) is ∙ (subst (λ (o : Had). IsLoaded o (v.seen.disk n) d) is hand.loaded_is).0 in
             let holds : HoldsAt (disk_of (log_of v.real)) v.real.owner n (Some node) = subst (λ (o : Option Node). HoldsAt (disk_of (log_of v.real)) v.real.owner n o) there hand.holds in
             let used = in_use d node holds.inode in
             let plain = may.1.3.fits in

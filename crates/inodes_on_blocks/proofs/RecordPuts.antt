@@ -1,5 +1,5 @@
 -- An inode's record is put by the hart that has its lock, in its transaction, where it has taken no block.
-use Rattle.inodes_on_blocks.proofs.Vocabulary.{◌≡◌, ◌≢◌, inl, inr, ℕ, ◌+◌, ◌/◌, ◌%◌, ◌<◌, ◌≤◌, Bool, true, false, List, length, Option, Some, None, refl, sym, ◌∙◌, ap, subst, arith, if◌then◌else◌, nat_lt, none-some, Super, Dinode, dinode_at, IsDinode, recovered, sizes_of, Node, either, same_or, eq_not, put_other, IsData, IsPut, IsInodePut, LeavesOthers, LogPart, put_block, seen_of, inode_block, with_dinode, stores_one, with_record, is_dead, if_kept, is_hart, loaded, is_joined, Owners, is_named, named_of, inode_put, owners_put, World, log_of, tables_of, disk_of, owners_of, CanPut, PutLeaves, Shows, if_joined, on_blocks, IsRunning}
+use Rattle.inodes_on_blocks.proofs.Vocabulary.{◌≡◌, ◌≢◌, inl, inr, ℕ, ◌+◌, ◌/◌, ◌%◌, ◌<◌, ◌≤◌, Bool, true, false, List, length, Option, Some, None, refl, sym, ◌∙◌, ap, subst, arith, if◌then◌else◌, nat_lt, none-some, Super, Dinode, dinode_at, IsDinode, recovered, sizes_of, Node, either, same_or, eq_not, put_other, IsData, IsPut, IsInodePut, LeavesOthers, LogPart, put_block, seen_of, inode_block, with_dinode, stores_one, with_record, is_dead, if_kept, is_hart, loaded, is_joined, Owners, is_named, named_of, inode_put, owners_put, World, log_of, tables_of, disk_of, owners_of, CanPut, PutLeaves, Shows, if_joined, on_blocks, IsRunning, IsIndexOf}
 use Rattle.inodes_on_blocks.proofs.HeldPuts.{inode_leaves}
 use Rattle.inodes_on_blocks.proofs.RunningBlocks.{node_any}
 use Rattle.inodes_on_blocks.proofs.SeenDisks.{good_seen}
@@ -124,6 +124,10 @@ node_then h n r g v shows mine joined = record {
     typed = λ m e. elim (same_or m n) [
       | inl q ↦ not_loaded m h (tables_of r) g shows.tables (sym (shows.tables.places.holders m) ∙ ap g.lock q ∙ mine)
       | inr ne ↦ shows.loads.typed m (sym (put_other g.disk n v m ne) ∙ e)
+    ];
+    indexed = λ m d e. elim (same_or m n) [
+      | inl q ↦ absurd (none-some d (sym (not_loaded m h (tables_of r) g shows.tables (sym (shows.tables.places.holders m) ∙ ap g.lock q ∙ mine)) ∙ e))
+      | inr ne ↦ subst (IsIndexOf d.index) (sym (put_other g.disk n v m ne)) (shows.loads.indexed m d e)
     ];
   };
   offsets = shows.offsets;

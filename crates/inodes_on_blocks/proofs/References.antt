@@ -1,5 +1,5 @@
 -- References counted up and down.
-use Rattle.inodes_on_blocks.proofs.Vocabulary.{◌≡◌, inl, inr, ℕ, ◌+◌, ◌<◌, ◌≤◌, ◌||◌, nat_lt, Bool, true, false, List, length, Option, Some, None, refl, sym, ◌∙◌, ap, subst, arith, slice_get, slice_set, position, is_some, nat_tests, slice_get_within, SlotState, filled, slice_get-set_same, slice_get-set_other, Dinode, Ran, put, same_or, put_same, put_other, change_at, Inode, TablesState, place_of, references_in, references_at, holder_in, holder_at, is_unused, up_inode, up_directory, directory_of, counted_at, begun_at, IsSoundInodes, found, placed, change_set, counted_good, free, begun_good, up_counted, up_begun, up_full, has_place, referenced, counted_up, up_if, start_if, start_number, PlacesShow, loaded_in, loaded_at, TablesCountReferences, StartsAreCounted, DirectoriesAreStarts}
+use Rattle.inodes_on_blocks.proofs.Vocabulary.{◌≡◌, inl, inr, ℕ, ◌+◌, ◌<◌, ◌≤◌, ◌||◌, nat_lt, Bool, true, false, List, length, Option, Some, None, refl, sym, ◌∙◌, ap, subst, arith, slice_get, slice_set, position, is_some, nat_tests, slice_get_within, SlotState, filled, slice_get-set_same, slice_get-set_other, Ran, put, same_or, put_same, put_other, change_at, Inode, TablesState, place_of, references_in, references_at, holder_in, holder_at, is_unused, up_inode, up_directory, directory_of, counted_at, begun_at, IsSoundInodes, found, placed, change_set, counted_good, free, begun_good, up_counted, up_begun, up_full, has_place, referenced, counted_up, up_if, start_if, start_number, PlacesShow, loaded_in, loaded_at, TablesCountReferences, StartsAreCounted, DirectoriesAreStarts, Loaded}
 use Rattle.fs_machine.specs.declared.entries.Entry.{Entry}
 use Rattle.fs_machine.specs.Tables.{one_more}
 use Rattle.fs_machine.proofs.Places.{Found}
@@ -12,7 +12,7 @@ use Rattle.inodes_on_blocks.proofs.Counts.{room_is}
 use Rattle.inodes_on_blocks.proofs.Locks.{both_ran}
 
 -- what is loaded of an inode was so before
-pub load_same : (entries : List Entry) (locks : List (SlotState Inode)) (refs : ℕ → ℕ) (lock : ℕ → Option ℕ) (load : ℕ → Option Dinode) (n : ℕ) → PlacesShow entries locks refs lock (put load n (load n)) → PlacesShow entries locks refs lock load
+pub load_same : (entries : List Entry) (locks : List (SlotState Inode)) (refs : ℕ → ℕ) (lock : ℕ → Option ℕ) (load : ℕ → Option Loaded) (n : ℕ) → PlacesShow entries locks refs lock (put load n (load n)) → PlacesShow entries locks refs lock load
 load_same entries locks refs lock load n shows = record {
   counts = shows.counts;
   holders = shows.holders;
@@ -25,7 +25,7 @@ load_same entries locks refs lock load n shows = record {
 yes : (a b : ℕ) → a < b → nat_lt a b ≡ true
 yes a b lt = grind (arith, nat_tests)
 
-module _ (h n : ℕ) (t : TablesState) (w : World) (load : ℕ → Option Dinode) (shows : Shows t w load) where
+module _ (h n : ℕ) (t : TablesState) (w : World) (load : ℕ → Option Loaded) (shows : Shows t w load) where
   sound : IsSoundInodes t.entries t.locks
   sound = shows.sound.inodes
 

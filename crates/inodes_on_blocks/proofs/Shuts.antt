@@ -1,5 +1,5 @@
 -- A descriptor shut: whether others name its open file still.
-use Rattle.inodes_on_blocks.proofs.Vocabulary.{◌≡◌, ◌≢◌, ◌⊎◌, inl, inr, ℕ, zero, suc, ◌+◌, ◌-◌, ◌<◌, ◌==◌, ◌||◌, Bool, true, false, List, [], ◌∷◌, length, Option, Some, None, refl, sym, ◌∙◌, ap, subst, arith, slice_get, list_any, slice_get_within, same_Some, none-some, Dinode, ExecResult, put, any_below, hart_count, descriptor_count, sum_below, one_if, either, eq_is, eq_not, eq_self, same_or, put_same, put_other, any_none, none_any, sum_none, sum_part, one_yes, one_no, ShutState as Shut, TablesState, place_named, with_desk, is_place, names, shut_descriptor, shut_at, freed_at, freed_if, with_descriptor, with_place, IsSoundTables, Desk, slot_at, entry_at, is_at, close_if, close_less, close_last, Inv, uses, users, users_put, BothCame, DeskShows, DesksShow, Runs, descriptor, first, lent_by, place_with, is_taken, shut_as, DescriptorsAreShut}
+use Rattle.inodes_on_blocks.proofs.Vocabulary.{◌≡◌, ◌≢◌, ◌⊎◌, inl, inr, ℕ, zero, suc, ◌+◌, ◌-◌, ◌<◌, ◌==◌, ◌||◌, Bool, true, false, List, [], ◌∷◌, length, Option, Some, None, refl, sym, ◌∙◌, ap, subst, arith, slice_get, list_any, slice_get_within, same_Some, none-some, ExecResult, put, any_below, hart_count, descriptor_count, sum_below, one_if, either, eq_is, eq_not, eq_self, same_or, put_same, put_other, any_none, none_any, sum_none, sum_part, one_yes, one_no, ShutState as Shut, TablesState, place_named, with_desk, is_place, names, shut_descriptor, shut_at, freed_at, freed_if, with_descriptor, with_place, IsSoundTables, Desk, slot_at, entry_at, is_at, close_if, close_less, close_last, Inv, uses, users, users_put, BothCame, DeskShows, DesksShow, Runs, descriptor, first, lent_by, place_with, is_taken, shut_as, DescriptorsAreShut, Loaded}
 use Rattle.fs_machine.specs.declared.desk.Desk as cards
 use Rattle.fs_machine.specs.declared.files.FilePlace.TheVariants.{Free}
 use Rattle.fs_machine.specs.declared.slots.Shut.TheVariants as shut
@@ -70,7 +70,7 @@ some_below (suc n) p e = elim (either (p n)) [
 
 -- ---- the descriptor shut
 
-module _ (h fd k : ℕ) (t : TablesState) (w : World) (load : ℕ → Option Dinode) (shows : Shows t w load) (inv : Inv w) (runs : Runs h w) (lends : (i : ℕ) → (w.desks h).lent i ≡ None) (n : Names h fd k w) where
+module _ (h fd k : ℕ) (t : TablesState) (w : World) (load : ℕ → Option Loaded) (shows : Shows t w load) (inv : Inv w) (runs : Runs h w) (lends : (i : ℕ) → (w.desks h).lent i ≡ None) (n : Names h fd k w) where
   abbrev new : Desk
   new = record (w.desks h) { fds = put (w.desks h).fds fd None }
 

@@ -1,5 +1,5 @@
 -- The operations on descriptors and open files act at their one step.
-use Rattle.inodes_on_blocks.proofs.Vocabulary.{◌≡◌, inl, inr, ℕ, ◌<◌, ◌≤◌, ◌==◌, Bool, true, false, Option, Some, None, refl, sym, ◌∙◌, ap, subst, arith, ◌+◌, ◌-◌, ◌≢◌, IsSome, option_map, none-some, same_Some, Cause, OpenFile, put, lowest, has_room, hart_count, largest_size, ExecResult, Waits, Ran, Stops, exec_result_in, Laws, Both, Doubled, TablesState, file_named, refusal_of, take_place, open_file, double_descriptor, shut_descriptor, Entry, Install, CheckFile, Double, Shut, Say, slot_if, install_if, first_from, file_count, is_empty_slot, double_if, slot_at, close_at, close_if, mode_refusal, write_refused, entry_at, InodeType, OfDirectory, OfFile, OfDevice, loaded, new_file, Runs, BothCame, doubled_as, shut_as, refused_as, World, tables_of, came_to, commits_after, owners_of, owners_after, new_after, Shows, OffsetsShow, Carry, Base, Labels, labelled, Keeps, doubled_to, shut_to, cause_if, slot, install, double, close, check_file, say, ActsOnce, LogPart, lowest_free, renewed_same, Inv, same_or, put_same, put_other}
+use Rattle.inodes_on_blocks.proofs.Vocabulary.{◌≡◌, inl, inr, ℕ, ◌<◌, ◌≤◌, ◌==◌, Bool, true, false, Option, Some, None, refl, sym, ◌∙◌, ap, subst, arith, ◌+◌, ◌-◌, ◌≢◌, IsSome, option_map, none-some, same_Some, Cause, OpenFile, put, lowest, has_room, hart_count, largest_size, ExecResult, Waits, Ran, Stops, exec_result_in, Laws, Both, Doubled, TablesState, file_named, refusal_of, take_place, open_file, double_descriptor, shut_descriptor, Entry, Install, CheckFile, Double, Shut, Say, slot_if, install_if, first_from, file_count, is_empty_slot, double_if, slot_at, close_at, close_if, mode_refusal, write_refused, entry_at, InodeType, OfDirectory, OfFile, OfDevice, loaded, new_file, Runs, BothCame, doubled_as, shut_as, refused_as, World, tables_of, came_to, commits_after, owners_of, owners_after, new_after, Shows, OffsetsShow, Carry, Base, Labels, labelled, Keeps, doubled_to, shut_to, cause_if, slot, install, double, close, check_file, say, ActsOnce, LogPart, lowest_free, renewed_same, Inv, same_or, put_same, put_other, IsIndexOf}
 use Rattle.fs_machine.specs.declared.files.Want.TheVariants as want
 use Rattle.fs_machine.specs.declared.slots.Shut as shuts
 use Rattle.fs_machine.specs.Steps as steps
@@ -75,6 +75,7 @@ module _ (l : Labels) (laws : Laws (labelled l)) (keeps : Keeps l) (h : ℕ) (lt
           seen = shows.loads.seen;
           dead = λ n some unlocked loose dead. shows.loads.dead n (s.refs n some) ((λ z. sym s.lock z n) ∙ unlocked) ((λ z. sym s.keeper z n) ∙ loose) ((λ z. above_exec.is_dead (sym s.disk z n)) ∙ dead);
           typed = λ n e. shows.loads.typed n ((λ z. sym s.disk z n) ∙ e);
+          indexed = λ n d e. subst (IsIndexOf d.index) (λ z. sym s.disk z n) (shows.loads.indexed n d e);
         }) (s.offsets shows.offsets);
     same = tables_left h v.real t v.seen u (loaded (tables_of v.real)) (loaded (tables_of v.real)) shows.tables after (λ i. inl (λ z. s.lock z i));
     base = base_then h lt v.real v.seen shows c c t u (loaded (tables_of v.real)) base after (s.lender ∙ free)

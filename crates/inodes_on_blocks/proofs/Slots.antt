@@ -1,5 +1,5 @@
 -- Open files and descriptors.
-use Rattle.inodes_on_blocks.proofs.Vocabulary.{◌≡◌, ◌≢◌, inl, inr, ℕ, ◌<◌, ◌&&◌, not, nat_lt, Bool, true, false, if◌then◌else◌, List, length, length-set, Option, Some, None, refl, sym, ◌∙◌, ap, subst, arith, slice_get, slice_set, position, nat_tests, slice_get_within, slice_get-get_or, same_Some, position-Some, slice_get-set_same, slice_get-set_other, Dinode, put, lowest, has_room, hart_count, descriptor_count, eq_not, eq_self, same_or, put_same, put_other, any_at, none_any, change_at, first_empty, FilePlace, Taken, desk_count, file_places, TablesState, with_desk, take_place, take_at, with_hand, with_descriptor, with_place, opened, open_file, open_in, open_by, hand_of, descriptors_of, change_set, length-change_at, Desk, Entry, file_count, is_nothing, is_at, is_empty_slot, first_from, slot_if, install_if, installed, put_elim, BothCame, kind_of, new_file, DeskShows, DesksShow, FilesShow, Runs, place_with, is_taken, PlacesAreTaken, FilesAreOpened}
+use Rattle.inodes_on_blocks.proofs.Vocabulary.{◌≡◌, ◌≢◌, inl, inr, ℕ, ◌<◌, ◌&&◌, not, nat_lt, Bool, true, false, if◌then◌else◌, List, length, length-set, Option, Some, None, refl, sym, ◌∙◌, ap, subst, arith, slice_get, slice_set, position, nat_tests, slice_get_within, slice_get-get_or, same_Some, position-Some, slice_get-set_same, slice_get-set_other, put, lowest, has_room, hart_count, descriptor_count, eq_not, eq_self, same_or, put_same, put_other, any_at, none_any, change_at, first_empty, FilePlace, Taken, desk_count, file_places, TablesState, with_desk, take_place, take_at, with_hand, with_descriptor, with_place, opened, open_file, open_in, open_by, hand_of, descriptors_of, change_set, length-change_at, Desk, Entry, file_count, is_nothing, is_at, is_empty_slot, first_from, slot_if, install_if, installed, put_elim, BothCame, kind_of, new_file, DeskShows, DesksShow, FilesShow, Runs, place_with, is_taken, PlacesAreTaken, FilesAreOpened, Loaded}
 use Rattle.fs_machine.specs.declared.desk.Desk as cards
 use Rattle.fs_machine.specs.declared.files.FilePlace.TheVariants.{Free, Open}
 use Rattle.fs_machine.specs.Files.{is_free}
@@ -41,7 +41,7 @@ below_is a b e = grind (arith, nat_tests)
 
 -- ---- a hart's desk changed
 
-module _ (h : ℕ) (t : TablesState) (w : World) (load : ℕ → Option Dinode) (shows : Shows t w load) (runs : Runs h w) where
+module _ (h : ℕ) (t : TablesState) (w : World) (load : ℕ → Option Loaded) (shows : Shows t w load) (runs : Runs h w) where
   abbrev own : (d : cards.Desk) × (slice_get t.desks h ≡ Some d) × DeskShows d (w.desks h).fds (w.desks h).directory (w.desks h).hand
   own = own_desk h t w load shows runs
 

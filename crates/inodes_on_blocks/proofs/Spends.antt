@@ -1,11 +1,14 @@
 -- What the programs of operations record, by their text.
-use Rattle.inodes_on_blocks.proofs.Vocabulary.{◌≡◌, inl, inr, ℕ, zero, suc, ◌+◌, ◌/◌, ◌==◌, Bool, true, false, not, pos, List, [], ◌∷◌, Option, Some, None, refl, arith, if◌then◌else◌, is_some, slice_index, take, Dinode, Super, numbers_in, block_len, dirents_per_block, Name, same_name, AfterLeave, Commits, Ret, Do, bind, Handover, LockedState, Refuses, Locks, LogPart, ClaimResult, Claims, NoPlace, NoInode, fetch, read_unless, commit_unless, commits, most_writes, after_leave, free_block, clear_bit, inode_blocks, give_back, inode_block, load_unless, put_inode, store_inode, address, table_of, free_numbers, free_table, free_in_table, free_indirect, freed, without_content, FilledMemory, blocks_between, end_of, fetch_at, fetch_block, fetch_named, fetch_number, filled_with, give_fetched, next_block, part_of, read_blocks, read_from, read_part, direct, Address, Direct, InTable, Aim, Named, block_count, found_in, look_at, lookup, or_next, search, search_from, with_slot, Found, Spent, unspent, with_bitmap, with_contents, with_inode as with_record, Query, AtNothing, AtName, AtEntries, InodeType, used, Accounts, IsSpent, Carry, Had, Apart, Has, Emptied, NothingMore, Finds, Opened, give_content, file_locked, give_read, learned, looked, number_found, search_entries, seen_record, stat_loaded, stat_locked, kind_of, claim_at, claim_from, claim_in, clear, clear_in, clear_slot, put_named, slot_found, put_record, record_in, NoMore, Records, ProgramsSpend}
+use Rattle.inodes_on_blocks.proofs.Vocabulary.{◌≡◌, inl, inr, ℕ, zero, suc, ◌+◌, ◌-◌, ◌/◌, ◌==◌, Bool, true, false, not, pos, List, [], ◌∷◌, Option, Some, None, refl, arith, if◌then◌else◌, is_some, slice_index, take, Dinode, Super, numbers_in, block_len, dirents_per_block, Name, same_name, AfterLeave, Commits, Ret, Do, bind, Handover, LockedState, Refuses, Locks, LogPart, ClaimResult, Claims, NoPlace, NoInode, fetch, read_unless, commit_unless, commits, most_writes, after_leave, free_block, clear_bit, inode_blocks, give_back, inode_block, load_unless, put_inode, store_inode, address, table_of, free_numbers, free_table, free_in_table, free_indirect, freed, without_content, FilledMemory, blocks_between, end_of, fetch_at, fetch_block, fetch_named, fetch_number, filled_with, give_fetched, next_block, part_of, read_blocks, read_from, read_part, direct, Address, Direct, InTable, Aim, Named, block_count, found_in, look_at, search_from, with_slot, Found, Spent, unspent, with_bitmap, with_contents, with_inode as with_record, Query, AtNothing, AtName, AtEntries, InodeType, used, Accounts, IsSpent, Carry, Had, Apart, Has, Emptied, NothingMore, Finds, Opened, give_content, file_locked, give_read, learned, looked, number_found, search_entries, seen_record, stat_loaded, stat_locked, kind_of, claim_at, claim_from, claim_in, clear, clear_in, clear_slot, put_named, slot_found, put_record, record_in, NoMore, Records, ProgramsSpend}
 use Rattle.group_log.specs.declared.log.AfterLeave.TheVariants.{Free}
-use Rattle.directory.specs.Programs.{Entry, is_directory, is_live_directory}
+use Rattle.directory.specs.Indexes.{cleared, first_of, raised}
+use Rattle.directory.specs.Programs.{Entry, Searched, is_directory, is_live_directory, lookup, or_next, search}
+use Rattle.fs_machine.specs.InMemory.{IndexState, Loaded}
 use Rattle.inode_machine.specs.World as above
 use Rattle.inodes_on_blocks.specs.Handlers.{P}
 use Rattle.inodes_on_blocks.specs.Files.{with_file}
 use Rattle.inodes_on_blocks.specs.Naming.{slot_of}
+use Rattle.inodes_on_blocks.specs.Storing.{recorded_in}
 use Rattle.inodes_on_blocks.proofs.Basics.{transactions_have_room, record_spent}
 
 -- ---- amounts
@@ -54,7 +57,7 @@ module _ (sizes : Super) where
         read (Some bytes) = same s
         read None = (s, same s, λ bytes. (s, refl, same s))
 
-    pub no_load : (inodestart n : ℕ) (content : Option Dinode) → Nothing (load_unless inodestart n content)
+    pub no_load : (inodestart n : ℕ) (content : Option Loaded) → Nothing (load_unless inodestart n content)
     no_load inodestart n (Some d) = same s
     no_load inodestart n None = records_bind (fetch (inode_block inodestart n)) (give_back (inode_block inodestart n) n) s s s (no_fetch (inode_block inodestart n)) (λ bytes. (s, same s, λ a. (s, refl, same s)))
 
@@ -68,35 +71,43 @@ module _ (sizes : Super) where
     pub no_block : (d : Dinode) (k : ℕ) → Nothing (fetch_block d k)
     no_block d k = no_at d (address k)
 
-    no_next : (o : Option Found) (next : P (Option Found)) → Nothing next → Nothing (or_next o next)
-    no_next (Some f) next rec = same s
-    no_next None next rec = rec
+    no_next : (o : Option Found) (x : IndexState) (next : IndexState → P Searched) → ((y : IndexState) → Nothing (next y)) → Nothing (or_next o x next)
+    no_next (Some f) x next rec = same s
+    no_next None x next rec = rec x
 
-    no_search : (n : ℕ) (aim : Aim) (d : Dinode) (k : ℕ) → Nothing (search_from n aim d k)
+    no_blocks : (n : ℕ) (aim : Aim) (d : Dinode) (k : ℕ) (x : IndexState) → Nothing (search_from n aim d k x)
     unfolding search_from
-    no_search zero aim d k = same s
-    no_search (suc n) aim d k =
-        records_bind (fetch_block d k) (look_at aim d k (search_from n aim d (k + 1))) s s s (no_block d k)
-        (λ f. (s, same s, λ a. (s, refl, no_next (found_in aim d k f.bytes) (search_from n aim d (k + 1)) (no_search n aim d (k + 1)))))
+    no_blocks zero aim d k x = same s
+    no_blocks (suc n) aim d k x =
+        records_bind (fetch_block d k) (look_at aim d k x (search_from n aim d (k + 1))) s s s (no_block d k)
+        (λ f. (s, same s, λ a. (s, refl, no_next (found_in aim d k f.bytes) (raised d k f.bytes x) (search_from n aim d (k + 1)) (no_blocks n aim d (k + 1)))))
 
-    no_slot : (o : Option Found) → Nothing (slot_found o)
+    no_search : (aim : Aim) (x : Loaded) → Nothing (search aim x)
+    no_search aim x =
+        no_next (first_of aim x.inode x.index) x.index (search_from (block_count x.inode - x.index.blocks) aim x.inode x.index.blocks) (no_blocks (block_count x.inode - x.index.blocks) aim x.inode x.index.blocks)
+
+    no_slot : (o : Searched) → Nothing (slot_found o)
     no_slot o = same s
 
     -- the slot of a name sought
-    no_sought : (d : Dinode) (e : Name) → Nothing (bind (search (Named e) d) slot_found)
-    no_sought d e = records_bind (search (Named e) d) slot_found s s s (no_search (block_count d) (Named e) d 0) no_slot
+    no_sought : (x : Loaded) (e : Name) → Nothing (bind (search (Named e) x) slot_found)
+    no_sought x e = records_bind (search (Named e) x) slot_found s s s (no_search (Named e) x) no_slot
 
     no_slot_of : (had : Had) (e : Name) → Nothing (slot_of had e)
     no_slot_of Apart e = same s
     no_slot_of (Has d NothingMore) e = no_sought d e
-    no_slot_of (Has d (Finds name k)) e = records_if (same_name name e) (Ret k) (bind (search (Named e) d) slot_found) s s (same s) (no_sought d e)
+    no_slot_of (Has d (Finds name k)) e = records_if (same_name name e) (Ret (k, d.index)) (bind (search (Named e) d) slot_found) s s (same s) (no_sought d e)
     no_slot_of (Has d (Opened fd offset)) e = no_sought d e
     no_slot_of Emptied e = same s
 
-    no_looked : (looking : Query) (c : Carry) (n : ℕ) (d : Dinode) → Nothing (looked looking c n d)
-    no_looked AtNothing c n d = same s
-    no_looked (AtName e) c n d = records_bind (lookup e d) (λ o. seen_record c n d (learned e o) (number_found o) true) s s s (records_if (is_live_directory d) (search (Named e) d) (Ret None) s s (no_search (block_count d) (Named e) d 0) (same s)) (λ o. same s)
-    no_looked AtEntries c n d = records_bind (search_entries d) (λ o. seen_record c n d NothingMore None (not (is_some o))) s s s (records_if (is_directory d) (search Entry d) (Ret None) s s (no_search (block_count d) Entry d 0) (same s)) (λ o. same s)
+    no_looked : (looking : Query) (c : Carry) (n : ℕ) (x : Loaded) → Nothing (looked looking c n x)
+    no_looked AtNothing c n x = same s
+    no_looked (AtName e) c n x =
+        records_bind (lookup e x) (λ o. seen_record c n (record { inode = x.inode; index = o.index }) (learned e o.found) (number_found o.found) true) s s s
+        (records_if (is_live_directory x.inode) (search (Named e) x) (Ret (record { found = None; index = x.index })) s s (no_search (Named e) x) (same s)) (λ o. same s)
+    no_looked AtEntries c n x =
+        records_bind (search_entries x) (λ o. seen_record c n (record { inode = x.inode; index = o.index }) NothingMore None (not (is_some o.found))) s s s
+        (records_if (is_directory x.inode) (search Entry x) (Ret (record { found = None; index = x.index })) s s (no_search Entry x) (same s)) (λ o. same s)
 
     no_stat : (c : Carry) (a : LockedState) → Nothing (stat_locked sizes c a)
     no_stat c (Refuses why) = same s
@@ -154,10 +165,10 @@ module _ (sizes : Super) where
     puts_record op m answer n d had c is =
         records_bind (fetch (inode_block sizes.inodestart n)) (put_record op m answer (inode_block sizes.inodestart n) n d had c) s s s (no_fetch s (inode_block sizes.inodestart n)) (λ bytes. (s, same s, λ a. (s, inl (is, refl), same s)))
 
-    puts_named : (n : ℕ) (e : Name) (d : Dinode) (c : Carry) (m : Unit {0} → Option above.Mark) → IsSpent sizes s (inode_block sizes.inodestart n)
-        → Records sizes s (bind (fetch (inode_block sizes.inodestart n)) (put_named (above.Clear n e) above.Room m (tt {0}) (inode_block sizes.inodestart n) n d c)) s
-    puts_named n e d c m is =
-        records_bind (fetch (inode_block sizes.inodestart n)) (put_named (above.Clear n e) above.Room m (tt {0}) (inode_block sizes.inodestart n) n d c) s s s (no_fetch s (inode_block sizes.inodestart n)) (λ bytes. (s, same s, λ a. (s, inl (is, refl), same s)))
+    puts_named : (n : ℕ) (e : Name) (x : Loaded) (c : Carry) (m : Unit {0} → Option above.Mark) → IsSpent sizes s (inode_block sizes.inodestart n)
+        → Records sizes s (bind (fetch (inode_block sizes.inodestart n)) (put_named (above.Clear n e) above.Room m (tt {0}) (inode_block sizes.inodestart n) n x c)) s
+    puts_named n e x c m is =
+        records_bind (fetch (inode_block sizes.inodestart n)) (put_named (above.Clear n e) above.Room m (tt {0}) (inode_block sizes.inodestart n) n x c) s s s (no_fetch s (inode_block sizes.inodestart n)) (λ bytes. (s, same s, λ a. (s, inl (is, refl), same s)))
 
     pub stores_inode : (n : ℕ) (d : Dinode) → IsSpent sizes s (inode_block sizes.inodestart n) → Records sizes s (store_inode sizes.inodestart n d) s
     stores_inode n d is =
@@ -204,21 +215,21 @@ module _ (sizes : Super) where
         let t : Spent = with_record n s in
         records_from (clear sizes n e c m) s t r (record_no_more n s)
         (records_bind (slot_of (c n) e) (clear_slot sizes n e c m) t t r (no_slot_of t (c n) e)
-        (λ k. records_bind (fetch_block (record_in c n) (k / dirents_per_block)) (clear_in sizes n e c m k) t t r (no_block t (record_in c n) (k / dirents_per_block))
-        (λ f. (t, same t, λ a. (r, inr refl, puts_named r n e (with_slot k (record_in c n)) c m (record_spent sizes n (with_contents 1 s)))))));
+        (λ at. records_bind (fetch_block (record_in c n) (at.0 / dirents_per_block)) (clear_in sizes n e c m at) t t r (no_block t (record_in c n) (at.0 / dirents_per_block))
+        (λ f. (t, same t, λ a. (r, inr refl, puts_named r n e (record { inode = with_slot at.0 (record_in c n); index = cleared at.0 at.1 }) c m (record_spent sizes n (with_contents 1 s)))))));
     store = λ n count c m s.
         let d : Dinode = record (record_in c n) { nlink = pos count } in
         let at : ℕ = inode_block sizes.inodestart n in
         let r : Spent = with_record n s in
-        records_from (bind (fetch at) (put_record (above.Store n count) m (tt {0}) at n d (Has d NothingMore) c)) s r r (record_no_more n s)
-        (puts_record r (above.Store n count) m (tt {0}) n d (Has d NothingMore) c (record_spent sizes n s));
+        records_from (bind (fetch at) (put_record (above.Store n count) m (tt {0}) at n d (Has (recorded_in c n d) NothingMore) c)) s r r (record_no_more n s)
+        (puts_record r (above.Store n count) m (tt {0}) n d (Has (recorded_in c n d) NothingMore) c (record_spent sizes n s));
     empty = λ n c m s.
         let d : Dinode = without_content (record_in c n) in
         let at : ℕ = inode_block sizes.inodestart n in
-        let last : P (Handover (Unit {0}) Carry) = bind (fetch at) (put_record (above.Empty n) m (tt {0}) at n d (Has d NothingMore) c) in
+        let last : P (Handover (Unit {0}) Carry) = bind (fetch at) (put_record (above.Empty n) m (tt {0}) at n d (Has (recorded_in c n d) NothingMore) c) in
         let r : Spent = with_record n (with_bitmap s) in
         records_from (give_content sizes (record_in c n) last) s r r (emptied n s)
-        (gives_content r (inr (refl, refl)) (record_in c n) last r (puts_record r (above.Empty n) m (tt {0}) n d (Has d NothingMore) c (record_spent sizes n (with_bitmap s))));
+        (gives_content r (inr (refl, refl)) (record_in c n) last r (puts_record r (above.Empty n) m (tt {0}) n d (Has (recorded_in c n d) NothingMore) c (record_spent sizes n (with_bitmap s))));
     slot = λ c m s. (s, same s, λ a. (s, refl, same s));
     install = λ f inode_type c m s. (s, same s, λ a. (s, refl, same s));
     stat_file = λ fd c m s. (s, same s, λ a. (s, refl, no_stat s c a));

@@ -1,5 +1,5 @@
 -- An operation that locks an inode and loads it acts where the lock is had: so the one that tells a descriptor's state.
-use Rattle.inodes_on_blocks.proofs.Vocabulary.{◌≡◌, ◌≢◌, inl, inr, ℕ, pos, ◌<◌, Bool, false, List, Option, Some, None, refl, sym, ◌∙◌, ap, subst, arith, if◌then◌else◌, IsSome, option_map, MatchOption, none-some, Dinode, Super, Node, NodeKind, Directory, File, Device, put, hart_count, same_or, put_same, put_other, is_number, is_free, IsInode, IsRecord, type_in, ExecResult, Waits, Ran, exec_result_in, Laws, Wp, Both, joined, Below, Lasts, Acting, acted, s-act, TablesState, file_named, lock_holder, LockedState, Refuses, Locks, refusal_of, lock_file, lock_unless, lock_inode, with_file, Outside, LockFile, MayLockFile, IsElsewhere, Face, face_of, face_or, Entry, StatFile, entry_at, slot_at, lock_if, locked, stat_at, marked, with_mark, Inv, ours_none, ours_some, lone_file, opens_slots, node_there, loaded, file_of, World, log_of, tables_of, inode_in, exec, Shows, NothingMore, Had, Has, Carry, IsLoaded, InHand, Base, Stands, below, Labels, labelled, Keeps, IsOpened, ActsOnceAt, face_in, inode_type_at, natural, stat_file, stat_locked, stat_loaded}
+use Rattle.inodes_on_blocks.proofs.Vocabulary.{◌≡◌, ◌≢◌, inl, inr, ℕ, pos, ◌<◌, Bool, false, List, Option, Some, None, refl, sym, ◌∙◌, ap, subst, arith, if◌then◌else◌, IsSome, option_map, MatchOption, none-some, Dinode, Super, Node, NodeKind, Directory, File, Device, put, hart_count, same_or, put_same, put_other, is_number, is_free, IsInode, IsRecord, type_in, ExecResult, Waits, Ran, exec_result_in, Laws, Wp, Both, joined, Below, Lasts, Acting, acted, s-act, TablesState, file_named, lock_holder, LockedState, Refuses, Locks, refusal_of, lock_file, lock_unless, lock_inode, with_file, Outside, LockFile, MayLockFile, IsElsewhere, Face, face_of, face_or, Entry, StatFile, entry_at, slot_at, lock_if, locked, stat_at, marked, with_mark, Inv, ours_none, ours_some, lone_file, opens_slots, node_there, loaded, file_of, World, log_of, tables_of, inode_in, exec, Shows, NothingMore, Had, Has, Carry, IsLoaded, InHand, Base, Stands, below, Labels, labelled, Keeps, IsOpened, ActsOnceAt, face_in, inode_type_at, natural, stat_file, stat_locked, stat_loaded, Loaded, unindexed, IsIndexOf, unwrap_or}
 use Rattle.fs_machine.specs.declared.files.Want.TheVariants as want
 use Rattle.fs_machine.specs.declared.files.OpenFile as files
 use Rattle.fs_machine.specs.declared.files.Refused.TheVariants as refused
@@ -10,7 +10,7 @@ use Rattle.inode_machine.specs.Exec as above_exec
 use Rattle.inode_machine.specs.Exec.{entry_of}
 use Rattle.inode_machine.specs.Rules as rules
 use Rattle.inodes_on_blocks.specs.ShownTables as tables
-use Rattle.inodes_on_blocks.proofs.Basics.{by_lock, place_there, names_at, file_is, none_new, below_laws, base_marked, tables_left, s-load, SameCode, marked_same, shows_marked, Came, with_tables, unlocked_holds, shows_then, base_then, open_alike}
+use Rattle.inodes_on_blocks.proofs.Basics.{by_lock, place_there, names_at, file_is, none_new, below_laws, base_marked, tables_left, s-load, SameCode, marked_same, shows_marked, Came, with_tables, unlocked_holds, shows_then, base_then, open_alike, indexed_none, indexed_less}
 use Rattle.inodes_on_blocks.proofs.SlotSteps.{in_tables_is, came_quiet, all_same}
 
 -- ---- a record shows its node's face
@@ -81,6 +81,20 @@ file_referred h fd v e inv lt is = by_slot (slot_at v h fd) refl
         let c = inv.counts e.file.number in
         (s, there, omega (arith, a, c))
 
+-- ---- what a hart has of an inode whose lock it gets
+
+-- what is loaded of it, else its record, whose names aren't indexed
+abbrev pub loads_of : World → ℕ → Loaded
+loads_of v n = unwrap_or (loaded (tables_of v) n) (unindexed (inode_in (log_of v) n))
+
+-- it is as it is seen, and its index is right
+pub loads_right : (v : World) (g : above.World) → Shows v g → (n : ℕ) → ((loads_of v n).inode ≡ inode_in (log_of v) n) × IsIndexOf (loads_of v n).index (g.disk n)
+loads_right v g shows n = by (loaded (tables_of v) n) refl
+  where
+    by : (o : Option Loaded) → loaded (tables_of v) n ≡ o → ((unwrap_or o (unindexed (inode_in (log_of v) n))).inode ≡ inode_in (log_of v) n) × IsIndexOf (unwrap_or o (unindexed (inode_in (log_of v) n))).index (g.disk n)
+    by None e = (refl, indexed_none (g.disk n))
+    by (Some x) e = (shows.loads.seen n x e, shows.loads.indexed n x e)
+
 module _ (l : Labels) (laws : Laws (labelled l)) (keeps : Keeps l) (h : ℕ) (lt : h < hart_count) where
   abbrev W : Type 0
   W = Both World above.World
@@ -90,7 +104,7 @@ module _ (l : Labels) (laws : Laws (labelled l)) (keeps : Keeps l) (h : ℕ) (lt
   -- of an inode that has a type: its record is in hand from there on, though it may have to be read yet
   pub lock_came : (op : above.Op) (n : ℕ) (v : W) (c : Carry) (b : above.Answer op) (t : TablesState) → Shows v.real v.seen → Base h v.real v.seen c → (v.seen.desks h).lender ≡ None → 0 < v.seen.refs n
       → v.seen.lock n ≡ None → v.real.new n ≡ None → v.seen.disk n ≢ None → above_exec.exec h above.Room op v.seen ≡ Ran b (locked h n v.seen) → tables.Shows t (locked h n v.seen) (put (loaded (tables_of v.real)) n None)
-      → Came l laws keeps h op v b (with_tables v.real t) (put c n (Has (inode_in (log_of v.real) n) NothingMore))
+      → Came l laws keeps h op v b (with_tables v.real t) (put c n (Has (loads_of v.real n) NothingMore))
   lock_came op n v c b t shows base free some unlocked old typed ran after = record {
     then_ = locked h n v.seen;
     ran = ran;
@@ -117,33 +131,34 @@ module _ (l : Labels) (laws : Laws (labelled l)) (keeps : Keeps l) (h : ℕ) (lt
             | inl q ↦ ap (put load n None) q ∙ put_same load n None
             | inr ne ↦ put_other load n None i ne ∙ shows.loads.typed i e
           ];
+          indexed = indexed_less load n v.seen.disk shows.loads.indexed;
         }) shows.offsets;
     same = tables_left h v.real t v.seen (locked h n v.seen) load (put load n None) shows.tables after
         (λ i. elim (same_or i n) [
           | inl q ↦ inr (ours_none h (v.seen.lock i) (ap v.seen.lock q ∙ unlocked), ours_some h (put v.seen.lock n (Some h) i) (ap (put v.seen.lock n (Some h)) q ∙ put_same v.seen.lock n (Some h)))
           | inr ne ↦ inl (put_other v.seen.lock n (Some h) i ne)
         ]);
-    base = base_then h lt v.real v.seen shows c (put c n (Has d NothingMore)) t (locked h n v.seen) (put load n None) base after free
+    base = base_then h lt v.real v.seen shows c (put c n (Has x NothingMore)) t (locked h n v.seen) (put load n None) base after free
         (λ i e. elim (same_or i n) [
-          | inl q ↦ inr (subst (λ (k : ℕ). InHand h k (put c n (Has d NothingMore) k) v.real (locked h n v.seen)) (sym q) hand)
+          | inl q ↦ inr (subst (λ (k : ℕ). InHand h k (put c n (Has x NothingMore) k) v.real (locked h n v.seen)) (sym q) hand)
           | inr ne ↦
               let was : v.seen.lock i ≡ Some h = sym (put_other v.seen.lock n (Some h) i ne) ∙ e in
-              inl (was, put_other v.seen.keeper n (Some h) i ne ∙ (base.inodes i (sym (shows.tables.places.holders i) ∙ was)).keeps, refl, put_other c n (Has d NothingMore) i ne, open_alike h i v.seen (locked h n v.seen) refl refl)
+              inl (was, put_other v.seen.keeper n (Some h) i ne ∙ (base.inodes i (sym (shows.tables.places.holders i) ∙ was)).keeps, refl, put_other c n (Has x NothingMore) i ne, open_alike h i v.seen (locked h n v.seen) refl refl)
         ]);
   }
     where
-      load : ℕ → Option Dinode
+      load : ℕ → Option Loaded
       load = loaded (tables_of v.real)
 
-      d : Dinode
-      d = inode_in (log_of v.real) n
+      x : Loaded
+      x = loads_of v.real n
 
-      hand : InHand h n (put c n (Has d NothingMore) n) v.real (locked h n v.seen)
+      hand : InHand h n (put c n (Has x NothingMore) n) v.real (locked h n v.seen)
       hand = record {
         keeps = put_same v.seen.keeper n (Some h);
-        loaded_is = subst (λ (o : Had). IsLoaded o (v.seen.disk n) d) (sym (put_same c n (Has d NothingMore))) (refl, typed, tt);
+        loaded_is = let right = loads_right v.real v.seen shows n in subst (λ (o : Had). IsLoaded o (v.seen.disk n) (inode_in (log_of v.real) n)) (sym (put_same c n (Has x NothingMore))) (right.0, typed, tt, right.1);
         holds = let range = shows.tables.range n some in unlocked_holds h lt v.real v.seen shows n unlocked old range.0 range.1;
-        opened = subst (λ (o : Had). IsOpened h n o (locked h n v.seen)) (sym (put_same c n (Has d NothingMore))) tt;
+        opened = subst (λ (o : Had). IsOpened h n o (locked h n v.seen)) (sym (put_same c n (Has x NothingMore))) tt;
       }
 
   -- ---- an operation acts where its step came so
@@ -212,7 +227,7 @@ module _ (l : Labels) (laws : Laws (labelled l)) (keeps : Keeps l) (h : ℕ) (lt
                   (g, (λ q. may.1 n (out ∙ ap (λ (z : ℕ). Some z) q)), sym (shows.tables.places.holders n) ∙ out)))
                   (λ u ran free after.
                   on_tables v x (Ran (Locks (file_of e) (loaded (tables_of v.real) n)) u) (lower ∙ ap (with_file (file_of e)) ran)
-                  (came_acting sizes (StatFile fd) m B C lasts v (premises.MayWait h (LockFile want.Stat fd) v.real.state) (Locks (file_of e) (loaded (tables_of v.real) n)) (with_tables v.real u) (Some (n, face_or (face_of (v.seen.disk n)))) (put c n (Has (inode_in (log_of v.real) n) NothingMore)) Next tt stands_v.1
+                  (came_acting sizes (StatFile fd) m B C lasts v (premises.MayWait h (LockFile want.Stat fd) v.real.state) (Locks (file_of e) (loaded (tables_of v.real) n)) (with_tables v.real u) (Some (n, face_or (face_of (v.seen.disk n)))) (put c n (Has (loads_of v.real n) NothingMore)) Next tt stands_v.1
                   (lock_came (StatFile fd) n v c (Some (n, face_or (face_of (v.seen.disk n)))) u shows stands_v.0 may.0 referred.2 free (file_old v.real v.seen shows referred.0 e inv referred.1) (file_typed v.seen referred.0 e inv referred.1 free)
                   (ap (stat_at h v.seen) is ∙ ap (lock_if h n (Some (n, face_or (face_of (v.seen.disk n)))) v.seen (locked h n v.seen)) free) after)
                   (λ g same_g stands_g gs inv_g done. loads v e shows free (file_old v.real v.seen shows referred.0 e inv referred.1) referred.2 (file_typed v.seen referred.0 e inv referred.1 free) u g after stands_g gs done))),
@@ -220,17 +235,17 @@ module _ (l : Labels) (laws : Laws (labelled l)) (keeps : Keeps l) (h : ℕ) (lt
           where
             loads : (v : W) (e : Entry) → Shows v.real v.seen → v.seen.lock e.file.number ≡ None → v.real.new e.file.number ≡ None → 0 < v.seen.refs e.file.number → v.seen.disk e.file.number ≢ None → (u : TablesState) (g : above.World)
                 → tables.Shows u (locked h e.file.number v.seen) (put (loaded (tables_of v.real)) e.file.number None)
-                → Stands sizes h (with_tables v.real u) g (put c e.file.number (Has (inode_in (log_of v.real) e.file.number) NothingMore)) → (gs : List l.Step) → C (Some (e.file.number, face_or (face_of (v.seen.disk e.file.number)))) gs g
+                → Stands sizes h (with_tables v.real u) g (put c e.file.number (Has (loads_of v.real e.file.number) NothingMore)) → (gs : List l.Step) → C (Some (e.file.number, face_or (face_of (v.seen.disk e.file.number)))) gs g
                 → Wp (joined (labelled l) (below sizes)) h B (Below (labelled l) (below sizes) h C) (stat_locked sizes c (Locks (file_of e) (loaded (tables_of v.real) e.file.number))) 3 gs (record { real = with_tables v.real u; seen = g })
             loads v e shows free old some typed u g after stands_g gs done =
                 let n = e.file.number in
-                let d = inode_in (log_of v.real) n in
+                let x = loads_of v.real n in
                 let range = shows.tables.range n some in
                 let b : Option (ℕ × Face) = Some (n, face_or (face_of (v.seen.disk n))) in
                 let holds = unlocked_holds h lt v.real v.seen shows n free old range.0 range.1 in
-                let answer : ◌≡◌ {A = Option (ℕ × Face)} (Some (n, face_in d)) b = ap (λ (f : Face). Some (n, f)) (face_held d (v.seen.disk n) holds.inode typed) in
+                let answer : ◌≡◌ {A = Option (ℕ × Face)} (Some (n, face_in x.inode)) b =
+                ap (λ (d : Dinode). Some (n, face_in d)) (loads_right v.real v.seen shows n).0 ∙ ap (λ (f : Face). Some (n, f)) (face_held (inode_in (log_of v.real) n) (v.seen.disk n) holds.inode typed) in
                 s-load sizes l laws keeps h lt B (Below (labelled l) (below sizes) h C) (C b) (acted (labelled l) (below sizes) laws (below_laws sizes l keeps) h B (StatFile fd) m C lasts b)
-                n (loaded (tables_of v.real) n) (put c n (Has d NothingMore)) (stat_loaded c n) 0 gs (record { real = with_tables v.real u; seen = g }) done stands_g
+                n (loaded (tables_of v.real) n) (put c n (Has x NothingMore)) (stat_loaded c n) 0 gs (record { real = with_tables v.real u; seen = g }) done stands_g
                 (sym (after.places.holders n) ∙ put_same v.seen.lock n (Some h)) (let top = range.1 in let size = shows.size in subst (λ (s : Super). n < s.ninodes) stands_g.1 (omega (arith, top, size)))
-                (λ x e. shows.loads.seen n x e)
                 (λ z fs same_z kept_z stage stands_z. (subst (λ (a : Option (ℕ × Face)). C a fs z.seen) (sym answer) stage, stands_z))

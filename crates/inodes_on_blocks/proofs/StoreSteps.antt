@@ -1,6 +1,6 @@
 -- An operation that puts an inode's record acts at the put.
-use Rattle.inodes_on_blocks.proofs.Vocabulary.{◌≡◌, ◌≢◌, inl, inr, ℕ, suc, pos, ◌<◌, true, false, List, length, Option, Some, None, refl, sym, ◌∙◌, ap, subst, arith, unwrap_or, none-some, Super, Dinode, IsDinode, sizes_of, IsOutsideLog, holder_of, has, HasRoom, Node, node_or, put, hart_count, same_or, put_same, put_other, UpToLog, numbers_of, HoldsAt, NamesOwned, IsInodePut, IsLaidOut, Ret, bind, once, Ran, Laws, Machine, Wp, Both, joined, Below, Lasts, Handover, Here, ToAct, to_act, may_act, Acting, s-act, lock_holder, LogPart, Outside, put_block, fetch, seen_of, Put, no_record, inode_block, with_dinode, Store, with_record, with_count, marked, with_mark, Inv, more, Owners, World, log_of, tables_of, disk_of, inode_in, owners_of, exec, CanPut, Shows, NothingMore, Had, Apart, Has, Emptied, Carry, record_had, IsLoaded, InHand, Base, Stands, below, Labels, labelled, Keeps, IsOpened, IsThrough, in_hand, HasBuffer, IsFetched, GivesRoom, record_in, put_record, store}
-use Rattle.inodes_on_blocks.proofs.Basics.{laid_before, node_held, count_laid, good_seen, marked_same, shows_marked, below_laws, base_marked, AllInHand, in_hand_then, lent_then, through_then, through_put, back_hand, buffer_then, buffer_seen, s-fetch, count_fits, may_put, after, lock_range, quiet_owners, node_then, AllBut, LastsInHand, Ready, inode_home, seen_dinode, untaken, place_in, can_record, then_, is_put, same_then, inode_then, others_then, none_then, open_alike}
+use Rattle.inodes_on_blocks.proofs.Vocabulary.{◌≡◌, ◌≢◌, inl, inr, ℕ, suc, pos, ◌<◌, true, false, List, length, Option, Some, None, refl, sym, ◌∙◌, ap, subst, arith, unwrap_or, none-some, Super, Dinode, IsDinode, sizes_of, IsOutsideLog, holder_of, has, HasRoom, Node, node_or, put, hart_count, same_or, put_same, put_other, UpToLog, numbers_of, HoldsAt, NamesOwned, IsInodePut, IsLaidOut, Ret, bind, once, Ran, Laws, Machine, Wp, Both, joined, Below, Lasts, Handover, Here, ToAct, to_act, may_act, Acting, s-act, lock_holder, LogPart, Outside, put_block, fetch, seen_of, Put, no_record, inode_block, with_dinode, Store, with_record, with_count, marked, with_mark, Inv, more, Owners, World, log_of, tables_of, disk_of, inode_in, owners_of, exec, CanPut, Shows, NothingMore, Had, Apart, Has, Emptied, Carry, record_had, IsLoaded, InHand, Base, Stands, below, Labels, labelled, Keeps, IsOpened, IsThrough, in_hand, HasBuffer, IsFetched, GivesRoom, record_in, put_record, store, unindexed, index_in, recorded_had, all_slots}
+use Rattle.inodes_on_blocks.proofs.Basics.{laid_before, node_held, count_laid, good_seen, marked_same, shows_marked, below_laws, base_marked, AllInHand, in_hand_then, lent_then, through_then, through_put, back_hand, buffer_then, buffer_seen, s-fetch, count_fits, may_put, after, lock_range, quiet_owners, node_then, AllBut, LastsInHand, Ready, inode_home, seen_dinode, untaken, place_in, can_record, then_, is_put, same_then, inode_then, others_then, none_then, open_alike, indexed_file, indexed_in}
 use Rattle.fs_machine.specs.Steps as steps
 use Rattle.fs_machine.specs.Premises as premises
 use Rattle.inode_machine.specs.World as above
@@ -173,7 +173,7 @@ module _ (sizes : Super) (l : Labels) (laws : Laws (labelled l)) (keeps : Keeps 
 
   -- the record in hand is the one that is seen, and the node's
   count_puts : (count : ℕ) (c : Carry) (v : W) → Shows v.real v.seen → rules.May h (Store n count) v.seen → AllInHand h c v.real v.seen
-      → PutsRecord h (Store n count) n tt (record (record_in c n) { nlink = pos count }) (Has (record (record_in c n) { nlink = pos count }) NothingMore) v.real v.seen
+      → PutsRecord h (Store n count) n tt (record (record_in c n) { nlink = pos count }) (Has (recorded_had c n (record (record_in c n) { nlink = pos count })) NothingMore) v.real v.seen
   count_puts count c v shows may all = by (c n) refl hand
     where
       mine : lock_holder n (tables_of v.real) ≡ Some h
@@ -195,12 +195,12 @@ module _ (sizes : Super) (l : Labels) (laws : Laws (labelled l)) (keeps : Keeps 
       is_old = seen_dinode v.real v.seen shows n (lock_range n h v.real v.seen shows may.1.0.0).1
 
       by : (o : Had) → c n ≡ o → InHand h n o v.real v.seen
-          → PutsRecord h (Store n count) n tt (record (record_in c n) { nlink = pos count }) (Has (record (record_in c n) { nlink = pos count }) NothingMore) v.real v.seen
+          → PutsRecord h (Store n count) n tt (record (record_in c n) { nlink = pos count }) (Has (recorded_had c n (record (record_in c n) { nlink = pos count })) NothingMore) v.real v.seen
       by Apart e none = absurd none.loaded_is
       by Emptied e none = absurd (none-some node (sym none.loaded_is.0 ∙ may.1.1.is))
       by (Has e l) is some =
           let laid = laid_before (disk_of (log_of v.real)) v.real.owner n node held in
-          let same : record_in c n ≡ old = ap (λ (o : Had). unwrap_or (record_had o) no_record) is ∙ some.loaded_is.0 in
+          let same : record_in c n ≡ old = ap (λ (o : Had). (unwrap_or (record_had o) (unindexed no_record)).inode) is ∙ some.loaded_is.0 in
           let becomes = count_laid (disk_of (log_of v.real)) v.real.owner n count old node laid.0 in
           let new_ : record (record_in c n) { nlink = pos count } ≡ record old { nlink = pos count } = ap (λ (x : Dinode). record x { nlink = pos count }) same in
           let laid_there : IsLaidOut (disk_of (log_of v.real)) v.real.owner n (record (record_in c n) { nlink = pos count }) (record node { count = count }) =
@@ -216,7 +216,7 @@ module _ (sizes : Super) (l : Labels) (laws : Laws (labelled l)) (keeps : Keeps 
             joined = may.1.0.1;
             free = may.0;
             is = subst IsDinode (sym new_) (count_fits old count node.count laid.0.inode.count is_old may.1.1.fits);
-            has = (refl, (λ z. none-some (record node { count = count }) (sym z)), tt);
+            has = (refl, (λ z. none-some (record node { count = count }) (sym z)), tt, indexed_file (index_in c n) (v.seen.disk n) (Some (record node { count = count })) (ap all_slots may.1.1.is) (indexed_in (c n) (v.seen.disk n) old hand.loaded_is));
             holds = λ new put_. node_held (disk_of (log_of v.real)) new v.real.owner n (record (record_in c n) { nlink = pos count }) (record node { count = count }) v_front bound put_ laid_there named_there;
           }
         where
@@ -233,5 +233,5 @@ module _ (sizes : Super) (l : Labels) (laws : Laws (labelled l)) (keeps : Keeps 
       → Wp M h B (Below (labelled l) (below sizes) h C) (store sizes n count c m) (suc (more (Store n count))) es w
   store_acts count m Knows gives c B C es w lasts todo stands knows =
       let d : Dinode = record (record_in c n) { nlink = pos count } in
-      record_acts (Store n count) m tt d (Has d NothingMore) c (λ v. tt) (AllInHand h c) (in_hand_then h c) (λ r g all i ne e. all i e) (λ v shows inv may all. count_puts count c v shows may all) Knows gives B C lasts es w todo
+      record_acts (Store n count) m tt d (Has (recorded_had c n d) NothingMore) c (λ v. tt) (AllInHand h c) (in_hand_then h c) (λ r g all i ne e. all i e) (λ v shows inv may all. count_puts count c v shows may all) Knows gives B C lasts es w todo
       (record { free = stands.0.free; taken = stands.0.taken; through = stands.0.through; lent = stands.0.lent; this = stands.0.inodes; at = stands.1 }) knows

@@ -1,5 +1,5 @@
 -- Each operation of one step on the tables acts at it.
-use Rattle.inodes_on_blocks.proofs.Vocabulary.{◌≡◌, ◌≢◌, inl, inr, ℕ, ◌<◌, Bool, true, false, Option, Some, None, refl, sym, ◌∙◌, ap, subst, IsSome, none-some, same_Some, Dinode, Node, put, hart_count, same_or, put_same, put_other, HoldsAt, Ran, Laws, Both, TablesState, unlock_inode, settle_inode, UnlockInode, SetDirectory, unlocked, ours_none, ours_some, loaded, World, log_of, tables_of, disk_of, inode_in, Shows, OffsetsShow, on_blocks, Same, Had, Apart, Has, Emptied, Carry, record_had, IsLoaded, InHand, Base, Labels, labelled, Keeps, give, ActsOnce}
+use Rattle.inodes_on_blocks.proofs.Vocabulary.{◌≡◌, ◌≢◌, inl, inr, ℕ, ◌<◌, Bool, true, false, Option, Some, None, refl, sym, ◌∙◌, ap, subst, IsSome, none-some, same_Some, Dinode, Node, put, hart_count, same_or, put_same, put_other, HoldsAt, Ran, Laws, Both, TablesState, unlock_inode, settle_inode, UnlockInode, SetDirectory, unlocked, ours_none, ours_some, loaded, World, log_of, tables_of, disk_of, inode_in, Shows, OffsetsShow, on_blocks, Same, Had, Apart, Has, Emptied, Carry, record_had, IsLoaded, InHand, Base, Labels, labelled, Keeps, give, ActsOnce, Loaded, IsIndexOf}
 use Rattle.fs_machine.specs.Steps as steps
 use Rattle.fs_machine.specs.Premises as premises
 use Rattle.inode_machine.specs.World as above
@@ -9,10 +9,16 @@ use Rattle.inodes_on_blocks.proofs.Basics.{part_same, locks_are_given, directori
 use Rattle.inodes_on_blocks.specs.Handlers.{settle}
 
 -- what is loaded of an inode in hand is as it is seen
-loaded_seen : (o : Had) (n : Option Node) (d e : Dinode) → IsLoaded o n d → record_had o ≡ Some e → e ≡ d
+loaded_seen : (o : Had) (n : Option Node) (d : Dinode) (e : Loaded) → IsLoaded o n d → record_had o ≡ Some e → e.inode ≡ d
 loaded_seen Apart n d e is q = absurd is
-loaded_seen (Has f l) n d e is q = same_Some e f (sym q) ∙ is.0
+loaded_seen (Has f l) n d e is q = ap (λ (x : Loaded). x.inode) (same_Some e f (sym q)) ∙ is.0
 loaded_seen Emptied n d e is q = absurd (none-some e q)
+
+-- and its index is right
+indexed_had : (o : Had) (n : Option Node) (d : Dinode) (e : Loaded) → IsLoaded o n d → record_had o ≡ Some e → IsIndexOf e.index n
+indexed_had Apart n d e is q = absurd is
+indexed_had (Has f l) n d e is q = subst (λ (x : Loaded). IsIndexOf x.index n) (same_Some f e q) is.3
+indexed_had Emptied n d e is q = absurd (none-some e q)
 
 some_loaded : (o : Had) (n : Option Node) (d : Dinode) → IsLoaded o n d → above_exec.is_dead n ≡ true → IsSome (record_had o)
 some_loaded Apart n d is dead = absurd is
@@ -45,7 +51,7 @@ module _ (l : Labels) (laws : Laws (labelled l)) (keeps : Keeps l) (h : ℕ) (lt
   -- by which the machine goes on, whichever operation it was
   module _ (n : ℕ) (v : World) (g : above.World) (c : Carry) (t : TablesState) (u : above.World) (shows : Shows v g) (base : Base h v g c) (mine : g.lock n ≡ Some h) (free : (g.desks h).lender ≡ None)
       (after : tables.Shows t u (put (loaded (tables_of v)) n (record_had (c n)))) (s : GivesBack n g u) where
-    abbrev load : ℕ → Option Dinode
+    abbrev load : ℕ → Option Loaded
     load = loaded (tables_of v)
 
     hand : InHand h n (c n) v g
@@ -84,6 +90,10 @@ module _ (l : Labels) (laws : Laws (labelled l)) (keeps : Keeps l) (h : ℕ) (lt
             | inl q ↦ ap (put load n (record_had (c n))) q ∙ put_same load n (record_had (c n)) ∙ untyped (c n) (g.disk n) (inode_in (log_of v) n) hand.loaded_is ((λ z. sym s.disk z (sym q z)) ∙ e)
             | inr ne ↦ put_other load n (record_had (c n)) i ne ∙ shows.loads.typed i ((λ z. sym s.disk z i) ∙ e)
           ];
+          indexed = λ i d e. elim (same_or i n) [
+            | inl q ↦ subst (IsIndexOf d.index) (λ z. sym s.disk z (sym q z)) (indexed_had (c n) (g.disk n) (inode_in (log_of v) n) d hand.loaded_is (sym (ap (put load n (record_had (c n))) q ∙ put_same load n (record_had (c n))) ∙ e))
+            | inr ne ↦ subst (IsIndexOf d.index) (λ z. sym s.disk z i) (shows.loads.indexed i d (sym (put_other load n (record_had (c n)) i ne) ∙ e))
+          ];
         }) (s.offsets shows.offsets)
 
     pub given_same : (other : ℕ) → other ≢ h → Same other v (with_tables v t)
@@ -119,7 +129,7 @@ module _ (l : Labels) (laws : Laws (labelled l)) (keeps : Keeps l) (h : ℕ) (lt
   unlocked_back n g true = record { disk = refl; lock = refl; refs = refl; keeper = λ i ne. refl; size = refl; joined = λ j. refl; lender = refl; opens = λ i ne. open_alike h i g (unlocked n g true) refl refl; offsets = λ old. old }
   unlocked_back n g false = record { disk = refl; lock = refl; refs = refl; keeper = λ i ne. put_other g.keeper n None i ne; size = refl; joined = λ j. refl; lender = refl; opens = λ i ne. open_alike h i g (unlocked n g false) refl refl; offsets = λ old. old }
 
-  pub unlocked_shows : (t : TablesState) (n : ℕ) (g : above.World) (load : ℕ → Option Dinode) (b : Bool) → tables.Shows t (record g { lock = put g.lock n None }) load → tables.Shows t (unlocked n g b) load
+  pub unlocked_shows : (t : TablesState) (n : ℕ) (g : above.World) (load : ℕ → Option Loaded) (b : Bool) → tables.Shows t (record g { lock = put g.lock n None }) load → tables.Shows t (unlocked n g b) load
   unlocked_shows t n g load true s = record { sound = s.sound; places = s.places; files = s.files; desks = s.desks; lenders = s.lenders; range = s.range }
   unlocked_shows t n g load false s = record { sound = s.sound; places = s.places; files = s.files; desks = s.desks; lenders = s.lenders; range = s.range }
 

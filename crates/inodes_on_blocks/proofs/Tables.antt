@@ -1,5 +1,5 @@
 -- The steps on the tables, each as an operation above.
-use Rattle.inodes_on_blocks.proofs.Vocabulary.{◌≡◌, ◌⊎◌, inl, inr, ℕ, ◌<◌, ◌≤◌, Bool, true, false, Option, Some, None, refl, sym, ◌∙◌, ap, subst, if◌then◌else◌, IsSome, none-some, same_Some, Dinode, Super, sizes_of, seen_in, Node, hart_count, HoldsAt, IsRunning, TablesState, loaded, is_joined, World, log_of, disk_of, inode_in, tables_of, Shows, LoadsShow, OffsetsShow, if_joined, on_blocks, unless_new, Had, Carry, IsLoaded, InHand, Base, IsOpened}
+use Rattle.inodes_on_blocks.proofs.Vocabulary.{◌≡◌, ◌⊎◌, inl, inr, ℕ, ◌<◌, ◌≤◌, Bool, true, false, Option, Some, None, refl, sym, ◌∙◌, ap, subst, if◌then◌else◌, IsSome, none-some, same_Some, Super, sizes_of, seen_in, Node, hart_count, HoldsAt, IsRunning, TablesState, loaded, is_joined, World, log_of, disk_of, inode_in, tables_of, Shows, LoadsShow, OffsetsShow, if_joined, on_blocks, unless_new, Had, Carry, IsLoaded, InHand, Base, IsOpened, Loaded}
 use Rattle.inodes_on_blocks.proofs.SeenDisks.{good_seen}
 use Rattle.inode_machine.specs.World as above
 use Rattle.inodes_on_blocks.specs.ShownTables as tables
@@ -11,7 +11,7 @@ abbrev pub with_tables : World → TablesState → World
 with_tables v t = record v { state = record (v.state) { tables = t } }
 
 -- what is loaded is what the tables have
-loads_so : (t : TablesState) (u : above.World) (load : ℕ → Option Dinode) → tables.Shows t u load → tables.Shows t u (loaded t)
+loads_so : (t : TablesState) (u : above.World) (load : ℕ → Option Loaded) → tables.Shows t u load → tables.Shows t u (loaded t)
 loads_so t u load s = record { sound = s.sound; places = record { counts = s.places.counts; holders = s.places.holders; loads = λ n. refl }; files = s.files; desks = s.desks; lenders = s.lenders; range = s.range }
 
 module _ (h : ℕ) (lt : h < hart_count) (v : World) (g : above.World) (shows : Shows v g) where
@@ -28,7 +28,7 @@ module _ (h : ℕ) (lt : h < hart_count) (v : World) (g : above.World) (shows : 
   abbrev pub LockStep : above.World → ℕ → Type 0
   LockStep u i = (u.lock i ≡ g.lock i) ⊎ (((g.lock i ≡ None) × (u.lock i ≡ Some h)) ⊎ ((u.lock i ≡ None) × HoldsAt (disk_of (log_of v)) v.owner i (on_blocks v.new g.disk i)))
 
-  pub shows_then : (t : TablesState) (u : above.World) (load : ℕ → Option Dinode) → tables.Shows t u load → u.disk ≡ g.disk → u.all.ninodes ≡ g.all.ninodes → ((j : ℕ) → (u.desks j).joined ≡ (g.desks j).joined) → ((i : ℕ) → LockStep u i)
+  pub shows_then : (t : TablesState) (u : above.World) (load : ℕ → Option Loaded) → tables.Shows t u load → u.disk ≡ g.disk → u.all.ninodes ≡ g.all.ninodes → ((j : ℕ) → (u.desks j).joined ≡ (g.desks j).joined) → ((i : ℕ) → LockStep u i)
       -- a new inode is kept and not loaded, and nobody has its lock
       → ((n k : ℕ) → v.new n ≡ Some k → (u.lock n ≡ None) × (u.keeper n ≡ Some k) × (load n ≡ None)) → LoadsShow load (log_of v) u.refs u.lock u.keeper u.disk → OffsetsShow u.files → Shows (with_tables v t) u
   shows_then t u load after disk size joined locks kept loads offsets =
@@ -55,7 +55,7 @@ module _ (h : ℕ) (lt : h < hart_count) (v : World) (g : above.World) (shows : 
         taken = shows.taken;
         commit = shows.commit;
         news = λ n k e. let now = kept n k e in new_kept n k (log_of v) g.lock g.keeper u.lock u.keeper (loaded (tables_of v)) (loaded t) now.0 now.1 (sym (after.places.loads n) ∙ now.2) (shows.news n k e);
-        loads = record { seen = λ n d e. loads.seen n d (after.places.loads n ∙ e); dead = λ n some free loose dead. subst IsSome (after.places.loads n) (loads.dead n some free loose dead); typed = λ n e. sym (after.places.loads n) ∙ loads.typed n e };
+        loads = record { seen = λ n d e. loads.seen n d (after.places.loads n ∙ e); dead = λ n some free loose dead. subst IsSome (after.places.loads n) (loads.dead n some free loose dead); typed = λ n e. sym (after.places.loads n) ∙ loads.typed n e; indexed = λ n d e. loads.indexed n d (after.places.loads n ∙ e) };
         offsets = offsets;
       }
     where
@@ -88,7 +88,7 @@ module _ (h : ℕ) (lt : h < hart_count) (v : World) (g : above.World) (shows : 
       changes i k (inr (inr back)) e = absurd (none-some k (sym (ap (if_joined u.desks) back.0) ∙ e))
 
   -- what the hart has then
-  pub base_then : (c d : Carry) (t : TablesState) (u : above.World) (load : ℕ → Option Dinode) → Base h v g c → tables.Shows t u load → (u.desks h).lender ≡ None
+  pub base_then : (c d : Carry) (t : TablesState) (u : above.World) (load : ℕ → Option Loaded) → Base h v g c → tables.Shows t u load → (u.desks h).lender ≡ None
       → ((i : ℕ) → u.lock i ≡ Some h → ((g.lock i ≡ Some h) × (u.keeper i ≡ Some h) × (u.disk i ≡ g.disk i) × (d i ≡ c i) × OpenStays h i g u) ⊎ InHand h i (d i) v u) → Base h (with_tables v t) u d
   base_then c d t u load base after free each = record {
     free = base.free;

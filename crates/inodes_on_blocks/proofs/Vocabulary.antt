@@ -58,8 +58,6 @@ pub use Rattle.image_tree.specs.Inodes.{indirect_numbers}
 pub use Rattle.inode_machine.specs.Budget.{with_number}
 pub use Rattle.inodes_on_blocks.specs.Seen.{AreSeen, AreSeenAlike, IsGoodSeen, IsRecoveredSo, IsSeenPut, is_in_log}
 unfoldable pub use Rattle.inodes_on_blocks.specs.Seen.{seen_blocks}
-pub use Rattle.directory.proofs.Searches.{else_found, found_first}
-unfoldable pub use Rattle.directory.proofs.Searches.{found_from}
 pub use Rattle.fs_machine.proofs.Showing.{put_shows, shows_its_puts}
 pub use Rattle.fs_machine.specs.Tables.{at_descriptor, if_there, is_directory_of, owed, with_desk}
 pub use Rattle.image_tree.proofs.MarkLemmas.{front_once, once_nil}
@@ -162,3 +160,8 @@ pub use Rattle.plain_tree.specs.declared.step.Action.{Action}
 pub use Rattle.plain_tree.specs.declared.step.Action.TheVariants.{Bump, Chdir, Close, Dup, Enter as EnterStep, Find, Fstat, Inherit, Mkdir, Open as OpenStep, Read as ReadStep, Truncate, Unbump, Unlink, WritePart}
 pub use Rattle.plain_tree.specs.declared.tree.Hart.{Hart}
 pub use Rattle.plain_tree.specs.VersionOne.{entry_bytes, refusal}
+pub use Rattle.fs_machine.specs.InMemory.{IndexState, Loaded, no_index, unindexed}
+pub use Rattle.inodes_on_blocks.specs.Indexes.{IsIndexOf, slot_read}
+pub use Rattle.directory.specs.Indexes.{IsIndex}
+pub use Rattle.directory.proofs.IndexChanges.{index_none, index_same}
+pub use Rattle.inodes_on_blocks.specs.Storing.{index_in, loaded_in as had_in, recorded_in as recorded_had}

@@ -1,9 +1,9 @@
 -- A piece is written into a locked file, and the operation acts where the lock is given up; or it is refused.
-use Rattle.inodes_on_blocks.proofs.Vocabulary.{◌≡◌, ⊎_elim, ℕ, zero, suc, ◌+◌, ◌-◌, ◌/◌, ◌<◌, ◌≤◌, ◌==◌, ◌&&◌, not, nat_lt, Bool, true, false, List, [], ◌∷◌, length, take, drop, Option, Some, None, refl, sym, ◌∙◌, ap, subst, arith, append_assoc, if◌then◌else◌, slice_index, max, unwrap_or, cases_lt, nat_tests, none-some, Dinode, Super, IsBytes, overwrite, IsDinode, largest_size, HoldsAt, Cause, BadOffset, TooBig, Node, NodeKind, Directory, File, Device, content, node_or, write_kind, hart_count, Ret, bind, Machine, Laws, P, Wp, Both, Handover, joined, Below, Lasts, ToAct, to_act, may_act, bind-assoc, Wp-more, lock_holder, inode_block, no_record, store_inode, Direct, InTable, table_of, blocks_between, WriteResult, front_of, grown, locate_at, locate_in_table, located, name_direct, store_written, take_one, with_table, write_blocks, write_located, Spent, size, with_bitmap, with_contents, with_inode, most_recorded, Wrote, WriteFile, with_bytes, Inv, World, log_of, tables_of, disk_of, inode_in, Apart, Emptied, Has, Had, Carry, IsLoaded, Stands, below, Labels, labelled, Keeps, record_had, IsChanging, HasSpent, Shows, ActsWithin, DoesItWithin, NoMore, record_in, deny_write, give_written, refused_in, write_file, write_unless, Answers, IsDone, alone}
+use Rattle.inodes_on_blocks.proofs.Vocabulary.{◌≡◌, ⊎_elim, ℕ, zero, suc, ◌+◌, ◌-◌, ◌/◌, ◌<◌, ◌≤◌, ◌==◌, ◌&&◌, not, nat_lt, Bool, true, false, List, [], ◌∷◌, length, take, drop, Option, Some, None, refl, sym, ◌∙◌, ap, subst, arith, append_assoc, if◌then◌else◌, slice_index, max, unwrap_or, cases_lt, nat_tests, none-some, Dinode, Super, IsBytes, overwrite, IsDinode, largest_size, HoldsAt, Cause, BadOffset, TooBig, Node, NodeKind, Directory, File, Device, content, node_or, write_kind, hart_count, Ret, bind, Machine, Laws, P, Wp, Both, Handover, joined, Below, Lasts, ToAct, to_act, may_act, bind-assoc, Wp-more, lock_holder, inode_block, no_record, store_inode, Direct, InTable, table_of, blocks_between, WriteResult, front_of, grown, locate_at, locate_in_table, located, name_direct, store_written, take_one, with_table, write_blocks, write_located, Spent, size, with_bitmap, with_contents, with_inode, most_recorded, Wrote, WriteFile, with_bytes, Inv, World, log_of, tables_of, disk_of, inode_in, Apart, Emptied, Has, Had, Carry, IsLoaded, Stands, below, Labels, labelled, Keeps, record_had, IsChanging, HasSpent, Shows, ActsWithin, DoesItWithin, NoMore, record_in, deny_write, give_written, refused_in, write_file, write_unless, Answers, IsDone, alone, unindexed, IsIndexOf, index_in, all_slots}
 use Rattle.plain_tree.specs.Steps.{is_file}
 use Rattle.inode_machine.specs.World as above
 use Rattle.inode_machine.specs.Rules as rules
-use Rattle.inodes_on_blocks.proofs.Basics.{alone_keeps, alone_laws, lasts_done, HasBlocks, blocks_start, blocks_end, extra, named_room, one_of, below_laws, lock_range, seen_dinode, both_more, record_spent, spent_stays, TakesStep, s-here}
+use Rattle.inodes_on_blocks.proofs.Basics.{alone_keeps, alone_laws, lasts_done, HasBlocks, blocks_start, blocks_end, extra, named_room, one_of, below_laws, lock_range, seen_dinode, both_more, record_spent, spent_stays, TakesStep, s-here, indexed_file, indexed_in}
 use Rattle.inodes_on_blocks.proofs.Changing.{Changing, changing_start}
 use Rattle.inodes_on_blocks.proofs.LocateSteps.{Between, Fits}
 use Rattle.inodes_on_blocks.proofs.NumberPuts.{sized}
@@ -146,7 +146,11 @@ module _ (sizes : Super) (l : Labels) (laws : Laws (labelled l)) (keeps : Keeps 
         by : (had : Had) → c n ≡ had → record_in c n ≡ d
         by Apart is = absurd (subst (λ (o : Had). IsLoaded o (v.seen.disk n) d) is (stands.0.inodes n mine).loaded_is)
         by Emptied is = absurd (none-some (file count fs) (sym (subst (λ (o : Had). IsLoaded o (v.seen.disk n) d) is (stands.0.inodes n mine).loaded_is).0 ∙ there))
-        by (Has x learned) is = ap (λ (o : Had). unwrap_or (record_had o) no_record) is ∙ (subst (λ (o : Had). IsLoaded o (v.seen.disk n) d) is (stands.0.inodes n mine).loaded_is).0
+        by (Has x learned) is = ap (λ (o : Had). (unwrap_or (record_had o) (unindexed no_record)).inode) is ∙ (subst (λ (o : Had). IsLoaded o (v.seen.disk n) d) is (stands.0.inodes n mine).loaded_is).0
+
+    -- a file has no names, before and after
+    indexed : (xs : List ℕ) → IsIndexOf (index_in c n) (Some (file count xs))
+    indexed xs = indexed_file (index_in c n) (v.seen.disk n) (Some (file count xs)) (ap all_slots there) (indexed_in (c n) (v.seen.disk n) d (stands.0.inodes n mine).loaded_is)
 
     -- with the inode's block and the bitmap
     spent_now : HasSpent sizes h mid v.real
@@ -158,7 +162,7 @@ module _ (sizes : Super) (l : Labels) (laws : Laws (labelled l)) (keeps : Keeps 
         → Wp M h B Q (bind (store_written sizes n (record { inode = e; upto = offset + k })) (give_written fd n offset bytes m c)) 4 hs u
     ends allowed e bs k u hs within now fits few =
         subst (λ (p : P M (Handover Wrote Carry)). Wp M h B Q p 4 hs u) (sym (bind-assoc (store_inode sizes.inodestart n last) (λ _. Ret wrote) (give_written fd n offset bytes m c)))
-        (s-stored sizes l laws keeps h lt B Q Todo (to_act (labelled l) (below sizes) laws (below_laws sizes l keeps) h B op m C lasts) n changes c (Some (file count fs)) last (file count (overwrite fs offset (take k bytes)))
+        (s-stored sizes l laws keeps h lt B Q Todo (to_act (labelled l) (below sizes) laws (below_laws sizes l keeps) h B op m C lasts) n changes c (Some (file count fs)) last (file count (overwrite fs offset (take k bytes))) (indexed (overwrite fs offset (take k bytes)))
         (sized_fits (max e.size (offset + k)) e (let size_is = fits.1 in let low = small in omega (arith, limit, within, size_is, low)) fits.0)
         (HasBlocks sizes h mid bs) (HasBlocks sizes h mid bs) (named_room sizes h (inode_block sizes.inodestart n) mid bs (record_spent sizes n (with_bitmap s)) (omega (arith, few, room)))
         (λ _. give_written fd n offset bytes m c wrote) 1 hs u now.stage now.shows

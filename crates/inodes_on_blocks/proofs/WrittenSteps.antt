@@ -1,5 +1,5 @@
 -- The end of a write: the inode's record is put unseen, and the operation acts where the lock is given up and the offset moves.
-use Rattle.inodes_on_blocks.proofs.Vocabulary.{◌≡◌, ◌≢◌, inl, inr, ℕ, suc, ◌+◌, ◌-◌, ◌<◌, ◌≤◌, ◌==◌, if◌then◌else◌, Bool, true, false, List, length, take, Option, Some, None, is_some, refl, sym, ◌∙◌, ap, subst, arith, option_map, IfSome, take_all, none-some, Dinode, Super, IsDinode, IsOutsideLog, holder_of, kept, has, HasRoom, largest_size, HoldsAt, Cause, Node, node_or, write_kind, put, hart_count, put_again, eq_is, eq_isnt, same_or, put_same, put_other, Ret, Do, bind, Ran, Machine, Laws, P, Wp, Both, Handover, joined, Below, Lasts, Acting, Here, Stable, ToAct, s-act, bind-assoc, Inode, unlock_inode, TablesState, file_named, lock_holder, Outside, fetch, seen_of, WriteResult, inode_block, put_inode, with_dinode, store_inode, Entry, Wrote, Whole, Stopped as Refused, Short, WriteFile, entry_at, offset_of, slot_at, unlocked, with_bytes, with_offset, with_record, write_at, write_if, wrote_in, marked, with_mark, HonestPiece, Idle, Inv, loaded, file_of, World, log_of, tables_of, disk_of, inode_in, exec, KeepsRoom, world_with, acts, in_hand, IsFetched, Apart, Base, Carry, Had, Has, InHand, IsLoaded, IsOpened, Keeps, Kept, Labels, NothingMore, Same, Stands, below, labelled, record_had, IsThrough, CanPut, IsChanging, log_with, Shows, give_written, deny_write}
+use Rattle.inodes_on_blocks.proofs.Vocabulary.{◌≡◌, ◌≢◌, inl, inr, ℕ, suc, ◌+◌, ◌-◌, ◌<◌, ◌≤◌, ◌==◌, if◌then◌else◌, Bool, true, false, List, length, take, Option, Some, None, is_some, refl, sym, ◌∙◌, ap, subst, arith, option_map, IfSome, take_all, none-some, Dinode, Super, IsDinode, IsOutsideLog, holder_of, kept, has, HasRoom, largest_size, HoldsAt, Cause, Node, node_or, write_kind, put, hart_count, put_again, eq_is, eq_isnt, same_or, put_same, put_other, Ret, Do, bind, Ran, Machine, Laws, P, Wp, Both, Handover, joined, Below, Lasts, Acting, Here, Stable, ToAct, s-act, bind-assoc, Inode, unlock_inode, TablesState, file_named, lock_holder, Outside, fetch, seen_of, WriteResult, inode_block, put_inode, with_dinode, store_inode, Entry, Wrote, Whole, Stopped as Refused, Short, WriteFile, entry_at, offset_of, slot_at, unlocked, with_bytes, with_offset, with_record, write_at, write_if, wrote_in, marked, with_mark, HonestPiece, Idle, Inv, loaded, file_of, World, log_of, tables_of, disk_of, inode_in, exec, KeepsRoom, world_with, acts, in_hand, IsFetched, Apart, Base, Carry, Had, Has, InHand, IsLoaded, IsOpened, Keeps, Kept, Labels, NothingMore, Same, Stands, below, labelled, record_had, IsThrough, CanPut, IsChanging, log_with, Shows, give_written, deny_write, Loaded, IsIndexOf, index_in, recorded_had}
 use Rattle.std.proofs.lemmas.List.{length-take}
 use Rattle.inodes_on_blocks.proofs.Basics.{untouched, locks_are_given, file_is, offsets_are_moved, kept_then, buffer_seen, buffer_then, s-fetch, base_marked, below_laws, hand_then, kept_disk, lent_then, through_then, through_put, empty_hand, inode_place, marked_same, shows_marked, open_same, open_then, lock_range, node_then, inode_home, untaken, stored_long, stored_bytes, one_step_from, with_tables}
 use Rattle.fs_machine.specs.declared.files.OpenFile as files
@@ -31,6 +31,8 @@ pub record IsWritten (h n : ℕ) (c : Carry) (o : Option Node) (d : Dinode) (x :
   pub taken : (b : ℕ) → r.taken b ≢ Some h
   pub through : IsThrough h r
   pub lent : ((g.desks h).lender ≡ None → ⊥) → Idle h g
+  -- the index that it has is right for that node
+  pub indexed : IsIndexOf (index_in c n) (Some x)
 
 -- it lasts while others step
 pub written_then : (h n : ℕ) (c : Carry) (o : Option Node) (d : Dinode) (x : Node) (v w : World) (g u : above.World) → Same h v w → Kept h g u → IsWritten h n c o d x v g → IsWritten h n c o d x w u
@@ -48,29 +50,30 @@ written_then h n c o d x v w g u same kept is =
       taken = untaken h v w same.taken is.taken;
       through = through_then h v w same.begun is.through;
       lent = lent_then h g u kept is.lent;
+      indexed = is.indexed;
     }
 
 -- above, once it is that node there, the hart has its record in hand
-written_base : (h n : ℕ) (c : Carry) (o : Option Node) (d : Dinode) (x : Node) (r : World) (g : above.World) → (g.desks h).lender ≡ None → IsWritten h n c o d x r g → Base h r (with_record g n (Some x)) (put c n (Has d NothingMore))
+written_base : (h n : ℕ) (c : Carry) (o : Option Node) (d : Dinode) (x : Node) (r : World) (g : above.World) → (g.desks h).lender ≡ None → IsWritten h n c o d x r g → Base h r (with_record g n (Some x)) (put c n (Has (recorded_had c n d) NothingMore))
 written_base h n c o d x r g free is = record {
   free = is.free;
   taken = is.taken;
   through = is.through;
   inodes = λ i e. elim (same_or i n) [
-    | inl q ↦ subst (λ (j : ℕ). InHand h j (put c n (Has d NothingMore) j) r (with_record g n (Some x))) (sym q) this
-    | inr ne ↦ subst (λ (z : Had). InHand h i z r (with_record g n (Some x))) (sym (put_other c n (Has d NothingMore) i ne)) (other i ne (is.others i ne e))
+    | inl q ↦ subst (λ (j : ℕ). InHand h j (put c n (Has (recorded_had c n d) NothingMore) j) r (with_record g n (Some x))) (sym q) this
+    | inr ne ↦ subst (λ (z : Had). InHand h i z r (with_record g n (Some x))) (sym (put_other c n (Has (recorded_had c n d) NothingMore) i ne)) (other i ne (is.others i ne e))
   ];
   lent = λ some. absurd (some free);
 }
   where
-    this : InHand h n (put c n (Has d NothingMore) n) r (with_record g n (Some x))
+    this : InHand h n (put c n (Has (recorded_had c n d) NothingMore) n) r (with_record g n (Some x))
     this = record {
       keeps = is.keeps;
       loaded_is =
-          subst (λ (z : Had). IsLoaded z (put g.disk n (Some x) n) (inode_in (log_of r) n)) (sym (put_same c n (Has d NothingMore)))
-          (sym is.inode, (λ z. none-some x (sym z ∙ put_same g.disk n (Some x))), tt);
+          subst (λ (z : Had). IsLoaded z (put g.disk n (Some x) n) (inode_in (log_of r) n)) (sym (put_same c n (Has (recorded_had c n d) NothingMore)))
+          (sym is.inode, (λ z. none-some x (sym z ∙ put_same g.disk n (Some x))), tt, subst (IsIndexOf (index_in c n)) (sym (put_same g.disk n (Some x))) is.indexed);
       holds = subst (λ (v : Option Node). HoldsAt (disk_of (log_of r)) r.owner n v) (sym (put_same g.disk n (Some x))) is.holds;
-      opened = subst (λ (z : Had). IsOpened h n z (with_record g n (Some x))) (sym (put_same c n (Has d NothingMore))) tt;
+      opened = subst (λ (z : Had). IsOpened h n z (with_record g n (Some x))) (sym (put_same c n (Has (recorded_had c n d) NothingMore))) tt;
     }
 
     other : (i : ℕ) → i ≢ n → InHand h i (c i) r g → InHand h i (c i) r (with_record g n (Some x))
@@ -101,7 +104,7 @@ module _ (sizes : Super) (l : Labels) (laws : Laws (labelled l)) (keeps : Keeps 
   M = joined (labelled l) (below sizes)
 
   module _ {A : Type 0} (Q : A → List l.Step → W → Type 0) (G : List l.Step → above.World → Type 0) (stable : Stable (labelled l) (below sizes) laws (below_laws sizes l keeps) h B G)
-      (n : ℕ) (changes : (fs : List l.Step) (g : above.World) → G fs g → Inv g → IsChanging h n g) (c : Carry) (o : Option Node) (d : Dinode) (x : Node) (fits : IsDinode d)
+      (n : ℕ) (changes : (fs : List l.Step) (g : above.World) → G fs g → Inv g → IsChanging h n g) (c : Carry) (o : Option Node) (d : Dinode) (x : Node) (right : IsIndexOf (index_in c n) (Some x)) (fits : IsDinode d)
       (Knows Then : World → Type 0) (room : KeepsRoom h (inode_block sizes.inodestart n) Knows Then) (k : Unit {0} → P M A) (j : ℕ) where
     abbrev b : ℕ
     b = inode_block sizes.inodestart n
@@ -143,6 +146,7 @@ module _ (sizes : Super) (l : Labels) (laws : Laws (labelled l)) (keeps : Keeps 
                   taken = none_taken h n c o d x r g shows changing is fits can;
                   through = through_put h r (world_with h (at r) (recording.with_record n d r) r) (log_with h (at r) (recording.with_record n d r) r) refl refl changing.through;
                   lent = changing.lent;
+                  indexed = right;
                 };
                 kept = kept_;
                 shows = shows_then;
@@ -196,7 +200,7 @@ module _ (sizes : Super) (l : Labels) (laws : Laws (labelled l)) (keeps : Keeps 
 -- ---- the act
 
 -- the tables show nothing of records, nor who keeps an inode alone
-changed_shows : (t : TablesState) (n : ℕ) (g : above.World) (x : Option Node) (load : ℕ → Option Dinode) (o : Option ℕ) (e : Entry) (by : ℕ) (b : Bool) → tables.Shows t (with_offset (record g { lock = put g.lock n None }) o e by) load
+changed_shows : (t : TablesState) (n : ℕ) (g : above.World) (x : Option Node) (load : ℕ → Option Loaded) (o : Option ℕ) (e : Entry) (by : ℕ) (b : Bool) → tables.Shows t (with_offset (record g { lock = put g.lock n None }) o e by) load
     → tables.Shows t (with_offset (unlocked n (with_record g n x) b) o e by) load
 changed_shows t n g x load None e by true s = record { sound = s.sound; places = s.places; files = s.files; desks = s.desks; lenders = s.lenders; range = s.range }
 changed_shows t n g x load None e by false s = record { sound = s.sound; places = s.places; files = s.files; desks = s.desks; lenders = s.lenders; range = s.range }
@@ -221,7 +225,7 @@ module _ (l : Labels) (laws : Laws (labelled l)) (keeps : Keeps l) (h : ℕ) (lt
   module _ (y : above.Outside) (b : Wrote) (bs : List ℕ) (honest : HonestPiece bytes y) (goes : (g : above.World) (s : Option ℕ) (e : Entry) → write_in g s e n bytes y ≡ Ran b (wrote_in g s e n bs))
       (node : Node) (d : Dinode) (allowed : write_kind node.kind offset bytes ≡ None) (short : offset ≤ largest_size → offset + length bs ≤ largest_size) where
     abbrev inode : Inode
-    inode = record { number = n; content = Some d }
+    inode = record { number = n; content = Some (recorded_had c n d) }
 
     abbrev unlock : steps.Op
     unlock = steps.Unlock inode (Some (fd, offset + length bs))
@@ -259,17 +263,17 @@ module _ (l : Labels) (laws : Laws (labelled l)) (keeps : Keeps l) (h : ℕ) (lt
         ∙ (λ z. Ran b (with_offset (unlocked n (with_record g n (Some (with_bytes (at z) bs (was z)))) (g.alone n)) (slot_at g h fd) e (length bs))) in
         let moved = offsets_are_moved h fd (length bs) e inode t g (loaded t) shows.tables inv runs lock is in
         let tables_then : TablesState = unlock_inode h inode (Some (fd, offset + length bs)) t in
-        let had : Carry = put c n (Has d NothingMore) in
+        let had : Carry = put c n (Has (recorded_had c n d) NothingMore) in
         let after : tables.Shows tables_then then_ (put (loaded t) n (record_had (had n))) =
-        subst (λ (z : Had). tables.Shows tables_then then_ (put (loaded t) n (record_had z))) (sym (put_same c n (Has d NothingMore)))
-        (changed_shows tables_then n g (Some x) (put (loaded t) n (Some d)) (slot_at g h fd) e (length bs) (g.alone n)
-        (subst (λ (k : ℕ). tables.Shows (unlock_inode h inode (Some (fd, k + length bs)) t) (with_offset (record g { lock = put g.lock n None }) (slot_at g h fd) e (length bs)) (put (loaded t) n (Some d))) at moved)) in
+        subst (λ (z : Had). tables.Shows tables_then then_ (put (loaded t) n (record_had z))) (sym (put_same c n (Has (recorded_had c n d) NothingMore)))
+        (changed_shows tables_then n g (Some x) (put (loaded t) n (Some (recorded_had c n d))) (slot_at g h fd) e (length bs) (g.alone n)
+        (subst (λ (k : ℕ). tables.Shows (unlock_inode h inode (Some (fd, k + length bs)) t) (with_offset (record g { lock = put g.lock n None }) (slot_at g h fd) e (length bs)) (put (loaded t) n (Some (recorded_had c n d)))) at moved)) in
         let back : GivesBack l laws keeps h lt n after_ then_ = subst (λ (o : Option ℕ). GivesBack l laws keeps h lt n after_ (with_offset (unlocked n after_ (g.alone n)) o e (length bs))) (sym slot) (moved_back l laws keeps h lt n after_ s e (length bs) (g.alone n) there number far) in
         let shows_ = node_then h n u.real g (Some x) shows lock joined_ in
         let base_ = written_base h n c (Some node) d x u.real g may.0 written in
         let real_then : World = with_tables u.real tables_then in
         let shows_then = given_shows l laws keeps h lt n u.real after_ had tables_then then_ shows_ base_ lock may.0 after back in
-        let base_then : Base h real_then then_ (put c n Apart) = subst (Base h real_then then_) (put_again c n (Has d NothingMore) Apart) (given_base l laws keeps h lt n u.real after_ had tables_then then_ shows_ base_ lock may.0 after back) in
+        let base_then : Base h real_then then_ (put c n Apart) = subst (Base h real_then then_) (put_again c n (Has (recorded_had c n d) NothingMore) Apart) (given_base l laws keeps h lt n u.real after_ had tables_then then_ shows_ base_ lock may.0 after back) in
         let s_ = marked_same h (m b) then_ in (
           (sym (shows.tables.places.holders n) ∙ lock, (omega (arith, far, at), subst (λ (z : Option files.OpenFile). IfSome z (λ f. f.number ≡ n)) (sym name) number)),
           λ a t_. (
@@ -307,7 +311,7 @@ module _ (l : Labels) (laws : Laws (labelled l)) (keeps : Keeps l) (h : ℕ) (lt
         Goes : Bool → ℕ → Type 0
         Goes t upto =
             Wp (joined (labelled l) (below sizes)) h B Q
-            (Do (steps.Unlock (record { number = n; content = Some f.inode }) (Some (fd, upto))) (λ a. acts op (if t then above.Room else above.RoomFor (f.upto - offset)) m) (λ a. answers (if t then Whole else Short (f.upto - offset)))) 1 es w
+            (Do (steps.Unlock (record { number = n; content = Some (recorded_had c n f.inode) }) (Some (fd, upto))) (λ a. acts op (if t then above.Room else above.RoomFor (f.upto - offset)) m) (λ a. answers (if t then Whole else Short (f.upto - offset)))) 1 es w
 
         at_front : f.upto ≡ offset + length front
         at_front = ends ∙ ap (λ (j : ℕ). offset + j) (sym long)

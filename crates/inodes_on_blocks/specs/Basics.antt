@@ -14,4 +14,5 @@ pub use Rattle.inodes_on_blocks.specs.Seen.{AreSeen, AreSeenAlike, IsGoodSeen, I
 unfoldable pub use Rattle.inodes_on_blocks.specs.Seen.{seen_blocks}
 pub use Rattle.inodes_on_blocks.specs.Shown.{Shows, TakenShow}
 pub use Rattle.inodes_on_blocks.specs.ShownTables.{BothCame, Runs, doubled_as, file_of, given_as, kind_of, loaded, new_file, refused_as, shut_as}
-pub use Rattle.inodes_on_blocks.specs.Storing.{put_record, record_in, store}
+pub use Rattle.inodes_on_blocks.specs.Storing.{index_in, loaded_in, put_record, record_in, recorded_in, store, with_index}
+pub use Rattle.inodes_on_blocks.specs.Indexes.{IsIndexOf, slot_read}

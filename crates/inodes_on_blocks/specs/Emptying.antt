@@ -3,7 +3,7 @@
 use Rattle.std.specs.Prelude.{ℕ, take}
 use Rattle.inodes_on_blocks.specs.Vocabulary.{Super, Dinode, bind, fetch, inode_block, store_inode, table_of, free_numbers, free_indirect, without_content, freed, Empty, Free}
 use Rattle.inode_data.specs.Widths.{direct}
-use Rattle.inodes_on_blocks.specs.Basics.{NothingMore, Has, Emptied, P, Handler, record_in, put_record}
+use Rattle.inodes_on_blocks.specs.Basics.{NothingMore, Has, Emptied, P, Handler, record_in, recorded_in, put_record}
 
 -- all blocks of the inode with this record are given back, and then it goes on
 abbrev pub give_content : {A : Type 0} → Super → Dinode → P A → P A
@@ -14,7 +14,8 @@ abbrev pub empty : (sizes : Super) (n : ℕ) → Handler (Empty n)
 empty sizes n c m =
     let d : Dinode = without_content (record_in c n) in
     give_content sizes (record_in c n)
-    (bind (fetch (inode_block sizes.inodestart n)) (put_record (Empty n) m tt (inode_block sizes.inodestart n) n d (Has d NothingMore) c))
+    (bind (fetch (inode_block sizes.inodestart n))
+    (put_record (Empty n) m tt (inode_block sizes.inodestart n) n d (Has (recorded_in c n d) NothingMore) c))
 
 -- It goes there so, and then without a type; there the inode is free, and the hart has nothing of it.
 abbrev pub free : (sizes : Super) (n : ℕ) → Handler (Free n)

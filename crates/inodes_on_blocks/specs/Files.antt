@@ -1,6 +1,6 @@
 -- The programs below of reading an open file. On a disk of these sizes; c: what the hart has of the inodes whose locks it has.
 use Rattle.std.specs.Prelude.{ℕ, ◌+◌, List, [], Option, Some}
-use Rattle.inodes_on_blocks.specs.Vocabulary.{Ret, Do, bind, Handover, Dinode, Super, LockedState, Refuses, Locks, load_unless, FilledMemory, read_from, put, LockResult, NotLocked, LocksIt, LockFile, LockOpen, ReadFile}
+use Rattle.inodes_on_blocks.specs.Vocabulary.{Ret, Do, bind, Handover, Loaded, Super, LockedState, Refuses, Locks, load_unless, FilledMemory, read_from, put, LockResult, NotLocked, LocksIt, LockFile, LockOpen, ReadFile}
 use Rattle.fs_machine.specs.declared.files.OpenFile.{OpenFile}
 use Rattle.fs_machine.specs.declared.files.Want.TheVariants as want
 use Rattle.fs_machine.specs.Steps as steps
@@ -10,8 +10,8 @@ use Rattle.inodes_on_blocks.specs.Basics.{Carry, Opened, Apart, Has, record_had,
 -- ---- locked, by a descriptor
 
 -- the record in hand, and where the file stands
-abbrev pub with_file : {A : Type 0} → A → Carry → (fd n offset : ℕ) → Dinode → P (Handover A Carry)
-with_file a c fd n offset d = Ret (record { answer = a; carry = put c n (Has d (Opened fd offset)) })
+abbrev pub with_file : {A : Type 0} → A → Carry → (fd n offset : ℕ) → Loaded → P (Handover A Carry)
+with_file a c fd n offset l = Ret (record { answer = a; carry = put c n (Has l (Opened fd offset)) })
 
 abbrev pub file_locked : Super → (fd : ℕ) → Carry → LockedState → P (Handover LockResult Carry)
 file_locked sizes fd c (Refuses why) = Ret (record { answer = NotLocked (cause_of why); carry = c })
@@ -22,7 +22,7 @@ file_locked sizes fd c (Locks f content) =
 abbrev pub lock_file : Super → (fd : ℕ) → Handler (LockFile fd)
 lock_file sizes fd c m = Do (steps.LockFile want.Read fd) (λ a. acts (LockFile fd) above.Room m) (file_locked sizes fd c)
 
-abbrev pub open_locked : Super → (fd : ℕ) → Carry → OpenFile × Option Dinode → P (Handover (ℕ × ℕ) Carry)
+abbrev pub open_locked : Super → (fd : ℕ) → Carry → OpenFile × Option Loaded → P (Handover (ℕ × ℕ) Carry)
 open_locked sizes fd c locked = bind (load_unless sizes.inodestart locked.0.number locked.1)
     (with_file (locked.0.number, locked.0.offset) c fd locked.0.number locked.0.offset)
 

@@ -1,6 +1,6 @@
 -- The programs below of operations on whole inodes. c: what the hart has of the inodes whose locks it has.
 use Rattle.std.specs.Prelude.{ℕ, Bool, true, false, Option, Some, None, is_some}
-use Rattle.inodes_on_blocks.specs.Vocabulary.{Prog, Ret, Do, Act, Handover, holding, Cause, OpenFile, put, root, descriptor_count, Dinode, Refused, Doubled, Given, DroppedState, Counts, Keeps, Dies, after_leave, Whom, Number, Held, Walked, Freed, InodeType, LoanResult, Lent, Moved, UnlockInode, UpStart, Up, WalkDown, Down, Forget, Slot, Install, CheckFile, JoinFile, Double, Shut, SetDirectory, Lend, LendDirectory, Release, Join, Leave, Say}
+use Rattle.inodes_on_blocks.specs.Vocabulary.{Prog, Ret, Do, Act, Handover, holding, Cause, OpenFile, put, root, descriptor_count, Loaded, Refused, Doubled, Given, DroppedState, Counts, Keeps, Dies, after_leave, Whom, Number, Held, Walked, Freed, InodeType, LoanResult, Lent, Moved, UnlockInode, UpStart, Up, WalkDown, Down, Forget, Slot, Install, CheckFile, JoinFile, Double, Shut, SetDirectory, Lend, LendDirectory, Release, Join, Leave, Say}
 use Rattle.plain_tree.specs.declared.answer.Cause.TheVariants as causes
 use Rattle.fs_machine.specs.declared.files.Refused.TheVariants as refused
 use Rattle.fs_machine.specs.declared.files.Want.TheVariants as want
@@ -46,9 +46,9 @@ is_dying Keeps = false
 is_dying (Dies n d) = true
 
 -- a record that came with a lock
-abbrev pub had_of : Option Dinode → Had
+abbrev pub had_of : Option Loaded → Had
 had_of None = Apart
-had_of (Some d) = Has d NothingMore
+had_of (Some l) = Has l NothingMore
 
 -- the lock of inode n, that is to be freed, came into hand
 abbrev pub with_dying : ℕ → Carry → DroppedState → Carry

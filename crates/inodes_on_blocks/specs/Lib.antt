@@ -30,6 +30,7 @@ pub mod Programs
 pub mod ShownTables
 pub mod TableLaws
 pub mod Holds
+pub mod Indexes
 pub mod Puts
 pub mod Running
 pub mod Seen

@@ -1,7 +1,8 @@
 -- The machine below as a layer under the machine of whole inodes: what a hart has in it, and what the others leave of that.
 use Rattle.std.specs.Prelude.{◌≡◌, ◌≢◌, ℕ, ◌<◌, List, length, Bool, true, false, Option, Some, None, is_some, slice_get, slice_index_or}
-use Rattle.inodes_on_blocks.specs.Vocabulary.{Dinode, Super, count_of, is_held_by, holder_of, kept, has, Phase, Node, DirectorySlot, Name, same_name, all_slots, hart_count, descriptor_count, is_free, Machine, LowerLayer, lock_holder, LogPart, Outside, seen_of, Entry, go, if_kept, is_hart, own_of, Idle, KeepsFiles, Inv}
+use Rattle.inodes_on_blocks.specs.Vocabulary.{Dinode, Loaded, Super, count_of, is_held_by, holder_of, kept, has, Phase, Node, DirectorySlot, Name, same_name, all_slots, hart_count, descriptor_count, is_free, Machine, LowerLayer, lock_holder, LogPart, Outside, seen_of, Entry, go, if_kept, is_hart, own_of, Idle, KeepsFiles, Inv}
 use Rattle.inodes_on_blocks.specs.Holds.{HoldsAt}
+use Rattle.inodes_on_blocks.specs.Indexes.{IsIndexOf}
 use Rattle.inodes_on_blocks.specs.Puts.{IsUntouched}
 use Rattle.fs_machine.specs.Steps as steps
 use Rattle.fs_machine.specs.Premises as premises
@@ -73,7 +74,7 @@ pub data Knowledge : Type 0 where
 -- what it has of an inode: nothing, where the lock isn't its own; the record, and what it learned; or that it has freed it
 pub data Had : Type 0 where
   Apart : Had
-  Has : Dinode → Knowledge → Had
+  Has : Loaded → Knowledge → Had
   Emptied : Had
 
 abbrev pub Carry : Type 0
@@ -83,9 +84,9 @@ abbrev pub nothing : Carry
 nothing i = Apart
 
 -- the record, as the lock goes back with it
-abbrev pub record_had : Had → Option Dinode
+abbrev pub record_had : Had → Option Loaded
 record_had Apart = None
-record_had (Has d l) = Some d
+record_had (Has l k) = Some l
 record_had Emptied = None
 
 abbrev pub has_name : Name → Option DirectorySlot → Bool
@@ -125,7 +126,7 @@ IsOpened h i Emptied w = Unit {0}
 -- what it has of an inode whose lock it has
 abbrev pub IsLoaded : Had → Option Node → Dinode → Type 0
 IsLoaded Apart v d = ⊥
-IsLoaded (Has e l) v d = (e ≡ d) × (v ≢ None) × IsKnown l v
+IsLoaded (Has l k) v d = (l.inode ≡ d) × (v ≢ None) × IsKnown k v × IsIndexOf l.index v
 IsLoaded Emptied v d = (v ≡ None) × (is_free d ≡ true)
 
 -- an inode whose lock it has: it keeps that above, and the blocks hold what that is above

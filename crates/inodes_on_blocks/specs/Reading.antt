@@ -1,6 +1,6 @@
 -- The programs below of the operations that lock an inode and read it. sizes: of the mounted image.
 use Rattle.std.specs.Prelude.{ℕ, ℤ, pos, negsuc, Bool, true, not, Option, Some, None, is_some, if◌then◌else◌}
-use Rattle.inodes_on_blocks.specs.Vocabulary.{option_map, Ret, Do, bind, Handover, Dinode, Super, Found, is_directory, lookup, search, Lock, LockedState, Refuses, Locks, is_number, is_free, InodeType, OfDirectory, OfFile, OfDevice, Face, Sight, Query, AtNothing, AtName, AtEntries, Take, StatFile, load_unless, Name, put}
+use Rattle.inodes_on_blocks.specs.Vocabulary.{option_map, Ret, Do, bind, Handover, Dinode, Loaded, Super, Found, Searched, is_directory, lookup, search, Lock, LockedState, Refuses, Locks, is_number, is_free, InodeType, OfDirectory, OfFile, OfDevice, Face, Sight, Query, AtNothing, AtName, AtEntries, Take, StatFile, load_unless, Name, put}
 use Rattle.directory.specs.Programs.{Entry}
 use Rattle.fs_machine.specs.Steps.{LockFile}
 use Rattle.fs_machine.specs.declared.files.Want.TheVariants as want
@@ -23,8 +23,8 @@ face_in d = record { inode_type = inode_type_at d.kind d.major; count = natural 
 -- ---- a descriptor's inode, locked to tell its state
 
 -- the record in hand, and the answer by it
-abbrev pub stat_loaded : Carry → (n : ℕ) → Dinode → P (Handover (Option (ℕ × Face)) Carry)
-stat_loaded c n d = Ret (record { answer = Some (n, face_in d); carry = put c n (Has d NothingMore) })
+abbrev pub stat_loaded : Carry → (n : ℕ) → Loaded → P (Handover (Option (ℕ × Face)) Carry)
+stat_loaded c n l = Ret (record { answer = Some (n, face_in l.inode); carry = put c n (Has l NothingMore) })
 
 abbrev pub stat_locked : Super → Carry → LockedState → P (Handover (Option (ℕ × Face)) Carry)
 stat_locked sizes c (Refuses why) = Ret (record { answer = None; carry = c })
@@ -41,8 +41,8 @@ abbrev pub number_found : Option Found → Option ℕ
 number_found o = option_map (λ f. f.number) o
 
 -- a slot that is used past the first two: where the inode is no directory there is none
-abbrev pub search_entries : Dinode → P (Option Found)
-search_entries d = if is_directory d then search Entry d else Ret None
+abbrev pub search_entries : Loaded → P Searched
+search_entries l = if is_directory l.inode then search Entry l else Ret (record { found = None; index = l.index })
 
 -- the slot under a name
 abbrev pub learned : Name → Option Found → Knowledge
@@ -50,18 +50,20 @@ learned e None = NothingMore
 learned e (Some f) = Finds e f.slot
 
 -- what was seen of it, by its record, which is in hand from there on, with what else was learned
-abbrev pub seen_record : Carry → (n : ℕ) → Dinode → Knowledge → (found : Option ℕ) → (empty : Bool) → P (Handover Sight Carry)
-seen_record c n d l found empty = Ret
+abbrev pub seen_record : Carry → (n : ℕ) → Loaded → Knowledge → (found : Option ℕ) → (empty : Bool) → P (Handover Sight Carry)
+seen_record c n l k found empty = Ret
     (record {
-      answer = record { face = if is_free d then None else Some (face_in d); found = found; empty = empty };
-      carry = put c n (Has d l);
+      answer = record { face = if is_free l.inode then None else Some (face_in l.inode); found = found; empty = empty };
+      carry = put c n (Has l k);
     })
 
 -- what is looked for in it
-abbrev pub looked : Query → Carry → (n : ℕ) → Dinode → P (Handover Sight Carry)
-looked AtNothing c n d = seen_record c n d NothingMore None true
-looked (AtName e) c n d = bind (lookup e d) (λ o. seen_record c n d (learned e o) (number_found o) true)
-looked AtEntries c n d = bind (search_entries d) (λ o. seen_record c n d NothingMore None (not (is_some o)))
+abbrev pub looked : Query → Carry → (n : ℕ) → Loaded → P (Handover Sight Carry)
+looked AtNothing c n l = seen_record c n l NothingMore None true
+looked (AtName e) c n l =
+    bind (lookup e l) (λ o. seen_record c n (record l { index = o.index }) (learned e o.found) (number_found o.found) true)
+looked AtEntries c n l =
+    bind (search_entries l) (λ o. seen_record c n (record l { index = o.index }) NothingMore None (not (is_some o.found)))
 
 -- It acts where the lock is had, as the other one does.
 abbrev pub take : Super → (n : ℕ) → (looking : Query) → Handler (Take n looking)

@@ -1,10 +1,11 @@
 -- What the machine below shows of the world of whole inodes, each part over the fields that it speaks of.
 use Rattle.std.specs.Prelude.{◌≡◌, ◌≢◌, ℕ, ◌<◌, ◌≤◌, List, length, Bool, true, Option, Some, None, IsSome, if◌then◌else◌}
-use Rattle.inodes_on_blocks.specs.Vocabulary.{Dinode, Super, IsBytes, IsOutsideLog, Phase, Open, Halted, IsData, largest_size, is_free, Node, hart_count, LogPart, seen_of, IsWholeLog, Desk, Entry, is_dead}
+use Rattle.inodes_on_blocks.specs.Vocabulary.{Loaded, Super, IsBytes, IsOutsideLog, Phase, Open, Halted, IsData, largest_size, is_free, Node, hart_count, LogPart, seen_of, IsWholeLog, Desk, Entry, is_dead}
 use Rattle.inode_machine.specs.World as above
 use Rattle.inodes_on_blocks.specs.ShownTables as tables
 use Rattle.inodes_on_blocks.specs.ShownTables.{loaded}
 use Rattle.inodes_on_blocks.specs.OnBlocks.{is_joined, Ghost, AreOnBlocks}
+use Rattle.inodes_on_blocks.specs.Indexes.{IsIndexOf}
 use Rattle.inodes_on_blocks.specs.Below.{World, log_of, tables_of, inode_in}
 
 -- ---- transactions
@@ -31,7 +32,7 @@ abbrev pub on_blocks : (ℕ → Option ℕ) → (ℕ → Option Node) → ℕ �
 on_blocks new nodes n = unless_new (new n) (nodes n)
 
 -- Until then its record is free, and not loaded; that hart keeps it, which is in a transaction, and nobody has its lock.
-pub record IsNew (n h : ℕ) (l : LogPart) (lock keeper : ℕ → Option ℕ) (load : ℕ → Option Dinode) : Type 0 where
+pub record IsNew (n h : ℕ) (l : LogPart) (lock keeper : ℕ → Option ℕ) (load : ℕ → Option Loaded) : Type 0 where
   pub low : 1 ≤ n
   pub bound : n < l.sizes.ninodes
   pub free : is_free (inode_in l n) ≡ true
@@ -43,11 +44,13 @@ pub record IsNew (n h : ℕ) (l : LogPart) (lock keeper : ℕ → Option ℕ) (l
 -- What is loaded of an inode is as it is seen. One without links, to which a reference stands and which no hart keeps, is loaded; of one
 -- without a type
 -- nothing is.
-pub record LoadsShow (load : ℕ → Option Dinode) (l : LogPart) (refs : ℕ → ℕ) (lock keeper : ℕ → Option ℕ)
+pub record LoadsShow (load : ℕ → Option Loaded) (l : LogPart) (refs : ℕ → ℕ) (lock keeper : ℕ → Option ℕ)
     (nodes : ℕ → Option Node) : Type 0 where
-  pub seen : (n : ℕ) (d : Dinode) → load n ≡ Some d → d ≡ inode_in l n
+  pub seen : (n : ℕ) (d : Loaded) → load n ≡ Some d → d.inode ≡ inode_in l n
   pub dead : (n : ℕ) → 0 < refs n → lock n ≡ None → keeper n ≡ None → is_dead (nodes n) ≡ true → IsSome (load n)
   pub typed : (n : ℕ) → nodes n ≡ None → load n ≡ None
+  -- the index of its names is right
+  pub indexed : (n : ℕ) (d : Loaded) → load n ≡ Some d → IsIndexOf d.index (nodes n)
 
 -- what is seen are bytes
 abbrev pub AreBytes : LogPart → Type 0

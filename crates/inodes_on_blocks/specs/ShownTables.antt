@@ -1,6 +1,6 @@
 -- What the tables that all harts share show of the world of whole inodes, each part over the fields that it speaks of.
 use Rattle.std.specs.Prelude.{◌≡◌, ℕ, ℤ, pos, ◌<◌, ◌≤◌, List, length, Bool, true, false, Option, Some, None, slice_get}
-use Rattle.inodes_on_blocks.specs.Vocabulary.{Dinode, SlotState, ExecResult, Waits, Ran, any_below, OpenFile, Cause, hart_count, descriptor_count, Inode, FilePlace, Taken, NewFile, Refused, Doubled, ShutState as Shut, Given, TablesState, place_of, references_in, holder_in, IsSoundTables, InodeType, OfDirectory, OfFile, OfDevice, Entry, Desk, World, LoanResult, Lent, Moved, file_count, is_at}
+use Rattle.inodes_on_blocks.specs.Vocabulary.{Loaded, SlotState, ExecResult, Waits, Ran, any_below, OpenFile, Cause, hart_count, descriptor_count, Inode, FilePlace, Taken, NewFile, Refused, Doubled, ShutState as Shut, Given, TablesState, place_of, references_in, holder_in, IsSoundTables, InodeType, OfDirectory, OfFile, OfDevice, Entry, Desk, World, LoanResult, Lent, Moved, file_count, is_at}
 use Rattle.plain_tree.specs.declared.answer.Cause.TheVariants as causes
 use Rattle.fs_machine.specs.declared.entries.Entry as places
 use Rattle.fs_machine.specs.declared.files.OpenFile as tables
@@ -14,24 +14,24 @@ use Rattle.fs_machine.specs.declared.desk.Desk as cards
 -- ---- inodes in memory
 
 -- what is loaded of an inode whose lock isn't out
-abbrev pub loaded_of : Option Inode → Option Dinode
+abbrev pub loaded_of : Option Inode → Option Loaded
 loaded_of None = None
 loaded_of (Some v) = v.content
 
-abbrev pub loaded_at : Option (SlotState Inode) → Option Dinode
+abbrev pub loaded_at : Option (SlotState Inode) → Option Loaded
 loaded_at None = None
 loaded_at (Some s) = loaded_of s.inside
 
-abbrev pub loaded_in : List (SlotState Inode) → Option ℕ → Option Dinode
+abbrev pub loaded_in : List (SlotState Inode) → Option ℕ → Option Loaded
 loaded_in locks None = None
 loaded_in locks (Some k) = loaded_at (slice_get locks k)
 
-abbrev pub loaded : TablesState → ℕ → Option Dinode
+abbrev pub loaded : TablesState → ℕ → Option Loaded
 loaded t n = loaded_in t.locks (place_of n t.entries)
 
 -- the counts of references, who has the locks, and what is loaded
 pub record PlacesShow (entries : List places.Entry) (locks : List (SlotState Inode)) (refs : ℕ → ℕ) (lock : ℕ → Option ℕ)
-    (load : ℕ → Option Dinode) : Type 0 where
+    (load : ℕ → Option Loaded) : Type 0 where
   pub counts : (n : ℕ) → refs n ≡ references_in entries (place_of n entries)
   pub holders : (n : ℕ) → lock n ≡ holder_in locks (place_of n entries)
   pub loads : (n : ℕ) → load n ≡ loaded_in locks (place_of n entries)
@@ -125,7 +125,7 @@ refused_as _ = refused.BadDescriptor
 -- ---- all of them
 
 -- load: of each inode whose lock isn't out, what is loaded
-pub record Shows (t : TablesState) (w : World) (load : ℕ → Option Dinode) : Type 0 where
+pub record Shows (t : TablesState) (w : World) (load : ℕ → Option Loaded) : Type 0 where
   pub sound : IsSoundTables t
   pub places : PlacesShow t.entries t.locks w.refs w.lock load
   pub files : FilesShow t.files w.files w.desks
@@ -137,7 +137,7 @@ pub record Shows (t : TablesState) (w : World) (load : ℕ → Option Dinode) : 
 
 -- A step of the tables and an operation on whole inodes came to the same: both wait, or both ran, with answers that go
 -- together, and the tables show the world again.
-abbrev pub BothCame : {A B : Type 0} → (A → B → Type 0) → (A → ℕ → Option Dinode) → ExecResult A TablesState → ExecResult B World → Type 0
+abbrev pub BothCame : {A B : Type 0} → (A → B → Type 0) → (A → ℕ → Option Loaded) → ExecResult A TablesState → ExecResult B World → Type 0
 BothCame Fits load Waits Waits = Unit {0}
 BothCame Fits load (Ran a t) (Ran b w) = Fits a b × Shows t w (load a)
 BothCame Fits load _ _ = ⊥

@@ -27,7 +27,7 @@ pub use Rattle.inode_machine.specs.Budget.{Spent, most_recorded, size, spent_aft
 pub use Rattle.inode_machine.specs.World.{Desk, Entry, Lent, LoanResult, LockResult, LocksIt, Moved, NotLocked, Refused as Stopped, Room, Short, Whole, World, Wrote}
 pub use Rattle.inode_table.specs.Programs.{load_unless, no_record}
 unfoldable pub use Rattle.inode_table.specs.Programs.{with_dinode}
-pub use Rattle.directory.specs.Programs.{Named, Unused, is_directory, look_at, lookup, most_slots, search, slot_count, with_slot}
+pub use Rattle.directory.specs.Programs.{Named, Searched, Unused, is_directory, look_at, lookup, most_slots, or_next, search, slot_count, with_slot}
 unfoldable pub use Rattle.directory.specs.Programs.{found_in, with_dirent}
 pub use Rattle.directory.specs.declared.found.Found.{Found}
 pub use Rattle.fs_layout.specs.Bytes.{IsBytes}
@@ -72,7 +72,8 @@ pub use Rattle.fs_layout.specs.declared.entry.Dirent.{Dirent}
 pub use Rattle.fs_layout.specs.declared.entry.Dirent.TheVariants.{Used}
 pub use Rattle.fs_layout.specs.declared.inode.Dinode.{Dinode}
 pub use Rattle.fs_layout.specs.declared.superblock.Super.{Super}
-pub use Rattle.fs_machine.specs.declared.entries.Inode.{Inode}
+pub use Rattle.fs_machine.specs.InMemory.{IndexState, Inode, Loaded, unindexed}
+unfoldable pub use Rattle.directory.specs.Indexes.{IsIndex, cleared, first_of, raised, with_entry}
 pub use Rattle.group_log.specs.declared.log.AfterLeave.TheVariants.{Commits}
 pub use Rattle.group_log.specs.declared.phase.Phase.{Phase}
 pub use Rattle.group_log.specs.declared.phase.Phase.TheVariants.{Halted, Open}

@@ -4,7 +4,7 @@ use Rattle.inodes_on_blocks.specs.Vocabulary.{Ret, Do, bind, Handover, Dinode, S
 use Rattle.fs_machine.specs.Steps as steps
 use Rattle.plain_tree.specs.declared.answer.Cause.TheVariants as causes
 use Rattle.inode_machine.specs.World as above
-use Rattle.inodes_on_blocks.specs.Basics.{Carry, Apart, record_had, record_in, P, Handler, acts, one}
+use Rattle.inodes_on_blocks.specs.Basics.{Carry, Apart, record_had, record_in, recorded_in, P, Handler, acts, one}
 use Rattle.inodes_on_blocks.specs.Spending.{DoesItWithin}
 
 -- why a piece isn't written: its offset is past the size, or its end past that of the greatest content
@@ -27,7 +27,7 @@ room_to offset bytes upto = if upto == offset + length bytes then above.Room els
 -- The lock is given up, and the offset moves to where the bytes end that were written: there the operation acts.
 abbrev pub give_written : (fd n offset : ℕ) (bytes : List ℕ) → (Wrote → Option above.Mark) → Carry → WriteResult → P (Handover Wrote Carry)
 give_written fd n offset bytes m c w =
-    Do (steps.Unlock (record { number = n; content = Some w.inode }) (Some (fd, w.upto)))
+    Do (steps.Unlock (record { number = n; content = Some (recorded_in c n w.inode) }) (Some (fd, w.upto)))
     (λ a. acts (WriteFile fd n offset bytes) (room_to offset bytes w.upto) m)
     (λ a. Ret (record { answer = wrote_to offset bytes w.upto; carry = put c n Apart }))
 

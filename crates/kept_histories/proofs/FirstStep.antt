@@ -3,12 +3,13 @@
 use Rattle.std.specs.Prelude.{◌≡◌, ◌⊎◌, ◌<◌, ◌≤◌, ◌&&◌, ◌==◌, nat_lt, ℕ, Bool, true, false, if◌then◌else◌, IsSome, Option, Some, None}
 use Rattle.std.specs.Option.{option_map}
 use Rattle.inodes_on_blocks.proofs.Vocabulary.{refl, sym, ◌∙◌, ap, subst, inl, inr, arith, nat_tests, none-some, and_true, load_unless, Named, search, largest_size}
-use Rattle.atomic_programs.specs.Joined.{Both, both}
+use Rattle.atomic_programs.specs.Joined.{Both, Handover, both}
 use Rattle.atomic_programs.specs.Prog.{ExecResult, Waits, Ran, Stops, Ret, Do, bind, exec_result_in}
 use Rattle.calls_on_blocks.specs.Layer.{World}
 use Rattle.calls_on_blocks.specs.Theory.{block_calls}
 use Rattle.fs_layout.specs.declared.inode.Dinode.{Dinode}
 use Rattle.fs_layout.specs.declared.superblock.Super.{Super}
+use Rattle.fs_machine.specs.InMemory.{Loaded}
 use Rattle.fs_machine.specs.Inodes as inodes
 use Rattle.fs_machine.specs.Inodes.{LockedState, Locks, Refuses, lock_file, lock_inode, is_positive, refusal_of}
 use Rattle.fs_machine.specs.LogPart.{Outside}
@@ -44,7 +45,7 @@ use Rattle.plain_tree.specs.declared.node.NodeKind.TheVariants.{Directory, File,
 use Rattle.inode_machine.specs.Vocabulary.{hart_count}
 use Rattle.tree_histories.specs.Sights.{FewSlots, FewSlotsIn}
 use Rattle.kept_histories.proofs.Controls.{at_end}
-use Rattle.inodes_on_blocks.specs.Vocabulary.{is_directory as is_directory_record}
+use Rattle.inodes_on_blocks.specs.Vocabulary.{Searched, is_directory as is_directory_record}
 
 abbrev pub W : Type 0
 W = Both World above.World
@@ -148,31 +149,37 @@ module _ (sizes : Super) (h n : ℕ) (w : W) (lt : h < hart_count) (shows : Show
         by (Some v) e = count (v.count == 0) refl
           where
             count : (b : Bool) → (v.count == 0) ≡ b → Stays
-            count true q = absurd (let l : IsSome (loaded t n) = shows.loads.dead n some free (unkept free) (ap is_dead e ∙ q) in let k : IsSome {T = Dinode} None = subst (λ (o : Option Dinode). IsSome o) none l in cc k)
+            count true q = absurd (let l : IsSome (loaded t n) = shows.loads.dead n some free (unkept free) (ap is_dead e ∙ q) in let k : IsSome {T = Loaded} None = subst (λ (o : Option Loaded). IsSome o) none l in cc k)
             count false q = inr (ap is_live e ∙ grind (arith, nat_tests, q))
 
     -- it is, and its record is that of a live directory
-    seen_alive : (d : Dinode) → loaded t n ≡ Some d → live_record d ≡ true → Stays
-    seen_alive d is live = by (w.seen.disk n) refl holds
+    seen_alive : (l : Loaded) → loaded t n ≡ Some l → live_record l.inode ≡ true → Stays
+    seen_alive l is live = by (w.seen.disk n) refl holds
       where
         by : (o : Option Node) → w.seen.disk n ≡ o → HoldsAt (disk_of (log_of w.real.blocks)) w.real.blocks.owner n o → Stays
         by None e held = inl e
         by (Some v) e held =
             let used = in_use (inode_in (log_of w.real.blocks) n) v held.inode in
-            let same : live_directory (Some v) ≡ true = sym (live_is (disk_of (log_of w.real.blocks)) w.real.blocks.owner n v held used) ∙ ap live_record (sym (shows.loads.seen n d is)) ∙ live in
+            let same : live_directory (Some v) ≡ true = sym (live_is (disk_of (log_of w.real.blocks)) w.real.blocks.owner n v held used) ∙ ap live_record (sym (shows.loads.seen n l is)) ∙ live in
             inr (ap is_live e ∙ (and_true (nat_lt 0 v.count) (is_directory v.kind) same).0)
 
   -- what is loaded, and that the program goes on
   goes_on : (looking : Query) (c : Carry) (free : w.seen.lock n ≡ None) (some : 0 < w.seen.refs n) → (looking ≡ AtEntries → is_live (w.seen.all.nodes n) ≡ true)
-      → (o : Option Dinode) → loaded t n ≡ o → at_end (bind (load_unless {M = Acts} sizes.inodestart n o) (looked looking c n)) ≡ false → Stays free some
+      → (o : Option Loaded) → loaded t n ≡ o → at_end (bind (load_unless {M = Acts} sizes.inodestart n o) (looked looking c n)) ≡ false → Stays free some
   goes_on looking c free some live None e on = unloaded free some e
-  goes_on AtNothing c free some live (Some d) e on = absurd (let q : true ≡ false = on in cc)
-  goes_on AtEntries c free some live (Some d) e on = inr (ap is_live (whole free some) ∙ live refl)
-  goes_on (AtName name) c free some live (Some d) e on = by (live_record d) refl
+  goes_on AtNothing c free some live (Some l) e on = absurd (let q : true ≡ false = on in cc)
+  goes_on AtEntries c free some live (Some l) e on = inr (ap is_live (whole free some) ∙ live refl)
+  goes_on (AtName name) c free some live (Some l) e on = by (live_record l.inode) refl
     where
-      by : (b : Bool) → live_record d ≡ b → Stays free some
-      by true q = seen_alive free some d e q
-      by false q = absurd (let z : true ≡ false = sym (ap (λ (b : Bool). at_end (bind (if b then search (Named name) d else Ret None) (λ o. seen_record c n d (learned name o) (number_found o) true))) q) ∙ on in cc)
+      none : P Searched
+      none = Ret (record { found = None; index = l.index })
+
+      then_ : Searched → P (Handover Sight Carry)
+      then_ o = seen_record c n (record l { index = o.index }) (learned name o.found) (number_found o.found) true
+
+      by : (b : Bool) → live_record l.inode ≡ b → Stays free some
+      by true q = seen_alive free some l e q
+      by false q = absurd (let z : true ≡ false = sym (ap (λ (b : Bool). at_end (bind (if b then search (Named name) l else none) then_)) q) ∙ on in cc)
 
   pub take_goes : (looking : Query) (c : Carry) (m : Sight → Option above.Mark) → (looking ≡ AtEntries → is_live (w.seen.all.nodes n) ≡ true) → GoesOn sizes h w goal (handlers sizes c (Take n looking) m)
   unfolding premises.May steps.exec
@@ -184,7 +191,7 @@ module _ (sizes : Super) (h n : ℕ) (w : W) (lt : h < hart_count) (shows : Show
       (λ waits g out. absurd (never_ran b r.0 (sym waits ∙ r.1)))
       (λ z had free after.
       let is : loaded t n ≡ b = same_answer (loaded t n) b z r.0 (sym had ∙ r.1) in
-      alike free some (goes_on looking c free some live (loaded t n) refl (subst (λ (o : Option Dinode). at_end (bind (load_unless {M = Acts} sizes.inodestart n o) (looked looking c n)) ≡ false) (sym is) on)))
+      alike free some (goes_on looking c free some live (loaded t n) refl (subst (λ (o : Option Loaded). at_end (bind (load_unless {M = Acts} sizes.inodestart n o) (looked looking c n)) ≡ false) (sym is) on)))
 
 -- ---- an open file
 

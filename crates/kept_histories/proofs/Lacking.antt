@@ -9,6 +9,7 @@ use Rattle.fs_layout.specs.declared.inode.Dinode.{Dinode}
 use Rattle.fs_layout.specs.declared.superblock.Super.{Super}
 use Rattle.fs_machine.specs.Fetching.{fetch_block, fetch_left}
 use Rattle.fs_machine.specs.Hands.{block_at, bytes_at}
+use Rattle.fs_machine.specs.InMemory.{IndexState, Loaded}
 use Rattle.fs_machine.specs.Inodes.{LockedState, Refuses, Locks}
 use Rattle.fs_machine.specs.Machines as code
 use Rattle.fs_machine.specs.Programs.{fetch, read_unless}
@@ -23,7 +24,7 @@ use Rattle.inode_machine.specs.World as above
 use Rattle.inode_parts.specs.Calls.{LoweredReady, whole_with}
 use Rattle.inode_parts.specs.Carries.{carry_in, handed as ends_so, with_note}
 use Rattle.inode_parts.specs.Claims.{claim_ends}
-use Rattle.inode_parts.specs.Enters.{entered, entered_so}
+use Rattle.inode_parts.specs.Enters.{enter_part_seat, entered, entered_so}
 use Rattle.inode_parts.specs.FileLocks.{file_ends, open_ends}
 use Rattle.inode_parts.specs.FileReads.{read_file_left, read_over}
 use Rattle.inode_parts.specs.FileStats.{stat_ends}
@@ -74,12 +75,13 @@ use Rattle.whole_calls.specs.Wholes.{text_in, whole_of}
 use Rattle.whole_calls.specs.declared.reading.Read.TheVariants as reading
 use Rattle.whole_calls.specs.declared.whole.Whole.{Whole}
 use Rattle.whole_calls.specs.declared.whole.Whole.TheVariants as wholes
-use Rattle.inode_parts.specs.Changes.{changed}
+use Rattle.inode_parts.specs.Changes.{rewritten}
+use Rattle.inode_parts.specs.Clears.{cleared_at}
 use Rattle.inode_parts.specs.Empties.{empty_seat}
 use Rattle.inode_parts.specs.Fills.{filled}
 use Rattle.inode_parts.specs.Frees.{free_ends}
 use Rattle.inode_parts.specs.Sides.{beside_in}
-use Rattle.inode_parts.specs.Vocabulary.{Entry, Named, NoBlock, NoSlot, Room, There, clear_left, enter_left, entries, file_left, file_seat, fill_left, finish_left, first_listed, freeing_left, lock_left, lock_loaded, lock_seat, lookup, name_in, number_at, number_in, open_left, open_seat, piece, read_left, record_in, record_left, search_left, truncate_left, write_left}
+use Rattle.inode_parts.specs.Vocabulary.{Entry, Named, NoBlock, NoSlot, Room, There, clear_left, enter_left, entries, file_left, file_seat, fill_left, finish_left, first_listed, freeing_left, inode_in, loaded_in, lock_left, lock_loaded, lock_seat, lookup, name_in, number_at, number_in, open_left, open_seat, piece, read_left, record_in, record_left, search_left, truncate_left, write_left}
 use Rattle.kept_histories.proofs.Claiming.{GivesBack, GivesBackOf}
 use Rattle.kept_histories.proofs.Controls.{at_end, plain_end}
 use Rattle.kept_histories.proofs.Standing.{StandsAt, handed}
@@ -127,10 +129,10 @@ one_else path m (step.Lend k child from) h = by
     by (given.Directory n) = refl
 one_else path m s h = λ a. refl
 
-entered_else : (path : List ℕ) (m : Notes) (k : InodePlace) (h : Hand) (d : Dinode) (r : Room) → IsElse (entered_so path m k h d r)
-entered_else path m k h d There = (refl, tt)
-entered_else path m k h d NoBlock = (refl, tt)
-entered_else path m k h d NoSlot = (refl, tt)
+entered_else : (path : List ℕ) (m : Notes) (k : InodePlace) (h : Hand) (d : Dinode) (x : IndexState) (r : Room) → IsElse (entered_so path m k h d x r)
+entered_else path m k h d x There = (refl, tt)
+entered_else path m k h d x NoBlock = (refl, tt)
+entered_else path m k h d x NoSlot = (refl, tt)
 
 file_else : (path : List ℕ) (fd : ℕ) (c : Carry) (a : LockedState) → IsElse (file_ends path fd c a)
 file_else path fd c (Refuses why) = (refl, tt)
@@ -140,10 +142,10 @@ stat_else : (path : List ℕ) (c : Carry) (a : LockedState) → IsElse (stat_end
 stat_else path c (Refuses why) = (refl, tt)
 stat_else path c (Locks f content) = (refl, tt)
 
-looked_else : (path : List ℕ) (q : Query) (c : Carry) (n : ℕ) (d : Dinode) → IsElse (looked path q c n d)
-looked_else path query.Nothing c n d = (refl, tt)
-looked_else path (query.Name e) c n d = bound_else (lookup (name_in path e) d) (named_ends path c n d e) (λ o. (refl, tt))
-looked_else path query.Entries c n d = bound_else (entries d) (listed_ends path c n d) (λ o. (refl, tt))
+looked_else : (path : List ℕ) (q : Query) (c : Carry) (n : ℕ) (l : Loaded) → IsElse (looked path q c n l)
+looked_else path query.Nothing c n l = (refl, tt)
+looked_else path (query.Name e) c n l = bound_else (lookup (name_in path e) l) (named_ends path c n l e) (λ o. (refl, tt))
+looked_else path query.Entries c n l = bound_else (entries l) (listed_ends path c n l) (λ o. (refl, tt))
 
 take_else : (path : List ℕ) (m : Notes) (p : TakePart) (h : Hand) → NextElse (take_left path m p h)
 take_else path m (take.Locking q r) h =
@@ -151,9 +153,9 @@ take_else path m (take.Locking q r) h =
     let n = number_at (lock_seat r) h in
     next_else (lock_left r h) (looked path q c n) (looked_else path q c n)
 take_else path m (take.Naming k e s) h =
-    next_else (search_left (Named (name_in path e)) (record_in k h) s h) (named_ends path (beside_in path m k h) (number_at k h) (record_in k h) e) (λ o. (refl, tt))
+    next_else (search_left (Named (name_in path e)) k s h) (named_ends path (beside_in path m k h) (number_at k h) (loaded_in k h) e) (λ o. (refl, tt))
 take_else path m (take.Listing k s) h =
-    next_else (search_left Entry (record_in k h) s h) (listed_ends path (beside_in path m k h) (number_at k h) (record_in k h)) (λ o. (refl, tt))
+    next_else (search_left Entry k s h) (listed_ends path (beside_in path m k h) (number_at k h) (loaded_in k h)) (λ o. (refl, tt))
 
 relock_else : (path : List ℕ) (m : Notes) (p : RelockPart) (h : Hand) → NextElse (relock_left path m p h)
 relock_else path m (relock.Locking k inodestart) h =
@@ -168,7 +170,7 @@ read_else path (reads.Ending f count) h = λ a. refl
 write_else : (path : List ℕ) (p : WriteFilePart) (h : Hand) → NextElse (write_file_left path p h)
 write_else path (writes.Denied k why) h = λ a. refl
 write_else path (writes.Writing f i p) h =
-    next_else (write_left (piece path i) p h) (write_over path f (piece path i) (number_in f.seat h)) (λ w. (tt, λ a. refl))
+    next_else (write_left (piece path i) p h) (write_over path f (piece path i) (inode_in f.seat h)) (λ w. (tt, λ a. refl))
 write_else path (writes.Ending f upto w) h = λ a. refl
 
 -- ---- a claim
@@ -208,10 +210,10 @@ part_else path m (part.One s) h = inr (one_else path m s h)
 part_else path m (part.Leave f) h = inr (next_else (finish_left f h) (ends_with path m h) (λ a. (refl, tt)))
 part_else path m (part.Store p) h =
     inr (next_else (record_left p.store h) (λ a. Ret (ends_so path (with_note p.seat note.Nothing m) heard.WasDone h)) (λ a. (refl, tt)))
-part_else path m (part.Empty p) h = inr (next_else (truncate_left p.truncate h) (changed path m (empty_seat p) heard.WasDone h) (λ d. (refl, tt)))
+part_else path m (part.Empty p) h = inr (next_else (truncate_left p.truncate h) (rewritten path m (empty_seat p) heard.WasDone h) (λ d. (refl, tt)))
 part_else path m (part.Enter p) h =
-    inr (next_else (enter_left p.enter h) (entered path m p.seat h) (λ r. entered_else path m p.seat h r.inode r.room))
-part_else path m (part.Clear p) h = inr (next_else (clear_left p.clear h) (changed path m p.seat heard.WasDone h) (λ d. (refl, tt)))
+    inr (next_else (enter_left p.enter h) (entered path m (enter_part_seat p) h) (λ r. entered_else path m (enter_part_seat p) h r.inode r.index r.room))
+part_else path m (part.Clear p) h = inr (next_else (clear_left p.clear h) (cleared_at path m p.seat p.slot h) (λ d. (refl, tt)))
 part_else path m (part.Fill p) h = inr (next_else (fill_left p.fill h) (filled path m p.seat h) (λ f. (refl, tt)))
 part_else path m (part.Free p) h =
     inr (next_else (freeing_left p.free h) (free_ends path (beside_in path m p.seat h) (number_in p.seat h)) (λ a. (refl, tt)))

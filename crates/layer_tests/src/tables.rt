@@ -1,16 +1,19 @@
 //! The tables of inodes, open files and descriptors: who waits, what is full, and what a child is given.
-ghost use Rattle.std.specs.Prelude.{◌≡◌, Some};
+ghost use Rattle.std.specs.Prelude.{◌≡◌};
+ghost use Rattle.fs_machine.specs.InMemory.{stands_so};
 ghost use Rattle.fs_machine.specs.Locks.{IsLocked};
 
+use atomic_programs::machines::put;
 use buffer_cache::HARTS;
 use directory::Search;
 use fs_layout::Dinode;
 use fs_machine::{
-    DESCRIPTORS, Doubled, Dropped, Given, Inode, Listed, MEMORY_INODES, NewFile, OPEN_FILES, ROOT,
-    Reference, Refused, Shut, Tables, Want,
+    DESCRIPTORS, Doubled, Dropped, Given, Hand, Inode, InodePlace, Listed, MEMORY_INODES, NewFile,
+    OPEN_FILES, ROOT, Reference, Refused, Shut, Tables, Want,
 };
 use inode_data::Begun;
 use sleep_lock::Guard;
+use std::mem;
 use std::process::Abort;
 use std::test::Fail;
 
@@ -50,14 +53,10 @@ fn down(rt: &impl Abort, tables: &mut Tables, hart: u8, reference: Reference) {
 fn loaded(tables: &Tables, guard: Guard<Inode>, inode: Dinode) -> Guard<Inode>
     requires { IsLocked guard tables.now }
     ensures locked { IsLocked result tables.now }
-    ensures guard { (result.hart ≡ guard.hart) × (result.value ≡ record { number = guard.value.number; content = Some inode }) }
+    ensures guard { (result.hart ≡ guard.hart) × (result.value ≡ stands_so inode guard.value) }
 {
-    let number = guard.value().number;
     let mut guard = guard;
-    let _ = guard.replace(Inode {
-        number,
-        content: Some(inode),
-    });
+    guard.value_mut().set_record(inode);
     guard
 }
 
@@ -81,7 +80,7 @@ fn load_and_drop(
 fn a_lock_waits_while_it_is_out(rt: HostRuntime) -> Result<(), Fail> {
     let mut tables = Tables::new(rt.alloc())?;
     let guard = tables.lock(0, ROOT).expect(&rt, "nobody has it");
-    assert!(rt; guard.value().content.is_none());
+    assert!(rt; !guard.value().is_loaded());
     match tables.lock(1, ROOT) {
         None => {}
         Some(_guard) => panic!(rt; "it is out"),
@@ -90,7 +89,7 @@ fn a_lock_waits_while_it_is_out(rt: HostRuntime) -> Result<(), Fail> {
     tables.unlock(0, guard);
     let guard = tables.lock(1, ROOT).expect(&rt, "it was given back");
     assert!(rt; guard.hart() == 1);
-    match guard.value().content {
+    match guard.value().dinode() {
         None => panic!(rt; "it was loaded"),
         Some(inode) => assert!(rt; inode.nlink == 3),
     }
@@ -111,10 +110,20 @@ fn a_removed_directory_has_no_names(rt: HostRuntime) -> Result<(), Fail> {
         size: 32,
         ..file(0)
     };
-    match Search::lookup(&removed) {
+    let mut tables = Tables::new(rt.alloc())?;
+    let mut hand = Hand::new(rt.alloc())?;
+    let guard = tables.lock(0, ROOT).expect(&rt, "nobody has it");
+    put(&mut hand.one, loaded(&tables, guard, removed));
+    match Search::lookup(&hand, InodePlace::One, b".") {
         Begun::Runs(_search) => panic!(rt; "it has no link"),
         Begun::Is(found) => assert!(rt; found.is_none()),
     }
+    match mem::replace(&mut hand.one, None) {
+        None => panic!(rt; "its lock is there"),
+        Some(guard) => tables.unlock(0, guard),
+    }
+    hand.end();
+    let _ = tables.retire();
     Ok(())
 }
 

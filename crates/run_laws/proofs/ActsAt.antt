@@ -1,5 +1,5 @@
 -- Each operation's program is marked at its first step or at its last one.
-use Rattle.run_laws.proofs.Vocabulary.{◌≡◌, ◌⊎◌, inl, inr, ◌<◌, ◌+◌, ◌-◌, ◌*◌, ◌/◌, ◌==◌, nat_lt, if◌then◌else◌, ℕ, zero, suc, Bool, true, false, is_some, Option, Some, None, List, [], ◌∷◌, length, take, slice_index, refl, subst, arith, option_map, nat_tests, Dinode, Used, Super, dirent_at, spell_dirent, numbers_in, Cause, Name, same_name, Handover, Ret, Do, bind, unmarked, AfterLeave, first_below, first_clear_below, clear_bit, free_block, take_first, zero_found, FirstIs, first_is, LockedState, Locks, after_leave, commit_unless, commits, fetch, read_unless, inode_blocks, give_back, inode_block, load_unless, put_inode, store, Address, Direct, InTable, address, table_of, free_in_table, free_indirect, free_numbers, free_table, FilledMemory, blocks_between, end_of, fetch_at, fetch_block, fetch_named, fetch_number, filled_with, give_fetched, next_block, part_of, read_blocks, read_from, read_part, direct, WriteResult, front_of, locate, locate_at, locate_in_table, located, look_up, name_direct, name_in_table, put_part, store_written, take_one, with_address, with_table, write_blocks, write_in, write_part, Query, AtNothing, AtName, AtEntries, InodeType, ClaimResult, EntryResult, Wrote, Take, UnlockInode, UpStart, Up, WalkDown, Down, Free, Forget, Claim, Store, Fill, Enter, Clear, Empty, Slot, Install, StatFile, LockFile, ReadFile, CheckFile, JoinFile, LockOpen, WriteFile, Double, Shut, SetDirectory, Lend, LendDirectory, Release, Join, Leave, Say, give_content, dots, enter_in, entered_to, filled_to, if_none, look_last, put_grown, search_full, Acts, acts, Apart, Carry, Emptied, Finds, Had, Has, NothingMore, Opened, HasInodes, claim_at, claim_from, clear_in, clear_slot, slot_found, slot_of, looked, number_found, learned, search_entries, seen_record, stat_loaded, stat_locked, file_locked, give_read, handlers, put_record, record_in, give_written, refused_in, write_unless, Found, slot_for, Aim, Named, Unused, block_count, found_at, found_in, is_directory, is_live_directory, look_at, lookup, most_slots, or_next, search, search_from, slot_count, slots_in, is_free, IsAtEnd, MarksLast, MarksNone, MarksOne, OperationsActFirstOrLast}
+use Rattle.run_laws.proofs.Vocabulary.{◌≡◌, ◌⊎◌, inl, inr, ◌<◌, ◌+◌, ◌-◌, ◌*◌, ◌/◌, ◌≤◌, ◌==◌, min, nat_lt, if◌then◌else◌, ℕ, zero, suc, Bool, true, false, is_some, Option, Some, None, List, [], ◌∷◌, length, take, slice_index, refl, subst, arith, option_map, nat_tests, Dinode, IndexState, Loaded, no_index, Used, Super, dirent_at, spell_dirent, numbers_in, Cause, Name, same_name, Handover, Ret, Do, bind, unmarked, AfterLeave, first_below, first_clear_below, clear_bit, free_block, take_first, zero_found, FirstIs, first_is, LockedState, Locks, after_leave, commit_unless, commits, fetch, read_unless, inode_blocks, give_back, inode_block, load_unless, put_inode, store, Address, Direct, InTable, address, table_of, free_in_table, free_indirect, free_numbers, free_table, FilledMemory, blocks_between, end_of, fetch_at, fetch_block, fetch_named, fetch_number, filled_with, give_fetched, next_block, part_of, read_blocks, read_from, read_part, direct, WriteResult, front_of, locate, locate_at, locate_in_table, located, look_up, name_direct, name_in_table, put_part, store_written, take_one, with_address, with_table, write_blocks, write_in, write_part, Query, AtNothing, AtName, AtEntries, InodeType, ClaimResult, EntryResult, Wrote, Take, UnlockInode, UpStart, Up, WalkDown, Down, Free, Forget, Claim, Store, Fill, Enter, Clear, Empty, Slot, Install, StatFile, LockFile, ReadFile, CheckFile, JoinFile, LockOpen, WriteFile, Double, Shut, SetDirectory, Lend, LendDirectory, Release, Join, Leave, Say, give_content, dots, enter_in, entered_to, filled_to, if_none, look_last, put_grown, search_full, seek_full, Acts, acts, Apart, Carry, Emptied, Finds, Had, Has, NothingMore, Opened, HasInodes, claim_at, claim_from, clear_in, clear_slot, slot_found, slot_of, looked, number_found, learned, search_entries, seen_record, stat_loaded, stat_locked, file_locked, give_read, handlers, put_record, loaded_in, record_in, with_index, give_written, refused_in, write_unless, Found, Searched, slot_for, Aim, Named, Unused, block_count, found_at, found_in, is_directory, is_live_directory, look_at, lookup, most_slots, or_next, search, search_from, slot_count, slots_in, first_gap, first_of, free_below, index_room, index_raised, slots_known, with_entry, is_free, IsAtEnd, MarksLast, MarksNone, MarksOne, OperationsActFirstOrLast}
 use Rattle.group_log.specs.declared.log.AfterLeave.TheVariants as left
 use Rattle.fs_machine.specs.Inodes.{Refuses}
 use Rattle.fs_machine.specs.Steps as steps
@@ -58,8 +58,8 @@ read_none b None = λ a. (refl, tt)
 fetch_none : (b : ℕ) → MarksNone (fetch {M = Acts} b)
 fetch_none b = λ a. (refl, read_none b a)
 
-load_none : (inodestart n : ℕ) (o : Option Dinode) → MarksNone (load_unless {M = Acts} inodestart n o)
-load_none inodestart n (Some d) = tt
+load_none : (inodestart n : ℕ) (o : Option Loaded) → MarksNone (load_unless {M = Acts} inodestart n o)
+load_none inodestart n (Some l) = tt
 load_none inodestart n None = none_bind (fetch (inode_block inodestart n)) (give_back (inode_block inodestart n) n) (fetch_none (inode_block inodestart n)) (λ block a. (refl, tt))
 
 store_none : (inodestart n : ℕ) (d : Dinode) → MarksNone (store {M = Acts} inodestart n d)
@@ -130,25 +130,33 @@ part_none sizes n d offset bytes =
     none_bind (write_blocks (blocks_between offset (offset + length bytes)) sizes offset bytes d) (store_written sizes n) (writes_none (blocks_between offset (offset + length bytes)) sizes offset bytes d)
     (λ w. none_bind (store sizes.inodestart n _) (λ _. Ret _) (store_none sizes.inodestart n _) (λ _. tt))
 
-next_none : (o : Option Found) (p : P (Option Found)) → MarksNone p → MarksNone (or_next o p)
-next_none (Some f) p none = tt
-next_none None p none = none
+next_none : (o : Option Found) (x : IndexState) (next : IndexState → P Searched) → ((y : IndexState) → MarksNone (next y)) → MarksNone (or_next o x next)
+next_none (Some f) x next none = tt
+next_none None x next none = none x
 
-search_none : (n : ℕ) (aim : Aim) (d : Dinode) (k : ℕ) → MarksNone (search_from {M = Acts} n aim d k)
+blocks_none : (n : ℕ) (aim : Aim) (d : Dinode) (k : ℕ) (x : IndexState) → MarksNone (search_from {M = Acts} n aim d k x)
 unfolding search_from
-search_none zero aim d k = tt
-search_none (suc n) aim d k = none_bind (fetch_block d k) (look_at aim d k (search_from n aim d (k + 1))) (block_none d k) (λ f a. (refl, next_none (found_in aim d k f.bytes) (search_from n aim d (k + 1)) (search_none n aim d (k + 1))))
+blocks_none zero aim d k x = tt
+blocks_none (suc n) aim d k x =
+    none_bind (fetch_block d k) (look_at aim d k x (search_from n aim d (k + 1))) (block_none d k)
+    (λ f a. (refl, next_none (found_in aim d k f.bytes) (index_raised d k f.bytes x) (search_from n aim d (k + 1)) (blocks_none n aim d (k + 1))))
 
-lookup_none : (name : Name) (d : Dinode) → MarksNone (lookup {M = Acts} name d)
-lookup_none name d = none_if (is_live_directory d) (search (Named name) d) (Ret None) (search_none (block_count d) (Named name) d 0) tt
+search_none : (aim : Aim) (l : Loaded) → MarksNone (search {M = Acts} aim l)
+search_none aim l =
+    next_none (first_of aim l.inode l.index) l.index (search_from (block_count l.inode - l.index.blocks) aim l.inode l.index.blocks)
+    (blocks_none (block_count l.inode - l.index.blocks) aim l.inode l.index.blocks)
 
-entries_none : (d : Dinode) → MarksNone (search_entries d)
-entries_none d = none_if (is_directory d) (search Entry d) (Ret None) (search_none (block_count d) Entry d 0) tt
+lookup_none : (name : Name) (l : Loaded) → MarksNone (lookup {M = Acts} name l)
+lookup_none name l = none_if (is_live_directory l.inode) (search (Named name) l) (Ret (record { found = None; index = l.index })) (search_none (Named name) l) tt
 
-looked_none : (q : Query) (c : Carry) (n : ℕ) (d : Dinode) → MarksNone (looked q c n d)
-looked_none AtNothing c n d = tt
-looked_none (AtName e) c n d = none_bind (lookup e d) (λ o. seen_record c n d (learned e o) (number_found o) true) (lookup_none e d) (λ o. tt)
-looked_none AtEntries c n d = none_bind (search_entries d) _ (entries_none d) (λ o. tt)
+entries_none : (l : Loaded) → MarksNone (search_entries l)
+entries_none l = none_if (is_directory l.inode) (search Entry l) (Ret (record { found = None; index = l.index })) (search_none Entry l) tt
+
+looked_none : (q : Query) (c : Carry) (n : ℕ) (l : Loaded) → MarksNone (looked q c n l)
+looked_none AtNothing c n l = tt
+looked_none (AtName e) c n l =
+    none_bind (lookup e l) (λ o. seen_record c n (record l { index = o.index }) (learned e o.found) (number_found o.found) true) (lookup_none e l) (λ o. tt)
+looked_none AtEntries c n l = none_bind (search_entries l) _ (entries_none l) (λ o. tt)
 
 stat_none : (sizes : Super) (c : Carry) (l : LockedState) → MarksNone (stat_locked sizes c l)
 stat_none sizes c (Refuses why) = tt
@@ -160,9 +168,9 @@ file_none sizes fd c (Locks f content) = none_bind (load_unless sizes.inodestart
 
 slot_none : (c : Had) (e : Name) → MarksNone (slot_of c e)
 slot_none Apart e = tt
-slot_none (Has d NothingMore) e = none_bind (search (Named e) d) slot_found (search_none (block_count d) (Named e) d 0) (λ o. tt)
-slot_none (Has d (Finds name s)) e = none_if (same_name name e) (Ret s) (bind (search (Named e) d) slot_found) tt (none_bind (search (Named e) d) slot_found (search_none (block_count d) (Named e) d 0) (λ o. tt))
-slot_none (Has d (Opened fd offset)) e = none_bind (search (Named e) d) slot_found (search_none (block_count d) (Named e) d 0) (λ o. tt)
+slot_none (Has l NothingMore) e = none_bind (search (Named e) l) slot_found (search_none (Named e) l) (λ o. tt)
+slot_none (Has l (Finds name s)) e = none_if (same_name name e) (Ret (s, l.index)) (bind (search (Named e) l) slot_found) tt (none_bind (search (Named e) l) slot_found (search_none (Named e) l) (λ o. tt))
+slot_none (Has l (Opened fd offset)) e = none_bind (search (Named e) l) slot_found (search_none (Named e) l) (λ o. tt)
 slot_none Emptied e = tt
 
 unless_none : (more : P (Unit {0})) → MarksNone more → (b : Bool) → MarksNone (commit_unless more b)
@@ -196,8 +204,8 @@ indirect_last bitmap table after last =
 content_last : {A : Type 0} (sizes : Super) (d : Dinode) (after : P A) → MarksLast after → MarksLast (give_content sizes d after)
 content_last sizes d after last = numbers_last sizes.bmapstart (take direct d.addrs) (free_indirect sizes.bmapstart (table_of d) after) (indirect_last sizes.bmapstart (table_of d) after last)
 
-grown_last : (op : above.Op) (outside : above.Outside) (m : above.Answer op → Option above.Mark) (answer : above.Answer op) (sizes : Super) (n : ℕ) (c : Carry) (w : WriteResult) → MarksLast (put_grown op outside m answer sizes n c w)
-grown_last op outside m answer sizes n c w = last_bind (fetch (inode_block sizes.inodestart n)) _ (fetch_none (inode_block sizes.inodestart n)) (λ block a. inl (refl, tt))
+grown_last : (op : above.Op) (outside : above.Outside) (m : above.Answer op → Option above.Mark) (answer : above.Answer op) (sizes : Super) (n : ℕ) (c : Carry) (x : IndexState) (w : WriteResult) → MarksLast (put_grown op outside m answer sizes n c x w)
+grown_last op outside m answer sizes n c x w = last_bind (fetch (inode_block sizes.inodestart n)) _ (fetch_none (inode_block sizes.inodestart n)) (λ block a. inl (refl, tt))
 
 record_last : (op : above.Op) (m : above.Answer op → Option above.Mark) (answer : above.Answer op) (b n : ℕ) (d : Dinode) (had : Had) (c : Carry) → MarksLast (bind (fetch b) (put_record op m answer b n d had c))
 record_last op m answer b n d had c = last_bind (fetch b) (put_record op m answer b n d had c) (fetch_none b) (λ block a. inl (refl, tt))
@@ -215,90 +223,116 @@ found_below d k block f is = at (first_below (λ p. is_free (dirent_at p block))
         let below : 64 * k + p < 17152 = omega (arith, first.0) in
         subst (λ (z : Found). z.slot < most_slots) (let z : found_at k block p ≡ f = cc in z) below
 
+-- so is one that the index has
+known_below : (d : Dinode) (x : IndexState) (f : Found) → first_of Unused d x ≡ Some f → f.slot < most_slots
+unfolding first_of
+known_below d x f is = at (min (slots_known x) (slot_count d)) (first_gap 0 (take index_room x.slots)) (let z : min (slots_known x) (slot_count d) ≤ 17152 = omega arith in z) is
+  where
+    at : (limit s : ℕ) → limit ≤ 17152 → free_below limit s ≡ Some f → f.slot < most_slots
+    at limit s few e = by (nat_lt s limit) refl e
+      where
+        by : (b : Bool) → nat_lt s limit ≡ b → (if b then Some (record { slot = s; number = 0 }) else None) ≡ Some f → f.slot < most_slots
+        by false q z = absurd (let z : ◌≡◌ {A = Option Found} None (Some f) = z in cc)
+        by true q z =
+            let below : s < 17152 = grind (arith, nat_tests, q, few) in
+            subst (λ (z : Found). z.slot < most_slots) (let z : record { slot = s; number = 0 } ≡ f = cc in z) below
+
 -- the slot of a new name, where that is below the most
-abbrev FitsIn : Dinode → Option Found → Type 0
-FitsIn d o = slot_for d o < most_slots
+abbrev FitsIn : Dinode → Searched → Type 0
+FitsIn d o = slot_for d o.found < most_slots
 
-next_fits : (d : Dinode) (o : Option Found) (p : P (Option Found)) → ((f : Found) → o ≡ Some f → f.slot < most_slots) → EndsAs (FitsIn d) p → EndsAs (FitsIn d) (or_next o p)
-next_fits d (Some f) p below ends = below f refl
-next_fits d None p below ends = ends
+next_fits : (d : Dinode) (o : Option Found) (x : IndexState) (next : IndexState → P Searched) → ((f : Found) → o ≡ Some f → f.slot < most_slots) → ((y : IndexState) → EndsAs (FitsIn d) (next y)) → EndsAs (FitsIn d) (or_next o x next)
+next_fits d (Some f) x next below ends = below f refl
+next_fits d None x next below ends = ends x
 
-search_fits : (n : ℕ) (d : Dinode) (k : ℕ) → slot_count d < most_slots → EndsAs (FitsIn d) (search_from n Unused d k)
+blocks_fit : (n : ℕ) (d : Dinode) (k : ℕ) (x : IndexState) → slot_count d < most_slots → EndsAs (FitsIn d) (search_from n Unused d k x)
 unfolding search_from
-search_fits zero d k few = few
-search_fits (suc n) d k few =
-    ends_bind (FitsIn d) (fetch_block d k) (look_at Unused d k (search_from n Unused d (k + 1)))
-    (λ f a. next_fits d (found_in Unused d k f.bytes) (search_from n Unused d (k + 1)) (λ x is. found_below d k f.bytes x is) (search_fits n d (k + 1) few))
+blocks_fit zero d k x few = few
+blocks_fit (suc n) d k x few =
+    ends_bind (FitsIn d) (fetch_block d k) (look_at Unused d k x (search_from n Unused d (k + 1)))
+    (λ f a. next_fits d (found_in Unused d k f.bytes) (index_raised d k f.bytes x) (search_from n Unused d (k + 1)) (λ z is. found_below d k f.bytes z is) (λ y. blocks_fit n d (k + 1) y few))
 
-module _ {A : Type 0} (act : Acts) (d : Dinode) (then_ : Option Found → P A) (full : IsAtEnd (then_ None)) (fits : (f : Found) → f.slot < most_slots → MarksLast (then_ (Some f))) where
-  last_seen : (b : ℕ) (o : Option Found) → ((f : Found) → o ≡ Some f → f.slot < most_slots) → (a : Unit {0}) → ((is_some (if_none o (Some act)) ≡ true) × IsAtEnd (then_ o)) ⊎ ((if_none o (Some act) ≡ None) × MarksLast (then_ o))
-  last_seen b None below a = inl (refl, full)
-  last_seen b (Some f) below a = inr (refl, fits f (below f refl))
+search_fits : (l : Loaded) → slot_count l.inode < most_slots → EndsAs (FitsIn l.inode) (search Unused l)
+search_fits l few =
+    next_fits l.inode (first_of Unused l.inode l.index) l.index (search_from (block_count l.inode - l.index.blocks) Unused l.inode l.index.blocks) (λ f is. known_below l.inode l.index f is)
+    (λ y. blocks_fit (block_count l.inode - l.index.blocks) l.inode l.index.blocks y few)
 
-  next_full : (o : Option Found) (p : P (Option Found)) → ((f : Found) → o ≡ Some f → f.slot < most_slots) → MarksLast (bind p then_) → MarksLast (bind (or_next o p) then_)
-  next_full (Some f) p below last = fits f (below f refl)
-  next_full None p below last = last
+module _ {A : Type 0} (act : Acts) (then_ : Searched → P A) (full : (x : IndexState) → IsAtEnd (then_ (record { found = None; index = x }))) (fits : (f : Found) (x : IndexState) → f.slot < most_slots → MarksLast (then_ (record { found = Some f; index = x }))) where
+  last_seen : (o : Option Found) (x : IndexState) → ((f : Found) → o ≡ Some f → f.slot < most_slots) → (a : Unit {0}) → ((is_some (if_none o (Some act)) ≡ true) × IsAtEnd (then_ (record { found = o; index = x }))) ⊎ ((if_none o (Some act) ≡ None) × MarksLast (then_ (record { found = o; index = x })))
+  last_seen None x below a = inl (refl, full x)
+  last_seen (Some f) x below a = inr (refl, fits f x (below f refl))
 
-  full_last : (n k : ℕ) → MarksLast (bind (search_full (Some act) n d k) then_)
+  next_full : (o : Option Found) (x : IndexState) (next : IndexState → P Searched) → ((f : Found) → o ≡ Some f → f.slot < most_slots) → ((y : IndexState) → MarksLast (bind (next y) then_)) → MarksLast (bind (or_next o x next) then_)
+  next_full (Some f) x next below last = fits f x (below f refl)
+  next_full None x next below last = last x
+
+  blocks_full : (d : Dinode) (n k : ℕ) (x : IndexState) → MarksLast (bind (search_full (Some act) n d k x) then_)
   unfolding search_full
-  full_last zero k = last_bind_two (fetch_block d k) (look_last (Some act) d k) then_ (block_none d k) (λ f. last_seen f.number (found_in Unused d k f.bytes) (λ x is. found_below d k f.bytes x is))
-  full_last (suc n) k =
-      last_bind_two (fetch_block d k) (look_at Unused d k (search_full (Some act) n d (k + 1))) then_ (block_none d k)
-      (λ f a. inr (refl, next_full (found_in Unused d k f.bytes) (search_full (Some act) n d (k + 1)) (λ x is. found_below d k f.bytes x is) (full_last n (k + 1))))
+  blocks_full d zero k x =
+      last_bind_two (fetch_block d k) (look_last (Some act) d k x) then_ (block_none d k) (λ f. last_seen (found_in Unused d k f.bytes) (index_raised d k f.bytes x) (λ z is. found_below d k f.bytes z is))
+  blocks_full d (suc n) k x =
+      last_bind_two (fetch_block d k) (look_at Unused d k x (search_full (Some act) n d (k + 1))) then_ (block_none d k)
+      (λ f a. inr (refl, next_full (found_in Unused d k f.bytes) (index_raised d k f.bytes x) (search_full (Some act) n d (k + 1)) (λ z is. found_below d k f.bytes z is) (blocks_full d n (k + 1))))
+
+  full_last : (l : Loaded) → MarksLast (bind (seek_full (Some act) l) then_)
+  full_last l =
+      next_full (first_of Unused l.inode l.index) l.index (search_full (Some act) (267 - l.index.blocks) l.inode l.index.blocks) (λ f is. known_below l.inode l.index f is)
+      (blocks_full l.inode (267 - l.index.blocks) l.index.blocks)
 
 -- ---- the operations
 
 module _ (sizes : Super) (c : Carry) where
   module _ (d : ℕ) (e : Name) (n : ℕ) (m : EntryResult → Option above.Mark) where
-    entry_last : (slot : ℕ) → slot < most_slots → MarksLast (enter_in sizes d e n c m slot)
-    entry_last slot below = at (nat_lt slot most_slots) (grind (arith, nat_tests, below))
+    entry_last : (x : IndexState) (slot : ℕ) → slot < most_slots → MarksLast (enter_in sizes d e n c m x slot)
+    entry_last x slot below = at (nat_lt slot most_slots) (grind (arith, nat_tests, below))
       where
         writes : P (Handover EntryResult Carry)
         writes =
-            bind (write_blocks (blocks_between (16 * slot) (16 * slot + length (spell_dirent (Used n e)))) sizes (16 * slot) (spell_dirent (Used n e)) (record_in c d)) (entered_to sizes d e n c m slot)
+            bind (write_blocks (blocks_between (16 * slot) (16 * slot + length (spell_dirent (Used n e)))) sizes (16 * slot) (spell_dirent (Used n e)) (record_in c d)) (entered_to sizes d e n c m x slot)
 
         last : MarksLast writes
         last =
-            last_bind (write_blocks (blocks_between (16 * slot) (16 * slot + length (spell_dirent (Used n e)))) sizes (16 * slot) (spell_dirent (Used n e)) (record_in c d)) (entered_to sizes d e n c m slot)
+            last_bind (write_blocks (blocks_between (16 * slot) (16 * slot + length (spell_dirent (Used n e)))) sizes (16 * slot) (spell_dirent (Used n e)) (record_in c d)) (entered_to sizes d e n c m x slot)
             (writes_none (blocks_between (16 * slot) (16 * slot + length (spell_dirent (Used n e)))) sizes (16 * slot) (spell_dirent (Used n e)) (record_in c d))
-            (λ w. last_if (w.upto == 16 * (slot + 1)) (put_grown (Enter d e n) above.Room m above.InPlace sizes d c w) (put_grown (Enter d e n) (above.RoomFor 0) m above.NoBlock sizes d c w)
-            (grown_last (Enter d e n) above.Room m above.InPlace sizes d c w) (grown_last (Enter d e n) (above.RoomFor 0) m above.NoBlock sizes d c w))
+            (λ w. last_if (w.upto == 16 * (slot + 1)) (put_grown (Enter d e n) above.Room m above.InPlace sizes d c (with_entry slot (spell_dirent (Used n e)) x) w)
+            (put_grown (Enter d e n) (above.RoomFor 0) m above.NoBlock sizes d c x w)
+            (grown_last (Enter d e n) above.Room m above.InPlace sizes d c (with_entry slot (spell_dirent (Used n e)) x) w) (grown_last (Enter d e n) (above.RoomFor 0) m above.NoBlock sizes d c x w))
 
-        at : (b : Bool) → b ≡ true → MarksLast (if b then writes else Ret (record { answer = above.NoSlot; carry = c }))
+        at : (b : Bool) → b ≡ true → MarksLast (if b then writes else Ret (record { answer = above.NoSlot; carry = with_index c d x }))
         at true is = last
         at false is = absurd (let z : false ≡ true = is in cc)
 
-    entry_ends : (slot : ℕ) → nat_lt slot most_slots ≡ false → IsAtEnd (enter_in sizes d e n c m slot)
-    entry_ends slot past = at (nat_lt slot most_slots) past _
+    entry_ends : (x : IndexState) (slot : ℕ) → nat_lt slot most_slots ≡ false → IsAtEnd (enter_in sizes d e n c m x slot)
+    entry_ends x slot past = at (nat_lt slot most_slots) past _
       where
-        at : (b : Bool) → b ≡ false → (p : P (Handover EntryResult Carry)) → IsAtEnd (if b then p else Ret (record { answer = above.NoSlot; carry = c }))
+        at : (b : Bool) → b ≡ false → (p : P (Handover EntryResult Carry)) → IsAtEnd (if b then p else Ret (record { answer = above.NoSlot; carry = with_index c d x }))
         at true is p = absurd (let z : true ≡ false = is in cc)
         at false is p = tt
 
     enters_last : MarksLast (handlers sizes c (Enter d e n) m)
     enters_last = at (nat_lt (slot_count (record_in c d)) most_slots) refl
       where
-        then_ : Option Found → P (Handover EntryResult Carry)
-        then_ found = enter_in sizes d e n c m (slot_for (record_in c d) found)
+        then_ : Searched → P (Handover EntryResult Carry)
+        then_ o = enter_in sizes d e n c m o.index (slot_for (record_in c d) o.found)
 
         at : (b : Bool) → nat_lt (slot_count (record_in c d)) most_slots ≡ b
-            → MarksLast (bind (if b then search Unused (record_in c d) else search_full (acts (Enter d e n) above.Room m) 267 (record_in c d) 0) then_)
+            → MarksLast (bind (if b then search Unused (loaded_in c d) else seek_full (acts (Enter d e n) above.Room m) (loaded_in c d)) then_)
         at true few =
-            last_bind_as (FitsIn (record_in c d)) (search Unused (record_in c d)) then_ (search_none (block_count (record_in c d)) Unused (record_in c d) 0)
-            (search_fits (block_count (record_in c d)) (record_in c d) 0 (grind (arith, nat_tests, few))) (λ o fits. entry_last (slot_for (record_in c d) o) fits)
+            last_bind_as (FitsIn (record_in c d)) (search Unused (loaded_in c d)) then_ (search_none Unused (loaded_in c d))
+            (search_fits (loaded_in c d) (grind (arith, nat_tests, few))) (λ o fits. entry_last o.index (slot_for (record_in c d) o.found) fits)
         at false full =
-            full_last (record { op = Enter d e n; outside = above.Room; mark = m }) (record_in c d) then_ (entry_ends (slot_count (record_in c d)) full) (λ f below. entry_last f.slot below) 267 0
+            full_last (record { op = Enter d e n; outside = above.Room; mark = m }) then_ (λ x. entry_ends x (slot_count (record_in c d)) full) (λ f x below. entry_last x f.slot below) (loaded_in c d)
 
   fills_last : (n d : ℕ) (m : Bool → Option above.Mark) → MarksLast (handlers sizes c (Fill n d) m)
   fills_last n d m =
       last_bind (write_blocks (blocks_between 0 (0 + length (dots n d))) sizes 0 (dots n d) (record_in c n)) (filled_to sizes n d c m) (writes_none (blocks_between 0 (0 + length (dots n d))) sizes 0 (dots n d) (record_in c n))
-      (λ w. last_if (w.upto == 32) (put_grown (Fill n d) above.Room m true sizes n c w) (put_grown (Fill n d) (above.RoomFor 0) m false sizes n c w) (grown_last (Fill n d) above.Room m true sizes n c w)
-      (grown_last (Fill n d) (above.RoomFor 0) m false sizes n c w))
+      (λ w. last_if (w.upto == 32) (put_grown (Fill n d) above.Room m true sizes n c no_index w) (put_grown (Fill n d) (above.RoomFor 0) m false sizes n c no_index w)
+      (grown_last (Fill n d) above.Room m true sizes n c no_index w) (grown_last (Fill n d) (above.RoomFor 0) m false sizes n c no_index w))
 
   clears_last : (n : ℕ) (e : Name) (m : above.Answer (Clear n e) → Option above.Mark) → MarksLast (handlers sizes c (Clear n e) m)
   clears_last n e m =
       last_bind (slot_of (c n) e) (clear_slot sizes n e c m) (slot_none (c n) e)
-      (λ s. last_bind (fetch_block (record_in c n) (s / 64)) (clear_in sizes n e c m s) (block_none (record_in c n) (s / 64))
+      (λ s. last_bind (fetch_block (record_in c n) (s.0 / 64)) (clear_in sizes n e c m s) (block_none (record_in c n) (s.0 / 64))
       (λ f a. inr (refl, last_bind (fetch (inode_block sizes.inodestart n)) _ (fetch_none (inode_block sizes.inodestart n)) (λ block b. inl (refl, tt)))))
 
   writes_last : (fd n offset : ℕ) (bytes : List ℕ) (m : Wrote → Option above.Mark) (o : Option Cause) → MarksLast (write_unless sizes fd n offset bytes m c o)

@@ -1,5 +1,5 @@
 -- What the tables count of an inode: one for each open file, and what each hart has.
-use Rattle.run_laws.proofs.Vocabulary.{◌≡◌, ◌≢◌, ℕ, suc, ◌+◌, ◌<◌, ◌==◌, Bool, true, false, cond, List, [], ◌∷◌, length, Option, Some, None, refl, sym, ◌∙◌, ap, subst, arith, slice_get, count_by, same_Some, slice_get_within, sum_by-cons, Dinode, hart_count, sum_below, one_if, none_any, one_no, sum_same, FilePlace, Taken, TablesState, owed, references_of, is_file_of, is_directory_of, file_count, is_at, Entry, Inv, number_is, Shows, is_taken, place_with}
+use Rattle.run_laws.proofs.Vocabulary.{◌≡◌, ◌≢◌, ℕ, suc, ◌+◌, ◌<◌, ◌==◌, Bool, true, false, cond, List, [], ◌∷◌, length, Option, Some, None, refl, sym, ◌∙◌, ap, subst, arith, slice_get, count_by, same_Some, slice_get_within, sum_by-cons, Loaded, hart_count, sum_below, one_if, none_any, one_no, sum_same, FilePlace, Taken, TablesState, owed, references_of, is_file_of, is_directory_of, file_count, is_at, Entry, Inv, number_is, Shows, is_taken, place_with}
 use Rattle.fs_machine.specs.declared.desk.Desk as cards
 use Rattle.inode_machine.specs.World.{World}
 use Rattle.inodes_on_blocks.proofs.Owed.{sum_front, one_cond}
@@ -20,7 +20,7 @@ count_sum {X} p (x ∷ xs) f same =
 
 -- ---- references
 
-module _ (n : ℕ) (t : TablesState) (w : World) (load : ℕ → Option Dinode) (shows : Shows t w load) (inv : Inv w) where
+module _ (n : ℕ) (t : TablesState) (w : World) (load : ℕ → Option Loaded) (shows : Shows t w load) (inv : Inv w) where
   file_at : (o : Option Entry) (b : Bool) → one_if (is_file_of n (place_with b o)) ≡ number_is o n
   file_at (Some e) b = refl
   file_at None true = one_no false refl
@@ -56,7 +56,7 @@ module _ (n : ℕ) (t : TablesState) (w : World) (load : ℕ → Option Dinode) 
 
 -- ---- places for open files
 
-module _ (t : TablesState) (w : World) (load : ℕ → Option Dinode) (shows : Shows t w load) (idle : (g : ℕ) → (w.desks g).hand ≡ None) where
+module _ (t : TablesState) (w : World) (load : ℕ → Option Loaded) (shows : Shows t w load) (idle : (g : ℕ) → (w.desks g).hand ≡ None) where
   in_no_hand : (k : ℕ) → is_taken w.desks k ≡ false
   in_no_hand k = none_any hart_count (λ g. is_at (w.desks g).hand k) (λ g lt. ap (λ (o : Option ℕ). is_at o k) (idle g))
 

@@ -1,6 +1,5 @@
 -- An operation that acts in the first step of its program does so where that step ran: the tables show that a lock was taken.
-use Rattle.run_laws.proofs.Vocabulary.{◌≡◌, ℕ, Option, Some, None, List, [], refl, sym, ◌∙◌, ap, subst, put_same, Super, Prog, Ret, Do, ExecResult, Waits, Ran, Stops, exec_result_in, ActOf, Both, both, ran_to, act_places, acts, seen_after, own, own_one, Outside, AnswerBelow, LockedState, file_named, lock_file, lock_inode, lock_open, refusal_of, came_to, in_tables, loaded, Carry, handlers, file_locked, stat_locked, machine, Mark, Take, StatFile, LockFile, LockOpen, World, block_calls, IsAtEnd, InFirst, time_of, Operation, whole_inodes, told_by}
-use Rattle.fs_layout.specs.declared.inode.Dinode.{Dinode}
+use Rattle.run_laws.proofs.Vocabulary.{◌≡◌, ℕ, Option, Some, None, List, [], refl, sym, ◌∙◌, ap, subst, put_same, Super, Prog, Ret, Do, ExecResult, Waits, Ran, Stops, exec_result_in, ActOf, Both, both, ran_to, act_places, acts, seen_after, own, own_one, Outside, AnswerBelow, LockedState, file_named, lock_file, lock_inode, lock_open, refusal_of, came_to, in_tables, loaded, Loaded, Carry, handlers, file_locked, stat_locked, machine, Mark, Take, StatFile, LockFile, LockOpen, World, block_calls, IsAtEnd, InFirst, time_of, Operation, whole_inodes, told_by}
 use Rattle.fs_machine.specs.Inodes as inodes
 use Rattle.fs_machine.specs.Steps as steps
 use Rattle.fs_machine.specs.Tables.{TablesState, holder_in, place_of}
@@ -18,7 +17,7 @@ use Rattle.run_laws.proofs.Whole.{answer_or}
 -- ---- tables
 
 -- where a lock was taken, the tables don't show the same world as before
-lock_taken : (h n : ℕ) (t u : TablesState) (w : above.World) (load later : ℕ → Option Dinode) (content : Option Dinode) → tables.Shows t w load → tables.Shows u w later → lock_inode h n t ≡ Ran content u → ⊥
+lock_taken : (h n : ℕ) (t u : TablesState) (w : above.World) (load later : ℕ → Option Loaded) (content : Option Loaded) → tables.Shows t w load → tables.Shows u w later → lock_inode h n t ≡ Ran content u → ⊥
 unfolding lock_inode
 lock_taken h n t u w load later content shows after ran = at (place_of n t.entries) refl
   where
@@ -34,22 +33,22 @@ lock_taken h n t u w load later content shows after ran = at (place_of n t.entri
         cc)
 
 -- that of what a descriptor names
-file_taken : (h : ℕ) (t u : TablesState) (w : above.World) (load later : ℕ → Option Dinode) (b : LockedState) → tables.Shows t w load → tables.Shows u w later → (f : Option OpenFile) (why : Option Refused) → inodes.lock_unless h t f why ≡ Ran b u
+file_taken : (h : ℕ) (t u : TablesState) (w : above.World) (load later : ℕ → Option Loaded) (b : LockedState) → tables.Shows t w load → tables.Shows u w later → (f : Option OpenFile) (why : Option Refused) → inodes.lock_unless h t f why ≡ Ran b u
     → ((r : Refused) → b ≡ inodes.Refuses r → ⊥) → ⊥
 file_taken h t u w load later b shows after f (Some r) ran isnt = isnt r (sym (ap (answer_or b) ran))
 file_taken h t u w load later b shows after None None ran isnt = never_ran b u ran
 file_taken h t u w load later b shows after (Some f) None ran isnt = at (lock_inode h f.number t) refl ran
   where
-    at : (d : ExecResult (Option Dinode) TablesState) → lock_inode h f.number t ≡ d → inodes.with_file f d ≡ Ran b u → ⊥
+    at : (d : ExecResult (Option Loaded) TablesState) → lock_inode h f.number t ≡ d → inodes.with_file f d ≡ Ran b u → ⊥
     at Waits is e = never_ran b u e
     at (Stops z) is e = (let q : Stops z ≡ Ran b u = e in cc)
     at (Ran content z) is e = lock_taken h f.number t u w load later content shows after (is ∙ ap (λ (y : TablesState). Ran content y) (ap (ran_to t) e))
 
-open_taken : (h : ℕ) (t u : TablesState) (w : above.World) (load later : ℕ → Option Dinode) (b : OpenFile × Option Dinode) → tables.Shows t w load → tables.Shows u w later → (f : Option OpenFile) → steps.lock_open h t f ≡ Ran b u → ⊥
+open_taken : (h : ℕ) (t u : TablesState) (w : above.World) (load later : ℕ → Option Loaded) (b : OpenFile × Option Loaded) → tables.Shows t w load → tables.Shows u w later → (f : Option OpenFile) → steps.lock_open h t f ≡ Ran b u → ⊥
 open_taken h t u w load later b shows after None ran = never_ran b u ran
 open_taken h t u w load later b shows after (Some f) ran = at (lock_inode h f.number t) refl ran
   where
-    at : (d : ExecResult (Option Dinode) TablesState) → lock_inode h f.number t ≡ d → steps.with_open f d ≡ Ran b u → ⊥
+    at : (d : ExecResult (Option Loaded) TablesState) → lock_inode h f.number t ≡ d → steps.with_open f d ≡ Ran b u → ⊥
     at Waits is e = never_ran b u e
     at (Stops z) is e = (let q : Stops z ≡ Ran b u = e in cc)
     at (Ran content z) is e = lock_taken h f.number t u w load later content shows after (is ∙ ap (λ (y : TablesState). Ran content y) (ap (ran_to t) e))

@@ -1,5 +1,5 @@
 -- What the programs of most operations record: what the operations spend.
-use Rattle.run_laws.proofs.Vocabulary.{◌≤◌, inr, ℕ, zero, suc, ◌+◌, ◌/◌, ◌==◌, Bool, true, false, not, pos, List, [], ◌∷◌, Option, Some, None, refl, arith, is_some, slice_index, take, Dinode, Super, numbers_in, block_len, dirents_per_block, Name, same_name, AfterLeave, Commits, Ret, bind, Handover, LockedState, Locks, ClaimedState as ClaimResult, Claims, HasNoPlace as NoPlace, NoInode, fetch, read_unless, commit_unless, commits, most_writes, after_leave, free_block, clear_bit, inode_blocks, give_back, inode_block, load_unless, put_inode, store as store_inode, address, table_of, free_numbers, free_table, free_in_table, free_indirect, freed, without_content, FilledMemory, blocks_between, end_of, fetch_at, fetch_block, fetch_named, fetch_number, filled_with, give_fetched, next_block, part_of, read_blocks, read_from, read_part, direct, Address, Direct, InTable, Aim, Named, block_count, found_in, is_directory, is_live_directory, look_at, lookup, or_next, search, search_from, with_slot, Found, Spent, size, with_bitmap, with_contents, with_record, AtEntries, AtName, AtNothing, Query, Sight, InodeType, IsSpent, empty, free, give_content, file_locked, give_read, read_file, with_file, Apart, Carry, Emptied, Finds, Had, Has, NothingMore, Opened, claim_at, claim_from, claim_in, clear, clear_in, clear_slot, put_named, slot_found, slot_of, learned, looked, number_found, search_entries, seen_record, stat_file, stat_loaded, stat_locked, take_inode, put_record, record_in, NoMore, bitmap_no_more, record_no_more, record_spent, kind_of}
+use Rattle.run_laws.proofs.Vocabulary.{◌≤◌, inr, ℕ, zero, suc, ◌+◌, ◌/◌, ◌==◌, Bool, true, false, not, ◌-◌, pos, List, [], ◌∷◌, Option, Some, None, refl, arith, is_some, slice_index, take, Dinode, IndexState, Loaded, Super, numbers_in, block_len, dirents_per_block, Name, same_name, AfterLeave, Commits, Ret, bind, Handover, LockedState, Locks, ClaimedState as ClaimResult, Claims, HasNoPlace as NoPlace, NoInode, fetch, read_unless, commit_unless, commits, most_writes, after_leave, free_block, clear_bit, inode_blocks, give_back, inode_block, load_unless, put_inode, store as store_inode, address, table_of, free_numbers, free_table, free_in_table, free_indirect, freed, without_content, FilledMemory, blocks_between, end_of, fetch_at, fetch_block, fetch_named, fetch_number, filled_with, give_fetched, next_block, part_of, read_blocks, read_from, read_part, direct, Address, Direct, InTable, Aim, Named, block_count, found_in, is_directory, is_live_directory, look_at, lookup, or_next, search, search_from, with_slot, Found, Searched, cleared, first_of, index_raised, Spent, size, with_bitmap, with_contents, with_record, AtEntries, AtName, AtNothing, Query, Sight, InodeType, IsSpent, empty, free, give_content, file_locked, give_read, read_file, with_file, Apart, Carry, Emptied, Finds, Had, Has, NothingMore, Opened, claim_at, claim_from, claim_in, clear, clear_in, clear_slot, put_named, slot_found, slot_of, learned, looked, number_found, search_entries, seen_record, stat_file, stat_loaded, stat_locked, take_inode, put_record, index_in, record_in, NoMore, bitmap_no_more, record_no_more, record_spent, kind_of}
 use Rattle.group_log.specs.declared.log.AfterLeave.TheVariants.{Free}
 use Rattle.fs_machine.specs.Inodes.{Refuses}
 use Rattle.directory.specs.Programs.{Entry}
@@ -26,8 +26,8 @@ module _ (sizes : Super) where
         read (Some bytes) = ended sizes
         read None = quiet sizes few (λ a o. refl) (λ bytes. ended sizes)
 
-    pub no_load : (inodestart n : ℕ) (content : Option Dinode) → Nothing (load_unless inodestart n content)
-    no_load inodestart n (Some d) = ended sizes
+    pub no_load : (inodestart n : ℕ) (content : Option Loaded) → Nothing (load_unless inodestart n content)
+    no_load inodestart n (Some l) = ended sizes
     no_load inodestart n None =
         then_ sizes (fetch (inode_block inodestart n)) (give_back (inode_block inodestart n) n) (no_fetch (inode_block inodestart n))
         (λ bytes. quiet sizes few (λ a o. refl) (λ a. ended sizes))
@@ -44,39 +44,45 @@ module _ (sizes : Super) where
     pub no_block : (d : Dinode) (k : ℕ) → Nothing (fetch_block d k)
     no_block d k = no_at d (address k)
 
-    pub no_next : (o : Option Found) (next : P (Option Found)) → Nothing next → Nothing (or_next o next)
-    no_next (Some f) next rec = ended sizes
-    no_next None next rec = rec
+    pub no_next : (o : Option Found) (x : IndexState) (next : IndexState → P Searched) → ((y : IndexState) → Nothing (next y)) → Nothing (or_next o x next)
+    no_next (Some f) x next rec = ended sizes
+    no_next None x next rec = rec x
 
-    pub no_search : (n : ℕ) (aim : Aim) (d : Dinode) (k : ℕ) → Nothing (search_from n aim d k)
+    no_blocks : (n : ℕ) (aim : Aim) (d : Dinode) (k : ℕ) (x : IndexState) → Nothing (search_from n aim d k x)
     unfolding search_from
-    no_search zero aim d k = ended sizes
-    no_search (suc n) aim d k =
-        then_ sizes (fetch_block d k) (look_at aim d k (search_from n aim d (k + 1))) (no_block d k)
+    no_blocks zero aim d k x = ended sizes
+    no_blocks (suc n) aim d k x =
+        then_ sizes (fetch_block d k) (look_at aim d k x (search_from n aim d (k + 1))) (no_block d k)
         (λ f. quiet sizes few (λ a o. refl)
-        (λ a. no_next (found_in aim d k f.bytes) (search_from n aim d (k + 1)) (no_search n aim d (k + 1))))
+        (λ a. no_next (found_in aim d k f.bytes) (index_raised d k f.bytes x) (search_from n aim d (k + 1)) (no_blocks n aim d (k + 1))))
+
+    pub no_search : (aim : Aim) (l : Loaded) → Nothing (search aim l)
+    no_search aim l =
+        no_next (first_of aim l.inode l.index) l.index (search_from (block_count l.inode - l.index.blocks) aim l.inode l.index.blocks)
+        (no_blocks (block_count l.inode - l.index.blocks) aim l.inode l.index.blocks)
 
     -- the slot of a name sought
-    no_sought : (d : Dinode) (e : Name) → Nothing (bind (search (Named e) d) slot_found)
-    no_sought d e = then_ sizes (search (Named e) d) slot_found (no_search (block_count d) (Named e) d 0) (λ o. ended sizes)
+    no_sought : (l : Loaded) (e : Name) → Nothing (bind (search (Named e) l) slot_found)
+    no_sought l e = then_ sizes (search (Named e) l) slot_found (no_search (Named e) l) (λ o. ended sizes)
 
     no_slot_of : (had : Had) (e : Name) → Nothing (slot_of had e)
     no_slot_of Apart e = ended sizes
-    no_slot_of (Has d NothingMore) e = no_sought d e
-    no_slot_of (Has d (Finds name k)) e =
-        either_way sizes (same_name name e) (Ret k) (bind (search (Named e) d) slot_found) (ended sizes) (no_sought d e)
-    no_slot_of (Has d (Opened fd offset)) e = no_sought d e
+    no_slot_of (Has l NothingMore) e = no_sought l e
+    no_slot_of (Has l (Finds name k)) e =
+        either_way sizes (same_name name e) (Ret (k, l.index)) (bind (search (Named e) l) slot_found) (ended sizes) (no_sought l e)
+    no_slot_of (Has l (Opened fd offset)) e = no_sought l e
     no_slot_of Emptied e = ended sizes
 
-    no_looked : (looking : Query) (c : Carry) (n : ℕ) (d : Dinode) → Nothing (looked looking c n d)
-    no_looked AtNothing c n d = ended sizes
-    no_looked (AtName e) c n d =
-        then_ sizes (lookup e d) (λ o. seen_record c n d (learned e o) (number_found o) true)
-        (either_way sizes (is_live_directory d) (search (Named e) d) (Ret None) (no_search (block_count d) (Named e) d 0) (ended sizes))
+    no_looked : (looking : Query) (c : Carry) (n : ℕ) (l : Loaded) → Nothing (looked looking c n l)
+    no_looked AtNothing c n l = ended sizes
+    no_looked (AtName e) c n l =
+        then_ sizes (lookup e l) (λ o. seen_record c n (record l { index = o.index }) (learned e o.found) (number_found o.found) true)
+        (either_way sizes (is_live_directory l.inode) (search (Named e) l) (Ret (record { found = None; index = l.index })) (no_search (Named e) l) (ended sizes))
         (λ o. ended sizes)
-    no_looked AtEntries c n d =
-        then_ sizes (search_entries d) (λ o. seen_record c n d NothingMore None (not (is_some o)))
-        (either_way sizes (is_directory d) (search Entry d) (Ret None) (no_search (block_count d) Entry d 0) (ended sizes)) (λ o. ended sizes)
+    no_looked AtEntries c n l =
+        then_ sizes (search_entries l) (λ o. seen_record c n (record l { index = o.index }) NothingMore None (not (is_some o.found)))
+        (either_way sizes (is_directory l.inode) (search Entry l) (Ret (record { found = None; index = l.index })) (no_search Entry l) (ended sizes))
+        (λ o. ended sizes)
 
     no_stat : (c : Carry) (a : LockedState) → Nothing (stat_locked sizes c a)
     no_stat c (Refuses why) = ended sizes
@@ -151,11 +157,11 @@ module _ (sizes : Super) where
         then_ sizes (fetch (inode_block sizes.inodestart n)) (put_record op m answer (inode_block sizes.inodestart n) n d had c)
         (no_fetch (inode_block sizes.inodestart n)) (λ bytes. records sizes few is (λ a. ended sizes))
 
-    pub puts_named : (op : above.Op) (outside : above.Outside) (m : above.Answer op → Option above.Mark) (answer : above.Answer op) (n : ℕ) (d : Dinode)
+    pub puts_named : (op : above.Op) (outside : above.Outside) (m : above.Answer op → Option above.Mark) (answer : above.Answer op) (n : ℕ) (l : Loaded)
         (c : Carry) → IsSpent sizes s (inode_block sizes.inodestart n)
-        → Nothing (bind (fetch (inode_block sizes.inodestart n)) (put_named op outside m answer (inode_block sizes.inodestart n) n d c))
-    puts_named op outside m answer n d c is =
-        then_ sizes (fetch (inode_block sizes.inodestart n)) (put_named op outside m answer (inode_block sizes.inodestart n) n d c)
+        → Nothing (bind (fetch (inode_block sizes.inodestart n)) (put_named op outside m answer (inode_block sizes.inodestart n) n l c))
+    puts_named op outside m answer n l c is =
+        then_ sizes (fetch (inode_block sizes.inodestart n)) (put_named op outside m answer (inode_block sizes.inodestart n) n l c)
         (no_fetch (inode_block sizes.inodestart n)) (λ bytes. records sizes few is (λ a. ended sizes))
 
     pub stores_inode : (n : ℕ) (d : Dinode) → IsSpent sizes s (inode_block sizes.inodestart n) → Nothing (store_inode sizes.inodestart n d)
@@ -206,18 +212,20 @@ module _ (sizes : Super) where
     empties m few =
         let d : Dinode = without_content (record_in c n) in
         let at : ℕ = inode_block sizes.inodestart n in
-        let last : P (Handover (Unit {0}) Carry) = bind (fetch at) (put_record (above.Op.Empty n) m (tt {0}) at n d (Has d NothingMore) c) in
+        let had : Had = Has (record { inode = d; index = index_in c n }) NothingMore in
+        let last : P (Handover (Unit {0}) Carry) = bind (fetch at) (put_record (above.Op.Empty n) m (tt {0}) at n d had c) in
         let is = record_spent sizes n (with_bitmap s) in
         from sizes (emptied n s)
         (gives_content both few (inr (refl, refl)) (record_in c n) last
-        (puts_record both few (above.Op.Empty n) m (tt {0}) n d (Has d NothingMore) c is))
+        (puts_record both few (above.Op.Empty n) m (tt {0}) n d had c is))
 
     pub stores : (count : ℕ) (m : Unit {0} → Option above.Mark) → size (with_record n s) ≤ 10
         → Within sizes s (store sizes n count c m) (with_record n s)
     stores count m few =
         let d : Dinode = record (record_in c n) { nlink = pos count } in
+        let had : Had = Has (record { inode = d; index = index_in c n }) NothingMore in
         from sizes (record_no_more n s)
-        (puts_record (with_record n s) few (above.Op.Store n count) m (tt {0}) n d (Has d NothingMore) c (record_spent sizes n s))
+        (puts_record (with_record n s) few (above.Op.Store n count) m (tt {0}) n d had c (record_spent sizes n s))
 
     pub clears : (e : Name) (m : Unit {0} → Option above.Mark) → size (with_record n (with_contents 1 s)) ≤ 10
         → Within sizes s (clear sizes n e c m) (with_record n (with_contents 1 s))
@@ -227,10 +235,11 @@ module _ (sizes : Super) where
         let less : size (with_record n s) ≤ 10 = omega (arith, few) in
         from sizes (record_no_more n s)
         (then_ sizes (slot_of (c n) e) (clear_slot sizes n e c m) (no_slot_of t less (c n) e)
-        (λ k. then_ sizes (fetch_block (record_in c n) (k / dirents_per_block)) (clear_in sizes n e c m k)
-        (no_block t less (record_in c n) (k / dirents_per_block))
+        (λ at. then_ sizes (fetch_block (record_in c n) (at.0 / dirents_per_block)) (clear_in sizes n e c m at)
+        (no_block t less (record_in c n) (at.0 / dirents_per_block))
         (λ f. records_one sizes less
-        (λ a. puts_named r few (above.Op.Clear n e) above.Room m (tt {0}) n (with_slot k (record_in c n)) c (record_spent sizes n (with_contents 1 s))))))
+        (λ a. puts_named r few (above.Op.Clear n e) above.Room m (tt {0}) n (record { inode = with_slot at.0 (record_in c n); index = cleared at.0 at.1 }) c
+        (record_spent sizes n (with_contents 1 s))))))
 
   module _ (s : Spent) (few : size s ≤ 10) where
     pub stats : (fd : ℕ) (c : Carry) (m : above.Answer (above.Op.StatFile fd) → Option above.Mark) → Within sizes s (stat_file sizes fd c m) s

@@ -1,5 +1,5 @@
 -- What the programs record that write: two blocks for each block that they write to, beside the bitmap and the inode's record.
-use Rattle.run_laws.proofs.Vocabulary.{◌≡◌, ◌⊎◌, ⊎_elim, inl, inr, ◌<◌, ◌≤◌, ◌+◌, ◌-◌, ◌*◌, ◌/◌, ℕ, zero, suc, ◌==◌, nat_lt, Bool, true, false, if◌then◌else◌, List, length, Option, Some, None, refl, sym, subst, arith, slice_index, cases_lt, Used, Dinode, Super, spell_dirent, numbers_in, block_len, Cause, Name, Ret, Do, bind, unmarked, marked_by, first_clear_below, give_zeros, take_first, zero_found, slot_for, Unused, block_count, found_in, look_at, most_slots, search, slot_count, fetch, read_unless, Put, Address, Direct, InTable, Located, address, table_of, blocks_between, fetch_block, direct, most_blocks, WriteResult, front_of, grown, locate, locate_at, located, look_up, name_direct, name_in_table, put_part, store_written, take_one, with_address, with_table, write_blocks, write_in, write_located, write_part, store, Spent, size, with_bitmap, with_contents, with_record, EntryResult, Wrote, Enter, Fill, IsSpent, dots, enter, enter_in, entered_to, fill, filled_to, look_last, put_grown, search_full, seek_free, Acts, acts, Carry, NoMore, record_in, give_written, refused_in, write_file, write_unless, many_between, none_there, record_spent, AreAtMostTen}
+use Rattle.run_laws.proofs.Vocabulary.{◌≡◌, ◌⊎◌, ⊎_elim, inl, inr, ◌<◌, ◌≤◌, ◌+◌, ◌-◌, ◌*◌, ◌/◌, ℕ, zero, suc, ◌==◌, nat_lt, Bool, true, false, if◌then◌else◌, List, length, Option, Some, None, refl, sym, subst, arith, slice_index, cases_lt, Used, Dinode, IndexState, Loaded, no_index, Super, spell_dirent, numbers_in, block_len, Cause, Name, Ret, Do, bind, unmarked, marked_by, first_clear_below, give_zeros, take_first, zero_found, slot_for, Unused, first_of, found_in, look_at, most_slots, index_raised, search, slot_count, with_entry, fetch, read_unless, Put, Address, Direct, InTable, Located, address, table_of, blocks_between, fetch_block, direct, most_blocks, WriteResult, front_of, grown, locate, locate_at, located, look_up, name_direct, name_in_table, put_part, store_written, take_one, with_address, with_table, write_blocks, write_in, write_located, write_part, store, Spent, size, with_bitmap, with_contents, with_record, EntryResult, Wrote, Enter, Fill, IsSpent, dots, enter, enter_in, entered_to, fill, filled_to, look_last, put_grown, search_full, seek_free, seek_full, Acts, acts, Carry, NoMore, loaded_in, record_in, with_index, give_written, refused_in, write_file, write_unless, many_between, none_there, record_spent, AreAtMostTen}
 use Rattle.std.proofs.Common.{drop}
 use Rattle.inode_machine.specs.World as above
 use Rattle.inodes_on_blocks.specs.Handlers.{P}
@@ -241,32 +241,34 @@ module _ (sizes : Super) where
     abbrev with_both : Spent
     with_both = with_contents k (with_record n (with_bitmap s))
 
-    grows : (outside : above.Outside) (answer : above.Answer op) (w : WriteResult) → size (with_contents k (with_record n (with_bitmap s))) ≤ 10
-        → Within sizes with_both (put_grown op outside m answer sizes n c w) with_both
-    grows outside answer w few = puts_named sizes with_both few op outside m answer n (grown w) c (record_spent sizes n (with_contents k (with_bitmap s)))
+    grows : (outside : above.Outside) (answer : above.Answer op) (x : IndexState) (w : WriteResult) → size (with_contents k (with_record n (with_bitmap s))) ≤ 10
+        → Within sizes with_both (put_grown op outside m answer sizes n c x w) with_both
+    grows outside answer x w few =
+        puts_named sizes with_both few op outside m answer n (record { inode = grown w; index = x }) c (record_spent sizes n (with_contents k (with_bitmap s)))
 
   module _ (s : Spent) (few : size s ≤ 10) where
-    no_full : (mark : Option Acts) (n : ℕ) (d : Dinode) (k : ℕ) → Within sizes s (search_full mark n d k) s
+    no_full : (mark : Option Acts) (n : ℕ) (d : Dinode) (k : ℕ) (x : IndexState) → Within sizes s (search_full mark n d k x) s
     unfolding search_full
-    no_full mark zero d k =
-        then_ sizes (fetch_block d k) (look_last mark d k) (no_block sizes s few d k) (λ f. quiet sizes few (λ a o. refl) (λ a. ended sizes))
-    no_full mark (suc n) d k =
-        then_ sizes (fetch_block d k) (look_at Unused d k (search_full mark n d (k + 1))) (no_block sizes s few d k)
+    no_full mark zero d k x =
+        then_ sizes (fetch_block d k) (look_last mark d k x) (no_block sizes s few d k) (λ f. quiet sizes few (λ a o. refl) (λ a. ended sizes))
+    no_full mark (suc n) d k x =
+        then_ sizes (fetch_block d k) (look_at Unused d k x (search_full mark n d (k + 1))) (no_block sizes s few d k)
         (λ f. quiet sizes few (λ a o. refl)
-        (λ a. no_next sizes s few (found_in Unused d k f.bytes) (search_full mark n d (k + 1)) (no_full mark n d (k + 1))))
+        (λ a. no_next sizes s few (found_in Unused d k f.bytes) (index_raised d k f.bytes x) (search_full mark n d (k + 1)) (no_full mark n d (k + 1))))
 
-    no_seek : (mark : Option Acts) (d : Dinode) → Within sizes s (seek_free mark d) s
-    no_seek mark d =
-        either_way sizes (nat_lt (slot_count d) most_slots) (search Unused d) (search_full mark (most_blocks - 1) d 0)
-        (no_search sizes s few (block_count d) Unused d 0) (no_full mark (most_blocks - 1) d 0)
+    no_seek : (mark : Option Acts) (l : Loaded) → Within sizes s (seek_free mark l) s
+    no_seek mark l =
+        either_way sizes (nat_lt (slot_count l.inode) most_slots) (search Unused l) (seek_full mark l) (no_search sizes s few Unused l)
+        (no_next sizes s few (first_of Unused l.inode l.index) l.index (search_full mark (most_blocks - 1 - l.index.blocks) l.inode l.index.blocks)
+        (no_full mark (most_blocks - 1 - l.index.blocks) l.inode l.index.blocks))
 
   pub enters : (d : ℕ) (e : Name) (n : ℕ) (c : Carry) (m : EntryResult → Option above.Mark) (s : Spent) → length e ≤ 14
       → size (with_record d (with_bitmap (with_contents 2 s))) ≤ 10
       → Within sizes s (enter sizes d e n c m) (with_record d (with_bitmap (with_contents 2 s)))
   enters d e n c m s short few =
       from sizes (emptied sizes d s)
-      (then_ sizes (seek_free (acts (Enter d e n) above.Room m) (record_in c d)) (λ found. enter_in sizes d e n c m (slot_for (record_in c d) found))
-      (no_seek b less (acts (Enter d e n) above.Room m) (record_in c d)) (λ found. entered (slot_for (record_in c d) found)))
+      (then_ sizes (seek_free (acts (Enter d e n) above.Room m) (loaded_in c d)) (λ o. enter_in sizes d e n c m o.index (slot_for (record_in c d) o.found))
+      (no_seek b less (acts (Enter d e n) above.Room m) (loaded_in c d)) (λ o. entered o.index (slot_for (record_in c d) o.found)))
     where
       b : Spent
       b = with_record d (with_bitmap s)
@@ -277,23 +279,24 @@ module _ (sizes : Super) where
       bytes : List ℕ
       bytes = spell_dirent (Used n e)
 
-      put : (slot : ℕ) (w : WriteResult) → Within sizes (with_contents 2 b) (entered_to sizes d e n c m slot w) (with_contents 2 b)
-      put slot w =
-          either_way sizes (w.upto == 16 * (slot + 1)) (put_grown (Enter d e n) above.Room m above.InPlace sizes d c w)
-          (put_grown (Enter d e n) (above.RoomFor 0) m above.NoBlock sizes d c w)
-          (grows (Enter d e n) m d c 2 s above.Room above.InPlace w few) (grows (Enter d e n) m d c 2 s (above.RoomFor 0) above.NoBlock w few)
+      put : (x : IndexState) (slot : ℕ) (w : WriteResult) → Within sizes (with_contents 2 b) (entered_to sizes d e n c m x slot w) (with_contents 2 b)
+      put x slot w =
+          let y : IndexState = with_entry slot (spell_dirent (Used n e)) x in
+          either_way sizes (w.upto == 16 * (slot + 1)) (put_grown (Enter d e n) above.Room m above.InPlace sizes d c y w)
+          (put_grown (Enter d e n) (above.RoomFor 0) m above.NoBlock sizes d c x w)
+          (grows (Enter d e n) m d c 2 s above.Room above.InPlace y w few) (grows (Enter d e n) m d c 2 s (above.RoomFor 0) above.NoBlock x w few)
 
       count : (slot : ℕ) → blocks_between (16 * slot) (16 * slot + length (spell_dirent (Used n e))) ≤ 1
       count slot = subst (λ (k : ℕ). blocks_between (16 * slot) (16 * slot + k) ≤ 1) (sym (spelled n e short)) (slot_block slot)
 
-      entered : (slot : ℕ) → Within sizes b (enter_in sizes d e n c m slot) (with_contents 2 b)
-      entered slot =
+      entered : (x : IndexState) (slot : ℕ) → Within sizes b (enter_in sizes d e n c m x slot) (with_contents 2 b)
+      entered x slot =
           either_way sizes (nat_lt slot most_slots)
-          (bind (write_blocks (blocks_between (16 * slot) (16 * slot + length bytes)) sizes (16 * slot) bytes (record_in c d)) (entered_to sizes d e n c m slot))
-          (Ret (record { answer = above.NoSlot; carry = c }))
-          (then_ sizes (write_blocks (blocks_between (16 * slot) (16 * slot + length bytes)) sizes (16 * slot) bytes (record_in c d)) (entered_to sizes d e n c m slot)
+          (bind (write_blocks (blocks_between (16 * slot) (16 * slot + length bytes)) sizes (16 * slot) bytes (record_in c d)) (entered_to sizes d e n c m x slot))
+          (Ret (record { answer = above.NoSlot; carry = with_index c d x }))
+          (then_ sizes (write_blocks (blocks_between (16 * slot) (16 * slot + length bytes)) sizes (16 * slot) bytes (record_in c d)) (entered_to sizes d e n c m x slot)
           (writes_few (blocks_between (16 * slot) (16 * slot + length bytes)) 1 (16 * slot) bytes (record_in c d) b (inr (refl, refl)) (count slot) (omega (arith, few)))
-          (λ w. put slot w))
+          (λ w. put x slot w))
           (ended_with sizes (no_contents 2 b))
 
   pub fills : (n d : ℕ) (c : Carry) (m : Bool → Option above.Mark) (s : Spent) → size (with_record n (with_bitmap (with_contents 1 s))) ≤ 10
@@ -310,8 +313,8 @@ module _ (sizes : Super) where
 
       put : (w : WriteResult) → Within sizes (with_contents 1 b) (filled_to sizes n d c m w) (with_contents 1 b)
       put w =
-          either_way sizes (w.upto == 32) (put_grown (Fill n d) above.Room m true sizes n c w) (put_grown (Fill n d) (above.RoomFor 0) m false sizes n c w)
-          (grows (Fill n d) m n c 1 s above.Room true w few) (grows (Fill n d) m n c 1 s (above.RoomFor 0) false w few)
+          either_way sizes (w.upto == 32) (put_grown (Fill n d) above.Room m true sizes n c no_index w) (put_grown (Fill n d) (above.RoomFor 0) m false sizes n c no_index w)
+          (grows (Fill n d) m n c 1 s above.Room true no_index w few) (grows (Fill n d) m n c 1 s (above.RoomFor 0) false no_index w few)
 
   -- ---- a piece of a file
 

@@ -1,5 +1,5 @@
 -- What each operation on whole inodes has seen whose program ends without room.
-use Rattle.run_laws.proofs.Vocabulary.{◌≡◌, ◌⊎◌, inl, inr, ◌<◌, ◌≤◌, ◌+◌, ◌-◌, ◌*◌, ◌/◌, ◌%◌, ℕ, zero, suc, ◌==◌, Bool, true, false, ◌&&◌, nat_lt, if◌then◌else◌, List, [], ◌∷◌, ◌++◌, length, Option, Some, None, IsSome, is_some, is_none, find, refl, sym, ◌∙◌, ap, subst, arith, length-append, nat_tests, length-replicate, Used, Dinode, Super, spell_dirent, dinode_at, length-u16_bytes, Cause, Full, Blocks, Descriptors, Directory, DiskInodes, MemInodes, OpenFiles, Name, dot, dotdot, eq_self, same_or, In, Handover, Ret, ExecResult, Ran, Stops, Waits, bind, first_free, is_unreferenced, up_inode, place_in_memory, fetch, AnswerBelow as Answer, Op, claim_first, claims, in_tables, blocks_between, WriteResult, grown, store_written, write_blocks, write_part, free_among, free_in, inode_blocks, is_free_in, is_zero, inode_block, place_of, store, InodeType, ClaimResult, EntryResult, Wrote, Take, UnlockInode, UpStart, Up, WalkDown, Down, Free, Forget, Claim, Store, Fill, Enter, Clear, Empty, Slot, Install, StatFile, LockFile, ReadFile, CheckFile, JoinFile, LockOpen, WriteFile, Double, Shut, SetDirectory, Lend, LendDirectory, Release, Join, Leave, Say, dots, enter_in, entered_to, filled_to, put_grown, seek_free, Acts, acts, Carry, claim_at, claim_from, claim_in, put_named, handlers, record_in, give_written, refused_in, write_unless, kind_of, slot_for, most_slots, AnsweredStep, ClaimsFindReferences, ComesTo, HasRead, SawInUse, SawNoBlock, SawNoInode, SawNone, SearchesSeeAll, wanted_to_claim, wanted_to_double, wanted_to_enter, wanted_to_write, wanted_unless, wanted_without}
+use Rattle.run_laws.proofs.Vocabulary.{◌≡◌, ◌⊎◌, inl, inr, ◌<◌, ◌≤◌, ◌+◌, ◌-◌, ◌*◌, ◌/◌, ◌%◌, ℕ, zero, suc, ◌==◌, Bool, true, false, ◌&&◌, nat_lt, if◌then◌else◌, List, [], ◌∷◌, ◌++◌, length, Option, Some, None, IsSome, is_some, is_none, find, refl, sym, ◌∙◌, ap, subst, arith, length-append, nat_tests, length-replicate, Used, Dinode, IndexState, Loaded, no_index, Searched, Super, spell_dirent, with_entry, dinode_at, length-u16_bytes, Cause, Full, Blocks, Descriptors, Directory, DiskInodes, MemInodes, OpenFiles, Name, dot, dotdot, eq_self, same_or, In, Handover, Ret, ExecResult, Ran, Stops, Waits, bind, first_free, is_unreferenced, up_inode, place_in_memory, fetch, AnswerBelow as Answer, Op, claim_first, claims, in_tables, blocks_between, WriteResult, grown, store_written, write_blocks, write_part, free_among, free_in, inode_blocks, is_free_in, is_zero, inode_block, place_of, store, InodeType, ClaimResult, EntryResult, Wrote, Take, UnlockInode, UpStart, Up, WalkDown, Down, Free, Forget, Claim, Store, Fill, Enter, Clear, Empty, Slot, Install, StatFile, LockFile, ReadFile, CheckFile, JoinFile, LockOpen, WriteFile, Double, Shut, SetDirectory, Lend, LendDirectory, Release, Join, Leave, Say, dots, enter_in, entered_to, filled_to, put_grown, seek_free, Acts, acts, Carry, claim_at, claim_from, claim_in, put_named, handlers, loaded_in, record_in, with_index, give_written, refused_in, write_unless, kind_of, slot_for, most_slots, AnsweredStep, ClaimsFindReferences, ComesTo, HasRead, SawInUse, SawNoBlock, SawNoInode, SawNone, SearchesSeeAll, wanted_to_claim, wanted_to_double, wanted_to_enter, wanted_to_write, wanted_unless, wanted_without}
 use Rattle.fs_machine.specs.Steps as steps
 use Rattle.fs_machine.specs.Steps.{State, exec}
 use Rattle.inode_machine.specs.World as above
@@ -20,21 +20,22 @@ dots_spelled n d =
 
 module _ (sizes : Super) where
   named_ends : (op : above.Op) (outside : above.Outside) (m : above.Answer op
-      → Option above.Mark) (answer : above.Answer op) (b n : ℕ) (d : Dinode) (c : Carry)
+      → Option above.Mark) (answer : above.Answer op) (b n : ℕ) (l : Loaded) (c : Carry)
       (block : List ℕ) (es : List AnsweredStep) (r : Handover (above.Answer op) Carry)
-      → ComesTo (put_named op outside m answer b n d c block) es r → r.answer ≡ answer
-  named_ends op outside m answer b n d c block [] r q = absurd q
-  named_ends op outside m answer b n d c block (e ∷ []) r q = sym (ap (λ (z : Handover (above.Answer op) Carry). z.answer) q.2)
-  named_ends op outside m answer b n d c block (e ∷ x ∷ es) r q = absurd q.2
+      → ComesTo (put_named op outside m answer b n l c block) es r → r.answer ≡ answer
+  named_ends op outside m answer b n l c block [] r q = absurd q
+  named_ends op outside m answer b n l c block (e ∷ []) r q = sym (ap (λ (z : Handover (above.Answer op) Carry). z.answer) q.2)
+  named_ends op outside m answer b n l c block (e ∷ x ∷ es) r q = absurd q.2
 
   grown_ends : (op : above.Op) (outside : above.Outside) (m : above.Answer op
-      → Option above.Mark) (answer : above.Answer op) (n : ℕ) (c : Carry) (w : WriteResult)
-      (es : List AnsweredStep) (r : Handover (above.Answer op) Carry) → ComesTo (put_grown op outside m answer sizes n c w) es r
+      → Option above.Mark) (answer : above.Answer op) (n : ℕ) (c : Carry) (x : IndexState) (w : WriteResult)
+      (es : List AnsweredStep) (r : Handover (above.Answer op) Carry) → ComesTo (put_grown op outside m answer sizes n c x w) es r
       → r.answer ≡ answer
-  grown_ends op outside m answer n c w es r q =
+  grown_ends op outside m answer n c x w es r q =
       let b : ℕ = inode_block sizes.inodestart n in
-      let s = split (fetch b) (put_named op outside m answer b n (grown w) c) es r q in
-      named_ends op outside m answer b n (grown w) c s.value s.back r s.then_
+      let l : Loaded = record { inode = grown w; index = x } in
+      let s = split (fetch b) (put_named op outside m answer b n l c) es r q in
+      named_ends op outside m answer b n l c s.value s.back r s.then_
 
   in_use_behind : (es xs ys : List AnsweredStep) → es ≡ xs ++ ys → (n : ℕ) → SawInUse sizes ys n → SawInUse sizes es n
   in_use_behind es xs ys is n s =
@@ -93,10 +94,10 @@ module _ (sizes : Super) where
     entry = spell_dirent (Used n e)
 
     -- all of it was written, or no block was seen
-    entered_sees : (es ys : List AnsweredStep) (slot : ℕ) (w : WriteResult) (r : Handover EntryResult Carry)
-        → SawNoBlock sizes es ⊎ (w.upto ≡ 16 * slot + length (spell_dirent (Used n e))) → ComesTo (entered_to sizes d e n c m slot w) ys r
+    entered_sees : (es ys : List AnsweredStep) (x : IndexState) (slot : ℕ) (w : WriteResult) (r : Handover EntryResult Carry)
+        → SawNoBlock sizes es ⊎ (w.upto ≡ 16 * slot + length (spell_dirent (Used n e))) → ComesTo (entered_to sizes d e n c m x slot w) ys r
         → (room : Full) → wanted_to_enter r.answer ≡ Some room → SawNone sizes es room
-    entered_sees es ys slot w r saw q room want = at (w.upto == 16 * (slot + 1)) refl q
+    entered_sees es ys x slot w r saw q room want = at (w.upto == 16 * (slot + 1)) refl q
       where
         whole : w.upto ≡ 16 * slot + length (spell_dirent (Used n e)) → (w.upto == 16 * (slot + 1)) ≡ true
         whole upto =
@@ -105,48 +106,49 @@ module _ (sizes : Super) where
             ap (λ (z : ℕ). z == 16 * (slot + 1)) all ∙ eq_self (16 * (slot + 1))
 
         at : (b : Bool) → (w.upto == 16 * (slot + 1)) ≡ b
-            → ComesTo (if b then put_grown (Enter d e n) above.Room m above.InPlace sizes d c w else put_grown (Enter d e n)
-            (above.RoomFor 0) m above.NoBlock sizes d c w) ys r
+            → ComesTo (if b then put_grown (Enter d e n) above.Room m above.InPlace sizes d c (with_entry slot entry x) w else put_grown
+            (Enter d e n) (above.RoomFor 0) m above.NoBlock sizes d c x w) ys r
             → SawNone sizes es room
         at true is p =
-            let a = grown_ends (Enter d e n) above.Room m above.InPlace d c w ys r p in
+            let a = grown_ends (Enter d e n) above.Room m above.InPlace d c (with_entry slot entry x) w ys r p in
             absurd (let z : None ≡ Some room = ap wanted_to_enter (sym a) ∙ want in cc)
         at false is p =
-            let a = grown_ends (Enter d e n) (above.RoomFor 0) m above.NoBlock d c w ys r p in
+            let a = grown_ends (Enter d e n) (above.RoomFor 0) m above.NoBlock d c x w ys r p in
             elim saw [
               | inl none ↦ of_kind es Blocks none room (ap wanted_to_enter (sym a) ∙ want)
               | inr upto ↦ absurd (let z : true ≡ false = sym (whole upto) ∙ is in cc)
             ]
 
-    enter_in_sees : (es : List AnsweredStep) (slot : ℕ) (r : Handover EntryResult Carry) → ComesTo (enter_in sizes d e n c m slot) es r
-        → (room : Full) → wanted_to_enter r.answer ≡ Some room → SawNone sizes es room
-    enter_in_sees es slot r q room want = at (nat_lt slot most_slots) es q
+    enter_in_sees : (es : List AnsweredStep) (x : IndexState) (slot : ℕ) (r : Handover EntryResult Carry)
+        → ComesTo (enter_in sizes d e n c m x slot) es r → (room : Full) → wanted_to_enter r.answer ≡ Some room → SawNone sizes es room
+    enter_in_sees es x slot r q room want = at (nat_lt slot most_slots) es q
       where
         count : ℕ
         count = blocks_between (16 * slot) (16 * slot + length (spell_dirent (Used n e)))
 
         full : P (Handover EntryResult Carry)
-        full = Ret (record { answer = above.NoSlot; carry = c })
+        full = Ret (record { answer = above.NoSlot; carry = with_index c d x })
 
         at : (b : Bool) (es : List AnsweredStep)
             → ComesTo (if b then bind (write_blocks count sizes (16 * slot) (spell_dirent (Used n e)) (record_in c d))
-            (entered_to sizes d e n c m slot) else full) es r
+            (entered_to sizes d e n c m x slot) else full) es r
             → SawNone sizes es room
         at true es p =
             let s = split (write_blocks count sizes (16 * slot) (spell_dirent (Used n e)) (record_in c d))
-            (entered_to sizes d e n c m slot) es r p in
+            (entered_to sizes d e n c m x slot) es r p in
             let w = written sizes count (16 * slot) (spell_dirent (Used n e)) (record_in c d) s.front s.value refl s.first in
             let long : ℕ = 16 * slot + length (spell_dirent (Used n e)) in
-            entered_sees es s.back slot s.value r (none_or es s.front s.back s.is s.value long w) s.then_ room want
+            entered_sees es s.back x slot s.value r (none_or es s.front s.back s.is s.value long w) s.then_ room want
         at false [] p = of_kind [] Directory tt room (ap (λ (z : Handover EntryResult Carry). wanted_to_enter z.answer) p ∙ want)
         at false (y ∷ es) p = absurd p
 
     pub enter_sees : (es : List AnsweredStep) (r : Handover EntryResult Carry) → ComesTo (handlers sizes c (Enter d e n) m) es r
         → (room : Full) → wanted_to_enter r.answer ≡ Some room → SawNone sizes es room
     enter_sees es r q room want =
-        let s = split (seek_free (acts (Enter d e n) above.Room m) (record_in c d))
-        (λ found. enter_in sizes d e n c m (slot_for (record_in c d) found)) es r q in
-        seen_behind es s.front s.back s.is room (enter_in_sees s.back (slot_for (record_in c d) s.value) r s.then_ room want)
+        let s = split (seek_free (acts (Enter d e n) above.Room m) (loaded_in c d))
+        (λ o. enter_in sizes d e n c m o.index (slot_for (record_in c d) o.found)) es r q in
+        let o : Searched = s.value in
+        seen_behind es s.front s.back s.is room (enter_in_sees s.back o.index (slot_for (record_in c d) o.found) r s.then_ room want)
 
   -- ---- a new directory's two names
 
@@ -163,14 +165,14 @@ module _ (sizes : Super) where
             ap (λ (z : ℕ). z == 32) all
 
         at : (b : Bool) → (w.upto == 32) ≡ b
-            → ComesTo (if b then put_grown (Fill n d) above.Room m true sizes n c w else put_grown (Fill n d) (above.RoomFor 0) m
-            false sizes n c w) ys r
+            → ComesTo (if b then put_grown (Fill n d) above.Room m true sizes n c no_index w else put_grown (Fill n d)
+            (above.RoomFor 0) m false sizes n c no_index w) ys r
             → SawNone sizes es room
         at true is p =
-            let a = grown_ends (Fill n d) above.Room m true n c w ys r p in
+            let a = grown_ends (Fill n d) above.Room m true n c no_index w ys r p in
             absurd (let z : None ≡ Some room = ap (wanted_unless Blocks) (sym a) ∙ want in cc)
         at false is p =
-            let a = grown_ends (Fill n d) (above.RoomFor 0) m false n c w ys r p in
+            let a = grown_ends (Fill n d) (above.RoomFor 0) m false n c no_index w ys r p in
             elim saw [
               | inl none ↦ of_kind es Blocks none room (ap (wanted_unless Blocks) (sym a) ∙ want)
               | inr upto ↦ absurd (let z : true ≡ false = sym (whole upto) ∙ is in cc)

@@ -25,11 +25,15 @@ pub use Rattle.run_laws.specs.Transactions.{AreAtMostTen, JoinAndLeaveInTheLog, 
 pub use Rattle.atomic_programs.proofs.Noted.{Alone}
 pub use Rattle.atomic_programs.proofs.Operations.{onto_rest, own_one}
 pub use Rattle.calls_on_blocks.proofs.Starting.{BeginsHere, below_count, joined_same, lower_laws, starts_both}
-pub use Rattle.directory.specs.Programs.{is_directory, is_live_directory, most_slots}
+pub use Rattle.directory.specs.Programs.{Searched, is_directory, is_live_directory, most_slots}
+pub use Rattle.directory.specs.Indexes.{cleared, first_gap, free_below, index_room, raised as index_raised, slots_known, with_entry}
+unfoldable pub use Rattle.directory.specs.Indexes.{first_of}
+pub use Rattle.fs_machine.specs.InMemory.{IndexState, Loaded, no_index}
 pub use Rattle.hart_core.proofs.Calming.{AllStarted}
 pub use Rattle.inode_data.specs.Writing.{write_part}
 pub use Rattle.inode_machine.specs.Descriptors.{checked_reply}
-pub use Rattle.inodes_on_blocks.specs.Entering.{enter_in, seek_free}
+pub use Rattle.inodes_on_blocks.specs.Entering.{enter_in, seek_free, seek_full}
+pub use Rattle.inodes_on_blocks.specs.Storing.{index_in, loaded_in, with_index}
 pub use Rattle.run_laws.specs.Searches.{AnsweredStep, ClaimsFindReferences, ComesTo, HasRead, NameFits, SawInUse, SawNoBlock, SawNoInode, SawNone, SearchesSeeAll}
 pub use Rattle.run_laws.specs.Standing.{CallsWithoutRoomTakeBack, LeavesThat, MadeFileAtMost, Stands, WroteFrom, raised}
 pub use Rattle.run_laws.specs.Worlds.{IsRun, RunsTo, WorldsRefineWholeInodes}

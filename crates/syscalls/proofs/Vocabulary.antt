@@ -17,7 +17,7 @@ pub use Rattle.fs_machine.specs.Hands.{HasNothing}
 pub use Rattle.inode_machine.specs.Descriptors.{checked_reply}
 pub use Rattle.inode_parts.proofs.HasOnes.{lowered_has}
 pub use Rattle.syscalls.specs.Places.{call_at}
-pub use Rattle.fs_machine.specs.declared.entries.Inode.{Inode}
+pub use Rattle.fs_machine.specs.InMemory.{Inode}
 pub use Rattle.fs_machine.specs.declared.hand.Hand.{Hand}
 pub use Rattle.fs_machine.specs.declared.hand.Place.{Place}
 pub use Rattle.fs_machine.specs.declared.hand.Place.TheVariants.{First, Second}

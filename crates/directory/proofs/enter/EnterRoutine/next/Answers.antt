@@ -1,11 +1,13 @@
-use Rattle.directory.proofs.Lemmas.{subst, sym, Ret, bind, P, Unused, EnteredState, enter_at, answer_in, Goes, goes_bind, search_left, search_asked}
+use Rattle.directory.proofs.Lemmas.{Dinode, P, sym, ap, Searched, Unused, EnteredState, enter_at, answer_in, record_in, search_left, search_asked, goes_with, record_kept}
 use Rattle.directory.proofs.enter.EnterRoutine.next.Goals as goal
 
-pub returns-in-Is-clause-goes : goal.returns-in-Is-clause-goes
-returns-in-Is-clause-goes c before =
+pub returns-in-None-clause-goes : goal.returns-in-None-clause-goes
+returns-in-None-clause-goes c before =
     let e = c.in-Searching.entering in
     let m = c.in-Searching.search in
-    let on = enter_at e.sizes e.number e.inode e.entry in
-    let answer = answer_in (search_asked m) c.args.answer.now c.args.hand.now in
-    rw c.in-Searching.is (λ ready after. subst (λ (p : P EnteredState). Goes (bind (search_left Unused e.inode m before) on) answer p) (sym (c.in-Is.ensures.program c.args.hand.now))
-    (goes_bind (search_left Unused e.inode m before) (Ret c.in-Some.found) on answer (c.in-Some.ensures.goes before ready.1 after)))
+    let h = c.args.hand.now in
+    let g = c.next.new.hand in
+    let on : Dinode → Searched → P EnteredState = λ d. enter_at e.sizes e.number d e.entry in
+    rw c.in-Searching.is (λ ready after.
+    goes_with (search_left Unused e.seat m before) (search_left Unused e.seat c.next.new.self g) (on (record_in e.seat before)) (on (record_in e.seat g)) (answer_in (search_asked m) c.args.answer.now h)
+    (ap on (sym (record_kept e.seat before g (c.in-None.ensures.beside before ready.1 after)))) (c.in-None.ensures.goes before ready.1 after))

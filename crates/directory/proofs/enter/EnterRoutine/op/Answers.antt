@@ -1,9 +1,10 @@
-use Rattle.directory.proofs.Lemmas.{entered_by, op_in, write_left, asks_bind}
+use Rattle.directory.proofs.Lemmas.{entered_by, index_at, op_in, write_left, asks_bind}
 use Rattle.directory.proofs.enter.EnterRoutine.op.Goals as goal
 
 pub returns-in-Writing-clause-asks : goal.returns-in-Writing-clause-asks
 returns-in-Writing-clause-asks c =
     let p = c.in-Writing.placing in
     let m = c.in-Writing.part in
+    let h = c.args.hand.now in
     rw c.in-Writing.is
-    (asks_bind (write_left p.entry m c.args.hand.now) (entered_by p.slot) (op_in c.op-in-Writing.new.hand c.op-in-Writing.result) c.op-in-Writing.ensures.asks)
+    (asks_bind (write_left p.entry m h) (entered_by p.slot p.entry (index_at p.seat h)) (op_in c.op-in-Writing.new.hand c.op-in-Writing.result) c.op-in-Writing.ensures.asks)

@@ -1,4 +1,4 @@
-use Rattle.file_table.proofs.Lemmas.{◌≡◌, ◌∙◌, refl, sym, ap, ℕ, Dinode, bind, Inode, P, load_unless, inode_in, answer_in, number_in, locks, inode-there}
+use Rattle.file_table.proofs.Lemmas.{◌≡◌, ◌∙◌, refl, sym, ap, ℕ, Loaded, bind, Inode, P, load_unless, inode_in, answer_in, number_in, locks, inode-there}
 use Rattle.file_table.proofs.lock_file.LockFileRoutine.next.Goals as goal
 
 pub returns-in-None-clause-goes : goal.returns-in-None-clause-goes
@@ -9,7 +9,7 @@ returns-in-None-clause-goes c before =
     let f = c.in-File.file in
     rw (c.in-Lock.is, c.in-File.is) (λ ready after.
     let named : f.number ≡ number_in k h = sym (ap (λ (v : Inode). v.number) (ap (inode_in k) after.1 ∙ inode-there k after.0 before) ∙ after.2) in
-    ap (λ (n : ℕ). bind (load_unless c.in-Lock.inodestart n (inode_in k h).content) (locks f)) named ∙ ap (λ (p : P Dinode). bind p (locks f)) (sym c.in-None.ensures.program))
+    ap (λ (n : ℕ). bind (load_unless c.in-Lock.inodestart n (inode_in k h).content) (locks f)) named ∙ ap (λ (p : P Loaded). bind p (locks f)) (sym c.in-None.ensures.program))
 
 pub returns-in-Some-clause-goes : goal.returns-in-Some-clause-goes
 unfolding answer_in
@@ -19,7 +19,7 @@ returns-in-Some-clause-goes c before =
     let f = c.in-File.file in
     rw (c.in-Lock.is, c.in-File.is) (λ ready after.
     let named : f.number ≡ number_in k h = sym (ap (λ (v : Inode). v.number) (ap (inode_in k) after.1 ∙ inode-there k after.0 before) ∙ after.2) in
-    ap (λ (n : ℕ). bind (load_unless c.in-Lock.inodestart n (inode_in k h).content) (locks f)) named ∙ ap (λ (p : P Dinode). bind p (locks f)) (sym c.in-Some.ensures.program))
+    ap (λ (n : ℕ). bind (load_unless c.in-Lock.inodestart n (inode_in k h).content) (locks f)) named ∙ ap (λ (p : P Loaded). bind p (locks f)) (sym c.in-Some.ensures.program))
 
 pub returns-in-Refused-clause-goes : goal.returns-in-Refused-clause-goes
 unfolding answer_in

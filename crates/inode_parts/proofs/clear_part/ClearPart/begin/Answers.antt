@@ -9,9 +9,9 @@ returns-clause-part c path name begins =
     let before = c.args.hand.now in
     let is = c.lock_seat-seat.ensures in
     let there = c.record_at.ensures ∙ ap (λ (k : InodePlace). record_in k before) is in
-    let slot = c.found_slot.ensures ∙ ap (λ (k : InodePlace). slot_in (note_at k m)) is in
+    let slot = c.found_slot-slot.ensures ∙ ap (λ (k : InodePlace). slot_in (note_at k m)) is in
     let program =
     c.new-clear.ensures.program before
-    ∙ ap (λ (d : Dinode). let p : P Dinode = put_entry sizes.inodestart n d c.found_slot.result Free in p) there
+    ∙ ap (λ (d : Dinode). let p : P Dinode = put_entry sizes.inodestart n d c.found_slot-slot.result Free in p) there
     ∙ ap (λ (s : ℕ). let p : P Dinode = put_entry sizes.inodestart n (record_in (seat_of_lock n before) before) s Free in p) slot in
-    clear_is_part sizes path m n name before (record { seat = c.lock_seat-seat.result; clear = c.new-clear.result }) begins is program
+    clear_is_part sizes path m n name before (record { seat = c.lock_seat-seat.result; slot = c.found_slot-slot.result; clear = c.new-clear.result }) begins is slot program

@@ -1,4 +1,4 @@
-use Rattle.inode_parts.proofs.Lemmas.{◌≡◌, sym, ap, subst, ◌∙◌, truncate, InodePlace, beside_emptying, truncate_left, number_in, record_in, Emptying, empty_is_part, IsAmid}
+use Rattle.inode_parts.proofs.Lemmas.{◌≡◌, sym, ap, subst, ◌∙◌, truncate, InodePlace, beside_emptying, truncate_left, number_in, record_in, Emptying, empty_is_part, freeing-kept, IsAmid}
 use Rattle.inode_parts.proofs.empty_part.EmptyPart.begin.Goals as goal
 
 pub returns-clause-part : goal.returns-clause-part
@@ -15,4 +15,4 @@ returns-clause-part c path notes =
 pub returns-clause-amid : goal.returns-clause-amid
 returns-clause-amid c =
     let h = c.begin.new.hand in
-    subst (λ (e : Emptying). IsAmid c.args.number c.args.hand.now e.seat h) (sym c.begin.ensures.about) (c.lock_seat-seat.ensures, c.requires.begins.4, c.begin.ensures.beside)
+    subst (λ (e : Emptying). IsAmid c.args.number c.args.hand.now e.seat h) (sym c.begin.ensures.about) (c.lock_seat-seat.ensures, c.requires.begins.4, freeing-kept (record { seat = c.lock_seat-seat.result; sizes = c.args.sizes.now }) h c.args.hand.now c.begin.ensures.beside)

@@ -1,9 +1,10 @@
-use Rattle.inode_parts.proofs.Lemmas.{ap, ◌∙◌, Dinode, P, EnteredState, enter, InodePlace, record_in, entered_as, enter_is_part, never_over}
+use Rattle.inode_parts.proofs.Lemmas.{ap, refl, ◌∙◌, P, EnteredState, enter, InodePlace, loaded_in, entered_as, enter_is_part, never_over}
 use Rattle.inode_parts.proofs.enter_part.EnterPart.begin.Goals as goal
 
 pub unreachable-requires : goal.unreachable-requires
 unreachable-requires c =
-    never_over c.args.sizes.now c.args.number c.record_at-inode.result c.args.child c.args.name.now (entered_as c.in-Is.field-0) (c.in-Is.ensures.program c.args.hand.now)
+    let h = c.args.hand.now in
+    never_over c.args.sizes.now c.args.number (loaded_in c.lock_seat-seat.result h) c.args.child c.args.name.now (entered_as c.in-Is.field-0 h) c.in-Is.ensures.program
 
 pub returns-clause-part : goal.returns-clause-part
 returns-clause-part c path notes =
@@ -12,6 +13,8 @@ returns-clause-part c path notes =
     let name = c.args.name.now in
     let before = c.args.hand.now in
     let is = c.lock_seat-seat.ensures in
-    let there = c.record_at-inode.ensures ∙ ap (λ (k : InodePlace). record_in k before) is in
-    let program = c.in-Runs.ensures.program before ∙ ap (λ (d : Dinode). let p : P EnteredState = enter sizes n d c.args.child name in p) there in
-    enter_is_part sizes path notes n name c.args.child before (record { seat = c.lock_seat-seat.result; enter = c.in-Runs.enter }) c.requires.begins.0.0 is program
+    let program = c.in-Runs.ensures.program ∙ ap (λ (k : InodePlace). let p : P EnteredState = enter sizes n (loaded_in k before) c.args.child name in p) is in
+    enter_is_part sizes path notes n name c.args.child before (record { enter = c.in-Runs.enter }) c.requires.begins.0.0 (c.in-Runs.ensures.seat ∙ is) program
+
+pub returns-clause-amid : goal.returns-clause-amid
+returns-clause-amid c = (c.in-Runs.ensures.seat ∙ c.lock_seat-seat.ensures, c.requires.begins.0.4, refl)

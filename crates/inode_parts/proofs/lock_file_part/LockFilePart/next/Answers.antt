@@ -1,4 +1,4 @@
-use Rattle.inode_parts.proofs.Lemmas.{subst, Some, refl, Ret, Goes, FileLocked, Refuses, Locks, record_in, answer_in, file_left, file_asked, file_seat, file_value, FileEnds, file_ends, lock_on, lock_over, other_free, comes_on, file_learned, file_opens, never_came, locked_at, refused_so}
+use Rattle.inode_parts.proofs.Lemmas.{subst, Some, refl, Ret, Goes, FileLocked, Refuses, Locks, loaded_in, answer_in, file_left, file_asked, file_seat, file_value, FileEnds, file_ends, lock_on, lock_over, other_free, comes_on, file_learned, file_opens, never_came, locked_at, refused_so}
 use Rattle.inode_parts.proofs.lock_file_part.LockFilePart.next.Goals as goal
 
 pub returns-in-None-clause-goes : goal.returns-in-None-clause-goes
@@ -42,7 +42,7 @@ returns-in-Some-Locked-clause-goes c path before ready after =
     let ends = subst (λ (x : FileLocked). FileEnds p.lock x h) is did.ends in
     let goes = subst (λ (x : FileLocked). Goes (file_left p.lock before) answer (Ret (file_value x h))) is (did.goes before ready.0 after) in
     let same = did.beside before ready.0 after in
-    lock_over (file_ends path p.fd) path c.args.notes.now k before h (file_left p.lock before) answer same (Locks held.file (Some (record_in held.seat h))) _
+    lock_over (file_ends path p.fd) path c.args.notes.now k before h (file_left p.lock before) answer same (Locks held.file (Some (loaded_in held.seat h))) _
     (locked_at path c.args.notes.now c.set.new.self h held k ends.0 ends.1 (other_free k k before h refl same ready.1) p.fd c.from.result c.from.ensures c.set.ensures) goes
 
 pub returns-in-None-clause-leaves : goal.returns-in-None-clause-leaves

@@ -1,4 +1,4 @@
-use Rattle.inode_parts.proofs.Lemmas.{refl, record_in, answer_in, open_left, open_asked, open_seat, open_ends, lock_on, lock_over, other_free, comes_on, file_learned, file_opens, opened_at}
+use Rattle.inode_parts.proofs.Lemmas.{refl, loaded_in, answer_in, open_left, open_asked, open_seat, open_ends, lock_on, lock_over, other_free, comes_on, file_learned, file_opens, opened_at}
 use Rattle.inode_parts.proofs.lock_open_part.LockOpenPart.next.Goals as goal
 
 pub returns-in-None-clause-goes : goal.returns-in-None-clause-goes
@@ -24,7 +24,7 @@ returns-in-Some-clause-goes c path before ready after =
     let did = c.in-Some.ensures in
     let same = did.beside before ready.0 after in
     let alone = other_free k k before h refl same ready.1 in
-    lock_over (open_ends path p.fd) path c.args.notes.now k before h (open_left p.lock before) (answer_in (open_asked p.lock) c.args.answer.now c.args.hand.now) same (c.in-Some.held.file, record_in c.in-Some.held.seat h) _
+    lock_over (open_ends path p.fd) path c.args.notes.now k before h (open_left p.lock before) (answer_in (open_asked p.lock) c.args.answer.now c.args.hand.now) same (c.in-Some.held.file, loaded_in c.in-Some.held.seat h) _
     (opened_at path c.args.notes.now c.set.new.self h c.in-Some.held k did.ends.0 did.ends.1 alone p.fd c.from.result c.from.ensures c.set.ensures)
     (did.goes before ready.0 after)
 

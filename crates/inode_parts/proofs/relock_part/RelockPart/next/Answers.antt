@@ -1,4 +1,4 @@
-use Rattle.inode_parts.proofs.Lemmas.{refl, sym, subst, ◌∙◌, Ret, bind, number_at, with_first, IsAfter, answer_in, InodePlace, record_in, lock_left, lock_asked, lock_seat, Comes, IsAlone, free_seat, relock_asked, RelockReady, beside_in, looked, RelockPart, comes_on, came_alone, came_block, came_buffers, came_goes, came_number, came_some, relock_comes, relock_leaves, is_taken, take_on, take_over}
+use Rattle.inode_parts.proofs.Lemmas.{refl, sym, subst, ◌∙◌, Ret, bind, number_at, with_first, IsAfter, answer_in, InodePlace, loaded_in, lock_left, lock_asked, lock_seat, Comes, IsAlone, free_seat, relock_asked, RelockReady, beside_in, looked, RelockPart, comes_on, came_alone, came_block, came_buffers, came_goes, came_number, came_some, relock_comes, relock_leaves, is_taken, take_on, take_over}
 use Rattle.path_walk.specs.declared.asks.Query.TheVariants as query
 use Rattle.inode_parts.proofs.relock_part.RelockPart.next.Goals as goal
 
@@ -31,7 +31,7 @@ returns-in-None-clause-goes c path before =
     let h = c.args.hand.now in
     let k = c.in-Locking.seat in
     rw c.in-Locking.is (λ ready after.
-    came_goes k before h after.0 after.1 after.2 path c.args.notes.now c.in-Locking.inodestart (Ret (record_in k h)) _ c.in-None.ensures.program (sym (c.seen.ensures.program path)))
+    came_goes k before h after.0 after.1 after.2 path c.args.notes.now c.in-Locking.inodestart (Ret (loaded_in k h)) _ c.in-None.ensures.program (sym (c.seen.ensures.program path)))
 
 pub returns-in-Some-clause-goes : goal.returns-in-Some-clause-goes
 unfolding answer_in

@@ -1,4 +1,4 @@
-use Rattle.inode_parts.proofs.Lemmas.{ℕ, ap, refl, ◌∙◌, P, Dinode, lock_loaded, lock_seat, comes_first, take_asks, take_is_part}
+use Rattle.inode_parts.proofs.Lemmas.{ℕ, ap, refl, ◌∙◌, P, Loaded, lock_loaded, lock_seat, comes_first, take_asks, take_is_part}
 use Rattle.inode_parts.proofs.take_part.TakePart.begin.Goals as goal
 
 pub returns-clause-part : goal.returns-clause-part
@@ -9,7 +9,7 @@ returns-clause-part c path m =
     let k = c.reference_seat-seat.result in
     let has = take_asks sizes c.args.number k (lock_seat r) h c.reference_seat-seat.ensures c.new-lock.ensures.seat c.requires.begins in
     let here = take_asks sizes c.args.number k k h c.reference_seat-seat.ensures refl c.requires.begins in
-    take_is_part sizes path m c.args.number c.args.query h r (c.new-lock.ensures.program h ∙ ap (λ (n : ℕ). let p : P Dinode = lock_loaded sizes.inodestart n in p) here.3) has.3 has.4
+    take_is_part sizes path m c.args.number c.args.query h r (c.new-lock.ensures.program h ∙ ap (λ (n : ℕ). let p : P Loaded = lock_loaded sizes.inodestart n in p) here.3) has.3 has.4
 
 pub returns-clause-ready : goal.returns-clause-ready
 returns-clause-ready c =

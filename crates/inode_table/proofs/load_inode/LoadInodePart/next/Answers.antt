@@ -1,4 +1,4 @@
-use Rattle.inode_table.proofs.Lemmas.{ℕ, None, sym, subst, Dinode, Ret, Do, bind, unmarked, give_back, block_at, answer_in, Goes, fetch_left, fetch_asked, fetch_block, fetched_goes}
+use Rattle.inode_table.proofs.Lemmas.{ℕ, None, sym, subst, Dinode, unindexed, Ret, Do, bind, unmarked, give_back, block_at, answer_in, Goes, fetch_left, fetch_asked, fetch_block, fetched_goes}
 use Rattle.fs_machine.specs.Steps as steps
 use Rattle.inode_table.proofs.load_inode.LoadInodePart.next.Goals as goal
 
@@ -11,5 +11,5 @@ returns-in-Some-clause-goes c before =
     let did = c.in-Some.ensures in
     let answer = answer_in (fetch_asked f) c.args.answer.now c.args.hand.now in
     rw c.in-Fetching.is (λ ready after.
-    subst (λ (d : Dinode). Goes (bind (fetch_left f before) (give_back (fetch_block f) n)) answer (Do (steps.Put (block_at out.place k) None) unmarked (λ _. Ret d))) (sym c.dinode_at-inode.ensures)
+    subst (λ (d : Dinode). Goes (bind (fetch_left f before) (give_back (fetch_block f) n)) answer (Do (steps.Put (block_at out.place k) None) unmarked (λ _. Ret (unindexed d)))) (sym c.dinode_at-inode.ensures)
     (fetched_goes f before k answer out (λ (b : ℕ). give_back b n) (did.goes before ready after) did.ends))
