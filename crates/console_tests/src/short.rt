@@ -13,7 +13,7 @@ const NO_MEMORY: u8 = 33;
 const ANSWERED: u8 = 0;
 
 const SCRIPT: &[u8] =
-    b"do 0 mkdir /d\n0 open /d/f 0x202\nupto 0 join 1\n1 open /d/f 0\nall\ndo 0 write 0 hello\ndo 1 read 0 9\n";
+    b"do 0 mkdir /d\n0 open /d/f 0x202\nupto 0 slot 1\n1 open /d/f 0\nall\ndo 0 write 0 hello\ndo 1 read 0 9\n";
 
 const LINES: &[u8] = b"0 mkdir ok\n0 open fd 0\n1 open fd 0\n0 write 5\n1 read 5 68656c6c6f\n";
 
