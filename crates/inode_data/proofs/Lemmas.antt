@@ -1,6 +1,6 @@
 -- What the proofs of this crate's functions use: its lemmas, and what they speak of.
 pub use Rattle.inode_data.proofs.Vocabulary.{BufferState, Dinode, Emptying, GuardState, Inode, IsNext, List, Located, None, Option, P, Ret, Second, Some, WriteResult, after_location, ap, arith, bind, block_left, cases_eq, cases_lt, fetch_left, free_block, free_left, get_or, length, length-take, locate_left, look_up, name_in_table, number_in, numbers_in, record_left, refl, store, subst, sym, take, take_left, truncate_left, ℕ, ⊎_elim, ◌+◌, ◌<◌, ◌∙◌, ◌≡◌, ◌≤◌}
-pub use Rattle.inode_data.specs.Vocabulary.{Goes, Place, block_at, bytes_at, fetch_asked, fetch_block, fetch_place, free_asked, free_place, inode_in, record_asked, record_in, record_of, record_place, take_asked, take_place}
+pub use Rattle.inode_data.specs.Vocabulary.{Goes, Place, block_at, bytes_at, fetch_asked, fetch_block, fetch_place, free_asked, free_place, inode_in, record_asked, record_in, record_of, record_place, take_asked, take_place, numbers_per_block}
 unfoldable pub use Rattle.inode_data.specs.Vocabulary.{answer_in}
 pub use Rattle.fs_machine.proofs.Going.{goes_bind}
 pub use Rattle.fs_machine.proofs.Goings.{fetched_goes, goes_to, goes_with, inode-beside, inode-kept, second-kept}

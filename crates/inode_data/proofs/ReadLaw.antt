@@ -1,5 +1,5 @@
 -- What a read answers.
-use Rattle.inode_data.proofs.Vocabulary.{◌≡◌, ⊎_elim, ℕ, zero, suc, ◌+◌, ◌-◌, ◌*◌, ◌/◌, ◌<◌, ◌≤◌, Bool, cond, List, [], ◌++◌, length, take, drop, get_or, Option, Some, None, refl, sym, ap, subst, ◌∙◌, arith, append_assoc, length-append, cases_lt, lt-ltb, le-ltb, append-nil, drop_all, length-take, Dinode, overwrite-overwrite, bind, bind-assoc, Get, P, fetch, read_unless, Oracle, outcome, Address, Direct, InTable, address, table_of, FetchedBlock, FilledMemory, filled_with, give_fetched, fetch_number, fetch_named, fetch_at, fetch_block, next_block, blocks_between, part_of, read_part, read_blocks, end_of, Shows, number_at, content_block, front_blocks, ReadsTheContent}
+use Rattle.inode_data.proofs.Vocabulary.{◌≡◌, ⊎_elim, ℕ, zero, suc, ◌+◌, ◌-◌, ◌*◌, ◌/◌, ◌<◌, ◌≤◌, Bool, cond, List, [], ◌++◌, length, take, drop, get_or, Option, Some, None, refl, sym, ap, subst, ◌∙◌, arith, append_assoc, length-append, cases_lt, lt-ltb, le-ltb, append-nil, drop_all, length-take, Dinode, overwrite-overwrite, bind, bind-assoc, Get, P, fetch, read_unless, Oracle, outcome, Address, Direct, InTable, address, table_of, FetchedBlock, FilledMemory, filled_with, give_fetched, fetch_number, fetch_named, fetch_at, fetch_block, next_block, blocks_between, part_of, read_part, read_blocks, end_of, Shows, number_at, content_block, front_blocks, ReadsTheContent, block_len}
 use Rattle.inode_data.proofs.ContentFronts.{front, part_then}
 
 -- ---- memory
@@ -18,7 +18,7 @@ filled_twice memory xs ys =
 pub none_between : (from upto : ℕ) → 0 ≡ blocks_between from upto → upto ≤ from
 none_between from upto e =
     ⊎_elim
-    (λ (l : from < upto). absurd (let some : 0 ≡ ((upto - 1) / 1024 + 1) - from / 1024 = e ∙ ap (λ (b : Bool). cond b (((upto - 1) / 1024 + 1) - from / 1024) 0) (lt-ltb from upto l) in omega (arith, some, l)))
+    (λ (l : from < upto). absurd (let some : 0 ≡ ((upto - 1) / block_len + 1) - from / block_len = e ∙ ap (λ (b : Bool). cond b (((upto - 1) / block_len + 1) - from / block_len) 0) (lt-ltb from upto l) in omega (arith, some, l)))
     (λ (m : upto ≤ from). m)
     (cases_lt from upto)
 
@@ -26,16 +26,16 @@ pub some_between : (n from upto : ℕ) → suc n ≡ blocks_between from upto �
 some_between n from upto e =
     ⊎_elim
     (λ (l : from < upto). l)
-    (λ (m : upto ≤ from). absurd (let none : suc n ≡ 0 = e ∙ ap (λ (b : Bool). cond b (((upto - 1) / 1024 + 1) - from / 1024) 0) (le-ltb from upto m) in omega (arith, none)))
+    (λ (m : upto ≤ from). absurd (let none : suc n ≡ 0 = e ∙ ap (λ (b : Bool). cond b (((upto - 1) / block_len + 1) - from / block_len) 0) (le-ltb from upto m) in omega (arith, none)))
     (cases_lt from upto)
 
 pub next_between : (n from upto : ℕ) → suc n ≡ blocks_between from upto → from < upto → n ≡ blocks_between (next_block from) upto
 next_between n from upto e lt =
     let next : ℕ = next_block from in
-    let is : suc n ≡ ((upto - 1) / 1024 + 1) - from / 1024 = e ∙ ap (λ (b : Bool). cond b (((upto - 1) / 1024 + 1) - from / 1024) 0) (lt-ltb from upto lt) in
+    let is : suc n ≡ ((upto - 1) / block_len + 1) - from / block_len = e ∙ ap (λ (b : Bool). cond b (((upto - 1) / block_len + 1) - from / block_len) 0) (lt-ltb from upto lt) in
     ⊎_elim
-    (λ (l : next < upto). let here : n ≡ ((upto - 1) / 1024 + 1) - next / 1024 = omega (arith, is, l) in here ∙ sym (ap (λ (b : Bool). cond b (((upto - 1) / 1024 + 1) - next / 1024) 0) (lt-ltb next upto l)))
-    (λ (m : upto ≤ next). let here : n ≡ 0 = omega (arith, is, m, lt) in here ∙ sym (ap (λ (b : Bool). cond b (((upto - 1) / 1024 + 1) - next / 1024) 0) (le-ltb next upto m)))
+    (λ (l : next < upto). let here : n ≡ ((upto - 1) / block_len + 1) - next / block_len = omega (arith, is, l) in here ∙ sym (ap (λ (b : Bool). cond b (((upto - 1) / block_len + 1) - next / block_len) 0) (lt-ltb next upto l)))
+    (λ (m : upto ≤ next). let here : n ≡ 0 = omega (arith, is, m, lt) in here ∙ sym (ap (λ (b : Bool). cond b (((upto - 1) / block_len + 1) - next / block_len) 0) (le-ltb next upto m)))
     (cases_lt next upto)
 
 module _ (answer : Oracle) (seen : ℕ → List ℕ) (d : Dinode) (shows : Shows answer seen) where
@@ -44,7 +44,7 @@ module _ (answer : Oracle) (seen : ℕ → List ℕ) (d : Dinode) (shows : Shows
   abbrev content : ℕ → List ℕ
   content = content_block seen d
 
-  whole : (k q : ℕ) → q < k → length (content q) ≡ 1024
+  whole : (k q : ℕ) → q < k → length (content q) ≡ block_len
   unfolding content_block
   whole k q lt = shows.whole (number_at seen d (address q))
 
@@ -81,7 +81,7 @@ module _ (answer : Oracle) (seen : ℕ → List ℕ) (d : Dinode) (shows : Shows
 
   -- ---- the blocks in order
 
-  read_more : (memory : List ℕ) (n from upto k : ℕ) (xs : List ℕ) (j : ℕ) → n ≡ blocks_between from upto → upto ≤ 1024 * k
+  read_more : (memory : List ℕ) (n from upto k : ℕ) (xs : List ℕ) (j : ℕ) → n ≡ blocks_between from upto → upto ≤ block_len * k
       → outcome answer j (read_blocks n d from upto (filled_with (start memory) xs)) ≡ filled_with (start memory) (xs ++ drop from (take upto (front content k)))
   unfolding read_blocks
   read_more memory zero from upto k xs j e within =
@@ -90,10 +90,10 @@ module _ (answer : Oracle) (seen : ℕ → List ℕ) (d : Dinode) (shows : Shows
       rw gone (ap (filled_with (start memory)) (sym (append-nil xs)))
   read_more memory (suc n) from upto k xs j e within =
       let lt : from < upto = some_between n from upto e in
-      let q : from / 1024 < k = omega (arith, lt, within) in
+      let q : from / block_len < k = omega (arith, lt, within) in
       let all : List ℕ = drop from (take upto (front content k)) in
-      let part : List ℕ = part_of from upto (content_block seen d (from / 1024)) in
-      block_shows (λ (m : FilledMemory). m ≡ filled_with (start memory) (xs ++ all)) (from / 1024)
+      let part : List ℕ = part_of from upto (content_block seen d (from / block_len)) in
+      block_shows (λ (m : FilledMemory). m ≡ filled_with (start memory) (xs ++ all)) (from / block_len)
       (read_part (read_blocks n d (next_block from) upto) from upto (filled_with (start memory) xs))
       (λ m.
       ap (λ (f : FilledMemory). outcome answer (m + 1) (read_blocks n d (next_block from) upto f)) (filled_twice memory xs part)
