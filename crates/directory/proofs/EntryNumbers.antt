@@ -1,5 +1,5 @@
 -- The number in a slot is that of its entry.
-use Rattle.directory.proofs.Vocabulary.{One, ◌≡◌, ℕ, ◌*◌, ◌&&◌, true, false, eqb, List, drop, Option, Some, None, sym, ◌∙◌, refl, nat_le, ⊎_elim, and_parts, eqb-true, list_all, position_or_len, Dirent, Free, Used, u16_at, record_at, is_name, is_zero, dirent_of, dirent_at, name_of, used_of, free_of, which_branch, number-part, Aim, Named, Unused, Entry, is_sought, number_of}
+use Rattle.directory.proofs.Vocabulary.{One, ◌≡◌, ℕ, ◌*◌, ◌&&◌, true, false, eqb, List, drop, Option, Some, None, sym, ◌∙◌, refl, nat_le, ⊎_elim, and_parts, eqb-true, list_all, position_or_len, Dirent, Free, Used, u16_at, record_at, is_name, is_zero, dirent_of, dirent_at, name_of, used_of, free_of, which_branch, number-part, Aim, Named, Unused, Entry, is_sought, number_of, dirent_len}
 use Rattle.directory.proofs.Named.{free_not_used}
 
 used_not_free : (number : ℕ) (field : List ℕ) → used_of number field ≡ Some Free → ⊥
@@ -38,5 +38,5 @@ pub some_number : (bytes : List ℕ) (aim : Aim) (s : ℕ) (o : Option Dirent) �
 some_number bytes aim s None e h = absurd (no_entry aim s h)
 some_number bytes aim s (Some entry) e h = entry_number bytes entry e
 
-pub sought-number : (block : List ℕ) (p : ℕ) (aim : Aim) (s : ℕ) → is_sought aim s (dirent_at p block) ≡ true → u16_at block (16 * p) ≡ number_of (dirent_at p block)
-sought-number block p aim s h = sym (number-part One block p) ∙ some_number (record_at 16 p block) aim s (dirent_at p block) refl h
+pub sought-number : (block : List ℕ) (p : ℕ) (aim : Aim) (s : ℕ) → is_sought aim s (dirent_at p block) ≡ true → u16_at block (dirent_len * p) ≡ number_of (dirent_at p block)
+sought-number block p aim s h = sym (number-part One block p) ∙ some_number (record_at dirent_len p block) aim s (dirent_at p block) refl h

@@ -1,5 +1,5 @@
 -- What is found in the blocks of a directory, one after the other.
-use Rattle.directory.proofs.Vocabulary.{◌≡◌, ℕ, ◌+◌, ◌-◌, ◌*◌, ◌/◌, ◌%◌, ◌<◌, ◌≤◌, nat_le, ◌&&◌, Bool, true, false, List, Option, Some, None, refl, sym, ap, ◌∙◌, arith, ⊎_elim, cases_lt, le-leb, lt-leb, option_map, Dinode, Dirent, dirent_at, first_below, FirstIs, first_is, Found, is_used, first_named, first_free, first_used, Aim, Named, Unused, Entry, slot_count, slots_in, first_in, found_at, found_in, slot_at, is_sought, number_of, IsFirst}
+use Rattle.directory.proofs.Vocabulary.{◌≡◌, ℕ, ◌+◌, ◌-◌, ◌*◌, ◌/◌, ◌%◌, ◌<◌, ◌≤◌, nat_le, ◌&&◌, Bool, true, false, List, Option, Some, None, refl, sym, ap, ◌∙◌, arith, ⊎_elim, cases_lt, le-leb, lt-leb, option_map, Dinode, Dirent, dirent_at, first_below, FirstIs, first_is, Found, is_used, first_named, first_free, first_used, Aim, Named, Unused, Entry, slot_count, slots_in, first_in, found_at, found_in, slot_at, is_sought, number_of, IsFirst, dirents_per_block}
 use Rattle.directory.proofs.EntryNumbers.{sought-number}
 
 -- ---- the slots of a block
@@ -8,22 +8,25 @@ first-same : (p q : ℕ → Bool) (n : ℕ) (o : Option ℕ) → ((k : ℕ) → 
 first-same p q n None same f = λ k h. sym (same k) ∙ f k h
 first-same p q n (Some b) same f = (f.0, sym (same b) ∙ f.1, λ k h. sym (same k) ∙ f.2 k h)
 
-past_two : (k p : ℕ) → nat_le (2 - 64 * k) p ≡ nat_le 2 (64 * k + p)
+past_two : (k p : ℕ) → nat_le (2 - dirents_per_block * k) p ≡ nat_le 2 (dirents_per_block * k + p)
 past_two k p =
     ⊎_elim
-    (λ (low : p < 2 - 64 * k). lt-leb (2 - 64 * k) p low ∙ sym (lt-leb 2 (64 * k + p) (omega arith)))
-    (λ (high : 2 - 64 * k ≤ p). le-leb (2 - 64 * k) p high ∙ sym (le-leb 2 (64 * k + p) (omega arith)))
-    (cases_lt p (2 - 64 * k))
+    (λ (low : p < 2 - dirents_per_block * k). lt-leb (2 - dirents_per_block * k) p low
+    ∙ sym (lt-leb 2 (dirents_per_block * k + p) (omega arith)))
+    (λ (high : 2 - dirents_per_block * k ≤ p). le-leb (2 - dirents_per_block * k) p high
+    ∙ sym (le-leb 2 (dirents_per_block * k + p) (omega arith)))
+    (cases_lt p (2 - dirents_per_block * k))
 
 -- the first slot of block k that is sought
-first-in : (aim : Aim) (k limit : ℕ) (block : List ℕ) → FirstIs (λ p. is_sought aim (64 * k + p) (dirent_at p block)) limit (first_in aim k limit block)
+first-in : (aim : Aim) (k limit : ℕ) (block : List ℕ) → FirstIs (λ p. is_sought aim (dirents_per_block * k + p) (dirent_at p block)) limit (first_in aim k limit block)
 unfolding first_named first_free first_used
-first-in (Named name) k limit block = first_is (λ p. is_sought (Named name) (64 * k + p) (dirent_at p block)) limit
-first-in Unused k limit block = first_is (λ p. is_sought Unused (64 * k + p) (dirent_at p block)) limit
+first-in (Named name) k limit block = first_is (λ p. is_sought (Named name) (dirents_per_block * k + p) (dirent_at p block)) limit
+first-in Unused k limit block = first_is (λ p. is_sought Unused (dirents_per_block * k + p) (dirent_at p block)) limit
 first-in Entry k limit block =
-    first-same (λ p. nat_le (2 - 64 * k) p && is_used (dirent_at p block)) (λ p. is_sought Entry (64 * k + p) (dirent_at p block)) limit
-    (first_below (λ p. nat_le (2 - 64 * k) p && is_used (dirent_at p block)) limit) (λ p. ap (λ b. b && is_used (dirent_at p block)) (past_two k p))
-    (first_is (λ p. nat_le (2 - 64 * k) p && is_used (dirent_at p block)) limit)
+    first-same (λ p. nat_le (2 - dirents_per_block * k) p && is_used (dirent_at p block))
+    (λ p. is_sought Entry (dirents_per_block * k + p) (dirent_at p block)) limit
+    (first_below (λ p. nat_le (2 - dirents_per_block * k) p && is_used (dirent_at p block)) limit) (λ p. ap (λ b. b && is_used (dirent_at p block)) (past_two k p))
+    (first_is (λ p. nat_le (2 - dirents_per_block * k) p && is_used (dirent_at p block)) limit)
 
 -- ---- the slots of a directory
 
@@ -66,34 +69,36 @@ module _ (aim : Aim) (slots : ℕ → Option Dirent) where
 -- ---- a block of a directory
 
 module _ (content : ℕ → List ℕ) (slots : ℕ → Option Dirent) (count : ℕ) (shown : (s : ℕ) → s < count → slot_at content s ≡ slots s) where
-  pub slot-is : (k p : ℕ) → p < 64 → 64 * k + p < count → slots (64 * k + p) ≡ dirent_at p (content k)
+  pub slot-is : (k p : ℕ) → p < dirents_per_block → dirents_per_block * k + p < count
+      → slots (dirents_per_block * k + p) ≡ dirent_at p (content k)
   slot-is k p h few =
-      let q : (64 * k + p) / 64 ≡ k = omega arith in
-      let r : (64 * k + p) % 64 ≡ p = omega arith in
-      let e : slot_at content (64 * k + p) ≡ dirent_at p (content k) = rw (q, r) refl in
-      sym (shown (64 * k + p) few) ∙ e
+      let q : (dirents_per_block * k + p) / dirents_per_block ≡ k = omega arith in
+      let r : (dirents_per_block * k + p) % dirents_per_block ≡ p = omega arith in
+      let e : slot_at content (dirents_per_block * k + p) ≡ dirent_at p (content k) = rw (q, r) refl in
+      sym (shown (dirents_per_block * k + p) few) ∙ e
 
-  module _ (aim : Aim) (k limit : ℕ) (few : limit ≤ 64) (within : (p : ℕ) → p < limit → 64 * k + p < count) where
-    tested : (s : ℕ) → 64 * k ≤ s → s < 64 * k + limit → is_at aim slots s ≡ is_sought aim (64 * k + (s - 64 * k)) (dirent_at (s - 64 * k) (content k))
+  module _ (aim : Aim) (k limit : ℕ) (few : limit ≤ dirents_per_block) (within : (p : ℕ) → p < limit
+      → dirents_per_block * k + p < count) where
+    tested : (s : ℕ) → dirents_per_block * k ≤ s → s < dirents_per_block * k + limit → is_at aim slots s ≡ is_sought aim (dirents_per_block * k + (s - dirents_per_block * k)) (dirent_at (s - dirents_per_block * k) (content k))
     tested s l h =
-        let e : s ≡ 64 * k + (s - 64 * k) = omega arith in
-        ap (is_at aim slots) e ∙ ap (is_sought aim (64 * k + (s - 64 * k))) (slot-is k (s - 64 * k) (omega arith) (within (s - 64 * k) (omega arith)))
+        let e : s ≡ dirents_per_block * k + (s - dirents_per_block * k) = omega arith in
+        ap (is_at aim slots) e ∙ ap (is_sought aim (dirents_per_block * k + (s - dirents_per_block * k))) (slot-is k (s - dirents_per_block * k) (omega arith) (within (s - dirents_per_block * k) (omega arith)))
 
-    block-finds : (o : Option ℕ) → FirstIs (λ p. is_sought aim (64 * k + p) (dirent_at p (content k))) limit o
-        → IsBetween aim slots (64 * k) (64 * k + limit) (option_map (found_at k (content k)) o)
-    block-finds None f = λ s l h. tested s l h ∙ f (s - 64 * k) (omega arith)
+    block-finds : (o : Option ℕ) → FirstIs (λ p. is_sought aim (dirents_per_block * k + p) (dirent_at p (content k))) limit o
+        → IsBetween aim slots (dirents_per_block * k) (dirents_per_block * k + limit) (option_map (found_at k (content k)) o)
+    block-finds None f = λ s l h. tested s l h ∙ f (s - dirents_per_block * k) (omega arith)
     block-finds (Some p) f =
-        let there : slots (64 * k + p) ≡ dirent_at p (content k) = slot-is k p (omega (arith, f.0)) (within p f.0) in (
+        let there : slots (dirents_per_block * k + p) ≡ dirent_at p (content k) = slot-is k p (omega (arith, f.0)) (within p f.0) in (
           omega arith,
           omega (arith, f.0),
-          ap (is_sought aim (64 * k + p)) there ∙ f.1,
-          sought-number (content k) p aim (64 * k + p) f.1 ∙ ap number_of (sym there),
-          λ s l h. tested s l (omega (arith, f.0)) ∙ f.2 (s - 64 * k) (omega arith),
+          ap (is_sought aim (dirents_per_block * k + p)) there ∙ f.1,
+          sought-number (content k) p aim (dirents_per_block * k + p) f.1 ∙ ap number_of (sym there),
+          λ s l h. tested s l (omega (arith, f.0)) ∙ f.2 (s - dirents_per_block * k) (omega arith),
         )
 
 -- what block k has
 pub found_in_block : (content : ℕ → List ℕ) (slots : ℕ → Option Dirent) (d : Dinode) → ((s : ℕ) → s < slot_count d → slot_at content s ≡ slots s) → (aim : Aim) (k : ℕ)
-    → IsBetween aim slots (64 * k) (64 * k + slots_in d k) (found_in aim d k (content k))
+    → IsBetween aim slots (dirents_per_block * k) (dirents_per_block * k + slots_in d k) (found_in aim d k (content k))
 unfolding found_in
 found_in_block content slots d shown aim k =
     block-finds content slots (slot_count d) shown aim k (slots_in d k) (omega arith) (λ p h. omega arith) (first_in aim k (slots_in d k) (content k)) (first-in aim k (slots_in d k) (content k))

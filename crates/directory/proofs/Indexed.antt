@@ -1,5 +1,5 @@
 -- A directory searched, by its index and then by its blocks.
-use Rattle.directory.proofs.Vocabulary.{One, ◌≡◌, ◌≢◌, ℕ, zero, suc, ◌+◌, ◌-◌, ◌*◌, ◌<◌, ◌≤◌, min, nat_le, if◌then◌else◌, ◌&&◌, ◌==◌, Bool, true, false, List, [], ◌∷◌, ◌++◌, length, take, Option, Some, None, refl, sym, ap, ◌∙◌, subst, arith, and_parts, eqb-true, eqb-false, leb-true, append-nil, length-append, length-take, Dinode, Dirent, Free, Used, u16_at, record_at, dirent_of, dirent_at, number-part, IndexState, IndexedSlot, Loaded, is_used, IsIndex, first_gap, first_of, raised, used_in, slots_known, Found, Aim, Unused, Searched, block_count, found_in, most_slots, slot_count, slots_in, AreSlots, IsFirst}
+use Rattle.directory.proofs.Vocabulary.{One, ◌≡◌, ◌≢◌, ℕ, zero, suc, ◌+◌, ◌-◌, ◌*◌, ◌<◌, ◌≤◌, min, nat_le, if◌then◌else◌, ◌&&◌, ◌==◌, Bool, true, false, List, [], ◌∷◌, ◌++◌, length, take, Option, Some, None, refl, sym, ap, ◌∙◌, subst, arith, and_parts, eqb-true, eqb-false, leb-true, append-nil, length-append, length-take, Dinode, Dirent, Free, Used, u16_at, record_at, dirent_of, dirent_at, number-part, IndexState, IndexedSlot, Loaded, is_used, IsIndex, first_gap, first_of, raised, used_in, slots_known, Found, Aim, Unused, Searched, block_count, found_in, most_slots, slot_count, slots_in, AreSlots, IsFirst, dirent_len, dirents_per_block}
 use Rattle.directory.proofs.EntryNumbers.{entry_number}
 use Rattle.directory.proofs.FoundInBlocks.{IsBetween, before_mid, behind_none, first_of_all, found_in_block, slot-is, widen}
 use Rattle.directory.proofs.FoundInIndex.{first_of_right, gap_few, none_free}
@@ -34,37 +34,42 @@ module _ (bytes : List ℕ) where
 
 module _ (content : ℕ → List ℕ) (d : Dinode) (slots : ℕ → Option Dirent) (are : AreSlots (slot_count d) content slots) where
   -- the slot at a place of block k
-  one_listed : (k p : ℕ) (b : Bool) → p < 64 → 64 * k + p < slot_count d → (u16_at (content k) (16 * p) == 0) ≡ b
-      → Listed slots (64 * k + p) 1 (if b then [] else record { place = 64 * k + p; bytes = record_at 16 p (content k) } ∷ [])
+  one_listed : (k p : ℕ) (b : Bool) → p < dirents_per_block → dirents_per_block * k + p < slot_count d
+      → (u16_at (content k) (dirent_len * p) == 0) ≡ b
+      → Listed slots (dirents_per_block * k + p) 1
+      (if b then [] else record { place = dirents_per_block * k + p; bytes = record_at dirent_len p (content k) } ∷ [])
   one_listed k p b within few t =
-      let is : slots (64 * k + p) ≡ dirent_at p (content k) = slot-is content slots (slot_count d) are.shown k p within few in
-      let some : dirent_at p (content k) ≢ None = λ h. are.entries (64 * k + p) few (is ∙ h) in
+      let is : slots (dirents_per_block * k + p) ≡ dirent_at p (content k) =
+      slot-is content slots (slot_count d) are.shown k p within few in
+      let some : dirent_at p (content k) ≢ None = λ h. are.entries (dirents_per_block * k + p) few (is ∙ h) in
       by_test b is some t
     where
-      by_test : (b : Bool) → slots (64 * k + p) ≡ dirent_at p (content k) → dirent_at p (content k) ≢ None → (u16_at (content k) (16 * p) == 0) ≡ b
-          → Listed slots (64 * k + p) 1 (if b then [] else record { place = 64 * k + p; bytes = record_at 16 p (content k) } ∷ [])
+      by_test : (b : Bool) → slots (dirents_per_block * k + p) ≡ dirent_at p (content k) → dirent_at p (content k) ≢ None → (u16_at (content k) (dirent_len * p) == 0) ≡ b
+          → Listed slots (dirents_per_block * k + p) 1
+          (if b then [] else record { place = dirents_per_block * k + p; bytes = record_at dirent_len p (content k) } ∷ [])
       by_test true is some t =
-          let none : u16_at (record_at 16 p (content k)) 0 ≡ 0 = number-part One (content k) p ∙ eqb-true (u16_at (content k) (16 * p)) 0 t in
-          passed (ap is_used is ∙ unnumbered (record_at 16 p (content k)) (dirent_at p (content k)) refl none) over
+          let none : u16_at (record_at dirent_len p (content k)) 0 ≡ 0 = number-part One (content k) p ∙ eqb-true (u16_at (content k) (dirent_len * p)) 0 t in
+          passed (ap is_used is ∙ unnumbered (record_at dirent_len p (content k)) (dirent_at p (content k)) refl none) over
       by_test false is some t =
-          let number : u16_at (record_at 16 p (content k)) 0 ≢ 0 = λ h. eqb-false (u16_at (content k) (16 * p)) 0 t (sym (number-part One (content k) p) ∙ h) in
-          here (ap is_used is ∙ numbered (record_at 16 p (content k)) (dirent_at p (content k)) refl some number) refl (sym is) over
+          let number : u16_at (record_at dirent_len p (content k)) 0 ≢ 0 = λ h. eqb-false (u16_at (content k) (dirent_len * p)) 0 t (sym (number-part One (content k) p) ∙ h) in
+          here (ap is_used is ∙ numbered (record_at dirent_len p (content k)) (dirent_at p (content k)) refl some number) refl
+          (sym is) over
 
-  used_listed : (k limit : ℕ) → limit ≤ 64 → ((p : ℕ) → p < limit → 64 * k + p < slot_count d) → Listed slots (64 * k) limit (used_in k limit (content k))
+  used_listed : (k limit : ℕ) → limit ≤ dirents_per_block → ((p : ℕ) → p < limit → dirents_per_block * k + p < slot_count d) → Listed slots (dirents_per_block * k) limit (used_in k limit (content k))
   unfolding used_in
   used_listed k zero few within = over
   used_listed k (suc p) few within =
       listed_joined slots (suc p) (used_listed k p (omega arith) (λ q h. within q (omega arith))) refl
-      (one_listed k p (u16_at (content k) (16 * p) == 0) (omega arith) (within p (omega arith)) refl) (omega arith)
+      (one_listed k p (u16_at (content k) (dirent_len * p) == 0) (omega arith) (within p (omega arith)) refl) (omega arith)
 
   -- the used ones of a whole block
-  block_listed : (k : ℕ) → Listed slots (64 * k) 64 (used_in k (slots_in d k) (content k))
+  block_listed : (k : ℕ) → Listed slots (dirents_per_block * k) dirents_per_block (used_in k (slots_in d k) (content k))
   block_listed k =
       let limit : ℕ = slots_in d k in
       let used : List IndexedSlot = used_in k limit (content k) in
-      let none = listed_none slots (64 - limit) (64 * k + limit) (λ q l h. are.beyond q (omega arith)) in
-      subst (λ (es : List IndexedSlot). Listed slots (64 * k) 64 es) (append-nil used)
-      (listed_joined slots 64 (used_listed k limit (omega arith) (λ p h. omega arith)) refl none (omega arith))
+      let none = listed_none slots (dirents_per_block - limit) (dirents_per_block * k + limit) (λ q l h. are.beyond q (omega arith)) in
+      subst (λ (es : List IndexedSlot). Listed slots (dirents_per_block * k) dirents_per_block es) (append-nil used)
+      (listed_joined slots dirents_per_block (used_listed k limit (omega arith) (λ p h. omega arith)) refl none (omega arith))
 
   pub raised_right : (k : ℕ) (x : IndexState) → IsIndex x slots → IsIndex (raised d k (content k) x) slots
   unfolding IsIndex raised
@@ -79,8 +84,8 @@ module _ (content : ℕ → List ℕ) (d : Dinode) (slots : ℕ → Option Diren
           let parts = and_parts (x.blocks == k) (nat_le (length x.slots + length used) 64) t in
           let next : x.blocks ≡ k = eqb-true x.blocks k parts.0 in
           let fits : length x.slots + length used ≤ 64 = leb-true (length x.slots + length used) 64 parts.1 in (
-            upto_listed slots (64 * (k + 1)) (x.slots ++ used)
-                (listed_joined slots (64 * (k + 1)) (listed_upto slots (64 * x.blocks) x.slots right.0) (omega arith) (block_listed k) (omega arith)),
+            upto_listed slots (dirents_per_block * (k + 1)) (x.slots ++ used)
+                (listed_joined slots (dirents_per_block * (k + 1)) (listed_upto slots (dirents_per_block * x.blocks) x.slots right.0) (omega arith) (block_listed k) (omega arith)),
             omega (arith, length-append x.slots used),
           )
 
@@ -104,15 +109,16 @@ module _ (content : ℕ → List ℕ) (d : Dinode) (slots : ℕ → Option Diren
   else_found aim lo mid hi None x next l h found rest = behind_none aim slots lo mid hi (next x).found l h found (rest x)
   else_found aim lo mid hi (Some f) x next l h found rest = before_mid aim slots lo mid hi f h found
 
-  finds_from : (aim : Aim) (n k : ℕ) (x : IndexState) → n ≡ block_count d - k → IsBetween aim slots (64 * k) (slot_count d) (searched_from n aim d content k x).found
+  finds_from : (aim : Aim) (n k : ℕ) (x : IndexState) → n ≡ block_count d - k → IsBetween aim slots (dirents_per_block * k) (slot_count d) (searched_from n aim d content k x).found
   unfolding searched_from
   finds_from aim zero k x e = λ s l h. absurd (omega arith)
   finds_from aim (suc n) k x e =
-      let mid : ℕ = 64 * k + slots_in d k in
+      let mid : ℕ = dirents_per_block * k + slots_in d k in
       let next : IndexState → Searched = searched_from n aim d content (k + 1) in
-      else_found aim (64 * k) mid (slot_count d) (found_in aim d k (content k)) (raised d k (content k) x) next (omega arith) (omega arith)
+      else_found aim (dirents_per_block * k) mid (slot_count d) (found_in aim d k (content k)) (raised d k (content k) x) next
+      (omega arith) (omega arith)
       (found_in_block content slots d are.shown aim k)
-      (λ y. widen aim slots mid (64 * (k + 1)) (slot_count d) (next y).found (omega arith) (λ s a b c. omega arith) (finds_from aim n (k + 1) y (omega arith)))
+      (λ y. widen aim slots mid (dirents_per_block * (k + 1)) (slot_count d) (next y).found (omega arith) (λ s a b c. omega arith) (finds_from aim n (k + 1) y (omega arith)))
 
 pub searched_right : (content : ℕ → List ℕ) (l : Loaded) (slots : ℕ → Option Dirent) → AreSlots (slot_count l.inode) content slots → IsIndex l.index slots → (aim : Aim)
     → IsFirst aim slots (slot_count l.inode) (searched aim l content).found × IsIndex (searched aim l content).index slots

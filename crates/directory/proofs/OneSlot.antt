@@ -1,18 +1,30 @@
 -- The bytes of a slot.
-use Rattle.directory.proofs.Vocabulary.{◌≡◌, ℕ, ◌+◌, ◌*◌, ◌<◌, ◌≤◌, List, length, drop, get_or, replicate, arith, ⊎_elim, length-drop, cases_lt, length-replicate, length-take, length-take-le, get_or-take, get_or-drop, get_or_past, get_or-replicate, record_at, IsBytes}
+use Rattle.directory.proofs.Vocabulary.{◌≡◌, ℕ, ◌+◌, ◌*◌, ◌<◌, ◌≤◌, List, length, drop, get_or, replicate, arith, ⊎_elim, length-drop, cases_lt, length-replicate, length-take, length-take-le, get_or-take, get_or-drop, get_or_past, get_or-replicate, record_at, IsBytes, block_len, dirent_len, dirents_per_block}
 
 pub record IsSlot (bytes : List ℕ) : Type 0 where
-  pub long : length bytes ≡ 16
+  pub long : length bytes ≡ dirent_len
   pub fits : IsBytes bytes
 
-pub slot_in : (block : List ℕ) (p : ℕ) → length block ≡ 1024 → IsBytes block → p < 64 → IsSlot (record_at 16 p block)
+pub slot_in : (block : List ℕ) (p : ℕ) → length block ≡ block_len → IsBytes block → p < dirents_per_block
+    → IsSlot (record_at dirent_len p block)
 slot_in block p l fits h = record {
-  long = length-take-le 16 (drop (16 * p) block) (omega (arith, length-drop (16 * p) block));
+  long = length-take-le dirent_len (drop (dirent_len * p) block) (omega (arith, length-drop (dirent_len * p) block));
   fits = λ i.
       ⊎_elim
-      (λ (low : i < 16). omega (arith, get_or-take 16 (drop (16 * p) block) i 0 low, get_or-drop (16 * p) block i 0, fits (16 * p + i)))
-      (λ (high : 16 ≤ i). omega (arith, get_or_past (record_at 16 p block) i 0 (omega (arith, length-take 16 (drop (16 * p) block)))))
-      (cases_lt i 16);
+      (λ (low : i < dirent_len).
+      omega (
+        arith,
+        get_or-take dirent_len (drop (dirent_len * p) block) i 0 low,
+        get_or-drop (dirent_len * p) block i 0,
+        fits (dirent_len * p + i),
+      ))
+      (λ (high : dirent_len ≤ i).
+      omega (
+        arith,
+        get_or_past (record_at dirent_len p block) i 0
+            (omega (arith, length-take dirent_len (drop (dirent_len * p) block))),
+      ))
+      (cases_lt i dirent_len);
 }
 
 -- the bytes behind its number

@@ -1,18 +1,18 @@
 -- An index raised with a block, slot by slot.
-use Rattle.directory.proofs.Vocabulary.{◌≡◌, ◌≢◌, ℕ, zero, suc, ◌+◌, ◌*◌, ◌<◌, ◌≤◌, nat_le, if◌then◌else◌, ◌==◌, ◌&&◌, true, false, List, [], ◌∷◌, ◌++◌, length, take, refl, ap, ◌∙◌, arith, ⊎_elim, cases_eq, append-nil, length-append, take_at, add-one, and_from, and_right, eq-eqb, ne_eqb, le-leb, lt-leb, u16_at, record_at, IndexState, IndexedSlot, used_in, with_block}
+use Rattle.directory.proofs.Vocabulary.{◌≡◌, ◌≢◌, ℕ, zero, suc, ◌+◌, ◌*◌, ◌<◌, ◌≤◌, nat_le, if◌then◌else◌, ◌==◌, ◌&&◌, true, false, List, [], ◌∷◌, ◌++◌, length, take, refl, ap, ◌∙◌, arith, ⊎_elim, cases_eq, append-nil, length-append, take_at, add-one, and_from, and_right, eq-eqb, ne_eqb, le-leb, lt-leb, u16_at, record_at, IndexState, IndexedSlot, used_in, with_block, dirent_len, dirents_per_block}
 
 module _ (k : ℕ) (block : List ℕ) where
   -- the slot at a place of block k
   abbrev pub slot : ℕ → IndexedSlot
-  slot p = record { place = 64 * k + p; bytes = record_at 16 p block }
+  slot p = record { place = dirents_per_block * k + p; bytes = record_at dirent_len p block }
 
-  pub used_free : (p : ℕ) → u16_at block (16 * p) ≡ 0 → used_in k (p + 1) block ≡ used_in k p block
+  pub used_free : (p : ℕ) → u16_at block (dirent_len * p) ≡ 0 → used_in k (p + 1) block ≡ used_in k p block
   unfolding used_in
-  used_free p e = rw (add-one p, eq-eqb (u16_at block (16 * p)) 0 e) (append-nil (used_in k p block))
+  used_free p e = rw (add-one p, eq-eqb (u16_at block (dirent_len * p)) 0 e) (append-nil (used_in k p block))
 
-  pub used_one : (p : ℕ) → u16_at block (16 * p) ≢ 0 → used_in k (p + 1) block ≡ used_in k p block ++ slot p ∷ []
+  pub used_one : (p : ℕ) → u16_at block (dirent_len * p) ≢ 0 → used_in k (p + 1) block ≡ used_in k p block ++ slot p ∷ []
   unfolding used_in
-  used_one p ne = rw (add-one p, ne_eqb (u16_at block (16 * p)) 0 ne) refl
+  used_one p ne = rw (add-one p, ne_eqb (u16_at block (dirent_len * p)) 0 ne) refl
 
   used_before : (p count : ℕ) → p ≤ count → length (used_in k p block) ≤ length (used_in k count block)
   unfolding used_in
@@ -21,7 +21,7 @@ module _ (k : ℕ) (block : List ℕ) where
       ⊎_elim
       (λ (e : p ≡ suc n). rw e (omega arith))
       (λ (ne : p ≢ suc n).
-      let last : List IndexedSlot = if u16_at block (16 * n) == 0 then [] else slot n ∷ [] in
+      let last : List IndexedSlot = if u16_at block (dirent_len * n) == 0 then [] else slot n ∷ [] in
       omega (arith, used_before p n (omega arith), length-append (used_in k n block) last))
       (cases_eq p (suc n))
 
@@ -30,7 +30,7 @@ module _ (k : ℕ) (block : List ℕ) where
     raised_so = with_block k (used_in k count block) x
 
     -- one more has no room
-    pub raise_full : (p : ℕ) → p < count → u16_at block (16 * p) ≢ 0 → now ≡ x.slots ++ used_in k p block → length now ≡ 64
+    pub raise_full : (p : ℕ) → p < count → u16_at block (dirent_len * p) ≢ 0 → now ≡ x.slots ++ used_in k p block → length now ≡ 64
         → record { blocks = x.blocks; slots = take (length x.slots) now } ≡ raised_so
     raise_full p few ne e full =
         let used : List IndexedSlot = used_in k count block in

@@ -1,10 +1,10 @@
 -- What this crate's proofs speak of: its own definitions, and what the crates below and the library call things.
 pub use Rattle.inode_data.proofs.Vocabulary.{Bool, Do, FetchedBlock, Get, HasOne, List, None, Option, Oracle, P, Ret, Some, [], address, ap, append_assoc, arith, bind, block_left, cases_eq, cases_lt, drop, drop-drop, drop_at, fetch, fetch_at, fetch_block, fetch_named, fetch_number, first, get_or, get_or-drop, give_fetched, length, length-append, length-take, ne_eqb, numbers_in, option_map, outcome, read_unless, refl, slice_index, store_has, store_left, subst, suc, sym, table_of, take, write_left, zero, ℕ, ⊎_elim, ◌%◌, ◌*◌, ◌++◌, ◌+◌, ◌-◌, ◌/◌, ◌<◌, ◌==◌, ◌∙◌, ◌∷◌, ◌≡◌, ◌≢◌, ◌≤◌}
 pub use Rattle.fs_layout.proofs.Vocabulary.{IsBytes, and_parts, drop-take, eq-eqb, eqb, eqb-false, eqb-true, false, free_of, is_zero, length-drop, length-replicate, length-take-le, list_all, little_from-take, little_number, name_of, nat_le, not, position_or_len, record_at, replicate, true, ◌&&◌}
-pub use Rattle.fs_layout.specs.VersionOne.{dirent_at, dirent_of, is_name, spell_dirent, used_of}
+pub use Rattle.fs_layout.specs.VersionOne.{dirent_at, dirent_len, dirent_of, dirents_per_block, is_name, name_len, spell_dirent, used_of}
 pub use Rattle.image_versions.specs.declared.version.Version.TheVariants.{One}
 unfoldable pub use Rattle.fs_layout.proofs.Vocabulary.{u16_at, u16_bytes}
-pub use Rattle.directory.specs.Vocabulary.{IndexState, IndexedSlot, InodePlace, IsName, Loaded, first_below, no_index, recorded}
+pub use Rattle.directory.specs.Vocabulary.{IndexState, IndexedSlot, InodePlace, IsName, Loaded, first_below, block_len, no_index, recorded}
 pub use Rattle.directory.specs.Programs.{Aim, Entry, Named, Searched, Unused, block_count, first_in, found_at, look_at, most_slots, or_next, search, slot_count, slots_in}
 unfoldable pub use Rattle.directory.specs.Programs.{found_in, search_from, with_dirent}
 pub use Rattle.directory.specs.Indexes.{as_read, first_that, found_as, free_below, index_room, slots_known, with_block, with_slot_if}

@@ -23,7 +23,7 @@ pub struct Filled {
 /// Writes "." and ".." into a new directory, and stores it.
 #[derive(Drop)]
 pub struct Fill {
-    pub bytes: [u8; 32],
+    pub bytes: [u8; DOTS_LEN],
     pub part: WritePart,
 }
 
@@ -87,7 +87,7 @@ fn whole_in(written: &Written) -> Filled
 }
 
 // The bytes of a new directory.
-fn dots(number: u32, parent: u32) -> [u8; 32]
+fn dots(number: u32, parent: u32) -> [u8; DOTS_LEN]
     ensures { result ≡ dots number parent }
 {
     let mut bytes = [0; DOTS_LEN];
