@@ -1,5 +1,5 @@
 -- The bits of the bitmap as it is seen, and of one that is put.
-use Rattle.inodes_on_blocks.proofs.Vocabulary.{◌≡◌, ℕ, ◌*◌, ◌<◌, ◌==◌, Bool, true, false, List, length, inr, sym, ◌∙◌, ap, subst, arith, if◌then◌else◌, Super, bit_of, recovered, sizes_of, IsOutsideLog, with_bit, without_bit, sets_one, clears_one, is_marked, IsPut, IsBitPut, LogPart, seen_of, World, log_of, disk_of, CanPut, log_with, MarksAreBits, BitmapsPutBits, Shows}
+use Rattle.inodes_on_blocks.proofs.Vocabulary.{◌≡◌, ℕ, ◌*◌, ◌<◌, ◌==◌, Bool, true, false, List, length, inr, sym, ◌∙◌, ap, subst, arith, if◌then◌else◌, Super, bit_of, recovered, sizes_of, IsOutsideLog, with_bit, without_bit, sets_one, clears_one, is_marked, IsPut, IsBitPut, LogPart, seen_of, World, log_of, disk_of, CanPut, log_with, MarksAreBits, BitmapsPutBits, Shows, block_len}
 use Rattle.inodes_on_blocks.proofs.SeenDisks.{good_seen}
 use Rattle.inode_machine.specs.World as above
 use Rattle.inodes_on_blocks.proofs.Recorded.{disk_put, good_then, put_bytes}
@@ -26,7 +26,7 @@ module _ (r : World) (g : above.World) (shows : Shows r g) where
       ap (λ (s : Super). bit_of (recovered (disk_of l) s.bmapstart) c) here
       ∙ ap (λ (block : List ℕ). bit_of block c) ((good_seen l.sizes (seen_of l) (length l.contents) shows.blocks.seen).blocks at within outside)
 
-  long : length (seen_of l at) ≡ 1024
+  long : length (seen_of l at) ≡ block_len
   long = shows.blocks.seen.whole at within outside
 
   module _ (h b : ℕ) (bytes : List ℕ) (value : Bool) (can : CanPut h at bytes l) (changes : (c : ℕ) → bit_of bytes c ≡ (if c == b then value else bit_of (seen_of l at) c)) where

@@ -1,5 +1,5 @@
 -- A block taken for an inode that a hart is changing: its bit is set, and it is filled with zeros; or the bitmap has none. Nothing of it is seen above.
-use Rattle.inodes_on_blocks.proofs.Vocabulary.{◌≡◌, ◌≢◌, ⊎_elim, ℕ, suc, ◌<◌, ◌≤◌, Bool, true, false, not, List, ◌∷◌, length, length-append, Option, Some, None, refl, sym, ◌∙◌, ap, subst, arith, slice_index, cases_lt, get_or_append_left, length-replicate, Dinode, Super, bit_of, IsBytes, IsOutsideLog, recovered, sizes_of, holder_of, IsData, numbers_of, indirect_numbers, IsOwned, NamesOwned, IsLaidOut, IsSpare, Node, hart_count, Do, bind, unmarked, Machine, Laws, P, Wp, Both, joined, Stable, bind-assoc, Wp-more, fetch, seen_of, Put, marked_by, zeros, first_clear_below, give_zeros, zero_found, take_first, take_block, FirstIs, first_is, if_kept, Inv, World, log_of, disk_of, world_with, KeepsRoom, in_hand, IsFetched, Kept, Carry, buffer_in, below, Labels, labelled, Keeps, IsChanging, Shows}
+use Rattle.inodes_on_blocks.proofs.Vocabulary.{◌≡◌, ◌≢◌, ⊎_elim, ℕ, suc, ◌<◌, ◌≤◌, Bool, true, false, not, List, ◌∷◌, length, length-append, Option, Some, None, refl, sym, ◌∙◌, ap, subst, arith, slice_index, cases_lt, get_or_append_left, length-replicate, Dinode, Super, bit_of, IsBytes, IsOutsideLog, recovered, sizes_of, holder_of, IsData, numbers_of, indirect_numbers, IsOwned, NamesOwned, IsLaidOut, IsSpare, Node, hart_count, Do, bind, unmarked, Machine, Laws, P, Wp, Both, joined, Stable, bind-assoc, Wp-more, fetch, seen_of, Put, marked_by, zeros, first_clear_below, give_zeros, zero_found, take_first, take_block, FirstIs, first_is, if_kept, Inv, World, log_of, disk_of, world_with, KeepsRoom, in_hand, IsFetched, Kept, Carry, buffer_in, below, Labels, labelled, Keeps, IsChanging, Shows, addresses, block_len, direct}
 use Rattle.inodes_on_blocks.proofs.Basics.{spare_put, at_index, good_seen, kept_then, marks_are_bits, s-fetch, s-back, below_laws, held_back, through_put}
 use Rattle.inode_machine.specs.World as above
 use Rattle.inodes_on_blocks.proofs.Changing.{owner_with, Changing, left_but, changing_then, others_put}
@@ -13,9 +13,9 @@ use Rattle.inodes_on_blocks.proofs.TakingSteps.{MarkedFor, s-mark}
 -- ---- numbers
 
 -- the number of the indirect block stands behind the first twelve
-pub table_place : (disk : List (List ℕ)) (d : Dinode) → length d.addrs ≡ 13 → (slice_index (numbers_of disk d) 12 ≡ slice_index d.addrs 12) × (12 < length (numbers_of disk d))
+pub table_place : (disk : List (List ℕ)) (d : Dinode) → length d.addrs ≡ addresses → (slice_index (numbers_of disk d) direct ≡ slice_index d.addrs direct) × (direct < length (numbers_of disk d))
 unfolding numbers_of
-table_place disk d long = (get_or_append_left d.addrs (indirect_numbers disk d) 0 12 (omega (arith, long)), omega (arith, long, length-append d.addrs (indirect_numbers disk d)))
+table_place disk d long = (get_or_append_left d.addrs (indirect_numbers disk d) 0 direct (omega (arith, long)), omega (arith, long, length-append d.addrs (indirect_numbers disk d)))
 
 -- the first clear bit is that of a data block
 free_data : (r : World) (g : above.World) → Shows r g → (b : ℕ) → b < (log_of r).sizes.size → bit_of (seen_of (log_of r) (log_of r).sizes.bmapstart) b ≡ false → IsData (log_of r).sizes b
@@ -26,13 +26,13 @@ free_data r g shows b small clear =
     absurd (let q : false ≡ true = sym clear ∙ sym (marks_are_bits r g shows b) ∙ shows.blocks.running.bits.front b (subst (λ (s : Super). b ≤ s.bmapstart) (sym here) low) in cc))
     (cases_lt (log_of r).sizes.bmapstart b)
 
-zeros_long : length zeros ≡ 1024
+zeros_long : length zeros ≡ block_len
 unfolding zeros
-zeros_long = length-replicate {A = ℕ} 1024 0
+zeros_long = length-replicate {A = ℕ} block_len 0
 
 zeros_bytes : IsBytes zeros
 unfolding zeros
-zeros_bytes = zero_bytes 1024
+zeros_bytes = zero_bytes block_len
 
 -- ---- what it comes to
 
@@ -91,28 +91,28 @@ module _ (sizes : Super) (l : Labels) (laws : Laws (labelled l)) (keeps : Keeps 
   M = joined (labelled l) (below sizes)
 
   module _ {A : Type 0} (Q : A → List l.Step → W → Type 0) (G : List l.Step → above.World → Type 0) (stable : Stable (labelled l) (below sizes) laws (below_laws sizes l keeps) h B G)
-      (n : ℕ) (changes : (fs : List l.Step) (g : above.World) → G fs g → Inv g → IsChanging h n g) (c : Carry) (o : Option Node) (d : Dinode) (x : Node) (long : length d.addrs ≡ 13)
+      (n : ℕ) (changes : (fs : List l.Step) (g : above.World) → G fs g → Inv g → IsChanging h n g) (c : Carry) (o : Option Node) (d : Dinode) (x : Node) (long : length d.addrs ≡ addresses)
       (Knows : World → Type 0) (Then : ℕ → World → Type 0) (room : KeepsRoom h sizes.bmapstart Knows Knows) (more : (b : ℕ) → KeepsRoom h b Knows (Then b)) where
     abbrev bitmap : ℕ
     bitmap = sizes.bmapstart
 
     -- the indirect block
     abbrev t : ℕ
-    t = slice_index d.addrs 12
+    t = slice_index d.addrs direct
 
     table_past : (r : World) (g : above.World) → Shows r g → Changing h n c o d x r g → (log_of r).sizes ≡ sizes → t ≢ bitmap
     table_past r g shows changing at e =
         let here : sizes_of (disk_of (log_of r)) ≡ sizes = (good_seen (log_of r).sizes (seen_of (log_of r)) (length (log_of r).contents) shows.blocks.seen).sizes_are ∙ at in
         let is = (table_place (disk_of (log_of r)) d long).0 in
-        let some : slice_index (numbers_of (disk_of (log_of r)) d) 12 ≢ 0 =
+        let some : slice_index (numbers_of (disk_of (log_of r)) d) direct ≢ 0 =
         (λ z. let good = shows.blocks.seen.good in let start = good.logstart in let log = good.log in let inodes = good.inodes in let same : (log_of r).sizes.bmapstart ≡ sizes.bmapstart = ap (λ (s : Super). s.bmapstart) at in absurd (omega (arith, start, log, inodes, same, e, is, z))) in
-        let own = at_index (IsOwned (disk_of (log_of r)) (owner_with h n r) n) (numbers_of (disk_of (log_of r)) d) 12 changing.laid.owned some in
-        let past = (subst (λ (s : Super). IsData s (slice_index (numbers_of (disk_of (log_of r)) d) 12)) here own.block).0 in
+        let own = at_index (IsOwned (disk_of (log_of r)) (owner_with h n r) n) (numbers_of (disk_of (log_of r)) d) direct changing.laid.owned some in
+        let past = (subst (λ (s : Super). IsData s (slice_index (numbers_of (disk_of (log_of r)) d) direct)) here own.block).0 in
         absurd (omega (arith, past, is, e))
 
     -- the block that was taken is another one
     table_apart : (b : ℕ) (r : World) (g : above.World) → HasSpare h n b c o d x r g → b ≢ t
-    table_apart b r g is e = let place = table_place (disk_of (log_of r)) d long in is.spare.unnamed 12 0 place.1 (place.0 ∙ sym e)
+    table_apart b r g is e = let place = table_place (disk_of (log_of r)) d long in is.spare.unnamed direct 0 place.1 (place.0 ∙ sym e)
 
     module _ (k : Option ℕ → P M A) (j : ℕ) (w : W) (few : in_hand h w.real ≤ 1) (alone : (q : ℕ) → q ≢ t → holder_of q (log_of w.real).seats ≢ Some h) (at : (log_of w.real).sizes ≡ sizes) (shows_w : Shows w.real w.seen)
         (changing : Changing h n c o d x w.real w.seen) (knows : Knows w.real)

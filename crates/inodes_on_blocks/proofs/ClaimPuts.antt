@@ -1,5 +1,5 @@
 -- An inode claimed, and its record put with a type: what is shown of both.
-use Rattle.inodes_on_blocks.proofs.Vocabulary.{◌≡◌, ◌≢◌, inl, inr, ℕ, ◌+◌, ◌<◌, ◌≤◌, Bool, true, false, ◌&&◌, ◌==◌, List, length, Option, Some, None, refl, sym, ◌∙◌, ap, subst, arith, if◌then◌else◌, zero, suc, replicate, ◌^◌, w16, FitsSigned, AllByRecursion, IsSome, none-some, same_Some, Dinode, Super, IsDinode, sizes_of, Node, put, hart_count, same_or, eq_not, put_same, put_other, is_free, is_number, HoldsAt, IsRecord, IsInodePut, IsRunning, is_held_by, holder_of, kept, has, HasRoom, IsHome, Put, IsGoodSeen, Owners, TablesState, lock_holder, LogPart, put_block, Own, seen_of, new_record, inode_block, with_dinode, InodeType, OfDirectory, OfFile, OfDevice, is_nothing, blank, claimed, counted_up, is_hart, if_kept, Inv, Idle, one_refs, opens_slots, loaded, kind_of, is_joined, AreOnBlocks, World, log_of, tables_of, disk_of, inode_in, owners_of, untyped, owners_after, Shows, IsNew, if_joined, ghost_of, on_blocks, unless_new, Same, Kept, Carry, IsLoaded, commit_in, Base, IsMade, CanPut, PutLeaves, IsIndexOf}
+use Rattle.inodes_on_blocks.proofs.Vocabulary.{◌≡◌, ◌≢◌, inl, inr, ℕ, ◌+◌, ◌<◌, ◌≤◌, Bool, true, false, ◌&&◌, ◌==◌, List, length, Option, Some, None, refl, sym, ◌∙◌, ap, subst, arith, if◌then◌else◌, zero, suc, replicate, ◌^◌, w16, FitsSigned, AllByRecursion, IsSome, none-some, same_Some, Dinode, Super, IsDinode, sizes_of, Node, put, hart_count, same_or, eq_not, put_same, put_other, is_free, is_number, HoldsAt, IsRecord, IsInodePut, IsRunning, is_held_by, holder_of, kept, has, HasRoom, IsHome, Put, IsGoodSeen, Owners, TablesState, lock_holder, LogPart, put_block, Own, seen_of, new_record, inode_block, with_dinode, InodeType, OfDirectory, OfFile, OfDevice, is_nothing, blank, claimed, counted_up, is_hart, if_kept, Inv, Idle, one_refs, opens_slots, loaded, kind_of, is_joined, AreOnBlocks, World, log_of, tables_of, disk_of, inode_in, owners_of, untyped, owners_after, Shows, IsNew, if_joined, ghost_of, on_blocks, unless_new, Same, Kept, Carry, IsLoaded, commit_in, Base, IsMade, CanPut, PutLeaves, IsIndexOf, addresses, block_len}
 use Rattle.inodes_on_blocks.proofs.Basics.{untouched, inode_is, good_seen, is_member, nobody_commits, commit_none, put_grows, same_view, AllInHand, hands_marked, hart_is, held_back, in_hand_then, is_here, kept_disk, tables_left, SameCode, new_holds, new_kept, old_node, unkept_old, open_alike, open_then, lock_range, load_range, whole_put, own_put, seen_then, good_then, bytes_then, members_joined, put_hand, record_put, quiet_leaves, quiet_owners, inode_home, untaken, stored_long, stored_bytes, with_tables, unlocked_holds}
 use Rattle.buffer_cache.specs.Lists.{count_of}
 use Rattle.inode_machine.specs.World as above
@@ -200,7 +200,7 @@ has_kind OfFile = refl
 has_kind (OfDevice major) = refl
 
 new_fits : (inode_type : InodeType) → IsDinode (new_record (kind_of inode_type))
-new_fits inode_type = record { kind = kind_fits inode_type; major = omega arith; minor = omega arith; nlink = omega arith; size = omega arith; thirteen = refl; addrs = none_large 13 }
+new_fits inode_type = record { kind = kind_fits inode_type; major = omega arith; minor = omega arith; nlink = omega arith; size = omega arith; thirteen = refl; addrs = none_large addresses }
 
 module _ (h : ℕ) (n : ℕ) (inode_type : InodeType) (c : Carry) (r : World) (g : above.World) (shows : Shows r g) (claims : HasClaimed h n inode_type c r g) where
   abbrev l : LogPart
@@ -221,7 +221,7 @@ module _ (h : ℕ) (n : ℕ) (inode_type : InodeType) (c : Carry) (r : World) (g
   home : IsHome l.contents l.sizes b
   home = inode_home l n shows.blocks.seen.good shows.blocks.seen.sized is.bound
 
-  long : length (seen_of l b) ≡ 1024
+  long : length (seen_of l b) ≡ block_len
   long = shows.blocks.seen.whole b home.within home.outside
 
   fits : IsDinode put_record

@@ -1,5 +1,5 @@
 -- The operation that takes a new inode acts where a block of the table is looked through; its record is put in a step of its own.
-use Rattle.inodes_on_blocks.proofs.Vocabulary.{◌≡◌, ◌≢◌, inl, inr, ℕ, zero, suc, ℤ, pos, negsuc, ◌+◌, ◌*◌, ◌/◌, ◌<◌, ◌≤◌, ◌||◌, ◌&&◌, Bool, true, false, List, Option, Some, None, is_some, refl, sym, ◌∙◌, ap, subst, arith, if◌then◌else◌, [], IsSome, nat_lt, is_none, nat_tests, Super, dinode_at, IsOutsideLog, SeatState, kept, given_back, holder_of, has, HasRoom, is_free, is_number, hart_count, and_true, put_same, put_other, Do, unmarked, ExecResult, Ran, Machine, Laws, P, Wp, Both, joined, Below, Handover, Lasts, Here, Silent, ToAct, to_act, acted, s-silent, Wp-more, TablesState, references_in, up_inode, first_free, is_unreferenced, Outside, Passes, seen_of, keeps_whole, leaves_own, shows_its_puts, free_in, inode_blocks, new_record, inode_block, with_dinode, Spent, size, most_recorded, InodeType, Claim, claimed, counted_up, has_place, place_count, referenced, blank, marked, with_mark, Idle, Inv, more, loaded, kind_of, World, log_of, tables_of, inode_in, came_to, exec, alone, Answers, IsDone, in_hand, HasBuffer, SameBut, Carry, IsThrough, Keeps, Kept, Labels, Same, Stands, below, labelled, IsMade, answers, claim, claim_at, claim_from, claim_in, claim_mark, HasInodes, Owners, GivesRoom, HasSpent, Shows, ActsWithin, DoesItWithin}
+use Rattle.inodes_on_blocks.proofs.Vocabulary.{◌≡◌, ◌≢◌, inl, inr, ℕ, zero, suc, ℤ, pos, negsuc, ◌+◌, ◌*◌, ◌/◌, ◌<◌, ◌≤◌, ◌||◌, ◌&&◌, Bool, true, false, List, Option, Some, None, is_some, refl, sym, ◌∙◌, ap, subst, arith, if◌then◌else◌, [], IsSome, nat_lt, is_none, nat_tests, Super, dinode_at, IsOutsideLog, SeatState, kept, given_back, holder_of, has, HasRoom, is_free, is_number, hart_count, and_true, put_same, put_other, Do, unmarked, ExecResult, Ran, Machine, Laws, P, Wp, Both, joined, Below, Handover, Lasts, Here, Silent, ToAct, to_act, acted, s-silent, Wp-more, TablesState, references_in, up_inode, first_free, is_unreferenced, Outside, Passes, seen_of, keeps_whole, leaves_own, shows_its_puts, free_in, inode_blocks, new_record, inode_block, with_dinode, Spent, size, most_recorded, InodeType, Claim, claimed, counted_up, has_place, place_count, referenced, blank, marked, with_mark, Idle, Inv, more, loaded, kind_of, World, log_of, tables_of, inode_in, came_to, exec, alone, Answers, IsDone, in_hand, HasBuffer, SameBut, Carry, IsThrough, Keeps, Kept, Labels, Same, Stands, below, labelled, IsMade, answers, claim, claim_at, claim_from, claim_in, claim_mark, HasInodes, Owners, GivesRoom, HasSpent, Shows, ActsWithin, DoesItWithin, inodes_per_block}
 use Rattle.std.specs.Prelude.{Contains}
 use Rattle.fs_machine.specs.Tables as places
 use Rattle.fs_machine.specs.Premises as premises
@@ -26,11 +26,11 @@ pub record Picked (ninodes q : ℕ) (block : List ℕ) (i : ℕ) : Type 0 where
   pub low : 1 ≤ i
   pub bound : i < ninodes
   pub free : is_free (dinode_at (place_of i) block) ≡ true
-  pub block_is : i / 16 ≡ q
+  pub block_is : i / inodes_per_block ≡ q
 
 pub picked : (ninodes q : ℕ) (block : List ℕ) (i : ℕ) → Contains (free_in ninodes q block) i → Picked ninodes q block i
 picked ninodes q block i has_ =
-    let a = among_free ninodes (16 * q) block 16 i has_ in
+    let a = among_free ninodes (inodes_per_block * q) block inodes_per_block i has_ in
     let both = and_true (nat_lt 0 i && nat_lt i ninodes) (is_zero (dinode_at (place_of i) block).kind) a.0 in
     let range = and_true (nat_lt 0 i) (nat_lt i ninodes) both.0 in
     let from_ = a.1 in
@@ -323,9 +323,9 @@ module _ (sizes : Super) (l : Labels) (laws : Laws (labelled l)) (keeps : Keeps 
     -- the block is one of the table's
     place : (v : World) (g : above.World) → Shows v g → (log_of v).sizes ≡ sizes → IsOutsideLog (log_of v).sizes at × (at < (log_of v).sizes.size)
     place v g shows size =
-        let first : 16 * q < sizes.ninodes = omega (arith, sum) in
-        let here : inode_block (log_of v).sizes.inodestart (16 * q) ≡ at = ap (λ (z : Super). inode_block z.inodestart (16 * q)) size ∙ ap (λ (k : ℕ). sizes.inodestart + k) (let e : (16 * q) / 16 ≡ q = omega arith in e) in
-        subst (λ (k : ℕ). IsOutsideLog (log_of v).sizes k × (k < (log_of v).sizes.size)) here (inode_place v g shows (16 * q) (subst (λ (z : Super). 16 * q < z.ninodes) (sym size) first))
+        let first : inodes_per_block * q < sizes.ninodes = omega (arith, sum) in
+        let here : inode_block (log_of v).sizes.inodestart (inodes_per_block * q) ≡ at = ap (λ (z : Super). inode_block z.inodestart (inodes_per_block * q)) size ∙ ap (λ (k : ℕ). sizes.inodestart + k) (let e : (inodes_per_block * q) / inodes_per_block ≡ q = omega arith in e) in
+        subst (λ (k : ℕ). IsOutsideLog (log_of v).sizes k × (k < (log_of v).sizes.size)) here (inode_place v g shows (inodes_per_block * q) (subst (λ (z : Super). inodes_per_block * q < z.ninodes) (sym size) first))
 
     one_block : Wp M h B Q (claim_from (suc n) sizes inode_type c m q) (claim_steps (suc n)) es w
     unfolding claim_from claim_steps

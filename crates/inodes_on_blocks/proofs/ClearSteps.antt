@@ -1,5 +1,5 @@
 -- A name cleared acts where the directory's record is put, after its slot was put free.
-use Rattle.inodes_on_blocks.proofs.Vocabulary.{◌≡◌, ◌≢◌, ℕ, zero, suc, ◌+◌, ◌-◌, ◌*◌, ◌/◌, ◌%◌, ◌<◌, ◌≤◌, ◌==◌, ◌&&◌, nat_lt, Bool, true, false, List, [], ◌∷◌, length, max, get_or, Option, Some, None, refl, sym, ◌∙◌, ap, subst, arith, if◌then◌else◌, IsSome, option_map, unwrap_or, none-some, Found, Named, block_count, look_at, search_from, with_dirent, with_slot, Free, Dinode, Super, IsBytes, IsDinode, recovered, All, IsData, is_free, numbers_of, block_number, content_block, HoldsAt, IsOwned, entry_of, size_in, IsPut, IsLaidOut, Becomes, slots_with, Slot, Node, NodeKind, Directory, File, Device, cleared, node_or, Name, same_name, live_directory, look, first_slot, all_slots, put, hart_count, eq_is, Ret, bind, Ran, Laws, Machine, P, Wp, Both, joined, Below, Lasts, Handover, ToAct, to_act, may_act, bind-assoc, Wp-more, lock_holder, fetch, seen_of, Direct, InTable, BlockInHand, fetch_at, fetch_block, no_record, inode_block, Clear, without_entry, with_record, Inv, World, log_of, tables_of, disk_of, inode_in, KeepsRoom, in_hand, HasBuffer, KeepsInode, NothingMore, Finds, Opened, Had, Apart, Has, Emptied, Same, Kept, Carry, record_had, IsFirstNamed, IsKnown, InHand, Stands, below, Labels, labelled, Keeps, put_named, slot_found, clear_in, clear_slot, clear, learned, number_found, IsChanging, GivesRoom, Shows, record_in}
+use Rattle.inodes_on_blocks.proofs.Vocabulary.{◌≡◌, ◌≢◌, ℕ, zero, suc, ◌+◌, ◌-◌, ◌*◌, ◌/◌, ◌%◌, ◌<◌, ◌≤◌, ◌==◌, ◌&&◌, nat_lt, Bool, true, false, List, [], ◌∷◌, length, max, get_or, Option, Some, None, refl, sym, ◌∙◌, ap, subst, arith, if◌then◌else◌, IsSome, option_map, unwrap_or, none-some, Found, Named, block_count, look_at, search_from, with_dirent, with_slot, Free, Dinode, Super, IsBytes, IsDinode, recovered, All, IsData, is_free, numbers_of, block_number, content_block, HoldsAt, IsOwned, entry_of, size_in, IsPut, IsLaidOut, Becomes, slots_with, Slot, Node, NodeKind, Directory, File, Device, cleared, node_or, Name, same_name, live_directory, look, first_slot, all_slots, put, hart_count, eq_is, Ret, bind, Ran, Laws, Machine, P, Wp, Both, joined, Below, Lasts, Handover, ToAct, to_act, may_act, bind-assoc, Wp-more, lock_holder, fetch, seen_of, Direct, InTable, BlockInHand, fetch_at, fetch_block, no_record, inode_block, Clear, without_entry, with_record, Inv, World, log_of, tables_of, disk_of, inode_in, KeepsRoom, in_hand, HasBuffer, KeepsInode, NothingMore, Finds, Opened, Had, Apart, Has, Emptied, Same, Kept, Carry, record_had, IsFirstNamed, IsKnown, InHand, Stands, below, Labels, labelled, Keeps, put_named, slot_found, clear_in, clear_slot, clear, learned, number_found, IsChanging, GivesRoom, Shows, record_in, block_len, direct, dirent_len, dirents_per_block, most_blocks}
 use Rattle.inodes_on_blocks.proofs.Basics.{at_index, good_seen, kept_then, kept_same, same_inode, same_numbers, holds_now, used_now, block_stays, but_same, but_then, below_laws, lock_range, seen_dinode, TakesStep, s-here}
 use Rattle.directory.proofs.IndexChanges.{index_cleared}
 use Rattle.directory.specs.Indexes.{cleared as cleared_index, first_of}
@@ -58,21 +58,21 @@ module _ (sizes : Super) (l : Labels) (laws : Laws (labelled l)) (keeps : Keeps 
   -- ---- the program takes a step
 
   block_takes : {A : Type 0} (d : Dinode) (k : ℕ) (f : BlockInHand → P M A) → TakesStep sizes l laws keeps h lt B (bind (fetch_block d k) f)
-  block_takes {A} d k f = by (nat_lt k 12)
+  block_takes {A} d k f = by (nat_lt k direct)
     where
-      by : (b : Bool) → TakesStep sizes l laws keeps h lt B (bind (fetch_at d (if b then Direct k else InTable (k - 12))) f)
+      by : (b : Bool) → TakesStep sizes l laws keeps h lt B (bind (fetch_at d (if b then Direct k else InTable (k - direct))) f)
       by true = tt
       by false = tt
 
   blocks_take : (d : Dinode) (i k : ℕ) (y : IndexState) → TakesStep sizes l laws keeps h lt B (bind (bind (search_from i (Named e) d k y) slot_found) (clear_slot sizes n e c m))
   unfolding search_from
   blocks_take d zero k y = tt
-  blocks_take d (suc i) k y = by (nat_lt k 12)
+  blocks_take d (suc i) k y = by (nat_lt k direct)
     where
       next : BlockInHand → P M Searched
       next = look_at (Named e) d k y (search_from i (Named e) d (k + 1))
 
-      by : (b : Bool) → TakesStep sizes l laws keeps h lt B (bind (bind (bind (fetch_at d (if b then Direct k else InTable (k - 12))) next) slot_found) (clear_slot sizes n e c m))
+      by : (b : Bool) → TakesStep sizes l laws keeps h lt B (bind (bind (bind (fetch_at d (if b then Direct k else InTable (k - direct))) next) slot_found) (clear_slot sizes n e c m))
       by true = tt
       by false = tt
 
@@ -80,7 +80,7 @@ module _ (sizes : Super) (l : Labels) (laws : Laws (labelled l)) (keeps : Keeps 
   search_takes x = by (first_of (Named e) x.inode x.index)
     where
       by : (o : Option Found) → TakesStep sizes l laws keeps h lt B (bind (bind (or_next o x.index (search_from (block_count x.inode - x.index.blocks) (Named e) x.inode x.index.blocks)) slot_found) (clear_slot sizes n e c m))
-      by (Some f) = block_takes (record_in c n) (f.slot / 64) (clear_in sizes n e c m (f.slot, x.index))
+      by (Some f) = block_takes (record_in c n) (f.slot / dirents_per_block) (clear_in sizes n e c m (f.slot, x.index))
       by None = blocks_take x.inode (block_count x.inode - x.index.blocks) x.index.blocks x.index
 
   takes : (had : Had) → TakesStep sizes l laws keeps h lt B (bind (slot_of had e) (clear_slot sizes n e c m))
@@ -91,7 +91,7 @@ module _ (sizes : Super) (l : Labels) (laws : Laws (labelled l)) (keeps : Keeps 
   takes (Has x (Finds name s)) = by (same_name name e)
     where
       by : (b : Bool) → TakesStep sizes l laws keeps h lt B (bind (if b then Ret (s, x.index) else bind (search (Named e) x) slot_found) (clear_slot sizes n e c m))
-      by true = block_takes (record_in c n) (s / 64) (clear_in sizes n e c m (s, x.index))
+      by true = block_takes (record_in c n) (s / dirents_per_block) (clear_in sizes n e c m (s, x.index))
       by false = search_takes x
 
   -- ---- from v on, where the lock is the hart's
@@ -138,10 +138,10 @@ module _ (sizes : Super) (l : Labels) (laws : Laws (labelled l)) (keeps : Keeps 
     abbrev slots : List (Option Slot)
     slots = directory.0
 
-    size_is : d.size ≡ 16 * length slots
+    size_is : d.size ≡ dirent_len * length slots
     size_is = holds.inode.size ∙ ap size_in directory.1
 
-    limit : d.size ≤ 268 * 1024
+    limit : d.size ≤ most_blocks * block_len
     limit = (holds.room used).limit
 
     module _ (record_is : record_in c n ≡ d) where
@@ -152,9 +152,9 @@ module _ (sizes : Super) (l : Labels) (laws : Laws (labelled l)) (keeps : Keeps 
         first = subst (λ (k : NodeKind). IsFirstNamed (slots_of k) e s) directory.1 known
 
         abbrev k : ℕ
-        k = s / 64
+        k = s / dirents_per_block
 
-        within : 1024 * k < d.size
+        within : block_len * k < d.size
         within = let low = first.below in omega (arith, size_is, low)
 
         abbrev after : Node
@@ -176,16 +176,17 @@ module _ (sizes : Super) (l : Labels) (laws : Laws (labelled l)) (keeps : Keeps 
             (λ q ne. ap entry_of (read_other slots s None q past ne) ∙ sym (ap (λ (x : NodeKind). entry_of (get_or (slots_of x) q None)) directory.1)))
 
         abbrev f : Dinode
-        f = record d { size = max d.size (16 * suc s) }
+        f = record d { size = max d.size (dirent_len * suc s) }
 
-        same_size : max d.size (16 * suc s) ≡ d.size
+        same_size : max d.size (dirent_len * suc s) ≡ d.size
         same_size = let low = first.below in omega (arith, size_is, low)
 
         fits : IsDinode f
         fits = subst IsDinode (λ z. record d { size = sym same_size z }) (seen_dinode v.real v.seen shows n (lock_range n h v.real v.seen shows may.1.0.0).1)
 
         put_is : with_slot s (record_in c n) ≡ f
-        put_is = let more : s + 1 ≡ suc s = omega arith in ap (with_slot s) record_is ∙ (λ z. record d { size = max d.size (16 * more z) })
+        put_is = let more : s + 1 ≡ suc s = omega arith in ap (with_slot s) record_is
+            ∙ (λ z. record d { size = max d.size (dirent_len * more z) })
 
         abbrev numbers : List ℕ
         numbers = numbers_of (disk_of (log_of v.real)) d
@@ -208,8 +209,8 @@ module _ (sizes : Super) (l : Labels) (laws : Laws (labelled l)) (keeps : Keeps 
             (naming_acts sizes l laws keeps h lt n (Clear n e) above.Room m tt c (Some node) f after (cleared_index s y) right_then fits (λ u. tt) (λ g asked. (record { lock = asked.1.0.0; joined = asked.1.0.1 }, asked.0))
             (λ g asked was. ap (λ (o : Option Node). Ran tt (with_record g n (Some (without_entry e (node_or o))))) was) Then gives B C lasts gs w stage shows_w changing none at then_)
 
-        makes : (old : List ℕ) → length old ≡ 1024 → (disk new : List (List ℕ)) (owner : ℕ → ℕ) → IsLaidOut disk owner n d node → numbers_of disk d ≡ numbers → recovered disk b ≡ old → IsPut disk new b
-            → recovered new b ≡ with_dirent (s % 64) Free old → Becomes disk new owner owner n d f after
+        makes : (old : List ℕ) → length old ≡ block_len → (disk new : List (List ℕ)) (owner : ℕ → ℕ) → IsLaidOut disk owner n d node → numbers_of disk d ≡ numbers → recovered disk b ≡ old → IsPut disk new b
+            → recovered new b ≡ with_dirent (s % dirents_per_block) Free old → Becomes disk new owner owner n d f after
         makes old long disk new owner laid names was put now =
             let low = first.below in
             subst (λ (x : Node). Becomes disk new owner owner n d f x) after_is
@@ -223,15 +224,15 @@ module _ (sizes : Super) (l : Labels) (laws : Laws (labelled l)) (keeps : Keeps 
             let changing = changing_then h n c (Some node) d node v.real u.real v.seen u.seen shows shows_u left kept start in
             let names = numbers_stay h n c (Some node) d node v.real u.real v.seen u.seen shows shows_u left start in
             let at : (log_of u.real).sizes ≡ sizes = left.sizes ∙ stands.1 in
-            let own = at_index (λ (q : ℕ). IsOwned (disk_of (log_of u.real)) (owner_with h n u.real) n q) numbers (if nat_lt k 12 then k else k + 1)
+            let own = at_index (λ (q : ℕ). IsOwned (disk_of (log_of u.real)) (owner_with h n u.real) n q) numbers (if nat_lt k direct then k else k + 1)
             (subst (λ (ns : List ℕ). All (λ q. q ≢ 0 → IsOwned (disk_of (log_of u.real)) (owner_with h n u.real) n q) ns) names changing.laid.owned) some in
             let disk_sizes = (good_seen (log_of u.real).sizes (seen_of (log_of u.real)) (length (log_of u.real).contents) shows_u.blocks.seen).sizes_are in
             let block_there : IsData (log_of u.real).sizes b = subst (λ (z : Super). IsData z b) disk_sizes own.block in
             let home = data_home u.real u.seen shows_u b block_there in
-            let long : length old ≡ 1024 = ap length (sym old_is) ∙ shows_u.blocks.seen.whole b home.within home.outside in
-            s-data sizes l laws keeps h lt B Q Todo (to_act (labelled l) (below sizes) laws (below_laws sizes l keeps) h B (Clear n e) m C lasts) n changes c (Some node) d f node after b old (with_dirent (s % 64) Free old) numbers
-            (subst (λ (z : Super). IsData z b) at block_there) (dirent_long (s % 64) Free old (omega arith) tt long)
-            (dirent_bytes (s % 64) Free old (subst IsBytes old_is (shows_u.bytes b home.within home.outside)) free_bytes) (makes old long) Knows Then (room b)
+            let long : length old ≡ block_len = ap length (sym old_is) ∙ shows_u.blocks.seen.whole b home.within home.outside in
+            s-data sizes l laws keeps h lt B Q Todo (to_act (labelled l) (below sizes) laws (below_laws sizes l keeps) h B (Clear n e) m C lasts) n changes c (Some node) d f node after b old (with_dirent (s % dirents_per_block) Free old) numbers
+            (subst (λ (z : Super). IsData z b) at block_there) (dirent_long (s % dirents_per_block) Free old (omega arith) tt long)
+            (dirent_bytes (s % dirents_per_block) Free old (subst IsBytes old_is (shows_u.bytes b home.within home.outside)) free_bytes) (makes old long) Knows Then (room b)
             (λ _. bind (fetch (inode_block sizes.inodestart n)) (put_named (Clear n e) above.Room m tt (inode_block sizes.inodestart n) n (record { inode = with_slot s (record_in c n); index = cleared_index s y }) c)) 3 gs u stage shows_u changing names buffer at own.owner_is knows_u
             (λ z hs p. ends z hs p.stage p.shows p.changing (let down = p.count in omega (arith, down, one)) (p.sizes_same ∙ at) p.known)
 
@@ -261,8 +262,8 @@ module _ (sizes : Super) (l : Labels) (laws : Laws (labelled l)) (keeps : Keeps 
             used_w : is_free (inode_in (log_of w.real) n) ≡ false
             used_w = used_now h n v.real w.real stays (Some node) holds used
 
-            within_w : 1024 * k < (inode_in (log_of w.real) n).size
-            within_w = subst (λ (x : Dinode). 1024 * k < x.size) (sym inode) within
+            within_w : block_len * k < (inode_in (log_of w.real) n).size
+            within_w = subst (λ (x : Dinode). block_len * k < x.size) (sym inode) within
 
             b_is : block_in w.real ≡ b
             b_is = ap (λ (x : Dinode). block_number (numbers_of (disk_of (log_of w.real)) x) k) inode ∙ ap (λ (ns : List ℕ). block_number ns k) (same_numbers h n v.real w.real stays (Some node) holds used)

@@ -1,5 +1,5 @@
 -- A block of a locked inode's content is taken as code takes it: after a touch of the indirect block, where its number stands there.
-use Rattle.inodes_on_blocks.proofs.Vocabulary.{◌≡◌, ℕ, suc, ◌-◌, ◌*◌, ◌<◌, ◌≤◌, nat_lt, Bool, true, false, List, Option, Some, None, refl, sym, ◌∙◌, ap, subst, arith, slice_index, if◌then◌else◌, nat_tests, Dinode, Super, numbers_in, block_len, is_free, numbers_of, block_number, content_block, HoldsAt, Node, hart_count, Do, bind, unmarked, Machine, Laws, P, Wp, Both, joined, Stable, bind-assoc, Wp-more, lock_holder, fetch, seen_of, Put, Direct, InTable, BlockInHand, give_fetched, fetch_number, fetch_named, fetch_at, fetch_block, Inv, World, log_of, tables_of, disk_of, inode_in, Shows, Same, Kept, below, Labels, labelled, Keeps, in_hand, IsFetched}
+use Rattle.inodes_on_blocks.proofs.Vocabulary.{◌≡◌, ℕ, suc, ◌-◌, ◌*◌, ◌<◌, ◌≤◌, nat_lt, Bool, true, false, List, Option, Some, None, refl, sym, ◌∙◌, ap, subst, arith, slice_index, if◌then◌else◌, nat_tests, Dinode, Super, numbers_in, block_len, is_free, numbers_of, block_number, content_block, HoldsAt, Node, hart_count, Do, bind, unmarked, Machine, Laws, P, Wp, Both, joined, Stable, bind-assoc, Wp-more, lock_holder, fetch, seen_of, Put, Direct, InTable, BlockInHand, give_fetched, fetch_number, fetch_named, fetch_at, fetch_block, Inv, World, log_of, tables_of, disk_of, inode_in, Shows, Same, Kept, below, Labels, labelled, Keeps, in_hand, IsFetched, direct}
 use Rattle.inode_machine.specs.World as above
 use Rattle.inodes_on_blocks.proofs.Basics.{kept_same, kept_then, direct_number, block_stays, but_same, but_then, s-fetch, s-back, below_laws, empty_hand, same_again}
 
@@ -11,10 +11,10 @@ pub record Touched (h : ℕ) (Stage : above.World → Type 0) (w v : Both World 
   pub inv : Inv v.seen
   pub stage : Stage v.seen
 
-pub either_place : (k : ℕ) (X : Type 0) → (k < 12 → nat_lt k 12 ≡ true → X) → (12 ≤ k → nat_lt k 12 ≡ false → X) → X
-either_place k X near far = by (nat_lt k 12) refl
+pub either_place : (k : ℕ) (X : Type 0) → (k < direct → nat_lt k direct ≡ true → X) → (direct ≤ k → nat_lt k direct ≡ false → X) → X
+either_place k X near far = by (nat_lt k direct) refl
   where
-    by : (b : Bool) → nat_lt k 12 ≡ b → X
+    by : (b : Bool) → nat_lt k direct ≡ b → X
     by true e = near (grind (arith, nat_tests, e)) e
     by false e = far (grind (arith, nat_tests, e)) e
 
@@ -67,31 +67,32 @@ module _ (sizes : Super) (l : Labels) (laws : Laws (labelled l)) (keeps : Keeps 
         })))))
 
     -- through the indirect block
-    through : Rest → (es : List l.Step) → G es w.seen → 12 ≤ k → Wp M h B Q (bind (fetch_at d (InTable (k - 12))) f) (suc (suc (suc (suc (suc n))))) es w
+    through : Rest → (es : List l.Step) → G es w.seen → direct ≤ k → Wp M h B Q (bind (fetch_at d (InTable (k - direct))) f) (suc (suc (suc (suc (suc n))))) es w
     through rest es stage far =
-        subst (λ (p : P M A). Wp M h B Q p (suc (suc (suc (suc (suc n))))) es w) (sym (bind-assoc (fetch t) (fetch_named t (k - 12)) f))
-        (s-fetch sizes l laws keeps h lt B Q G stable t (λ x. bind (fetch_named t (k - 12) x) f) (suc (suc (suc n))) es w stage (let zero_ = none in omega (arith, zero_))
+        subst (λ (p : P M A). Wp M h B Q p (suc (suc (suc (suc (suc n))))) es w)
+        (sym (bind-assoc (fetch t) (fetch_named t (k - direct)) f))
+        (s-fetch sizes l laws keeps h lt B Q G stable t (λ x. bind (fetch_named t (k - direct) x) f) (suc (suc (suc n))) es w stage (let zero_ = none in omega (arith, zero_))
         (λ v fs here. ((block_stays h i w.real v.real (here.same.inodes i mine) o holds used v.seen here.shows k within).table far).0)
         (empty_hand h t w.real none)
         (λ u gs got.
         let at = (block_stays h i w.real u.real (got.since.inodes i mine) o holds used u.seen got.shows k within).table far in
-        s-back sizes l laws keeps h lt B Q G stable t (λ _. bind (fetch_number (slice_index (numbers_in (seen_of (log_of u.real) t)) (k - 12))) f) (suc (suc n)) gs u got.stage got.buffer.holder at.0.0
+        s-back sizes l laws keeps h lt B Q G stable t (λ _. bind (fetch_number (slice_index (numbers_in (seen_of (log_of u.real) t)) (k - direct))) f) (suc (suc n)) gs u got.stage got.buffer.holder at.0.0
         (λ v fs back.
         let same = same_again h t w.real v.real (but_then h t w.real u.real v.real got.since back.since) none (let up = got.count in let down = back.count in let zero_ = none in omega (arith, up, down, zero_)) in
-        fetches rest v fs back.stage (record { same = same; kept = kept_then h w.seen u.seen v.seen got.kept back.kept }) (slice_index (numbers_in (seen_of (log_of u.real) t)) (k - 12)) (sym at.1))))
+        fetches rest v fs back.stage (record { same = same; kept = kept_then h w.seen u.seen v.seen got.kept back.kept }) (slice_index (numbers_in (seen_of (log_of u.real) t)) (k - direct)) (sym at.1))))
       where
         t : ℕ
-        t = slice_index d.addrs 12
+        t = slice_index d.addrs direct
 
     -- A hart that has the inode's lock, and nothing in hand, goes on with the block in hand; its bytes are those of the content.
     pub s-content : Rest → (es : List l.Step) → G es w.seen → Wp M h B Q (bind (fetch_block d k) f) (suc (suc (suc (suc (suc n))))) es w
     s-content rest es stage =
         either_place k (Wp M h B Q (bind (fetch_block d k) f) (suc (suc (suc (suc (suc n))))) es w)
         (λ near e.
-        subst (λ (t : Bool). Wp M h B Q (bind (fetch_at d (if t then Direct k else InTable (k - 12))) f) (suc (suc (suc (suc (suc n))))) es w) (sym e)
+        subst (λ (t : Bool). Wp M h B Q (bind (fetch_at d (if t then Direct k else InTable (k - direct))) f) (suc (suc (suc (suc (suc n))))) es w) (sym e)
         (Wp-more M h (bind (fetch_number (slice_index d.addrs k)) f) B Q (suc (suc n)) (suc (suc (suc (suc (suc n))))) es w (omega arith)
         (fetches rest w es stage (record { same = (below_laws sizes l keeps).same h w.real; kept = kept_same h w.seen }) (slice_index d.addrs k) (sym (direct_number (disk_of (log_of w.real)) i k near)))))
-        (λ far e. subst (λ (t : Bool). Wp M h B Q (bind (fetch_at d (if t then Direct k else InTable (k - 12))) f) (suc (suc (suc (suc (suc n))))) es w) (sym e) (through rest es stage far))
+        (λ far e. subst (λ (t : Bool). Wp M h B Q (bind (fetch_at d (if t then Direct k else InTable (k - direct))) f) (suc (suc (suc (suc (suc n))))) es w) (sym e) (through rest es stage far))
 
 module _ (sizes : Super) (l : Labels) (laws : Laws (labelled l)) (keeps : Keeps l) (h : ℕ) (lt : h < hart_count) (B : List l.Step → Type 0) {A : Type 0} (Q : A → List l.Step → Both World above.World → Type 0) (G : List l.Step → above.World → Type 0)
     (stable : Stable (labelled l) (below sizes) laws (below_laws sizes l keeps) h B G) (i k : ℕ) (o : Option Node) (g : BlockInHand → P (joined (labelled l) (below sizes)) A) (n : ℕ) (w : Both World above.World)

@@ -1,5 +1,5 @@
 -- The content of an inode given back: the blocks of its own numbers, those in its indirect block while that block's buffer is in hand, and that block.
-use Rattle.inodes_on_blocks.proofs.Vocabulary.{◌≡◌, ◌≢◌, ℕ, suc, ◌+◌, ◌*◌, ◌<◌, ◌≤◌, ◌==◌, Bool, true, false, List, [], ◌∷◌, ◌++◌, length, take, refl, sym, ◌∙◌, ap, subst, arith, Some, if◌then◌else◌, Super, Dinode, numbers_in, recovered, sizes_of, IsOutsideLog, length-u32s_at, holder_of, hart_count, eq_is, eq_not, IsData, indirect_numbers, NamesOwned, IsUntouched, bind, Machine, Laws, P, Wp, Both, joined, Stable, Wp-more, lock_holder, fetch, seen_of, free_block, table_of, free_numbers, free_table, free_in_table, free_indirect, direct, if_kept, Inv, World, log_of, tables_of, disk_of, inode_in, Shows, KeepsInode, Kept, below, buffer_in, undertaken, Labels, labelled, Keeps, in_hand, SameBut, IsFetched, PutBack, IsChanging, Owns, KeepsRoom, GaveBlocks}
+use Rattle.inodes_on_blocks.proofs.Vocabulary.{◌≡◌, ◌≢◌, ℕ, suc, ◌+◌, ◌*◌, ◌<◌, ◌≤◌, ◌==◌, Bool, true, false, List, [], ◌∷◌, ◌++◌, length, take, refl, sym, ◌∙◌, ap, subst, arith, Some, if◌then◌else◌, Super, Dinode, numbers_in, recovered, sizes_of, IsOutsideLog, length-u32s_at, holder_of, hart_count, eq_is, eq_not, IsData, indirect_numbers, NamesOwned, IsUntouched, bind, Machine, Laws, P, Wp, Both, joined, Stable, Wp-more, lock_holder, fetch, seen_of, free_block, table_of, free_numbers, free_table, free_in_table, free_indirect, direct, if_kept, Inv, World, log_of, tables_of, disk_of, inode_in, Shows, KeepsInode, Kept, below, buffer_in, undertaken, Labels, labelled, Keeps, in_hand, SameBut, IsFetched, PutBack, IsChanging, Owns, KeepsRoom, GaveBlocks, numbers_per_block}
 use Rattle.inodes_on_blocks.proofs.Basics.{nothing_owed, good_seen, kept_same, kept_then, data_place, s-fetch, s-back, below_laws, held_back, untouched_then, block_shown, empty_hand, given_order}
 use Rattle.inode_machine.specs.World as above
 use Rattle.inodes_on_blocks.proofs.Emptying.{none_yet, s-numbers}
@@ -52,7 +52,7 @@ gone_then h n u v w p q = record {
 
 -- the steps for a content at most, and j more
 abbrev pub content_steps : ℕ → ℕ
-content_steps j = 3 * 12 + (suc (suc (3 * 256 + suc (3 * 1 + j))))
+content_steps j = 3 * direct + (suc (suc (3 * numbers_per_block + suc (3 * 1 + j))))
 
 -- ---- the rules
 
@@ -150,20 +150,20 @@ module _ (sizes : Super) (l : Labels) (laws : Laws (labelled l)) (keeps : Keeps 
               }
 
       abbrev table_steps : ℕ
-      table_steps = suc (suc (3 * 256 + last_steps))
+      table_steps = suc (suc (3 * numbers_per_block + last_steps))
 
       -- it is fetched, and those given back whose numbers stand in it, and itself
       s-table : (es : List l.Step) (w : W) (ns : List ℕ) → Between start (ns ++ t ∷ []) es w → numbers_in (recovered (disk_of (log_of w.real)) t) ≡ ns → Wp M h B Q (bind (fetch t) (free_in_table bitmap t k)) table_steps es w
       s-table es w ns here is =
-          s-fetch sizes l laws keeps h lt B Q G stable t (free_in_table bitmap t k) (3 * 256 + last_steps) es w here.stage (let none = here.none in omega (arith, none))
+          s-fetch sizes l laws keeps h lt B Q G stable t (free_in_table bitmap t k) (3 * numbers_per_block + last_steps) es w here.stage (let none = here.none in omega (arith, none))
           (λ v fs there. place v.real v.seen there.shows (there.same.sizes ∙ here.at) own.0) (empty_hand h t w.real here.none) (λ v fs got. listed v fs got)
         where
           own : IsData sizes t × (w.real.owner t ≡ n)
           own = owns_last sizes w.real.owner n t ns some here.owns
 
-          listed : (v : W) (fs : List l.Step) → IsFetched h t (G fs) w v → Wp M h B Q (free_in_table bitmap t k (seen_of (log_of v.real) t)) (3 * 256 + last_steps) fs v
+          listed : (v : W) (fs : List l.Step) → IsFetched h t (G fs) w v → Wp M h B Q (free_in_table bitmap t k (seen_of (log_of v.real) t)) (3 * numbers_per_block + last_steps) fs v
           listed v fs got =
-              subst (λ (z : ℕ). Wp M h B Q (free_in_table bitmap t k (seen_of (log_of v.real) t)) (3 * z + last_steps) fs v) (length-u32s_at 256 (seen_of (log_of v.real) t) 0)
+              subst (λ (z : ℕ). Wp M h B Q (free_in_table bitmap t k (seen_of (log_of v.real) t)) (3 * z + last_steps) fs v) (length-u32s_at numbers_per_block (seen_of (log_of v.real) t) 0)
               (s-numbers sizes l laws keeps h lt B Q G stable n changing (λ more. Knows) (λ more. room) (λ more u known. known) v inside (t ∷ []) (free_table bitmap t k) last_steps fs v
               (record {
                 stage = got.stage;
@@ -208,7 +208,7 @@ module _ (sizes : Super) (l : Labels) (laws : Laws (labelled l)) (keeps : Keeps 
 
     -- ---- all of them
 
-    pub s-content : (start : W) (d : Dinode) (k : P M A) (j : ℕ) (es : List l.Step) (w : W) → length (take direct d.addrs) ≤ 12 → Between start (given_order (disk_of (log_of w.real)) d) es w
+    pub s-content : (start : W) (d : Dinode) (k : P M A) (j : ℕ) (es : List l.Step) (w : W) → length (take direct d.addrs) ≤ direct → Between start (given_order (disk_of (log_of w.real)) d) es w
         → ((x : W) (gs : List l.Step) → Between start [] gs x → Wp M h B Q k j gs x)
         → Wp M h B Q (free_numbers sizes.bmapstart (take direct d.addrs) (free_indirect sizes.bmapstart (table_of d) k)) (content_steps j) es w
     s-content start d k j es w few here rest =
@@ -216,7 +216,7 @@ module _ (sizes : Super) (l : Labels) (laws : Laws (labelled l)) (keeps : Keeps 
         (s-some start (take direct d.addrs) (indirect_numbers (disk_of (log_of w.real)) d ++ table_of d ∷ []) (free_indirect sizes.bmapstart (table_of d) k) after es w here (λ x gs gave now. indirect x gs gave now (table_of d == 0) refl))
       where
         after : ℕ
-        after = suc (suc (3 * 256 + suc (3 * 1 + j)))
+        after = suc (suc (3 * numbers_per_block + suc (3 * 1 + j)))
 
         indirect : (x : W) (gs : List l.Step) → GaveBlocks h n w.real x.real → Between start (indirect_numbers (disk_of (log_of w.real)) d ++ table_of d ∷ []) gs x → (b : Bool) → (table_of d == 0) ≡ b
             → Wp M h B Q (free_indirect sizes.bmapstart (table_of d) k) after gs x

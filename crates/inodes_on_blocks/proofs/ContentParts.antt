@@ -1,5 +1,5 @@
 -- The bytes of a content, as its blocks have them: what is read part by part, and what a node's content is.
-use Rattle.inodes_on_blocks.proofs.Vocabulary.{◌≡◌, ⊎_elim, ℕ, zero, suc, ◌+◌, ◌-◌, ◌*◌, ◌/◌, ◌<◌, ◌≤◌, List, [], ◌++◌, length, take, drop, refl, sym, ap, ◌∙◌, arith, append_assoc, length-append, min, cases_lt, append-nil, take_all, drop_all, length-drop, take-take, overwrite, FilledMemory, filled_with, next_block, blocks_between, part_of, drop_of_take, front, part_then, none_between, some_between, next_between}
+use Rattle.inodes_on_blocks.proofs.Vocabulary.{◌≡◌, ⊎_elim, ℕ, zero, suc, ◌+◌, ◌-◌, ◌*◌, ◌/◌, ◌<◌, ◌≤◌, List, [], ◌++◌, length, take, drop, refl, sym, ap, ◌∙◌, arith, append_assoc, length-append, min, cases_lt, append-nil, take_all, drop_all, length-drop, take-take, overwrite, FilledMemory, filled_with, next_block, blocks_between, part_of, drop_of_take, front, part_then, none_between, some_between, next_between, block_len}
 use Rattle.std.proofs.lemmas.List.{length-take}
 use Rattle.inodes_on_blocks.proofs.ContentReads.{filled_from}
 
@@ -19,9 +19,9 @@ filled_is m part e =
     let sum : m.count + length part ≡ length (m.bytes ++ part) = omega (arith, count, length-append m.bytes part) in
     λ i. record { count = sum i; bytes = over_end m.bytes part m.count count i }
 
-module _ (content : ℕ → List ℕ) (k : ℕ) (whole : (q : ℕ) → q < k → length (content q) ≡ 1024) where
+module _ (content : ℕ → List ℕ) (k : ℕ) (whole : (q : ℕ) → q < k → length (content q) ≡ block_len) where
   -- the parts of the blocks between two offsets, behind what is there
-  pub read_all : (n from upto : ℕ) (m : FilledMemory) → m ≡ with_bytes m.bytes → n ≡ blocks_between from upto → upto ≤ 1024 * k → filled_from content n from upto m ≡ with_bytes (m.bytes ++ drop from (take upto (front content k)))
+  pub read_all : (n from upto : ℕ) (m : FilledMemory) → m ≡ with_bytes m.bytes → n ≡ blocks_between from upto → upto ≤ block_len * k → filled_from content n from upto m ≡ with_bytes (m.bytes ++ drop from (take upto (front content k)))
   unfolding filled_from
   read_all zero from upto m e n within =
       let le : upto ≤ from = none_between from upto n in
@@ -29,7 +29,7 @@ module _ (content : ℕ → List ℕ) (k : ℕ) (whole : (q : ℕ) → q < k →
       e ∙ ap with_bytes (sym (append-nil m.bytes) ∙ ap (λ (xs : List ℕ). m.bytes ++ xs) (sym gone))
   read_all (suc n) from upto m e is within =
       let lt : from < upto = some_between n from upto is in
-      let part : List ℕ = part_of from upto (content (from / 1024)) in
+      let part : List ℕ = part_of from upto (content (from / block_len)) in
       let all : List ℕ = front content k in
       let here = filled_is m part e in
       ap (filled_from content n (next_block from) upto) here

@@ -1,5 +1,5 @@
 -- A block of a locked inode's content stays, while others step: where it is, and what is seen of it.
-use Rattle.inodes_on_blocks.proofs.Vocabulary.{◌≡◌, ◌≢◌, ℕ, ◌+◌, ◌-◌, ◌*◌, ◌<◌, ◌≤◌, nat_lt, false, List, sym, ◌∙◌, ap, subst, Option, slice_index, get_or, if◌then◌else◌, Dinode, numbers_in, IsOutsideLog, recovered, block_len, is_free, numbers_of, numbers_by, block_number, content_block, HoldsAt, numbers_by_node, Node, seen_of, World, log_of, disk_of, inode_in, Shows, KeepsInode}
+use Rattle.inodes_on_blocks.proofs.Vocabulary.{◌≡◌, ◌≢◌, ℕ, ◌+◌, ◌-◌, ◌*◌, ◌<◌, ◌≤◌, nat_lt, false, List, sym, ◌∙◌, ap, subst, Option, slice_index, get_or, if◌then◌else◌, Dinode, numbers_in, IsOutsideLog, recovered, block_len, is_free, numbers_of, numbers_by, block_number, content_block, HoldsAt, numbers_by_node, Node, seen_of, World, log_of, disk_of, inode_in, Shows, KeepsInode, direct}
 use Rattle.std.proofs.Common.{All}
 use Rattle.inodes_on_blocks.proofs.HeldFrames.{numbers_kept, untouched}
 use Rattle.inodes_on_blocks.proofs.ImageNodes.{at_index}
@@ -14,7 +14,7 @@ IsThere v b = IsOutsideLog (log_of v).sizes b × (b < (log_of v).sizes.size)
 pub record BlockStays (w v : World) (d : Dinode) (k : ℕ) : Type 0 where
   pub place : IsThere v (block_number (numbers_of (disk_of (log_of w)) d) k)
   pub seen : seen_of (log_of v) (block_number (numbers_of (disk_of (log_of w)) d) k) ≡ content_block (disk_of (log_of w)) d k
-  pub table : 12 ≤ k → IsThere v (slice_index d.addrs 12) × (block_number (numbers_of (disk_of (log_of w)) d) k ≡ slice_index (numbers_in (seen_of (log_of v) (slice_index d.addrs 12))) (k - 12))
+  pub table : direct ≤ k → IsThere v (slice_index d.addrs direct) × (block_number (numbers_of (disk_of (log_of w)) d) k ≡ slice_index (numbers_in (seen_of (log_of v) (slice_index d.addrs direct))) (k - direct))
 
 module _ (h i : ℕ) (w v : World) (keeps : KeepsInode h i w v) (o : Option Node) (holds : HoldsAt (disk_of (log_of w)) w.owner i o) (used : is_free (inode_in (log_of w) i) ≡ false) where
   abbrev d : Dinode
@@ -48,14 +48,14 @@ module _ (h i : ℕ) (w v : World) (keeps : KeepsInode h i w v) (o : Option Node
   unfolding content_block
   content_stays k below =
       ap (λ (ns : List ℕ). recovered now (block_number ns k)) same_numbers
-      ∙ at_index (λ b. recovered now b ≡ recovered was b) (numbers_of was d) (if nat_lt k 12 then k else k + 1) same_blocks ((holds.room used).there k below)
+      ∙ at_index (λ b. recovered now b ≡ recovered was b) (numbers_of was d) (if nat_lt k direct then k else k + 1) same_blocks ((holds.room used).there k below)
 
   module _ (g : above.World) (shows : Shows v g) where
     -- as code finds it now
     record Found (x : Dinode) (k : ℕ) : Type 0 where
       place : IsThere v (block_number (numbers_of now x) k)
       seen : seen_of (log_of v) (block_number (numbers_of now x) k) ≡ content_block now x k
-      table : 12 ≤ k → IsThere v (slice_index x.addrs 12) × (block_number (numbers_of now x) k ≡ slice_index (numbers_in (seen_of (log_of v) (slice_index x.addrs 12))) (k - 12))
+      table : direct ≤ k → IsThere v (slice_index x.addrs direct) × (block_number (numbers_of now x) k ≡ slice_index (numbers_in (seen_of (log_of v) (slice_index x.addrs direct))) (k - direct))
 
     found : (k : ℕ) → block_len * k < d.size → Found d k
     found k below =
@@ -64,8 +64,11 @@ module _ (h i : ℕ) (w v : World) (keeps : KeepsInode h i w v) (o : Option Node
           place = data_place v g shows (block_number (numbers_of now (inode_in (log_of v) i)) k) (block_data v g shows i o holds_now used_now k small);
           seen = block_seen v g shows i o holds_now used_now k small;
           table = λ le.
-              let t = table_number v g shows i o holds_now used_now k le small in
-              (data_place v g shows (slice_index (inode_in (log_of v) i).addrs 12) (table_data v g shows i o holds_now used_now t.0), t.1);
+              let t = table_number v g shows i o holds_now used_now k le small in (
+                data_place v g shows (slice_index (inode_in (log_of v) i).addrs direct)
+                    (table_data v g shows i o holds_now used_now t.0),
+                t.1,
+              );
         })
 
     pub block_stays : (k : ℕ) → block_len * k < d.size → BlockStays w v d k

@@ -1,5 +1,5 @@
 -- A block put for an inode that a hart is changing, which the inode has or the hart has taken: nothing of it is seen above.
-use Rattle.inodes_on_blocks.proofs.Vocabulary.{◌≡◌, ◌≢◌, ◌⊎◌, inl, inr, ℕ, suc, ◌<◌, Bool, List, length, Option, Some, None, is_some, refl, sym, ◌∙◌, ap, subst, arith, if◌then◌else◌, Dinode, Super, IsBytes, recovered, sizes_of, holder_of, IsHome, IsData, numbers_of, NamesOwned, IsPut, IsLaidOut, Becomes, Node, hart_count, either, Do, unmarked, Machine, Laws, P, Wp, Both, joined, Stable, seen_of, Put, if_kept, is_hart, Inv, World, log_of, disk_of, owners_of, world_with, KeepsRoom, in_hand, HasBuffer, Kept, Carry, buffer_in, below, Labels, labelled, Keeps, CanPut, IsChanging, log_with, owners_with, Shows}
+use Rattle.inodes_on_blocks.proofs.Vocabulary.{◌≡◌, ◌≢◌, ◌⊎◌, inl, inr, ℕ, suc, ◌<◌, Bool, List, length, Option, Some, None, is_some, refl, sym, ◌∙◌, ap, subst, arith, if◌then◌else◌, Dinode, Super, IsBytes, recovered, sizes_of, holder_of, IsHome, IsData, numbers_of, NamesOwned, IsPut, IsLaidOut, Becomes, Node, hart_count, either, Do, unmarked, Machine, Laws, P, Wp, Both, joined, Stable, seen_of, Put, if_kept, is_hart, Inv, World, log_of, disk_of, owners_of, world_with, KeepsRoom, in_hand, HasBuffer, Kept, Carry, buffer_in, below, Labels, labelled, Keeps, CanPut, IsChanging, log_with, owners_with, Shows, block_len}
 use Rattle.inodes_on_blocks.proofs.Basics.{good_seen, buffer_then, buffer_seen, same_view, below_laws, hart_is, disk_put, put_bytes, old_bytes, put_hand}
 use Rattle.inode_machine.specs.World as above
 use Rattle.inodes_on_blocks.proofs.Changing.{owner_with, Changing, left_same, changing_then, numbers_stay, stays_own, changed_put, data_owners}
@@ -54,7 +54,7 @@ module _ (sizes : Super) (l : Labels) (laws : Laws (labelled l)) (keeps : Keeps 
 
   module _ {A : Type 0} (Q : A → List l.Step → W → Type 0) (G : List l.Step → above.World → Type 0) (stable : Stable (labelled l) (below sizes) laws (below_laws sizes l keeps) h B G)
       (n : ℕ) (changes : (fs : List l.Step) (g : above.World) → G fs g → Inv g → IsChanging h n g) (c : Carry) (o : Option Node) (d e : Dinode) (x y : Node) (b : ℕ) (old bytes numbers : List ℕ) (block : IsData sizes b)
-      (long : length bytes ≡ 1024) (are : IsBytes bytes)
+      (long : length bytes ≡ block_len) (are : IsBytes bytes)
       -- what such a put makes of it
       (makes : (disk new : List (List ℕ)) (owner : ℕ → ℕ) → IsLaidOut disk owner n d x → numbers_of disk d ≡ numbers → recovered disk b ≡ old → IsPut disk new b → recovered new b ≡ bytes → Becomes disk new owner owner n d e y)
       (Knows Then : World → Type 0) (room : KeepsRoom h b Knows Then) where

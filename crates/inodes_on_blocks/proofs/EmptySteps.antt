@@ -1,5 +1,5 @@
 -- A file's content is given back: the operation acts where its record is put without it.
-use Rattle.inodes_on_blocks.proofs.Vocabulary.{◌≡◌, ℕ, zero, suc, pos, ◌^◌, ◌<◌, ◌≤◌, ◌==◌, Bool, true, false, List, [], ◌∷◌, length, take, replicate, Option, Some, None, refl, sym, ◌∙◌, ap, subst, arith, if◌then◌else◌, AllByRecursion, unwrap_or, none-some, same_Some, Super, Dinode, IsDinode, sizes_of, Node, NodeKind, Directory, File, Device, emptied, node_or, hart_count, HoldsAt, IsInode, NamesOwned, size_in, type_in, numbers_by_free, bind, once, Ran, Laws, Machine, P, Wp, Both, joined, Below, Lasts, Handover, ToAct, to_act, may_act, Stable, Wp-more, lock_holder, fetch, seen_of, free_block, table_of, free_numbers, free_indirect, free_in_table, without_content, direct, no_record, inode_block, Empty, with_record, with_no_bytes, Inv, Idle, more, World, log_of, tables_of, disk_of, inode_in, empty, Owns, KeepsRoom, KeepsInode, Kept, NothingMore, Had, Apart, Has, Emptied, Carry, record_had, IsLoaded, InHand, Base, Stands, below, Labels, labelled, Keeps, IsChanging, GivesRoom, Shows, record_in, put_record, Loaded, unindexed, IsIndexOf, index_in, recorded_had, all_slots, had_in}
+use Rattle.inodes_on_blocks.proofs.Vocabulary.{◌≡◌, ℕ, zero, suc, pos, ◌^◌, ◌<◌, ◌≤◌, ◌==◌, Bool, true, false, List, [], ◌∷◌, length, take, replicate, Option, Some, None, refl, sym, ◌∙◌, ap, subst, arith, if◌then◌else◌, AllByRecursion, unwrap_or, none-some, same_Some, Super, Dinode, IsDinode, sizes_of, Node, NodeKind, Directory, File, Device, emptied, node_or, hart_count, HoldsAt, IsInode, NamesOwned, size_in, type_in, numbers_by_free, bind, once, Ran, Laws, Machine, P, Wp, Both, joined, Below, Lasts, Handover, ToAct, to_act, may_act, Stable, Wp-more, lock_holder, fetch, seen_of, free_block, table_of, free_numbers, free_indirect, free_in_table, without_content, direct, no_record, inode_block, Empty, with_record, with_no_bytes, Inv, Idle, more, World, log_of, tables_of, disk_of, inode_in, empty, Owns, KeepsRoom, KeepsInode, Kept, NothingMore, Had, Apart, Has, Emptied, Carry, record_had, IsLoaded, InHand, Base, Stands, below, Labels, labelled, Keeps, IsChanging, GivesRoom, Shows, record_in, put_record, Loaded, unindexed, IsIndexOf, index_in, recorded_had, all_slots, had_in, addresses}
 use Rattle.plain_tree.specs.Steps.{is_file}
 use Rattle.inodes_on_blocks.proofs.Basics.{laid_before, node_held, empty_laid, empty_named, good_seen, kept_same, below_laws, hand_then, kept_disk, lent_then, untouched_same, through_then, given_order, order_owned, order_named, lock_range, TakesStep, s-here, AllBut, Ready, seen_dinode, untaken, indexed_file, indexed_none, emptied_slots}
 use Rattle.inode_machine.specs.World as above
@@ -15,14 +15,14 @@ zero_addrs zero = tt
 zero_addrs (suc k) = (omega arith, zero_addrs k)
 
 emptied_fits : (d : Dinode) → IsDinode d → IsDinode (without_content d)
-emptied_fits d is = record { kind = is.kind; major = is.major; minor = is.minor; nlink = is.nlink; size = omega arith; thirteen = refl; addrs = zero_addrs 13 }
+emptied_fits d is = record { kind = is.kind; major = is.major; minor = is.minor; nlink = is.nlink; size = omega arith; thirteen = refl; addrs = zero_addrs addresses }
 
 no_record_fits : IsDinode (without_content no_record)
-no_record_fits = record { kind = omega arith; major = omega arith; minor = omega arith; nlink = omega arith; size = omega arith; thirteen = refl; addrs = zero_addrs 13 }
+no_record_fits = record { kind = omega arith; major = omega arith; minor = omega arith; nlink = omega arith; size = omega arith; thirteen = refl; addrs = zero_addrs addresses }
 
 -- an inode has no more than twelve numbers of blocks of its content
-few_numbers : (d : Dinode) → length (take direct d.addrs) ≤ 12
-few_numbers d = least 12 d.addrs
+few_numbers : (d : Dinode) → length (take direct d.addrs) ≤ direct
+few_numbers d = least direct d.addrs
   where
     least : (n : ℕ) (xs : List ℕ) → length (take n xs) ≤ n
     least zero xs = omega arith
@@ -233,8 +233,8 @@ module _ (sizes : Super) (l : Labels) (laws : Laws (labelled l)) (keeps : Keeps 
           let disk = disk_of (log_of z.real) in
           let v : Node = may.1.1.node in
           let empty_ = empty_inode (record_in c n) v may.1.1.fits (begin_.inode v (sym has.node ∙ may.1.1.is)) in
-          let laid = empty_laid disk z.real.owner n d (with_no_bytes v) empty_.0 empty_.1 (all_zero 13) in
-          let named = empty_named disk z.real.owner n d (with_no_bytes v) empty_.0 empty_.1 (all_zero 13) has.none in
+          let laid = empty_laid disk z.real.owner n d (with_no_bytes v) empty_.0 empty_.1 (all_zero addresses) in
+          let named = empty_named disk z.real.owner n d (with_no_bytes v) empty_.0 empty_.1 (all_zero addresses) has.none in
           let bound : n < (sizes_of disk).ninodes =
           subst (λ (s : Super). n < s.ninodes) (sym (good_seen (log_of z.real).sizes (seen_of (log_of z.real)) (length (log_of z.real).contents) shows.blocks.seen).sizes_are)
           (lock_range n h z.real z.seen shows may.1.0.0).1 in

@@ -1,5 +1,5 @@
 -- A name entered acts where the directory's record is put, after its entry was written; or, where the directory has no slot left, where its last block is given back.
-use Rattle.inodes_on_blocks.proofs.Vocabulary.{◌≡◌, inl, inr, ℕ, zero, suc, ◌+◌, ◌-◌, ◌*◌, ◌/◌, ◌<◌, ◌≤◌, ◌==◌, ◌&&◌, nat_lt, Bool, true, false, List, [], length, drop, max, min, get_or, take, none-some, Option, Some, None, refl, sym, ◌∙◌, ap, subst, arith, if◌then◌else◌, slice_index, nat_tests, Found, slot_for, IsFirst, Unused, block_count, look_at, search_from, slot_count, Used, Dinode, Dirent, Super, IsDirent, spell_dirent, length-spell_dirent, is_free, content_block, HoldsAt, entry_of, size_in, slots_with, Slot, Node, NodeKind, Directory, File, Device, node_or, Name, hart_count, same_or, put_same, put_other, eq_not, eq_self, Ret, bind, Ran, Laws, Machine, P, Wp, Both, joined, Below, Lasts, Handover, ToAct, to_act, may_act, Wp-more, lock_holder, Direct, InTable, BlockInHand, fetch_at, fetch_block, blocks_between, WriteResult, front_of, write_blocks, inode_block, Spent, size, with_contents, most_recorded, Enter, all_used, enter_if, is_full_directory, with_entry, with_record, marked, Inv, IsSpent, World, log_of, tables_of, disk_of, inode_in, enter, entered_to, put_grown, look_last, search_full, Acts, acts, Same, Kept, Knowledge, NothingMore, Finds, Opened, Had, Apart, Has, Emptied, IsOpened, Carry, InHand, Base, Stands, below, Labels, labelled, Keeps, IsChanging, HasSpent, Shows, record_in, One}
+use Rattle.inodes_on_blocks.proofs.Vocabulary.{◌≡◌, inl, inr, ℕ, zero, suc, ◌+◌, ◌-◌, ◌*◌, ◌/◌, ◌<◌, ◌≤◌, ◌==◌, ◌&&◌, nat_lt, Bool, true, false, List, [], length, drop, max, min, get_or, take, none-some, Option, Some, None, refl, sym, ◌∙◌, ap, subst, arith, if◌then◌else◌, slice_index, nat_tests, Found, slot_for, IsFirst, Unused, block_count, look_at, search_from, slot_count, Used, Dinode, Dirent, Super, IsDirent, spell_dirent, length-spell_dirent, is_free, content_block, HoldsAt, entry_of, size_in, slots_with, Slot, Node, NodeKind, Directory, File, Device, node_or, Name, hart_count, same_or, put_same, put_other, eq_not, eq_self, Ret, bind, Ran, Laws, Machine, P, Wp, Both, joined, Below, Lasts, Handover, ToAct, to_act, may_act, Wp-more, lock_holder, Direct, InTable, BlockInHand, fetch_at, fetch_block, blocks_between, WriteResult, front_of, write_blocks, inode_block, Spent, size, with_contents, most_recorded, Enter, all_used, enter_if, is_full_directory, with_entry, with_record, marked, Inv, IsSpent, World, log_of, tables_of, disk_of, inode_in, enter, entered_to, put_grown, look_last, search_full, Acts, acts, Same, Kept, Knowledge, NothingMore, Finds, Opened, Had, Apart, Has, Emptied, IsOpened, Carry, InHand, Base, Stands, below, Labels, labelled, Keeps, IsChanging, HasSpent, Shows, record_in, One, block_len, direct, dirent_len, dirents_per_block, most_blocks, most_slots}
 use Rattle.directory.proofs.Indexed.{else_searched, few_known, searched_from}
 use Rattle.directory.proofs.IndexChanges.{index_entered}
 use Rattle.directory.specs.Indexes.{first_gap, first_of, index_room, slots_known, with_entry as entered_index}
@@ -31,10 +31,10 @@ use Rattle.inodes_on_blocks.proofs.PartSteps.{MakesPart, s-part}
 use Rattle.inodes_on_blocks.proofs.StatSteps.{in_use}
 
 -- a slot lies in one block
-one_block : (slot : ℕ) → blocks_between (16 * slot) (16 * slot + 16) ≡ 1
+one_block : (slot : ℕ) → blocks_between (dirent_len * slot) (dirent_len * slot + dirent_len) ≡ 1
 one_block slot =
-    let some : nat_lt (16 * slot) (16 * slot + 16) ≡ true = grind (arith, nat_tests) in
-    ap (λ (t : Bool). if t then ((16 * slot + 16 - 1) / 1024 + 1) - 16 * slot / 1024 else 0) some ∙ (let e : ((16 * slot + 16 - 1) / 1024 + 1) - 16 * slot / 1024 ≡ 1 = omega arith in e)
+    let some : nat_lt (dirent_len * slot) (dirent_len * slot + dirent_len) ≡ true = grind (arith, nat_tests) in
+    ap (λ (t : Bool). if t then ((dirent_len * slot + dirent_len - 1) / block_len + 1) - dirent_len * slot / block_len else 0) some ∙ (let e : ((dirent_len * slot + dirent_len - 1) / block_len + 1) - dirent_len * slot / block_len ≡ 1 = omega arith in e)
 
 -- a free slot that the index tells is one of the directory's
 abbrev slot_or : ℕ → Option Found → ℕ
@@ -107,7 +107,7 @@ module _ (sizes : Super) (l : Labels) (laws : Laws (labelled l)) (keeps : Keeps 
   -- the program where the record is x
   abbrev goes_in : Dinode → IndexState → ℕ → P M (Handover above.EntryResult Carry)
   goes_in x y slot =
-      if nat_lt slot 17152 then bind (write_blocks (blocks_between (16 * slot) (16 * slot + length bytes)) sizes (16 * slot) bytes x) (entered_to sizes n e q c m y slot)
+      if nat_lt slot most_slots then bind (write_blocks (blocks_between (dirent_len * slot) (dirent_len * slot + length bytes)) sizes (dirent_len * slot) bytes x) (entered_to sizes n e q c m y slot)
       else Ret (record { answer = above.NoSlot; carry = with_index c n y })
 
   abbrev goes : Dinode → Searched → P M (Handover above.EntryResult Carry)
@@ -116,25 +116,26 @@ module _ (sizes : Super) (l : Labels) (laws : Laws (labelled l)) (keeps : Keeps 
   -- ---- it takes a step
 
   ends_take : (y : IndexState) (slot : ℕ) (w : WriteResult) → TakesStep sizes l laws keeps h lt B (entered_to sizes n e q c m y slot w)
-  ends_take y slot w = by (w.upto == 16 * (slot + 1))
+  ends_take y slot w = by (w.upto == dirent_len * (slot + 1))
     where
       by : (t : Bool) → TakesStep sizes l laws keeps h lt B (if t then put_grown (Enter n e q) above.Room m above.InPlace sizes n c (entered_index slot bytes y) w else put_grown (Enter n e q) (above.RoomFor 0) m above.NoBlock sizes n c y w)
       by true = tt
       by false = tt
 
-  in_takes : (x : Dinode) (y : IndexState) (slot : ℕ) → nat_lt slot 17152 ≡ true → TakesStep sizes l laws keeps h lt B (goes_in x y slot)
+  in_takes : (x : Dinode) (y : IndexState) (slot : ℕ) → nat_lt slot most_slots ≡ true
+      → TakesStep sizes l laws keeps h lt B (goes_in x y slot)
   in_takes x y slot is =
-      subst (λ (t : Bool). TakesStep sizes l laws keeps h lt B (if t then bind (write_blocks (blocks_between (16 * slot) (16 * slot + length bytes)) sizes (16 * slot) bytes x) (entered_to sizes n e q c m y slot) else Ret (record { answer = above.NoSlot; carry = with_index c n y }))) (sym is)
-      (takes_write sizes l laws keeps h lt B (blocks_between (16 * slot) (16 * slot + length bytes)) (16 * slot) bytes x (entered_to sizes n e q c m y slot) (ends_take y slot))
+      subst (λ (t : Bool). TakesStep sizes l laws keeps h lt B (if t then bind (write_blocks (blocks_between (dirent_len * slot) (dirent_len * slot + length bytes)) sizes (dirent_len * slot) bytes x) (entered_to sizes n e q c m y slot) else Ret (record { answer = above.NoSlot; carry = with_index c n y }))) (sym is)
+      (takes_write sizes l laws keeps h lt B (blocks_between (dirent_len * slot) (dirent_len * slot + length bytes)) (dirent_len * slot) bytes x (entered_to sizes n e q c m y slot) (ends_take y slot))
 
   block_takes : (d : Dinode) (k : ℕ) (f : BlockInHand → P M Searched) (x : Dinode) → TakesStep sizes l laws keeps h lt B (bind (bind (fetch_block d k) f) (goes x))
-  block_takes d k f x = by (nat_lt k 12)
+  block_takes d k f x = by (nat_lt k direct)
     where
-      by : (b : Bool) → TakesStep sizes l laws keeps h lt B (bind (bind (fetch_at d (if b then Direct k else InTable (k - 12))) f) (goes x))
+      by : (b : Bool) → TakesStep sizes l laws keeps h lt B (bind (bind (fetch_at d (if b then Direct k else InTable (k - direct))) f) (goes x))
       by true = tt
       by false = tt
 
-  blocks_take : (x : Dinode) (i k : ℕ) (y : IndexState) → nat_lt (slot_count x) 17152 ≡ true → TakesStep sizes l laws keeps h lt B (bind (search_from i Unused x k y) (goes x))
+  blocks_take : (x : Dinode) (i k : ℕ) (y : IndexState) → nat_lt (slot_count x) most_slots ≡ true → TakesStep sizes l laws keeps h lt B (bind (search_from i Unused x k y) (goes x))
   unfolding search_from
   blocks_take x zero k y is = in_takes x y (slot_count x) is
   blocks_take x (suc i) k y is = block_takes x k (look_at Unused x k y (search_from i Unused x (k + 1))) x
@@ -144,10 +145,10 @@ module _ (sizes : Super) (l : Labels) (laws : Laws (labelled l)) (keeps : Keeps 
   full_takes x zero k y = block_takes x k (look_last act x k y) x
   full_takes x (suc i) k y = block_takes x k (look_at Unused x k y (search_full act i x (k + 1))) x
 
-  low_slot : (x : Loaded) (f : Found) → first_of Unused x.inode x.index ≡ Some f → nat_lt f.slot 17152 ≡ true
+  low_slot : (x : Loaded) (f : Found) → first_of Unused x.inode x.index ≡ Some f → nat_lt f.slot most_slots ≡ true
   low_slot x f is = let low = free_low x.inode x.index f is in grind (arith, nat_tests, low)
 
-  seek_takes : (x : Loaded) (t : Bool) → nat_lt (slot_count x.inode) 17152 ≡ t → TakesStep sizes l laws keeps h lt B (bind (if t then search Unused x else seek_full act x) (goes x.inode))
+  seek_takes : (x : Loaded) (t : Bool) → nat_lt (slot_count x.inode) most_slots ≡ t → TakesStep sizes l laws keeps h lt B (bind (if t then search Unused x else seek_full act x) (goes x.inode))
   seek_takes x false isnt = by (first_of Unused x.inode x.index) refl
     where
       by : (o : Option Found) → first_of Unused x.inode x.index ≡ o → TakesStep sizes l laws keeps h lt B (bind (or_next o x.index (search_full act (267 - x.index.blocks) x.inode x.index.blocks)) (goes x.inode))
@@ -198,22 +199,22 @@ module _ (sizes : Super) (l : Labels) (laws : Laws (labelled l)) (keeps : Keeps 
     abbrev slots : List (Option Slot)
     slots = directory.0
 
-    size_is : d.size ≡ 16 * length slots
+    size_is : d.size ≡ dirent_len * length slots
     size_is = holds.inode.size ∙ ap size_in directory.1
 
-    limit : d.size ≤ 268 * 1024
+    limit : d.size ≤ most_blocks * block_len
     limit = (holds.room used).limit
 
     range : (1 ≤ n) × (n < (log_of v.real).sizes.ninodes)
     range = lock_range n h v.real v.seen shows may.1.0.0
 
-    fits : Fits (16 * length slots) d
+    fits : Fits (dirent_len * length slots) d
     fits = (seen_dinode v.real v.seen shows n range.1, size_is)
 
     dirent : IsDirent (Used q e)
     dirent = entry_is q e may.1.2.0 (let few = shows.blocks.seen.good.many_inodes in let top = may.1.2.1 in let same = shows.size in omega (arith, few, top, same)) may.1.3
 
-    long : length bytes ≡ 16
+    long : length bytes ≡ dirent_len
     long = length-spell_dirent One (Used q e) dirent
 
     was_is : node ≡ directory_of node.count slots
@@ -250,18 +251,18 @@ module _ (sizes : Super) (l : Labels) (laws : Laws (labelled l)) (keeps : Keeps 
     abbrev entry : Slot
     entry = record { name = e; number = q }
 
-    full_is : is_full_directory (Some node) ≡ ((length slots == 17152) && all_used slots)
-    full_is = ap (λ (k : NodeKind). (length (slots_of k) == 17152) && all_used (slots_of k)) directory.1
+    full_is : is_full_directory (Some node) ≡ ((length slots == most_slots) && all_used slots)
+    full_is = ap (λ (k : NodeKind). (length (slots_of k) == most_slots) && all_used (slots_of k)) directory.1
 
     -- ---- the slot is known
 
-    module _ (slot : ℕ) (past : slot ≤ length slots) (low : slot < 17152) (free : first_free slots entry ≡ slots_with slots slot (Some entry)) (open_ : is_full_directory (Some node) ≡ false)
+    module _ (slot : ℕ) (past : slot ≤ length slots) (low : slot < most_slots) (free : first_free slots entry ≡ slots_with slots slot (Some entry)) (open_ : is_full_directory (Some node) ≡ false)
         (y : IndexState) (right : IsIndexOf y (Some node)) (unused : sought.is_used (read slot) ≡ false) where
       abbrev after : Node
       after = directory_of node.count (slots_with slots slot (Some entry))
 
       abbrev grew : ℕ
-      grew = max (16 * length slots) (16 * suc slot)
+      grew = max (dirent_len * length slots) (dirent_len * suc slot)
 
       entered_is : with_entry e q node ≡ after
       entered_is = let same = ap (λ (k : NodeKind). first_free (slots_of k) entry) directory.1 ∙ free in λ z. directory_of node.count (same z)
@@ -273,39 +274,39 @@ module _ (sizes : Super) (l : Labels) (laws : Laws (labelled l)) (keeps : Keeps 
           index_entered y read (slot_read (Some after)) slot bytes right unused (ap sought.is_used spelled) (ap entry_of (read_here slots slot (Some entry) past) ∙ sym spelled)
           (λ p ne. ap entry_of (read_other slots slot (Some entry) p past ne) ∙ sym (ap (λ (k : NodeKind). entry_of (get_or (slots_of k) p None)) directory.1))
 
-      place : 16 * slot / 1024 ≡ slot / 64
+      place : dirent_len * slot / block_len ≡ slot / dirents_per_block
       place = omega arith
 
-      makes : MakesPart h n (16 * slot / 1024) (16 * length slots) grew (16 * slot) bytes c (Some node) (directory_of node.count slots) after
+      makes : MakesPart h n (dirent_len * slot / block_len) (dirent_len * length slots) grew (dirent_len * slot) bytes c (Some node) (directory_of node.count slots) after
       makes =
-          subst (λ (k : ℕ). MakesPart h n k (16 * length slots) grew (16 * slot) bytes c (Some node) (directory_of node.count slots) after) (sym place)
+          subst (λ (k : ℕ). MakesPart h n k (dirent_len * length slots) grew (dirent_len * slot) bytes c (Some node) (directory_of node.count slots) after) (sym place)
           (entry_makes h n slot node.count slots (Some entry) (Used q e) c (Some node) past (omega (arith, low)) refl dirent)
 
       -- no block was free
-      lacks : (x : Dinode) (bs : List ℕ) (u : W) (gs : List l.Step) → Between sizes h n (Todo gs) c (Some node) (sized (16 * length slots) x) (directory_of node.count slots) (HasBlocks sizes h s bs) u → Fits (16 * length slots) x → length bs ≤ 1
-          → Wp M h B Q (entered_to sizes n e q c m y slot (record { inode = x; upto = 16 * slot })) 3 gs u
+      lacks : (x : Dinode) (bs : List ℕ) (u : W) (gs : List l.Step) → Between sizes h n (Todo gs) c (Some node) (sized (dirent_len * length slots) x) (directory_of node.count slots) (HasBlocks sizes h s bs) u → Fits (dirent_len * length slots) x → length bs ≤ 1
+          → Wp M h B Q (entered_to sizes n e q c m y slot (record { inode = x; upto = dirent_len * slot })) 3 gs u
       lacks x bs u gs there fit few =
-          subst (λ (t : Bool). Wp M h B Q (if t then put_grown (Enter n e q) above.Room m above.InPlace sizes n c (entered_index slot bytes y) (record { inode = x; upto = 16 * slot }) else put_grown (Enter n e q) (above.RoomFor 0) m above.NoBlock sizes n c y (record { inode = x; upto = 16 * slot })) 3 gs u)
-          (sym (eq_not (16 * slot) (16 * (slot + 1)) (λ z. absurd (omega (arith, z)))))
-          (s-grown sizes l laws keeps h lt n (Enter n e q) m c asks B C lasts (Some node) s named 2 room (above.RoomFor 0) above.NoBlock (directory_of node.count slots) y (subst (λ (x : Node). IsIndexOf y (Some x)) was_is right) (16 * length slots) (16 * length slots) (16 * slot) x bs (λ y. tt)
+          subst (λ (t : Bool). Wp M h B Q (if t then put_grown (Enter n e q) above.Room m above.InPlace sizes n c (entered_index slot bytes y) (record { inode = x; upto = dirent_len * slot }) else put_grown (Enter n e q) (above.RoomFor 0) m above.NoBlock sizes n c y (record { inode = x; upto = dirent_len * slot })) 3 gs u)
+          (sym (eq_not (dirent_len * slot) (dirent_len * (slot + 1)) (λ z. absurd (omega (arith, z)))))
+          (s-grown sizes l laws keeps h lt n (Enter n e q) m c asks B C lasts (Some node) s named 2 room (above.RoomFor 0) above.NoBlock (directory_of node.count slots) y (subst (λ (x : Node). IsIndexOf y (Some x)) was_is right) (dirent_len * length slots) (dirent_len * length slots) (dirent_len * slot) x bs (λ y. tt)
           (λ g asked was.
           ap (λ (o : Option Node). enter_if n e q g (above.RoomFor 0) (is_full_directory o)) was ∙ ap (enter_if n e q g (above.RoomFor 0)) open_
           ∙ ap (λ (y : above.World). Ran above.NoBlock y) (sym (record_same g n (directory_of node.count slots) (was ∙ ap (λ (y : Node). Some y) was_is))))
           fit (omega (arith, past)) (omega (arith, size_is, limit)) (omega (arith, few)) gs u there)
 
       abbrev upto : ℕ
-      upto = 16 * slot + length (front_of (16 * slot) bytes)
+      upto = dirent_len * slot + length (front_of (dirent_len * slot) bytes)
 
-      upto_is : upto ≡ 16 * (slot + 1)
-      upto_is = let part : length (front_of (16 * slot) bytes) ≡ length bytes = ap length (slot_front slot bytes long) in omega (arith, part, long)
+      upto_is : upto ≡ dirent_len * (slot + 1)
+      upto_is = let part : length (front_of (dirent_len * slot) bytes) ≡ length bytes = ap length (slot_front slot bytes long) in omega (arith, part, long)
 
       -- the entry was written
-      ends : (x : Dinode) (bs : List ℕ) (u : W) (gs : List l.Step) → Between sizes h n (Todo gs) c (Some node) (sized grew x) after (HasBlocks sizes h s bs) u → Fits (16 * length slots) x → length bs ≤ 2
+      ends : (x : Dinode) (bs : List ℕ) (u : W) (gs : List l.Step) → Between sizes h n (Todo gs) c (Some node) (sized grew x) after (HasBlocks sizes h s bs) u → Fits (dirent_len * length slots) x → length bs ≤ 2
           → Wp M h B Q (entered_to sizes n e q c m y slot (record { inode = x; upto = upto })) 3 gs u
       ends x bs u gs there fit few =
           subst (λ (t : Bool). Wp M h B Q (if t then put_grown (Enter n e q) above.Room m above.InPlace sizes n c (entered_index slot bytes y) (record { inode = x; upto = upto }) else put_grown (Enter n e q) (above.RoomFor 0) m above.NoBlock sizes n c y (record { inode = x; upto = upto })) 3 gs u)
-          (sym (ap (λ (k : ℕ). k == 16 * (slot + 1)) upto_is ∙ eq_self (16 * (slot + 1))))
-          (s-grown sizes l laws keeps h lt n (Enter n e q) m c asks B C lasts (Some node) s named 2 room above.Room above.InPlace after (entered_index slot bytes y) right_then (16 * length slots) grew upto x bs (λ y. tt)
+          (sym (ap (λ (k : ℕ). k == dirent_len * (slot + 1)) upto_is ∙ eq_self (dirent_len * (slot + 1))))
+          (s-grown sizes l laws keeps h lt n (Enter n e q) m c asks B C lasts (Some node) s named 2 room above.Room above.InPlace after (entered_index slot bytes y) right_then (dirent_len * length slots) grew upto x bs (λ y. tt)
           (λ g asked was.
           ap (λ (o : Option Node). enter_if n e q g above.Room (is_full_directory o)) was ∙ ap (enter_if n e q g above.Room) open_
           ∙ ap (λ (o : Option Node). Ran above.InPlace (with_record g n (Some (with_entry e q (node_or o))))) was ∙ ap (λ (y : Node). Ran above.InPlace (with_record g n (Some y))) entered_is)
@@ -329,20 +330,22 @@ module _ (sizes : Super) (l : Labels) (laws : Laws (labelled l)) (keeps : Keeps 
             known = blocks_start sizes h s u.real (spent_stays sizes h s v.real u.real same_u knows);
           }))
         where
-          is_low : nat_lt slot 17152 ≡ true
+          is_low : nat_lt slot most_slots ≡ true
           is_low = grind (arith, nat_tests, low)
 
           cost : (t : ℕ) → length {A = ℕ} [] + extra true [] t ≤ 1
           cost t = let one = extra_missing [] t refl in omega (arith, one)
 
-          written : (u : W) (hs : List l.Step) → Between sizes h n (Todo hs) c (Some node) (sized (16 * length slots) d) (directory_of node.count slots) (HasBlocks sizes h s []) u → Wp M h B Q (goes_in d y slot) 21 hs u
+          written : (u : W) (hs : List l.Step) → Between sizes h n (Todo hs) c (Some node) (sized (dirent_len * length slots) d) (directory_of node.count slots) (HasBlocks sizes h s []) u → Wp M h B Q (goes_in d y slot) 21 hs u
           written u hs start =
-              subst (λ (t : Bool). Wp M h B Q (if t then bind (write_blocks (blocks_between (16 * slot) (16 * slot + length bytes)) sizes (16 * slot) bytes d) (entered_to sizes n e q c m y slot) else Ret (record { answer = above.NoSlot; carry = with_index c n y })) 21 hs u) (sym is_low)
-              (subst (λ (k : ℕ). Wp M h B Q (bind (write_blocks k sizes (16 * slot) bytes d) (entered_to sizes n e q c m y slot)) 21 hs u) (sym (ap (λ (k : ℕ). blocks_between (16 * slot) (16 * slot + k)) long ∙ one_block slot))
-              (s-part sizes l laws keeps h lt B Q Todo (to_act (labelled l) (below sizes) laws (below_laws sizes l keeps) h B (Enter n e q) m C lasts) n changes c (Some node) (directory_of node.count slots) after s bitmap true (16 * slot / 1024)
-              (16 * length slots) grew (16 * length slots) 1 (omega (arith, room)) (16 * slot) bytes (entry_bytes q e may.1.3) makes
-              (write_blocks 0 sizes upto (drop (length (front_of (16 * slot) bytes)) bytes)) (entered_to sizes n e q c m y slot) 3 lacks
-              (λ x bs y is_ there fit few. ends x bs y is_ there fit (omega (arith, few))) d fits [] (omega (arith, low)) (cost (slice_index d.addrs 12)) u hs start (λ z. absurd (let no : true ≡ false = z in cc))))
+              subst (λ (t : Bool). Wp M h B Q (if t then bind (write_blocks (blocks_between (dirent_len * slot) (dirent_len * slot + length bytes)) sizes (dirent_len * slot) bytes d) (entered_to sizes n e q c m y slot) else Ret (record { answer = above.NoSlot; carry = with_index c n y })) 21 hs u) (sym is_low)
+              (subst (λ (k : ℕ). Wp M h B Q (bind (write_blocks k sizes (dirent_len * slot) bytes d) (entered_to sizes n e q c m y slot)) 21 hs u) (sym (ap (λ (k : ℕ). blocks_between (dirent_len * slot) (dirent_len * slot + k)) long ∙ one_block slot))
+              (s-part sizes l laws keeps h lt B Q Todo (to_act (labelled l) (below sizes) laws (below_laws sizes l keeps) h B (Enter n e q) m C lasts) n changes c (Some node) (directory_of node.count slots) after s bitmap true (dirent_len * slot / block_len)
+              (dirent_len * length slots) grew (dirent_len * length slots) 1 (omega (arith, room)) (dirent_len * slot) bytes
+              (entry_bytes q e may.1.3) makes
+              (write_blocks 0 sizes upto (drop (length (front_of (dirent_len * slot) bytes)) bytes))
+              (entered_to sizes n e q c m y slot) 3 lacks
+              (λ x bs y is_ there fit few. ends x bs y is_ there fit (omega (arith, few))) d fits [] (omega (arith, low)) (cost (slice_index d.addrs direct)) u hs start (λ z. absurd (let no : true ≡ false = z in cc))))
 
     -- ---- it is sought
 
@@ -351,7 +354,7 @@ module _ (sizes : Super) (l : Labels) (laws : Laws (labelled l)) (keeps : Keeps 
     slot_is (Some f) = refl
 
     -- where there is room for it
-    here_goes : (o : Option Found) (y : IndexState) → IsIndexOf y (Some node) → IsFirst Unused read (length slots) o → slot_of slots o < 17152 → (w : W) (gs : List l.Step) → Same h v.real w.real → Kept h v.seen w.seen → Todo gs w.seen
+    here_goes : (o : Option Found) (y : IndexState) → IsIndexOf y (Some node) → IsFirst Unused read (length slots) o → slot_of slots o < most_slots → (w : W) (gs : List l.Step) → Same h v.real w.real → Kept h v.seen w.seen → Todo gs w.seen
         → Wp M h B Q (goes d (record { found = o; index = y })) 21 gs w
     here_goes o y right is_first low w gs same kept stage =
         subst (λ (k : ℕ). Wp M h B Q (goes_in d y k) 21 gs w) (sym (slot_is o))
@@ -362,19 +365,19 @@ module _ (sizes : Super) (l : Labels) (laws : Laws (labelled l)) (keeps : Keeps 
             ap (λ (k : NodeKind). sought.is_used (entry_of (get_or (slots_of k) (slot_of slots o) None))) directory.1 ∙ looks.used_as (get_or slots (slot_of slots o) None) ∙ slot_unused slots read are o is_first
 
     -- where all slots are there
-    full_goes : 17152 ≤ length slots → Wp M h B Q (bind (seek_full act (record { inode = d; index = known })) (goes d)) 1641 fs v
+    full_goes : most_slots ≤ length slots → Wp M h B Q (bind (seek_full act (record { inode = d; index = known })) (goes d)) 1641 fs v
     full_goes all = by (first_of Unused d known) refl
       where
-        blocks_are : block_count d ≡ 268
+        blocks_are : block_count d ≡ most_blocks
         blocks_are = omega (arith, size_is, all, limit)
 
-        found_low : (f : Found) → found.found ≡ Some f → slot_of slots found.found < 17152
-        found_low f z = subst (λ (o : Option Found). slot_of slots o < 17152) (sym z) (let below_ = (subst (IsFirst Unused read (length slots)) z first).0 in omega (arith, below_, size_is, limit))
+        found_low : (f : Found) → found.found ≡ Some f → slot_of slots found.found < most_slots
+        found_low f z = subst (λ (o : Option Found). slot_of slots o < most_slots) (sym z) (let below_ = (subst (IsFirst Unused read (length slots)) z first).0 in omega (arith, below_, size_is, limit))
 
         still : found.found ≡ None → (u : W) → Kept h v.seen u.seen → is_full_directory (u.seen.disk n) ≡ true
         still none u kept =
             ap is_full_directory ((kept_disk h n v.seen u.seen kept stands.0.lent hand.keeps).1 ∙ is) ∙ full_is
-            ∙ ap (λ (t : Bool). t && all_used slots) (ap (λ (k : ℕ). k == 17152) (let exact : length slots ≡ 17152 = omega (arith, size_is, limit, all) in exact))
+            ∙ ap (λ (t : Bool). t && all_used slots) (ap (λ (k : ℕ). k == most_slots) (let exact : length slots ≡ most_slots = omega (arith, size_is, limit, all) in exact))
             ∙ none_left slots read are (subst (IsFirst Unused read (length slots)) none first)
 
         rests : Rests sizes l laws keeps h lt B (Enter n e q) m C lasts above.Room above.NoSlot (λ y. tt) Q n (Some node) (goes d) 21 v holds used mine stands.0.free found
@@ -384,8 +387,8 @@ module _ (sizes : Super) (l : Labels) (laws : Laws (labelled l)) (keeps : Keeps 
               let stands_r = (below_laws sizes l keeps).base h v.real r v.seen u.seen c same kept stands in
               let g = marked h (m above.NoSlot) u.seen in
               let there : IsIndexOf found.index (u.seen.disk n) = subst (IsIndexOf found.index) (sym ((kept_disk h n v.seen u.seen kept stands.0.lent hand.keeps).1 ∙ is)) still_right in
-              let no : nat_lt (slot_for d found.found) 17152 ≡ false = ap (λ (o : Option Found). nat_lt (slot_for d o) 17152) z ∙ (let exact = count_is in grind (arith, nat_tests, exact, all)) in
-              subst (λ (t : Bool). Wp M h B Q (if t then bind (write_blocks (blocks_between (16 * slot_for d found.found) (16 * slot_for d found.found + length bytes)) sizes (16 * slot_for d found.found) bytes d) (entered_to sizes n e q c m found.index (slot_for d found.found)) else Ret (record { answer = above.NoSlot; carry = with_index c n found.index })) 21 gs (record { real = r; seen = g })) (sym no)
+              let no : nat_lt (slot_for d found.found) most_slots ≡ false = ap (λ (o : Option Found). nat_lt (slot_for d o) most_slots) z ∙ (let exact = count_is in grind (arith, nat_tests, exact, all)) in
+              subst (λ (t : Bool). Wp M h B Q (if t then bind (write_blocks (blocks_between (dirent_len * slot_for d found.found) (dirent_len * slot_for d found.found + length bytes)) sizes (dirent_len * slot_for d found.found) bytes d) (entered_to sizes n e q c m found.index (slot_for d found.found)) else Ret (record { answer = above.NoSlot; carry = with_index c n found.index })) 21 gs (record { real = r; seen = g })) (sym no)
               (Wp-more M h (Ret (record { answer = above.NoSlot; carry = with_index c n found.index })) B Q 0 21 gs (record { real = r; seen = g }) (omega arith)
               ((done, (base_marked h r u.seen g (with_index c n found.index) (marked_same h (m above.NoSlot) u.seen) asked.0 (indexed_base h n c found.index r u.seen there stands_r.0), stands_r.1)), blocks_end sizes h s [] 2 r (omega arith) (blocks_start sizes h s r (spent_stays sizes h s v.real r same knows))));
           stays = λ z u kept asked. ap (enter_if n e q u.seen above.Room) (still z u kept);
@@ -407,25 +410,25 @@ module _ (sizes : Super) (l : Labels) (laws : Laws (labelled l)) (keeps : Keeps 
             ((below_laws sizes l keeps).same h v.real) (kept_same h v.seen) todo (λ k low. omega (arith, size_is, all, low, few))
             (subst (Rests sizes l laws keeps h lt B (Enter n e q) m C lasts above.Room above.NoSlot (λ y. tt) Q n (Some node) (goes d) 21 v holds used mine stands.0.free) there rests))
 
-    seeks : (t : Bool) → nat_lt (slot_count d) 17152 ≡ t → Wp M h B Q (bind (if t then search Unused (record { inode = d; index = known }) else seek_full act (record { inode = d; index = known })) (goes d)) 1641 fs v
+    seeks : (t : Bool) → nat_lt (slot_count d) most_slots ≡ t → Wp M h B Q (bind (if t then search Unused (record { inode = d; index = known }) else seek_full act (record { inode = d; index = known })) (goes d)) 1641 fs v
     seeks true room_ =
         Wp-more M h (bind (search Unused (record { inode = d; index = known })) (goes d)) B Q (touches (block_count d) 21) 1641 fs v (let few = looks.few_blocks d in let steps_ = touches_are (block_count d) 21 in omega (arith, few, steps_))
         (s-search sizes l laws keeps h lt B Q Todo (to_act (labelled l) (below sizes) laws (below_laws sizes l keeps) h B (Enter n e q) m C lasts) n (Some node) Unused (goes d) 21 v holds used mine stands.0.free known v fs
         ((below_laws sizes l keeps).same h v.real) (kept_same h v.seen) todo (looks.block_within (disk_of (log_of v.real)) v.real.owner n node holds used)
         (λ w gs same kept stage. here_goes found.found found.index still_right first (below_all found.found first) w gs same kept stage))
       where
-        below_all : (o : Option Found) → IsFirst Unused read (length slots) o → slot_of slots o < 17152
+        below_all : (o : Option Found) → IsFirst Unused read (length slots) o → slot_of slots o < most_slots
         below_all None z = (let exact = count_is in grind (arith, nat_tests, room_, exact))
         below_all (Some f) z = let low = z.0 in omega (arith, low, size_is, limit)
     seeks false isnt = full_goes (let exact = count_is in grind (arith, nat_tests, isnt, exact))
 
     enters : Wp M h B Q (enter sizes n e q c m) 1641 fs v
     enters =
-        subst (λ (x : Dinode). Wp M h B Q (bind (if nat_lt (slot_count x) 17152 then search Unused (record { inode = x; index = known }) else seek_full act (record { inode = x; index = known })) (goes x)) 1641 fs v)
-        (sym (record_here h n c v.real v.seen node hand is)) (seeks (nat_lt (slot_count d) 17152) refl)
+        subst (λ (x : Dinode). Wp M h B Q (bind (if nat_lt (slot_count x) most_slots then search Unused (record { inode = x; index = known }) else seek_full act (record { inode = x; index = known })) (goes x)) 1641 fs v)
+        (sym (record_here h n c v.real v.seen node hand is)) (seeks (nat_lt (slot_count d) most_slots) refl)
 
   pub enter_acts : (es : List l.Step) (w : W) → Todo es w.seen → Stands sizes h w.real w.seen c → HasSpent sizes h s w.real → Wp M h B Q (enter sizes n e q c m) 1641 es w
   enter_acts es w todo stands knows =
-      s-here sizes l laws keeps h lt B (enter sizes n e q c m) Q Todo (to_act (labelled l) (below sizes) laws (below_laws sizes l keeps) h B (Enter n e q) m C lasts) (seek_takes (loaded_in c n) (nat_lt (slot_count (record_in c n)) 17152) refl) 1641 es w todo
+      s-here sizes l laws keeps h lt B (enter sizes n e q c m) Q Todo (to_act (labelled l) (below sizes) laws (below_laws sizes l keeps) h B (Enter n e q) m C lasts) (seek_takes (loaded_in c n) (nat_lt (slot_count (record_in c n)) most_slots) refl) 1641 es w todo
       (λ v fs here.
       enters v fs here.stage here.shows here.inv ((below_laws sizes l keeps).base h w.real v.real w.seen v.seen c here.same here.kept stands) (spent_stays sizes h s w.real v.real here.same knows))

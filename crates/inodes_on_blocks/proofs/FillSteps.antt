@@ -1,5 +1,5 @@
 -- A new directory's two names written act where its record is put.
-use Rattle.inodes_on_blocks.proofs.Vocabulary.{◌≡◌, ◌≢◌, ℕ, zero, suc, ◌+◌, ◌-◌, ◌/◌, ◌<◌, ◌≤◌, ◌==◌, nat_lt, Bool, true, false, List, [], ◌∷◌, length, length-take, drop, Option, Some, None, refl, sym, ◌∙◌, ap, subst, arith, if◌then◌else◌, slice_index, unwrap_or, none-some, Dinode, Super, spell_dirent, Used, HoldsAt, size_in, Node, node_or, dot, dotdot, hart_count, bind, Ran, Laws, Machine, P, Wp, Both, joined, Below, Lasts, Handover, ToAct, to_act, may_act, Wp-more, lock_holder, Direct, InTable, table_of, blocks_between, WriteResult, front_of, take_one, located, name_direct, with_table, locate_in_table, locate_at, write_located, write_blocks, no_record, inode_block, Spent, size, with_contents, most_recorded, Fill, with_dots, with_record, Inv, IsSpent, World, log_of, tables_of, disk_of, inode_in, dots, filled_to, fill, put_grown, Had, Apart, Has, Emptied, Carry, record_had, InHand, Stands, below, Labels, labelled, Keeps, IsChanging, HasSpent, Shows, record_in}
+use Rattle.inodes_on_blocks.proofs.Vocabulary.{◌≡◌, ◌≢◌, ℕ, zero, suc, ◌+◌, ◌-◌, ◌*◌, ◌/◌, ◌<◌, ◌≤◌, ◌==◌, nat_lt, Bool, true, false, List, [], ◌∷◌, length, length-take, drop, Option, Some, None, refl, sym, ◌∙◌, ap, subst, arith, if◌then◌else◌, slice_index, unwrap_or, none-some, Dinode, Super, spell_dirent, Used, HoldsAt, size_in, Node, node_or, dot, dotdot, hart_count, bind, Ran, Laws, Machine, P, Wp, Both, joined, Below, Lasts, Handover, ToAct, to_act, may_act, Wp-more, lock_holder, Direct, InTable, table_of, blocks_between, WriteResult, front_of, take_one, located, name_direct, with_table, locate_in_table, locate_at, write_located, write_blocks, no_record, inode_block, Spent, size, with_contents, most_recorded, Fill, with_dots, with_record, Inv, IsSpent, World, log_of, tables_of, disk_of, inode_in, dots, filled_to, fill, put_grown, Had, Apart, Has, Emptied, Carry, record_had, InHand, Stands, below, Labels, labelled, Keeps, IsChanging, HasSpent, Shows, record_in, block_len, direct, dirent_len}
 use Rattle.directory.proofs.IndexChanges.{index_none}
 use Rattle.fs_machine.specs.InMemory.{no_index, unindexed}
 use Rattle.inode_machine.specs.World as above
@@ -41,21 +41,21 @@ module _ (sizes : Super) (l : Labels) (laws : Laws (labelled l)) (keeps : Keeps 
   pub takes_write : {A : Type 0} (count at : ℕ) (bytes : List ℕ) (d : Dinode) (f : WriteResult → P M A) → ((w : WriteResult) → TakesStep sizes l laws keeps h lt B (f w)) → TakesStep sizes l laws keeps h lt B (bind (write_blocks count sizes at bytes d) f)
   unfolding write_blocks
   takes_write zero at bytes d f all = all (record { inode = d; upto = at })
-  takes_write {A} (suc count) at bytes d f all = by (nat_lt (at / 1024) 12)
+  takes_write {A} (suc count) at bytes d f all = by (nat_lt (at / block_len) direct)
     where
       more : Dinode → P M WriteResult
       more = write_blocks count sizes (at + length (front_of at bytes)) (drop (length (front_of at bytes)) bytes)
 
-      direct : (t : Bool) → TakesStep sizes l laws keeps h lt B (bind (bind (if t then bind (take_one sizes) (name_direct (at / 1024) d) else located d (Some (slice_index d.addrs (at / 1024)))) (write_located more at bytes)) f)
-      direct true = tt
-      direct false = tt
+      own : (t : Bool) → TakesStep sizes l laws keeps h lt B (bind (bind (if t then bind (take_one sizes) (name_direct (at / block_len) d) else located d (Some (slice_index d.addrs (at / block_len)))) (write_located more at bytes)) f)
+      own true = tt
+      own false = tt
 
-      listed : (t : Bool) → TakesStep sizes l laws keeps h lt B (bind (bind (if t then bind (take_one sizes) (with_table sizes (at / 1024 - 12) d) else locate_in_table sizes (at / 1024 - 12) d) (write_located more at bytes)) f)
+      listed : (t : Bool) → TakesStep sizes l laws keeps h lt B (bind (bind (if t then bind (take_one sizes) (with_table sizes (at / block_len - direct) d) else locate_in_table sizes (at / block_len - direct) d) (write_located more at bytes)) f)
       listed true = tt
       listed false = tt
 
-      by : (t : Bool) → TakesStep sizes l laws keeps h lt B (bind (bind (locate_at sizes d (if t then Direct (at / 1024) else InTable (at / 1024 - 12))) (write_located more at bytes)) f)
-      by true = direct (slice_index d.addrs (at / 1024) == 0)
+      by : (t : Bool) → TakesStep sizes l laws keeps h lt B (bind (bind (locate_at sizes d (if t then Direct (at / block_len) else InTable (at / block_len - direct))) (write_located more at bytes)) f)
+      by true = own (slice_index d.addrs (at / block_len) == 0)
       by false = listed (table_of d == 0)
 
 module _ (sizes : Super) (l : Labels) (laws : Laws (labelled l)) (keeps : Keeps l) (h : ℕ) (lt : h < hart_count) (n p : ℕ) (m : Bool → Option above.Mark) (s : Spent) (bitmap : s.bitmap ≡ true) (named : IsSpent sizes s (inode_block sizes.inodestart n))
@@ -82,7 +82,7 @@ module _ (sizes : Super) (l : Labels) (laws : Laws (labelled l)) (keeps : Keeps 
   asks g asked = (record { lock = asked.1.0.0; joined = asked.1.0.1 }, asked.0)
 
   ends_take : (w : WriteResult) → TakesStep sizes l laws keeps h lt B (filled_to sizes n p c m w)
-  ends_take w = by (w.upto == 32)
+  ends_take w = by (w.upto == 2 * dirent_len)
     where
       by : (t : Bool) → TakesStep sizes l laws keeps h lt B (if t then put_grown (Fill n p) above.Room m true sizes n c no_index w else put_grown (Fill n p) (above.RoomFor 0) m false sizes n c no_index w)
       by true = tt
@@ -152,18 +152,18 @@ module _ (sizes : Super) (l : Labels) (laws : Laws (labelled l)) (keeps : Keeps 
         (λ g asked was. ap (λ (q : above.World). Ran false q) (sym (record_same g n (directory_of node.count []) (was ∙ ap (λ (q : Node). Some q) was_is)))) fit refl (omega arith) (omega (arith, few)) gs u there
 
     -- both were written
-    long : 0 + length (front_of 0 (dots n p)) ≡ 32
-    long = let all = dots_long n p some_n small_n some_p small_p in omega (arith, all, length-take 1024 (dots n p))
+    long : 0 + length (front_of 0 (dots n p)) ≡ 2 * dirent_len
+    long = let all = dots_long n p some_n small_n some_p small_p in omega (arith, all, length-take block_len (dots n p))
 
     abbrev filled : Node
     filled = directory_of node.count (Some (record { name = dot; number = n }) ∷ Some (record { name = dotdot; number = p }) ∷ [])
 
-    goes : (x : Dinode) (bs : List ℕ) (u : W) (gs : List l.Step) → Between sizes h n (Todo gs) c (Some node) (sized 32 x) (directory_of node.count (Some (record { name = dot; number = n }) ∷ Some (record { name = dotdot; number = p }) ∷ [])) (HasBlocks sizes h s bs) u → Fits 0 x → length bs ≤ 1
+    goes : (x : Dinode) (bs : List ℕ) (u : W) (gs : List l.Step) → Between sizes h n (Todo gs) c (Some node) (sized (2 * dirent_len) x) (directory_of node.count (Some (record { name = dot; number = n }) ∷ Some (record { name = dotdot; number = p }) ∷ [])) (HasBlocks sizes h s bs) u → Fits 0 x → length bs ≤ 1
         → Wp N h B Q (filled_to sizes n p c m (record { inode = x; upto = 0 + length (front_of 0 (dots n p)) })) 3 gs u
     goes x bs u gs there fit few =
         subst (λ (t : Bool). Wp N h B Q (if t then put_grown (Fill n p) above.Room m true sizes n c no_index (record { inode = x; upto = 0 + length (front_of 0 (dots n p)) }) else put_grown (Fill n p) (above.RoomFor 0) m false sizes n c no_index (record { inode = x; upto = 0 + length (front_of 0 (dots n p)) })) 3 gs u)
-        (sym (ap (λ (q : ℕ). q == 32) long))
-        (s-grown sizes l laws keeps h lt n (Fill n p) m c asks B C lasts (Some node) s named 1 room above.Room true filled no_index (index_none (slot_read (Some filled))) 0 32 (0 + length (front_of 0 (dots n p))) x bs (λ y. tt)
+        (sym (ap (λ (q : ℕ). q == 2 * dirent_len) long))
+        (s-grown sizes l laws keeps h lt n (Fill n p) m c asks B C lasts (Some node) s named 1 room above.Room true filled no_index (index_none (slot_read (Some filled))) 0 (2 * dirent_len) (0 + length (front_of 0 (dots n p))) x bs (λ y. tt)
         (λ g asked was. ap (λ (o : Option Node). Ran true (with_record g n (Some (with_dots n p (node_or o))))) was) fit (omega (arith, long)) (omega arith) few gs u there)
 
     fills : Wp N h B Q (fill sizes n p c m) 13 fs v
@@ -172,7 +172,7 @@ module _ (sizes : Super) (l : Labels) (laws : Laws (labelled l)) (keeps : Keeps 
         subst (λ (q : ℕ × Dinode). Wp N h B Q (bind (write_blocks q.0 sizes 0 (dots n p) q.1) (filled_to sizes n p c m)) 13 fs v) (λ z. (sym one z, sym (record_here h n c v.real v.seen node hand is) z))
         (Wp-more N h (bind (write_blocks 1 sizes 0 (dots n p) d) (filled_to sizes n p c m)) B Q 12 13 fs v (omega arith)
         (s-part sizes l laws keeps h lt B Q Todo (to_act (labelled l) (below sizes) laws (below_laws sizes l keeps) h B (Fill n p) m C lasts) n changes c (Some node) (directory_of node.count [])
-        (directory_of node.count (Some (record { name = dot; number = n }) ∷ Some (record { name = dotdot; number = p }) ∷ [])) s bitmap false 0 0 32 0 0 (omega (arith, room)) 0 (dots n p)
+        (directory_of node.count (Some (record { name = dot; number = n }) ∷ Some (record { name = dotdot; number = p }) ∷ [])) s bitmap false 0 0 (2 * dirent_len) 0 0 (omega (arith, room)) 0 (dots n p)
         (append_bytes (spell_dirent (Used n dot)) (spell_dirent (Used p dotdot)) (entry_bytes n dot dot_name) (entry_bytes p dotdot dotdot_name)) (dots_make h n p node.count c (Some node) some_n small_n some_p small_p)
         (write_blocks 0 sizes (0 + length (front_of 0 (dots n p))) (drop (length (front_of 0 (dots n p))) (dots n p))) (filled_to sizes n p c m) 3 lacks
         (λ x bs u gs there fit few. goes x bs u gs there fit (omega (arith, few))) d fits [] (omega arith) (omega arith) v fs start (λ e. omega arith)))

@@ -1,5 +1,5 @@
 -- The slot of a new name: what a search for a free slot finds is where the node has it; and the entry that is put there.
-use Rattle.inodes_on_blocks.proofs.Vocabulary.{◌≡◌, ◌≢◌, ℕ, zero, suc, ◌-◌, ◌==◌, ◌<◌, ◌≤◌, nat_lt, nat_le, ◌&&◌, not, Bool, true, false, List, [], ◌∷◌, ◌++◌, length, replicate, get_or, Option, Some, None, refl, sym, ◌∙◌, ap, arith, list_all, nat_tests, Found, IsFirst, Unused, Dirent, Used, IsBytes, u16_bytes, IsDirent, spell_dirent, entry_of, slots_with, Slot, Name, dot, dotdot, eq_not, all_used, IsName, IsText}
+use Rattle.inodes_on_blocks.proofs.Vocabulary.{◌≡◌, ◌≢◌, ℕ, zero, suc, ◌-◌, ◌==◌, ◌<◌, ◌≤◌, nat_lt, nat_le, ◌&&◌, not, Bool, true, false, List, [], ◌∷◌, ◌++◌, length, replicate, get_or, Option, Some, None, refl, sym, ◌∙◌, ap, arith, list_all, nat_tests, Found, IsFirst, Unused, Dirent, Used, IsBytes, u16_bytes, IsDirent, spell_dirent, entry_of, slots_with, Slot, Name, dot, dotdot, eq_not, all_used, IsName, IsText, most_slots, name_len}
 use Rattle.directory.specs.Slots as sought
 use Rattle.fs_layout.specs.Name as names
 use Rattle.fs_layout.specs.VersionOne as layout
@@ -102,9 +102,9 @@ module _ (slots : List (Option Slot)) (read : ℕ → Option Dirent) (are : AreR
   none_left first = all_are slots (all_before (length slots) (omega arith) first)
 
   -- there is one, or room behind them
-  pub some_left : (o : Option Found) → IsFirst Unused read (length slots) o → slot_of slots o < 17152 → ((length slots == 17152) && all_used slots) ≡ false
-  some_left None first lt = ap (λ (b : Bool). b && all_used slots) (eq_not (length slots) 17152 (λ e. absurd (omega (arith, e, lt))))
-  some_left (Some f) first lt = by (length slots == 17152) (some_isnt slots f.slot first.0 (turned_off (is_used (get_or slots f.slot None)) (sym (is_so f.slot first.0) ∙ first.1)))
+  pub some_left : (o : Option Found) → IsFirst Unused read (length slots) o → slot_of slots o < most_slots → ((length slots == most_slots) && all_used slots) ≡ false
+  some_left None first lt = ap (λ (b : Bool). b && all_used slots) (eq_not (length slots) most_slots (λ e. absurd (omega (arith, e, lt))))
+  some_left (Some f) first lt = by (length slots == most_slots) (some_isnt slots f.slot first.0 (turned_off (is_used (get_or slots f.slot None)) (sym (is_so f.slot first.0) ∙ first.1)))
     where
       by : (b : Bool) → all_used slots ≡ false → (b && all_used slots) ≡ false
       by true e = e
@@ -123,7 +123,7 @@ text_layout (b ∷ bs) t =
 name_layout : (e : Name) → IsName e → layout.is_name e ≡ true
 name_layout e is =
     let some : nat_lt 0 (length e) ≡ true = (let z = is.some in grind (arith, nat_tests, z)) in
-    let fits : nat_le (length e) 14 ≡ true = (let z = is.fits in grind (arith, nat_tests, z)) in
+    let fits : nat_le (length e) name_len ≡ true = (let z = is.fits in grind (arith, nat_tests, z)) in
     rw (some, fits) (text_layout e is.text)
 
 -- an entry by a name that an entry can have
@@ -136,7 +136,7 @@ text_bytes (b ∷ bs) t zero = t.2
 text_bytes (b ∷ bs) t (suc i) = text_bytes bs t.3 i
 
 pub entry_bytes : (q : ℕ) (e : Name) → IsName e → IsBytes (spell_dirent (Used q e))
-entry_bytes q e is = append_bytes (u16_bytes q) (e ++ replicate (14 - length e) 0) (u16s q) (append_bytes e (replicate (14 - length e) 0) (text_bytes e is.text) (zero_bytes (14 - length e)))
+entry_bytes q e is = append_bytes (u16_bytes q) (e ++ replicate (name_len - length e) 0) (u16s q) (append_bytes e (replicate (name_len - length e) 0) (text_bytes e is.text) (zero_bytes (name_len - length e)))
 
 pub dot_name : IsName dot
 dot_name = record { some = omega arith; fits = omega arith; text = (omega arith, (λ e. absurd (omega (arith, e))), omega arith, tt) }

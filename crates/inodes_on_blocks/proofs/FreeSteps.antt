@@ -1,5 +1,5 @@
 -- An inode without links is freed: its content is given back, its record goes into its block without that, and there once more without a type, where the operation acts.
-use Rattle.inodes_on_blocks.proofs.Vocabulary.{◌≡◌, ◌≢◌, ℕ, suc, ◌<◌, false, List, [], length, Option, Some, None, refl, sym, ◌∙◌, ap, subst, arith, Super, Dinode, IsDinode, IsOutsideLog, has, HasRoom, Node, hart_count, bind, once, Laws, Machine, P, Wp, Both, joined, Below, Lasts, Handover, Here, ToAct, to_act, may_act, Stable, bind-assoc, Wp-more, lock_holder, LogPart, put_block, fetch, seen_of, without_content, freed, inode_block, put_inode, with_dinode, store_inode, Inv, Idle, more, Owners, World, log_of, tables_of, disk_of, owners_of, KeepsRoom, world_with, in_hand, HasBuffer, IsFetched, Emptied, Carry, Stands, below, Labels, labelled, Keeps, IsThrough, CanPut, IsChanging, Shows, record_in, put_record, had_in}
+use Rattle.inodes_on_blocks.proofs.Vocabulary.{◌≡◌, ◌≢◌, ℕ, suc, ◌<◌, false, List, [], length, Option, Some, None, refl, sym, ◌∙◌, ap, subst, arith, Super, Dinode, IsDinode, IsOutsideLog, has, HasRoom, Node, hart_count, bind, once, Laws, Machine, P, Wp, Both, joined, Below, Lasts, Handover, Here, ToAct, to_act, may_act, Stable, bind-assoc, Wp-more, lock_holder, LogPart, put_block, fetch, seen_of, without_content, freed, inode_block, put_inode, with_dinode, store_inode, Inv, Idle, more, Owners, World, log_of, tables_of, disk_of, owners_of, KeepsRoom, world_with, in_hand, HasBuffer, IsFetched, Emptied, Carry, Stands, below, Labels, labelled, Keeps, IsThrough, CanPut, IsChanging, Shows, record_in, put_record, had_in, block_len}
 use Rattle.inodes_on_blocks.proofs.Basics.{freed_held, buffer_then, buffer_seen, s-fetch, below_laws, lent_then, through_then, through_put, empty_hand, after, lock_range, quiet_owners, Ready, inode_home, untaken, place_in, can_record, others_then, none_then, named_then, open_same}
 use Rattle.inode_machine.specs.World as above
 use Rattle.inode_machine.specs.World.Op.{Free}
@@ -37,7 +37,7 @@ module _ (sizes : Super) (l : Labels) (laws : Laws (labelled l)) (keeps : Keeps 
 
     -- the put, where the buffer is in hand
     there : (u : W) (gs : List l.Step) → G gs u.seen → Shows u.real u.seen → IsChanging h n u.seen → HasNone h n c o u.real u.seen
-        → CanPut h (place_in n u.real) (with_dinode n d (seen_of (log_of u.real) (place_in n u.real))) (log_of u.real) × (length (seen_of (log_of u.real) (place_in n u.real)) ≡ 1024)
+        → CanPut h (place_in n u.real) (with_dinode n d (seen_of (log_of u.real) (place_in n u.real))) (log_of u.real) × (length (seen_of (log_of u.real) (place_in n u.real)) ≡ block_len)
         → ((i : ℕ) → u.real.taken i ≢ Some h) → IsThrough h u.real → (((u.seen.desks h).lender ≡ None → ⊥) → Idle h u.seen) → in_hand h u.real ≡ 1 → (log_of u.real).sizes ≡ sizes
         → Knows (world_with h (place_in n u.real) (with_dinode n d (seen_of (log_of u.real) (place_in n u.real))) u.real)
         → IsPutting (place_in n u.real) (with_dinode n d (seen_of (log_of u.real) (place_in n u.real))) gs u

@@ -1,5 +1,5 @@
 -- What an inode and its blocks say stays where these do.
-use Rattle.inodes_on_blocks.proofs.Vocabulary.{◌≡◌, ◌≢◌, ⊎_elim, ℕ, zero, suc, ◌+◌, ◌*◌, ◌/◌, ◌%◌, ◌<◌, ◌≤◌, false, inl, inr, refl, sym, ◌∙◌, ap, subst, arith, List, [], ◌∷◌, ◌++◌, length, take, get_or, slice_index, filter, Option, Some, None, nat_lt, if◌then◌else◌, All, Contains, cases_eq, Super, Dinode, Dirent, u32s_at, dirent_at, recovered, sizes_of, Node, NodeKind, Directory, File, Device, IsOnce, inode_of, is_free, is_block, numbers_of, numbers_by, block_number, content_block, blocks_for, front_blocks, slot_on as slot_at, first_slots, IsData, numbers_by_node, numbers_without, numbers_with, All-addrs, numbers_by_free, either, IsRecord, HasContent, HasContentOf, IsOwned, HoldsAt, NamesOwned, IsPut, IsUntouched, IsLaidOut, IsSpare, Becomes, slot_by, first_slots_by}
+use Rattle.inodes_on_blocks.proofs.Vocabulary.{◌≡◌, ◌≢◌, ⊎_elim, ℕ, zero, suc, ◌+◌, ◌*◌, ◌/◌, ◌%◌, ◌<◌, ◌≤◌, false, inl, inr, refl, sym, ◌∙◌, ap, subst, arith, List, [], ◌∷◌, ◌++◌, length, take, get_or, slice_index, filter, Option, Some, None, nat_lt, if◌then◌else◌, All, Contains, cases_eq, Super, Dinode, Dirent, u32s_at, dirent_at, recovered, sizes_of, Node, NodeKind, Directory, File, Device, IsOnce, inode_of, is_free, is_block, numbers_of, numbers_by, block_number, content_block, blocks_for, front_blocks, slot_on as slot_at, first_slots, IsData, numbers_by_node, numbers_without, numbers_with, All-addrs, numbers_by_free, either, IsRecord, HasContent, HasContentOf, IsOwned, HoldsAt, NamesOwned, IsPut, IsUntouched, IsLaidOut, IsSpare, Becomes, slot_by, first_slots_by, block_len, direct, dirent_len, dirents_per_block, numbers_per_block}
 use Rattle.inodes_on_blocks.specs.Holds.{HasRoom}
 use Rattle.inodes_on_blocks.proofs.Held.{inode_used}
 use Rattle.inodes_on_blocks.proofs.ImageNodes.{at_index}
@@ -10,18 +10,18 @@ block_of disk d k = refl
 
 -- ---- the same content
 
-module _ (disk new : List (List ℕ)) (d e : Dinode) (size : e.size ≡ d.size) (blocks : (k : ℕ) → 1024 * k < d.size → content_block new e k ≡ content_block disk d k) where
+module _ (disk new : List (List ℕ)) (d e : Dinode) (size : e.size ≡ d.size) (blocks : (k : ℕ) → block_len * k < d.size → content_block new e k ≡ content_block disk d k) where
   front_same : (n : ℕ) → n ≤ blocks_for d.size → front_blocks new e n ≡ front_blocks disk d n
   unfolding front_blocks
   front_same zero h = refl
   front_same (suc n) h =
       ap (λ (xs : List ℕ). xs ++ content_block new e n) (front_same n (omega arith)) ∙ ap (λ (xs : List ℕ). front_blocks disk d n ++ xs) (blocks n (omega arith))
 
-  slot_same : (s : ℕ) → s < d.size / 16 → slot_at new e s ≡ slot_at disk d s
+  slot_same : (s : ℕ) → s < d.size / dirent_len → slot_at new e s ≡ slot_at disk d s
   unfolding slot_by
-  slot_same s h = ap (dirent_at (s % 64)) (blocks (s / 64) (omega arith))
+  slot_same s h = ap (dirent_at (s % dirents_per_block)) (blocks (s / dirents_per_block) (omega arith))
 
-  slots_same : (n : ℕ) → n ≤ d.size / 16 → first_slots new e n ≡ first_slots disk d n
+  slots_same : (n : ℕ) → n ≤ d.size / dirent_len → first_slots new e n ≡ first_slots disk d n
   unfolding first_slots_by
   slots_same zero h = refl
   slots_same (suc n) h =
@@ -29,7 +29,8 @@ module _ (disk new : List (List ℕ)) (d e : Dinode) (size : e.size ≡ d.size) 
       ∙ ap (λ (x : Option Dirent). first_slots disk d n ++ x ∷ []) (slot_same n (omega arith))
 
   pub content_same : (k : NodeKind) → HasContent disk d k → HasContent new e k
-  content_same (Directory slots) h = ap (λ (n : ℕ). first_slots new e (n / 16)) size ∙ slots_same (d.size / 16) (omega arith) ∙ h
+  content_same (Directory slots) h = ap (λ (n : ℕ). first_slots new e (n / dirent_len)) size
+      ∙ slots_same (d.size / dirent_len) (omega arith) ∙ h
   content_same (File bytes) h =
       ap (λ (n : ℕ). take n (front_blocks new e (blocks_for n))) size ∙ ap (take d.size) (front_same (blocks_for d.size) (omega arith)) ∙ h
   content_same (Device major minor s) h = h
@@ -43,19 +44,19 @@ module _ (disk new : List (List ℕ)) (d : Dinode) (all : All (λ b. b ≢ 0 →
   pub numbers_kept : numbers_of new d ≡ numbers_of disk d
   numbers_kept =
       ⊎_elim
-      (λ (e : slice_index d.addrs 12 ≡ 0). numbers_without new d e ∙ sym (numbers_without disk d e))
-      (λ (ne : slice_index d.addrs 12 ≢ 0).
-      let same = at_index (Same disk new) d.addrs 12 (All-addrs (λ b. b ≢ 0 → Same disk new b) disk d all) ne in
-      numbers_with new d ne ∙ ap (λ (block : List ℕ). d.addrs ++ u32s_at 256 block 0) same ∙ sym (numbers_with disk d ne))
-      (cases_eq (slice_index d.addrs 12) 0)
+      (λ (e : slice_index d.addrs direct ≡ 0). numbers_without new d e ∙ sym (numbers_without disk d e))
+      (λ (ne : slice_index d.addrs direct ≢ 0).
+      let same = at_index (Same disk new) d.addrs direct (All-addrs (λ b. b ≢ 0 → Same disk new b) disk d all) ne in
+      numbers_with new d ne ∙ ap (λ (block : List ℕ). d.addrs ++ u32s_at numbers_per_block block 0) same ∙ sym (numbers_with disk d ne))
+      (cases_eq (slice_index d.addrs direct) 0)
 
-  pub content_kept : ((k : ℕ) → 1024 * k < d.size → block_number (numbers_of disk d) k ≢ 0) → (k : NodeKind) → HasContent disk d k → HasContent new d k
+  pub content_kept : ((k : ℕ) → block_len * k < d.size → block_number (numbers_of disk d) k ≢ 0) → (k : NodeKind) → HasContent disk d k → HasContent new d k
   content_kept there =
       content_same disk new d d refl
       (λ k l.
       block_of new d k
       ∙ ap (λ (ns : List ℕ). recovered new (block_number ns k)) numbers_kept
-      ∙ at_index (Same disk new) (numbers_of disk d) (if nat_lt k 12 then k else k + 1) all (there k l)
+      ∙ at_index (Same disk new) (numbers_of disk d) (if nat_lt k direct then k else k + 1) all (there k l)
       ∙ sym (block_of disk d k))
 
   pub room_kept : HasRoom disk d → HasRoom new d

@@ -1,5 +1,5 @@
 -- The checks of inodes pass: types, the root, sizes, and counts.
-use Rattle.inodes_on_blocks.proofs.Vocabulary.{◌≡◌, ◌≤◌, ℕ, ◌*◌, ◌%◌, true, false, ℤ, pos, negsuc, inl, inr, sym, ◌∙◌, ap, subst, arith, rules, List, length, map, Option, Some, nat_lt, ◌<ℤ◌, false≢true, eqb-true, nat_tests, length-map, Dinode, sizes_of, Node, NodeKind, Directory, File, Device, inode_of, is_number, is_positive, is_directory, is_live, is_node, is_live_directory, slots_of, IsGoodType, HasGoodTypes, HasRoot, HasGoodSizes, HasGoodCounts, directory_is, directory_from, node_is, links_of, IsForest, either, Nodes, type_in, size_in, IsUnused, IsRecord, HasContent, entry_of}
+use Rattle.inodes_on_blocks.proofs.Vocabulary.{◌≡◌, ◌≤◌, ℕ, ◌*◌, ◌%◌, true, false, ℤ, pos, negsuc, inl, inr, sym, ◌∙◌, ap, subst, arith, rules, List, length, map, Option, Some, nat_lt, ◌<ℤ◌, false≢true, eqb-true, nat_tests, length-map, Dinode, sizes_of, Node, NodeKind, Directory, File, Device, inode_of, is_number, is_positive, is_directory, is_live, is_node, is_live_directory, slots_of, IsGoodType, HasGoodTypes, HasRoot, HasGoodSizes, HasGoodCounts, directory_is, directory_from, node_is, links_of, IsForest, either, Nodes, type_in, size_in, IsUnused, IsRecord, HasContent, entry_of, dirent_len}
 use Rattle.plain_tree.specs.Tree as plain
 use Rattle.inodes_on_blocks.proofs.HeldParts.{HoldsRecords, HoldsContents, HaveRoom}
 use Rattle.inodes_on_blocks.proofs.ImageSlots.{Entries, in_tree}
@@ -42,12 +42,12 @@ spelled_as disk d (Directory slots) h content = content ∙ ap (map entry_of) (s
 spelled_as disk d (File bytes) h content = absurd (false≢true h)
 spelled_as disk d (Device major minor size) h content = absurd (false≢true h)
 
-slots_sized : (disk : List (List ℕ)) (d : Dinode) (k : NodeKind) → plain.is_directory k ≡ true → HasContent disk d k → size_in k ≡ 16 * length (slots_of disk d)
-slots_sized disk d (Directory slots) h content = ap (λ (n : ℕ). 16 * n) (sym (ap length content ∙ length-map slots entry_of))
+slots_sized : (disk : List (List ℕ)) (d : Dinode) (k : NodeKind) → plain.is_directory k ≡ true → HasContent disk d k → size_in k ≡ dirent_len * length (slots_of disk d)
+slots_sized disk d (Directory slots) h content = ap (λ (n : ℕ). dirent_len * n) (sym (ap length content ∙ length-map slots entry_of))
 slots_sized disk d (File bytes) h content = absurd (false≢true h)
 slots_sized disk d (Device major minor size) h content = absurd (false≢true h)
 
-whole_slots : (n : ℕ) → (16 * n) % 16 ≡ 0
+whole_slots : (n : ℕ) → (dirent_len * n) % dirent_len ≡ 0
 whole_slots n = omega arith
 
 pub are_spelled : (disk : List (List ℕ)) (nodes : Nodes) → HoldsRecords disk nodes → HoldsContents disk nodes → AreSpelled disk
@@ -70,16 +70,17 @@ module _ (disk : List (List ℕ)) (nodes : Nodes) (records : HoldsRecords disk n
 
   -- ---- sizes
 
-  slots_fit : (i : ℕ) → is_live_directory disk i ≡ true → (2 * 16 ≤ (inode_of disk i).size) × ((inode_of disk i).size % 16 ≡ 0)
+  slots_fit : (i : ℕ) → is_live_directory disk i ≡ true
+      → (2 * dirent_len ≤ (inode_of disk i).size) × ((inode_of disk i).size % dirent_len ≡ 0)
   slots_fit i here =
       let at = directory_is disk i here in
       let some = node_of_inode disk nodes records i (directory_node disk i here) at.live in
       let v = some.0 in
       let d = inode_at disk nodes records i v some.1 in
-      let many : (inode_of disk i).size ≡ 16 * length (slots_of disk (inode_of disk i)) =
+      let many : (inode_of disk i).size ≡ dirent_len * length (slots_of disk (inode_of disk i)) =
       d.size ∙ slots_sized disk (inode_of disk i) v.kind (sym (inode_directory (inode_of disk i) v d) ∙ at.directory) (contents.content i v some.1) in
       let two = ap length (sym (slots_of_directory disk i here) ∙ stands disk D f spelled i here) in
-      (omega (arith, many, two), ap (λ (n : ℕ). n % 16) many ∙ whole_slots (length (slots_of disk (inode_of disk i))))
+      (omega (arith, many, two), ap (λ (n : ℕ). n % dirent_len) many ∙ whole_slots (length (slots_of disk (inode_of disk i))))
 
   pub good_sizes : HaveRoom disk → HasGoodSizes disk
   good_sizes room i node = record {

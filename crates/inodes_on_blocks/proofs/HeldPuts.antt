@@ -1,5 +1,5 @@
 -- A put of one block leaves what other inodes hold.
-use Rattle.inodes_on_blocks.proofs.Vocabulary.{◌≡◌, ◌≢◌, ℕ, ◌+◌, ◌/◌, ◌%◌, ◌<◌, ◌≤◌, Bool, true, false, inl, inr, refl, sym, ◌∙◌, ap, subst, arith, List, ◌∷◌, get_or, length, zero, suc, Contains, Super, Dinode, dinode_at, bit_of, recovered, sizes_of, Node, put, inode_of, numbers_of, IsData, is_marked, UpToLog, same_or, eq_self, eq_not, put_same, put_other, NamesOwned, MarksBlocks, MarksNoOthers, IsPut, IsInodePut, IsBitPut, IsUntouched, LeavesOthers, IsLaidOut, IsSpare, Becomes, IsTaken, IsGivenBack}
+use Rattle.inodes_on_blocks.proofs.Vocabulary.{◌≡◌, ◌≢◌, ℕ, ◌+◌, ◌/◌, ◌%◌, ◌<◌, ◌≤◌, Bool, true, false, inl, inr, refl, sym, ◌∙◌, ap, subst, arith, List, ◌∷◌, get_or, length, zero, suc, Contains, Super, Dinode, dinode_at, bit_of, recovered, sizes_of, Node, put, inode_of, numbers_of, IsData, is_marked, UpToLog, same_or, eq_self, eq_not, put_same, put_other, NamesOwned, MarksBlocks, MarksNoOthers, IsPut, IsInodePut, IsBitPut, IsUntouched, LeavesOthers, IsLaidOut, IsSpare, Becomes, IsTaken, IsGivenBack, inodes_per_block}
 use Rattle.inodes_on_blocks.specs.Puts.{inode_block}
 use Rattle.inodes_on_blocks.proofs.HeldFrames.{laid_kept, system_put}
 
@@ -11,8 +11,8 @@ module _ (disk new : List (List ℕ)) (b : ℕ) (put : IsPut disk new b) where
   pub other_inode : (i : ℕ) → b ≢ inode_block disk i → inode_of new i ≡ inode_of disk i
   unfolding inode_of
   other_inode i ne =
-      ap (λ (s : Super). dinode_at (i % 16) (recovered new (s.inodestart + i / 16))) put.sizes
-      ∙ ap (λ (block : List ℕ). dinode_at (i % 16) block) (put.others (inode_block disk i) (λ e. ne (sym e)))
+      ap (λ (s : Super). dinode_at (i % inodes_per_block) (recovered new (s.inodestart + i / inodes_per_block))) put.sizes
+      ∙ ap (λ (block : List ℕ). dinode_at (i % inodes_per_block) block) (put.others (inode_block disk i) (λ e. ne (sym e)))
 
   same_bit : b ≢ (sizes_of disk).bmapstart → (c : ℕ) → is_marked new c ≡ is_marked disk c
   same_bit ne c =
@@ -53,7 +53,8 @@ data_leaves disk new owner i b front this own put =
 module _ (disk new : List (List ℕ)) (i : ℕ) (d : Dinode) (put : IsInodePut disk new i d) where
   pub inode_is : inode_of new i ≡ d
   unfolding inode_of
-  inode_is = ap (λ (s : Super). dinode_at (i % 16) (recovered new (s.inodestart + i / 16))) put.block.sizes ∙ put.this
+  inode_is = ap (λ (s : Super). dinode_at (i % inodes_per_block) (recovered new (s.inodestart + i / inodes_per_block))) put.block.sizes
+      ∙ put.this
 
   -- those in the same block are put as they were
   inode_stays : (j : ℕ) → j ≢ i → inode_of new j ≡ inode_of disk j
@@ -61,10 +62,10 @@ module _ (disk new : List (List ℕ)) (i : ℕ) (d : Dinode) (put : IsInodePut d
   inode_stays j ne = elim (same_or (inode_block disk i) (inode_block disk j)) [
     | inr apart ↦ other_inode disk new (inode_block disk i) put.block j apart
     | inl e ↦
-        ap (λ (s : Super). dinode_at (j % 16) (recovered new (s.inodestart + j / 16))) put.block.sizes
-        ∙ ap (λ (c : ℕ). dinode_at (j % 16) (recovered new c)) (sym e)
-        ∙ put.others (j % 16) (omega arith) (λ r. ne (omega (arith, e, r)))
-        ∙ ap (λ (c : ℕ). dinode_at (j % 16) (recovered disk c)) e
+        ap (λ (s : Super). dinode_at (j % inodes_per_block) (recovered new (s.inodestart + j / inodes_per_block))) put.block.sizes
+        ∙ ap (λ (c : ℕ). dinode_at (j % inodes_per_block) (recovered new c)) (sym e)
+        ∙ put.others (j % inodes_per_block) (omega arith) (λ r. ne (omega (arith, e, r)))
+        ∙ ap (λ (c : ℕ). dinode_at (j % inodes_per_block) (recovered disk c)) e
   ]
 
 pub inode_leaves : (disk new : List (List ℕ)) (owner : ℕ → ℕ) (i : ℕ) (d : Dinode) → UpToLog disk → i < (sizes_of disk).ninodes → IsInodePut disk new i d → LeavesOthers disk new owner owner i

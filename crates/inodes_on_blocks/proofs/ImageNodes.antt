@@ -1,5 +1,5 @@
 -- A well-formed image holds the nodes of its tree.
-use Rattle.inodes_on_blocks.proofs.Vocabulary.{get_or, ◌≡◌, ◌≢◌, ◌⊎◌, ⊎_elim, ℕ, zero, suc, ◌+◌, ◌*◌, ◌/◌, ◌<◌, ◌≤◌, true, false, ℤ, pos, negsuc, inl, inr, refl, sym, ◌∙◌, ap, subst, arith, List, [], ◌∷◌, length, length-append, map, slice_index, Option, Some, None, ints, nat_lt, ◌≤ℤ◌, if◌then◌else◌, All, false≢true, eqb-true, cases_lt, nat_tests, length-map, get_or_past, All-head, All-tail, Dinode, Free, Used, HasWholeBlocks, block_at, logged, recovered, sizes_of, length-logged, place_of_cases, Node, NodeKind, File, Device, tree_of, inode_of, is_number, is_positive, is_free, is_directory, is_live, is_node, is_live_directory, numbers_of, block_number, content_block, blocks_for, front_blocks, content_of, slot_on as slot_at, first_slots, slots_of, IsData, HasGoodNumbers, HasGoodTypes, HasGoodSizes, HasGoodSlots, UpToLog, IsWellFormed, slot_of, is_file, count_of, node_of, tree_in, node_is, node_from, directory_from, numbers_by_node, either, type_in, size_in, IsDevice, IsRecord, entry_of, HasContent, HasContentOf, Holds, AreNodesOf, live_part, owner_in, first_slots_by, kind_by}
+use Rattle.inodes_on_blocks.proofs.Vocabulary.{get_or, ◌≡◌, ◌≢◌, ◌⊎◌, ⊎_elim, ℕ, zero, suc, ◌+◌, ◌*◌, ◌/◌, ◌<◌, ◌≤◌, true, false, ℤ, pos, negsuc, inl, inr, refl, sym, ◌∙◌, ap, subst, arith, List, [], ◌∷◌, length, length-append, map, slice_index, Option, Some, None, ints, nat_lt, ◌≤ℤ◌, if◌then◌else◌, All, false≢true, eqb-true, cases_lt, nat_tests, length-map, get_or_past, All-head, All-tail, Dinode, Free, Used, HasWholeBlocks, block_at, logged, recovered, sizes_of, length-logged, place_of_cases, Node, NodeKind, File, Device, tree_of, inode_of, is_number, is_positive, is_free, is_directory, is_live, is_node, is_live_directory, numbers_of, block_number, content_block, blocks_for, front_blocks, content_of, slot_on as slot_at, first_slots, slots_of, IsData, HasGoodNumbers, HasGoodTypes, HasGoodSizes, HasGoodSlots, UpToLog, IsWellFormed, slot_of, is_file, count_of, node_of, tree_in, node_is, node_from, directory_from, numbers_by_node, either, type_in, size_in, IsDevice, IsRecord, entry_of, HasContent, HasContentOf, Holds, AreNodesOf, live_part, owner_in, first_slots_by, kind_by, block_len, direct, dirent_len}
 use Rattle.std.proofs.lemmas.List.{length-take}
 use Rattle.fs_layout.specs.Recovered.{place_of}
 use Rattle.image_tree.specs.VersionOne.{kind_of}
@@ -51,15 +51,15 @@ length_slots disk d (suc n) = omega (arith, length-append (first_slots disk d n)
 
 -- ---- bytes
 
-pub length_front : (disk : List (List ℕ)) (d : Dinode) (n : ℕ) → ((k : ℕ) → k < n → length (content_block disk d k) ≡ 1024) → length (front_blocks disk d n) ≡ 1024 * n
+pub length_front : (disk : List (List ℕ)) (d : Dinode) (n : ℕ) → ((k : ℕ) → k < n → length (content_block disk d k) ≡ block_len) → length (front_blocks disk d n) ≡ block_len * n
 unfolding front_blocks
 length_front disk d zero all = refl
 length_front disk d (suc n) all =
     omega (arith, length-append (front_blocks disk d n) (content_block disk d n), length_front disk d n (λ k l. all k (omega arith)), all n (omega arith))
 
-length_content : (disk : List (List ℕ)) (d : Dinode) → ((k : ℕ) → 1024 * k < d.size → length (content_block disk d k) ≡ 1024) → length (content_of disk d) ≡ d.size
+length_content : (disk : List (List ℕ)) (d : Dinode) → ((k : ℕ) → block_len * k < d.size → length (content_block disk d k) ≡ block_len) → length (content_of disk d) ≡ d.size
 length_content disk d all =
-    let long : length (front_blocks disk d (blocks_for d.size)) ≡ 1024 * blocks_for d.size = length_front disk d (blocks_for d.size) (λ k l. all k (omega arith)) in
+    let long : length (front_blocks disk d (blocks_for d.size)) ≡ block_len * blocks_for d.size = length_front disk d (blocks_for d.size) (λ k l. all k (omega arith)) in
     omega (arith, length-take d.size (front_blocks disk d (blocks_for d.size)), long)
 
 -- ---- kinds
@@ -93,7 +93,7 @@ at_index P ns k all ne =
     (cases_lt k (length ns))
 
 -- a block of the disk, its own or a copy in the log, is whole
-pub whole_data : (disk : List (List ℕ)) (b : ℕ) → HasWholeBlocks disk → UpToLog disk → IsData (sizes_of disk) b → length (recovered disk b) ≡ 1024
+pub whole_data : (disk : List (List ℕ)) (b : ℕ) → HasWholeBlocks disk → UpToLog disk → IsData (sizes_of disk) b → length (recovered disk b) ≡ block_len
 unfolding recovered
 whole_data disk b whole front block =
     let size = front.0.1 in
@@ -128,14 +128,14 @@ module _ (disk : List (List ℕ)) (whole : HasWholeBlocks disk) (well : IsWellFo
   some_inodes : 2 ≤ (sizes_of disk).ninodes
   some_inodes = well.0.0.0.0.0.0.0.0.0.0.0.1.1.few_inodes
 
-  whole_block : (i k : ℕ) → is_node disk i ≡ true → 1024 * k < (inode_of disk i).size → length (content_block disk (inode_of disk i) k) ≡ 1024
+  whole_block : (i k : ℕ) → is_node disk i ≡ true → block_len * k < (inode_of disk i).size → length (content_block disk (inode_of disk i) k) ≡ block_len
   unfolding content_block
   whole_block i k node l =
       let at = node_is disk i node in
       let own : All (λ b. b ≢ 0 → IsData (sizes_of disk) b) (numbers_of disk (inode_of disk i)) =
       subst (All (λ b. b ≢ 0 → IsData (sizes_of disk) b)) (numbers_by_node disk i at.used) (numbers i at.low at.bound) in
       whole_data disk (block_number (numbers_of disk (inode_of disk i)) k) whole well.0.0.0.0.0.0.0.0.0
-      (at_index (IsData (sizes_of disk)) (numbers_of disk (inode_of disk i)) (if nat_lt k 12 then k else k + 1) own ((sizes i node).named k l))
+      (at_index (IsData (sizes_of disk)) (numbers_of disk (inode_of disk i)) (if nat_lt k direct then k else k + 1) own ((sizes i node).named k l))
 
   directory_says : (i : ℕ) → is_node disk i ≡ true → is_live (inode_of disk i) ≡ true → (inode_of disk i).kind ≡ pos 1 → Says disk (inode_of disk i) (kind_of disk (inode_of disk i))
   directory_says i node live e =
@@ -148,7 +148,7 @@ module _ (disk : List (List ℕ)) (whole : HasWholeBlocks disk) (well : IsWellFo
       subst (Says disk (inode_of disk i)) (sym (kind_of_directory disk (inode_of disk i) directory))
       (record {
         kind = e;
-        size = omega (arith, rest, length-map entries slot_of, length_slots disk (inode_of disk i) ((inode_of disk i).size / 16));
+        size = omega (arith, rest, length-map entries slot_of, length_slots disk (inode_of disk i) ((inode_of disk i).size / dirent_len));
         device = tt;
         content = spelled_again entries all;
       })

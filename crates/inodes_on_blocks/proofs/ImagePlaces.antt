@@ -1,5 +1,5 @@
 -- Lists of block numbers in which each stands once, and 0 stands for none.
-use Rattle.inodes_on_blocks.proofs.Vocabulary.{◌≡◌, ◌≢◌, ⊎_elim, ℕ, zero, suc, ◌+◌, ◌<◌, ◌≤◌, true, false, eqb, inl, inr, refl, sym, ◌∙◌, ap, subst, arith, List, [], ◌∷◌, length, filter, get_or, slice_index, nat_lt, if◌then◌else◌, All, Contains, cases_lt, nat_tests, get_or_past, IsOnce, times, is_block, block_number, once_nil, either, same_or, eq_self, one_yes}
+use Rattle.inodes_on_blocks.proofs.Vocabulary.{◌≡◌, ◌≢◌, ⊎_elim, ℕ, zero, suc, ◌+◌, ◌<◌, ◌≤◌, true, false, eqb, inl, inr, refl, sym, ◌∙◌, ap, subst, arith, List, [], ◌∷◌, length, filter, get_or, slice_index, nat_lt, if◌then◌else◌, All, Contains, cases_lt, nat_tests, get_or_past, IsOnce, times, is_block, block_number, once_nil, either, same_or, eq_self, one_yes, direct}
 use Rattle.inodes_on_blocks.proofs.Lists.{times_cons, times_filtered, filter_keeps, filter_drops}
 use Rattle.inodes_on_blocks.proofs.ImageBlocks.{place_times, once_times, block_true}
 use Rattle.inodes_on_blocks.proofs.HeldTree.{pairs_cons}
@@ -84,30 +84,30 @@ once_by_places (x ∷ ns) h =
 -- ---- where the number of block k stands
 
 unfoldable pub place : ℕ → ℕ
-place k = if nat_lt k 12 then k else k + 1
+place k = if nat_lt k direct then k else k + 1
 
 pub number_place : (ns : List ℕ) (k : ℕ) → block_number ns k ≡ slice_index ns (place k)
 unfolding place
 number_place ns k = refl
 
-pub place_low : (k : ℕ) → k < 12 → place k ≡ k
+pub place_low : (k : ℕ) → k < direct → place k ≡ k
 unfolding place
-place_low k l = let is : nat_lt k 12 ≡ true = grind (arith, nat_tests) in rw is refl
+place_low k l = let is : nat_lt k direct ≡ true = grind (arith, nat_tests) in rw is refl
 
-pub place_high : (k : ℕ) → 12 ≤ k → place k ≡ k + 1
+pub place_high : (k : ℕ) → direct ≤ k → place k ≡ k + 1
 unfolding place
-place_high k l = let is : nat_lt k 12 ≡ false = grind (arith, nat_tests) in rw is refl
+place_high k l = let is : nat_lt k direct ≡ false = grind (arith, nat_tests) in rw is refl
 
-pub place_apart : (k : ℕ) → place k ≢ 12
+pub place_apart : (k : ℕ) → place k ≢ direct
 place_apart k e =
     ⊎_elim
-    (λ (l : k < 12). absurd (omega (arith, e, l, place_low k l)))
-    (λ (l : 12 ≤ k). absurd (omega (arith, e, l, place_high k l)))
-    (cases_lt k 12)
+    (λ (l : k < direct). absurd (omega (arith, e, l, place_low k l)))
+    (λ (l : direct ≤ k). absurd (omega (arith, e, l, place_high k l)))
+    (cases_lt k direct)
 
 pub place_same : (k l : ℕ) → place k ≡ place l → k ≡ l
 place_same k l e =
     ⊎_elim
-    (λ (a : k < 12). ⊎_elim (λ (b : l < 12). omega (arith, e, place_low k a, place_low l b)) (λ (b : 12 ≤ l). omega (arith, e, place_low k a, place_high l b, a, b)) (cases_lt l 12))
-    (λ (a : 12 ≤ k). ⊎_elim (λ (b : l < 12). omega (arith, e, place_high k a, place_low l b, a, b)) (λ (b : 12 ≤ l). omega (arith, e, place_high k a, place_high l b)) (cases_lt l 12))
-    (cases_lt k 12)
+    (λ (a : k < direct). ⊎_elim (λ (b : l < direct). omega (arith, e, place_low k a, place_low l b)) (λ (b : direct ≤ l). omega (arith, e, place_low k a, place_high l b, a, b)) (cases_lt l direct))
+    (λ (a : direct ≤ k). ⊎_elim (λ (b : l < direct). omega (arith, e, place_high k a, place_low l b, a, b)) (λ (b : direct ≤ l). omega (arith, e, place_high k a, place_high l b)) (cases_lt l direct))
+    (cases_lt k direct)

@@ -1,5 +1,5 @@
 -- Bytes of a file that are put, within its size or from it on.
-use Rattle.inodes_on_blocks.proofs.Vocabulary.{◌≡◌, ◌≢◌, ⊎_elim, ℕ, zero, suc, ◌+◌, ◌-◌, ◌*◌, ◌<◌, ◌≤◌, inl, inr, refl, sym, ◌∙◌, ap, subst, arith, List, [], ◌∷◌, ◌++◌, length, length-append, length-take, take, drop, append_assoc, max, nat_lt, if◌then◌else◌, cases_lt, take-take, take_all, drop_all, take-append-le, drop-append-le, HasWholeBlocks, Dinode, overwrite, Node, File, numbers_of, block_number, content_block, blocks_for, front_blocks, content_of, largest_size, UpToLog, same_or, IsOwned, IsBytesPut, IsLaidOut, Becomes}
+use Rattle.inodes_on_blocks.proofs.Vocabulary.{◌≡◌, ◌≢◌, ⊎_elim, ℕ, zero, suc, ◌+◌, ◌-◌, ◌*◌, ◌<◌, ◌≤◌, inl, inr, refl, sym, ◌∙◌, ap, subst, arith, List, [], ◌∷◌, ◌++◌, length, length-append, length-take, take, drop, append_assoc, max, nat_lt, if◌then◌else◌, cases_lt, take-take, take_all, drop_all, take-append-le, drop-append-le, HasWholeBlocks, Dinode, overwrite, Node, File, numbers_of, block_number, content_block, blocks_for, front_blocks, content_of, largest_size, UpToLog, same_or, IsOwned, IsBytesPut, IsLaidOut, Becomes, block_len, direct}
 use Rattle.std.proofs.Common.{length-drop}
 use Rattle.inodes_on_blocks.proofs.Basics.{length_front, whole_data, at_index, block_of, addrs_alone, block_alone}
 use Rattle.inodes_on_blocks.proofs.LaidContent.{this_block, other_block, becomes}
@@ -39,24 +39,24 @@ take_over (suc at) (suc n) (x ∷ xs) bs l m =
 
 -- ---- the blocks of a file
 
-front_over : (disk new : List (List ℕ)) (d : Dinode) (k at : ℕ) (bs : List ℕ) → at + length bs ≤ 1024 → content_block new d k ≡ overwrite (content_block disk d k) at bs
-    → ((l : ℕ) → l ≢ k → content_block new d l ≡ content_block disk d l) → (n : ℕ) → ((l : ℕ) → l < n → length (content_block disk d l) ≡ 1024)
-    → (k < n → front_blocks new d n ≡ overwrite (front_blocks disk d n) (1024 * k + at) bs) × (n ≤ k → front_blocks new d n ≡ front_blocks disk d n)
+front_over : (disk new : List (List ℕ)) (d : Dinode) (k at : ℕ) (bs : List ℕ) → at + length bs ≤ block_len → content_block new d k ≡ overwrite (content_block disk d k) at bs
+    → ((l : ℕ) → l ≢ k → content_block new d l ≡ content_block disk d l) → (n : ℕ) → ((l : ℕ) → l < n → length (content_block disk d l) ≡ block_len)
+    → (k < n → front_blocks new d n ≡ overwrite (front_blocks disk d n) (block_len * k + at) bs) × (n ≤ k → front_blocks new d n ≡ front_blocks disk d n)
 unfolding front_blocks
 front_over disk new d k at bs fits this others zero long = (λ l. absurd (omega arith), λ _. refl)
 front_over disk new d k at bs fits this others (suc n) long =
     let ih = front_over disk new d k at bs fits this others n (λ l m. long l (omega arith)) in
     let front : List ℕ = front_blocks disk d n in
-    let many : length front ≡ 1024 * n = length_front disk d n (λ l m. long l (omega arith)) in (
+    let many : length front ≡ block_len * n = length_front disk d n (λ l m. long l (omega arith)) in (
       λ l. elim (same_or k n) [
         | inr ne ↦
             ap (λ (xs : List ℕ). xs ++ content_block new d n) (ih.0 (omega (arith, l, ne)))
-            ∙ ap (λ (xs : List ℕ). overwrite front (1024 * k + at) bs ++ xs) (others n (λ e. ne (sym e)))
-            ∙ sym (over_left (1024 * k + at) front (content_block disk d n) bs (omega (arith, l, ne, many, fits)))
+            ∙ ap (λ (xs : List ℕ). overwrite front (block_len * k + at) bs ++ xs) (others n (λ e. ne (sym e)))
+            ∙ sym (over_left (block_len * k + at) front (content_block disk d n) bs (omega (arith, l, ne, many, fits)))
         | inl e ↦
             ap (λ (xs : List ℕ). xs ++ content_block new d n) (ih.1 (omega (arith, e)))
             ∙ ap (λ (xs : List ℕ). front ++ xs) (subst (λ (m : ℕ). content_block new d m ≡ overwrite (content_block disk d m) at bs) e this)
-            ∙ sym (over_right (1024 * k) at front (content_block disk d n) bs (omega (arith, many, e)))
+            ∙ sym (over_right (block_len * k) at front (content_block disk d n) bs (omega (arith, many, e)))
       ],
       λ l.
           ap (λ (xs : List ℕ). xs ++ content_block new d n) (ih.1 (omega arith))
@@ -71,15 +71,15 @@ front_by disk d e addrs (suc n) =
     ap (λ (xs : List ℕ). xs ++ content_block disk e n) (front_by disk d e addrs n) ∙ ap (λ (xs : List ℕ). front_blocks disk d n ++ xs) (block_alone disk d e addrs n)
 
 -- fewer blocks are the front of more
-fewer_blocks : (disk : List (List ℕ)) (d : Dinode) (m n : ℕ) → ((l : ℕ) → l < m + n → length (content_block disk d l) ≡ 1024) → take (1024 * m) (front_blocks disk d (m + n)) ≡ front_blocks disk d m
+fewer_blocks : (disk : List (List ℕ)) (d : Dinode) (m n : ℕ) → ((l : ℕ) → l < m + n → length (content_block disk d l) ≡ block_len) → take (block_len * m) (front_blocks disk d (m + n)) ≡ front_blocks disk d m
 unfolding front_blocks
 fewer_blocks disk d m zero long =
     let z : m + zero ≡ m = omega arith in
-    ap (λ (k : ℕ). take (1024 * m) (front_blocks disk d k)) z ∙ take_all (1024 * m) (front_blocks disk d m) (omega (arith, length_front disk d m (λ l h. long l (omega (arith, h)))))
+    ap (λ (k : ℕ). take (block_len * m) (front_blocks disk d k)) z ∙ take_all (block_len * m) (front_blocks disk d m) (omega (arith, length_front disk d m (λ l h. long l (omega (arith, h)))))
 fewer_blocks disk d m (suc n) long =
     let z : m + suc n ≡ suc (m + n) = omega arith in
-    ap (λ (k : ℕ). take (1024 * m) (front_blocks disk d k)) z
-    ∙ take-append-le (1024 * m) (front_blocks disk d (m + n)) (content_block disk d (m + n)) (omega (arith, length_front disk d (m + n) (λ l h. long l (omega (arith, h)))))
+    ap (λ (k : ℕ). take (block_len * m) (front_blocks disk d k)) z
+    ∙ take-append-le (block_len * m) (front_blocks disk d (m + n)) (content_block disk d (m + n)) (omega (arith, length_front disk d (m + n) (λ l h. long l (omega (arith, h)))))
     ∙ fewer_blocks disk d m n (λ l h. long l (omega (arith, h)))
 
 length_grown : (at : ℕ) (xs ws : List ℕ) → at ≤ length xs → length (overwrite xs at ws) ≡ max (length xs) (at + length ws)
@@ -106,39 +106,40 @@ over_front whole bytes ws at size is within start fits =
         (cases_lt size (at + length ws))
 
 module _ (disk new : List (List ℕ)) (owner : ℕ → ℕ) (i k at count : ℕ) (bytes written : List ℕ) (d : Dinode) (whole : HasWholeBlocks disk) (front : UpToLog disk)
-    (h : IsLaidOut disk owner i d (record { count = count; kind = File bytes })) (put : IsBytesPut disk new d k at written) (start : 1024 * k + at ≤ length bytes)
-    (limit : 1024 * k + at + length written ≤ largest_size) where
+    (h : IsLaidOut disk owner i d (record { count = count; kind = File bytes })) (put : IsBytesPut disk new d k at written) (start : block_len * k + at ≤ length bytes)
+    (limit : block_len * k + at + length written ≤ largest_size) where
   abbrev was : Node
   was = record { count = count; kind = File bytes }
 
   abbrev now : Node
-  now = record { count = count; kind = File (overwrite bytes (1024 * k + at) written) }
+  now = record { count = count; kind = File (overwrite bytes (block_len * k + at) written) }
 
   abbrev size : ℕ
-  size = max d.size (1024 * k + at + length written)
+  size = max d.size (block_len * k + at + length written)
 
   abbrev e : Dinode
-  e = record d { size = max d.size (1024 * k + at + length written) }
+  e = record d { size = max d.size (block_len * k + at + length written) }
 
-  there : (l : ℕ) → 1024 * l < size → block_number (numbers_of disk d) l ≢ 0
+  there : (l : ℕ) → block_len * l < size → block_number (numbers_of disk d) l ≢ 0
   there l m = elim (same_or l k) [
     | inl is ↦ subst (λ (n : ℕ). block_number (numbers_of disk d) n ≢ 0) (sym is) put.some
     | inr ne ↦ let was_size = h.inode.size in let room = put.room in h.room.there l (omega (arith, was_size, room, m, start, ne))
   ]
 
-  long : (l : ℕ) → l < blocks_for size → length (content_block disk d l) ≡ 1024
+  long : (l : ℕ) → l < blocks_for size → length (content_block disk d l) ≡ block_len
   long l m =
       ap length (block_of disk d l)
       ∙ whole_data disk (block_number (numbers_of disk d) l) whole front
-      (at_index (IsOwned disk owner i) (numbers_of disk d) (if nat_lt l 12 then l else l + 1) h.owned (there l (omega (arith, m)))).block
+      (at_index (IsOwned disk owner i) (numbers_of disk d) (if nat_lt l direct then l else l + 1) h.owned
+      (there l (omega (arith, m)))).block
 
   abbrev all : List ℕ
   all = front_blocks disk d (blocks_for size)
 
-  many : length all ≡ 1024 * blocks_for size
+  many : length all ≡ block_len * blocks_for size
   many = length_front disk d (blocks_for size) long
 
-  written_over : front_blocks new d (blocks_for size) ≡ overwrite all (1024 * k + at) written
+  written_over : front_blocks new d (blocks_for size) ≡ overwrite all (block_len * k + at) written
   written_over =
       let bytes_in = put.some_bytes in
       (front_over disk new d k at written put.room
@@ -153,23 +154,23 @@ module _ (disk new : List (List ℕ)) (owner : ℕ → ℕ) (i k at count : ℕ)
       let split : m + n ≡ blocks_for size = omega arith in
       sym h.content
       ∙ ap (take d.size) (sym (fewer_blocks disk d m n (λ l o. long l (omega (arith, o, split)))))
-      ∙ take-take d.size (1024 * m) (front_blocks disk d (m + n)) (omega arith)
+      ∙ take-take d.size (block_len * m) (front_blocks disk d (m + n)) (omega arith)
       ∙ ap (λ (k : ℕ). take d.size (front_blocks disk d k)) split
 
-  content_now : content_of new e ≡ overwrite bytes (1024 * k + at) written
+  content_now : content_of new e ≡ overwrite bytes (block_len * k + at) written
   content_now =
       let was_size = h.inode.size in
       let bytes_in = put.some_bytes in
       let room = put.room in
       ap (take size) (front_by new d e refl (blocks_for size) ∙ written_over)
-      ∙ over_front all bytes written (1024 * k + at) d.size before (omega (arith, many)) (omega (arith, was_size, start)) (omega (arith, many))
+      ∙ over_front all bytes written (block_len * k + at) d.size before (omega (arith, many)) (omega (arith, was_size, start)) (omega (arith, many))
 
   pub bytes_laid : Becomes disk new owner owner i d e now
   bytes_laid =
       let is = h.inode in
       let was_size = is.size in
       becomes disk new owner i k d was h put.some put.block e now refl
-      (record { kind = is.kind; count = is.count; size = omega (arith, was_size, length_grown (1024 * k + at) bytes written start); device = tt })
+      (record { kind = is.kind; count = is.count; size = omega (arith, was_size, length_grown (block_len * k + at) bytes written start); device = tt })
       content_now
       (record {
         limit = (let room = h.room.limit in omega (arith, room, limit));

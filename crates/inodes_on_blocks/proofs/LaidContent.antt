@@ -1,5 +1,5 @@
 -- A put of a block of an inode's content changes it there alone.
-use Rattle.inodes_on_blocks.proofs.Vocabulary.{◌≡◌, ◌≢◌, ⊎_elim, ℕ, sym, ◌∙◌, ap, subst, List, ◌++◌, filter, get_or, slice_index, All, cases_eq, get_or_append_left, Super, Dinode, u32s_at, recovered, Node, IsOnce, is_block, numbers_of, block_number, content_block, IsData, numbers_without, numbers_with, HasContent, IsInode, IsOwned, IsPut, IsLaidOut, Becomes}
+use Rattle.inodes_on_blocks.proofs.Vocabulary.{◌≡◌, ◌≢◌, ⊎_elim, ℕ, sym, ◌∙◌, ap, subst, List, ◌++◌, filter, get_or, slice_index, All, cases_eq, get_or_append_left, Super, Dinode, u32s_at, recovered, Node, IsOnce, is_block, numbers_of, block_number, content_block, IsData, numbers_without, numbers_with, HasContent, IsInode, IsOwned, IsPut, IsLaidOut, Becomes, direct, numbers_per_block}
 use Rattle.inodes_on_blocks.specs.Holds.{HasRoom}
 use Rattle.inodes_on_blocks.proofs.Basics.{block_of, named_kept, spare_kept, addrs_alone, within, one_place, place, number_place, place_apart, place_same}
 
@@ -15,14 +15,14 @@ module _ (disk new : List (List ℕ)) (owner : ℕ → ℕ) (i k : ℕ) (d : Din
   pub numbers_stay : numbers_of new d ≡ ns
   numbers_stay =
       ⊎_elim
-      (λ (e : slice_index d.addrs 12 ≡ 0). numbers_without new d e ∙ sym (numbers_without disk d e))
-      (λ (some : slice_index d.addrs 12 ≢ 0).
+      (λ (e : slice_index d.addrs direct ≡ 0). numbers_without new d e ∙ sym (numbers_without disk d e))
+      (λ (some : slice_index d.addrs direct ≢ 0).
       let with = numbers_with disk d some in
-      let there : slice_index ns 12 ≡ slice_index d.addrs 12 =
-      ap (λ (xs : List ℕ). slice_index xs 12) with ∙ get_or_append_left d.addrs (u32s_at 256 (recovered disk (slice_index d.addrs 12)) 0) 0 12 (within d.addrs 12 some) in
-      let same = put.others (slice_index d.addrs 12) (λ e. place_apart k (alone 12 (there ∙ e))) in
-      numbers_with new d some ∙ ap (λ (bytes : List ℕ). d.addrs ++ u32s_at 256 bytes 0) same ∙ sym with)
-      (cases_eq (slice_index d.addrs 12) 0)
+      let there : slice_index ns direct ≡ slice_index d.addrs direct =
+      ap (λ (xs : List ℕ). slice_index xs direct) with ∙ get_or_append_left d.addrs (u32s_at numbers_per_block (recovered disk (slice_index d.addrs direct)) 0) 0 direct (within d.addrs direct some) in
+      let same = put.others (slice_index d.addrs direct) (λ e. place_apart k (alone direct (there ∙ e))) in
+      numbers_with new d some ∙ ap (λ (bytes : List ℕ). d.addrs ++ u32s_at numbers_per_block bytes 0) same ∙ sym with)
+      (cases_eq (slice_index d.addrs direct) 0)
 
   pub this_block : content_block new d k ≡ recovered new (block_number ns k)
   this_block = block_of new d k ∙ ap (λ (xs : List ℕ). recovered new (block_number xs k)) numbers_stay

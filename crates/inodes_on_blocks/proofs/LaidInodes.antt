@@ -1,5 +1,5 @@
 -- An inode before it is changed, and when it is put.
-use Rattle.inodes_on_blocks.proofs.Vocabulary.{◌≡◌, ◌≢◌, ℕ, ◌<◌, ◌≤◌, true, ℤ, pos, ◌≤ℤ◌, refl, sym, ◌∙◌, ap, subst, ⊎_elim, arith, List, [], ◌∷◌, length, filter, slice_index, Some, None, All, Contains, cases_lt, get_or_past, ints, All-nil, Super, Dinode, recovered, sizes_of, Node, NodeKind, Directory, File, Device, IsOnce, inode_of, is_number, is_free, is_block, numbers_of, numbers_by, block_number, content_block, IsData, UpToLog, once_nil, numbers_by_node, numbers_by_free, numbers_without, type_in, size_in, IsDevice, IsInode, IsRecord, HasContent, HasContentOf, IsOwned, NamesOwned, HoldsAt, IsInodePut, IsLaidOut, Becomes, first_slots_by}
+use Rattle.inodes_on_blocks.proofs.Vocabulary.{◌≡◌, ◌≢◌, ℕ, ◌<◌, ◌≤◌, true, ℤ, pos, ◌≤ℤ◌, refl, sym, ◌∙◌, ap, subst, ⊎_elim, arith, List, [], ◌∷◌, length, filter, slice_index, Some, None, All, Contains, cases_lt, get_or_past, ints, All-nil, Super, Dinode, recovered, sizes_of, Node, NodeKind, Directory, File, Device, IsOnce, inode_of, is_number, is_free, is_block, numbers_of, numbers_by, block_number, content_block, IsData, UpToLog, once_nil, numbers_by_node, numbers_by_free, numbers_without, type_in, size_in, IsDevice, IsInode, IsRecord, HasContent, HasContentOf, IsOwned, NamesOwned, HoldsAt, IsInodePut, IsLaidOut, Becomes, first_slots_by, direct}
 use Rattle.inodes_on_blocks.specs.Holds.{HasRoom}
 use Rattle.inodes_on_blocks.specs.Puts.{inode_block}
 use Rattle.inodes_on_blocks.proofs.Held.{inode_used}
@@ -130,7 +130,7 @@ module _ (disk : List (List ℕ)) (owner : ℕ → ℕ) (i : ℕ) (d : Dinode) (
   no_number k = ⊎_elim (λ (l : k < length d.addrs). none k 0 l) (λ (m : length d.addrs ≤ k). get_or_past d.addrs k 0 m) (cases_lt k (length d.addrs))
 
   numbers_empty : numbers_of disk d ≡ d.addrs
-  numbers_empty = numbers_without disk d (no_number 12)
+  numbers_empty = numbers_without disk d (no_number direct)
 
   content_empty : (k : NodeKind) → size_in k ≡ 0 → d.size ≡ 0 → HasContent disk d k
   unfolding first_slots_by

@@ -1,5 +1,5 @@
 -- An inode that comes to name one more block.
-use Rattle.inodes_on_blocks.proofs.Vocabulary.{◌≡◌, ◌≢◌, ⊎_elim, ℕ, zero, suc, ◌+◌, ◌-◌, ◌*◌, ◌^◌, ◌<◌, ◌≤◌, inl, inr, refl, sym, ◌∙◌, ap, subst, arith, List, [], ◌∷◌, ◌++◌, length, set, get_or, slice_index, replicate, get_or-set_other, get_or-set_same, nat_lt, if◌then◌else◌, flat_map, All, Contains, cases_lt, get_or_append_left, get_or-append_right, length-replicate, append-nil, All-replicate, recursion_from_All, Super, Dinode, u32_bytes, u32s_at, recovered, sizes_of, length-u32s_at, u32s_at-bytes, Node, numbers_of, block_number, IsData, numbers_without, numbers_with, same_or, IsOwned, IsNumberPut, IsLaidOut, IsSpare, Names}
+use Rattle.inodes_on_blocks.proofs.Vocabulary.{◌≡◌, ◌≢◌, ⊎_elim, ℕ, zero, suc, ◌+◌, ◌-◌, ◌*◌, ◌^◌, ◌<◌, ◌≤◌, inl, inr, refl, sym, ◌∙◌, ap, subst, arith, List, [], ◌∷◌, ◌++◌, length, set, get_or, slice_index, replicate, get_or-set_other, get_or-set_same, nat_lt, if◌then◌else◌, flat_map, All, Contains, cases_lt, get_or_append_left, get_or-append_right, length-replicate, append-nil, All-replicate, recursion_from_All, Super, Dinode, u32_bytes, u32s_at, recovered, sizes_of, length-u32s_at, u32s_at-bytes, Node, numbers_of, block_number, IsData, numbers_without, numbers_with, same_or, IsOwned, IsNumberPut, IsLaidOut, IsSpare, Names, addresses, block_len, direct, numbers_per_block}
 use Rattle.std.proofs.lemmas.List.{length-set}
 use Rattle.inodes_on_blocks.proofs.Basics.{at_index, block_of, content_same, device_kept, HasPlaces, within, one_place, once_by_places, all_by_places, contains_at, contains_place, place, number_place, place_apart}
 
@@ -63,12 +63,12 @@ module _ (disk new : List (List ℕ)) (owner : ℕ → ℕ) (i p b : ℕ) (d e :
   some z = let past = spare.owned.block.0 in absurd (omega (arith, z, past))
 
   number_stays : (k : ℕ) → block_number (numbers_of disk d) k ≢ 0 → block_number (numbers_of new e) k ≡ block_number (numbers_of disk d) k
-  number_stays k ne = stays (numbers_of disk d) (numbers_of new e) p b sets some (if nat_lt k 12 then k else k + 1) ne
+  number_stays k ne = stays (numbers_of disk d) (numbers_of new e) p b sets some (if nat_lt k direct then k else k + 1) ne
 
   block_stays : IsOwned disk owner i b → (c : ℕ) → IsOwned disk owner i c → IsOwned new owner i c
   block_stays _ c own = record { block = subst (λ (s : Super). IsData s c) (sym sizes) own.block; owner_is = own.owner_is }
 
-  inside : (k : ℕ) → 1024 * k < e.size → block_number (numbers_of disk d) k ≢ 0
+  inside : (k : ℕ) → block_len * k < e.size → block_number (numbers_of disk d) k ≢ 0
   inside k l = let size = like.size in h.room.there k (omega (arith, l, size))
 
   pub names_more : Names disk new owner i b d e v
@@ -131,13 +131,13 @@ unfolding numbers_of
 numbers_split disk d = (_, refl)
 
 -- a direct one leaves the table
-direct_sets : (disk : List (List ℕ)) (d : Dinode) (p b : ℕ) → p < 12 → p < length d.addrs → slice_index d.addrs p ≡ 0 → Sets (numbers_of disk d) (numbers_of disk (numbered d p b)) p b
+direct_sets : (disk : List (List ℕ)) (d : Dinode) (p b : ℕ) → p < direct → p < length d.addrs → slice_index d.addrs p ≡ 0 → Sets (numbers_of disk d) (numbers_of disk (numbered d p b)) p b
 unfolding numbers_of
 direct_sets disk d p b low l free =
-    let table : slice_index (set d.addrs p b) 12 ≡ slice_index d.addrs 12 = get_or-set_other d.addrs p 12 b 0 (λ e. absurd (omega (arith, e, low))) in
+    let table : slice_index (set d.addrs p b) direct ≡ slice_index d.addrs direct = get_or-set_other d.addrs p direct b 0 (λ e. absurd (omega (arith, e, low))) in
     rw table (set_front d.addrs _ p b l (at_front d.addrs _ p l ∙ free))
 
-pub direct_named : (disk : List (List ℕ)) (owner : ℕ → ℕ) (i p b : ℕ) (d : Dinode) (v : Node) → IsLaidOut disk owner i d v → p < 12 → p < length d.addrs → slice_index d.addrs p ≡ 0
+pub direct_named : (disk : List (List ℕ)) (owner : ℕ → ℕ) (i p b : ℕ) (d : Dinode) (v : Node) → IsLaidOut disk owner i d v → p < direct → p < length d.addrs → slice_index d.addrs p ≡ 0
     → IsSpare disk owner i d b → Names disk disk owner i b d (record d { addrs = set d.addrs p b }) v
 direct_named disk owner i p b d v h low l free spare =
     names_more disk disk owner i p b d (numbered d p b) v h spare (alike d p b) (direct_sets disk d p b low l free) refl (λ k ne. refl)
@@ -168,31 +168,34 @@ zero_spelled (suc n) =
     ∙ ap (λ (bytes : List ℕ). 0 ∷ 0 ∷ 0 ∷ 0 ∷ bytes) (zero_spelled n)
     ∙ ap (λ (k : ℕ). replicate k 0) four
 
-no_numbers : u32s_at 256 (replicate 1024 0) 0 ≡ replicate 256 0
+no_numbers : u32s_at numbers_per_block (replicate block_len 0) 0 ≡ replicate numbers_per_block 0
 no_numbers =
-    let zeros : List ℕ = replicate 256 0 in
-    let count : length zeros ≡ 256 = length-replicate {A = ℕ} 256 0 in
-    ap (λ (bytes : List ℕ). u32s_at 256 bytes 0) (sym (append-nil (flat_map u32_bytes zeros) ∙ zero_spelled 256))
+    let zeros : List ℕ = replicate numbers_per_block 0 in
+    let count : length zeros ≡ numbers_per_block = length-replicate {A = ℕ} numbers_per_block 0 in
+    ap (λ (bytes : List ℕ). u32s_at numbers_per_block bytes 0)
+    (sym (append-nil (flat_map u32_bytes zeros) ∙ zero_spelled numbers_per_block))
     ∙ ap (λ (c : ℕ). u32s_at c (flat_map u32_bytes zeros ++ []) 0) (sym count)
-    ∙ u32s_at-bytes zeros [] (recursion_from_All (λ n. n < 2 ^ 32) zeros (All-replicate (λ n. n < 2 ^ 32) 256 0 (omega arith)))
+    ∙ u32s_at-bytes zeros [] (recursion_from_All (λ n. n < 2 ^ 32) zeros
+    (All-replicate (λ n. n < 2 ^ 32) numbers_per_block 0 (omega arith)))
 
-pub table_named : (disk : List (List ℕ)) (owner : ℕ → ℕ) (i b : ℕ) (d : Dinode) (v : Node) → IsLaidOut disk owner i d v → 12 < length d.addrs → slice_index d.addrs 12 ≡ 0
-    → IsSpare disk owner i d b → recovered disk b ≡ replicate 1024 0 → Names disk disk owner i b d (record d { addrs = set d.addrs 12 b }) v
+pub table_named : (disk : List (List ℕ)) (owner : ℕ → ℕ) (i b : ℕ) (d : Dinode) (v : Node) → IsLaidOut disk owner i d v → direct < length d.addrs → slice_index d.addrs direct ≡ 0
+    → IsSpare disk owner i d b → recovered disk b ≡ replicate block_len 0 → Names disk disk owner i b d (record d { addrs = set d.addrs direct b }) v
 table_named disk owner i b d v h l free spare zeros =
-    let e : Dinode = numbered d 12 b in
-    let is : slice_index e.addrs 12 ≡ b = get_or-set_same d.addrs 12 b 0 l in
+    let e : Dinode = numbered d direct b in
+    let is : slice_index e.addrs direct ≡ b = get_or-set_same d.addrs direct b 0 l in
     let past = spare.owned.block.0 in
     let with = numbers_with disk e (λ z. absurd (omega (arith, z, is, past))) in
-    let rest : u32s_at 256 (recovered disk (slice_index e.addrs 12)) 0 ≡ replicate 256 0 =
-    ap (λ (c : ℕ). u32s_at 256 (recovered disk c) 0) is ∙ ap (λ (bytes : List ℕ). u32s_at 256 bytes 0) zeros ∙ no_numbers in
-    let now : numbers_of disk e ≡ e.addrs ++ replicate 256 0 = with ∙ ap (λ (xs : List ℕ). e.addrs ++ xs) rest in
+    let rest : u32s_at numbers_per_block (recovered disk (slice_index e.addrs direct)) 0 ≡ replicate numbers_per_block 0 =
+    ap (λ (c : ℕ). u32s_at numbers_per_block (recovered disk c) 0) is ∙ ap (λ (bytes : List ℕ). u32s_at numbers_per_block bytes 0) zeros
+    ∙ no_numbers in
+    let now : numbers_of disk e ≡ e.addrs ++ replicate numbers_per_block 0 = with ∙ ap (λ (xs : List ℕ). e.addrs ++ xs) rest in
     let before : numbers_of disk d ≡ d.addrs = numbers_without disk d free in
-    names_more disk disk owner i 12 b d e v h spare (alike d 12 b)
+    names_more disk disk owner i direct b d e v h spare (alike d direct b)
     (record {
-      free = ap (λ (xs : List ℕ). slice_index xs 12) before ∙ free;
-      here = ap (λ (xs : List ℕ). slice_index xs 12) now ∙ zeros_behind e.addrs 256 12 ∙ is;
+      free = ap (λ (xs : List ℕ). slice_index xs direct) before ∙ free;
+      here = ap (λ (xs : List ℕ). slice_index xs direct) now ∙ zeros_behind e.addrs numbers_per_block direct ∙ is;
       there = λ q ne.
-          ap (λ (xs : List ℕ). slice_index xs q) now ∙ zeros_behind e.addrs 256 q ∙ get_or-set_other d.addrs 12 q b 0 ne ∙ ap (λ (xs : List ℕ). slice_index xs q) (sym before);
+          ap (λ (xs : List ℕ). slice_index xs q) now ∙ zeros_behind e.addrs numbers_per_block q ∙ get_or-set_other d.addrs direct q b 0 ne ∙ ap (λ (xs : List ℕ). slice_index xs q) (sym before);
     }) refl (λ k ne. refl)
 
 -- ---- a number in the table
@@ -214,19 +217,21 @@ set_behind xs ys p b l free = record {
     here : length xs + p - length xs ≡ p
     here = omega arith
 
-pub number_named : (disk new : List (List ℕ)) (owner : ℕ → ℕ) (i p b : ℕ) (d : Dinode) (v : Node) → IsLaidOut disk owner i d v → length d.addrs ≡ 13 → p < 256
-    → slice_index (numbers_of disk d) (13 + p) ≡ 0 → IsSpare disk owner i d b → IsNumberPut disk new d p b → Names disk new owner i b d d v
+pub number_named : (disk new : List (List ℕ)) (owner : ℕ → ℕ) (i p b : ℕ) (d : Dinode) (v : Node) → IsLaidOut disk owner i d v → length d.addrs ≡ addresses → p < numbers_per_block
+    → slice_index (numbers_of disk d) (addresses + p) ≡ 0 → IsSpare disk owner i d b → IsNumberPut disk new d p b
+    → Names disk new owner i b d d v
 number_named disk new owner i p b d v h long low free spare put =
-    let old : List ℕ = u32s_at 256 (recovered disk (slice_index d.addrs 12)) 0 in
+    let old : List ℕ = u32s_at numbers_per_block (recovered disk (slice_index d.addrs direct)) 0 in
     let before : numbers_of disk d ≡ d.addrs ++ old = numbers_with disk d put.some in
     let now : numbers_of new d ≡ d.addrs ++ set old p b = numbers_with new d put.some ∙ ap (λ (xs : List ℕ). d.addrs ++ xs) put.numbers in
-    let at : length d.addrs + p ≡ 13 + p = omega (arith, long) in
-    let none : slice_index (d.addrs ++ old) (length d.addrs + p) ≡ 0 = ap (slice_index (d.addrs ++ old)) at ∙ ap (λ (xs : List ℕ). slice_index xs (13 + p)) (sym before) ∙ free in
-    let table : slice_index (numbers_of disk d) 12 ≡ slice_index d.addrs 12 = ap (λ (xs : List ℕ). slice_index xs 12) before ∙ at_front d.addrs old 12 (omega (arith, long)) in
+    let at : length d.addrs + p ≡ addresses + p = omega (arith, long) in
+    let none : slice_index (d.addrs ++ old) (length d.addrs + p) ≡ 0 = ap (slice_index (d.addrs ++ old)) at ∙ ap (λ (xs : List ℕ). slice_index xs (addresses + p)) (sym before) ∙ free in
+    let table : slice_index (numbers_of disk d) direct ≡ slice_index d.addrs direct = ap (λ (xs : List ℕ). slice_index xs direct) before ∙ at_front d.addrs old direct (omega (arith, long)) in
     names_more disk new owner i (length d.addrs + p) b d d v h spare (record { kind = refl; major = refl; minor = refl; nlink = refl; size = refl })
     (subst (λ (xs : List ℕ). Sets xs (numbers_of new d) (length d.addrs + p) b) (sym before)
     (subst (λ (xs : List ℕ). Sets (d.addrs ++ old) xs (length d.addrs + p) b) (sym now)
-    (set_behind d.addrs old p b (omega (arith, low, length-u32s_at 256 (recovered disk (slice_index d.addrs 12)) 0)) none)))
+    (set_behind d.addrs old p b
+    (omega (arith, low, length-u32s_at numbers_per_block (recovered disk (slice_index d.addrs direct)) 0)) none)))
     put.block.sizes
     (λ k ne. put.block.others (block_number (numbers_of disk d) k)
-    (λ e. place_apart k (one_place (numbers_of disk d) (place k) 12 h.once (λ z. ne (number_place (numbers_of disk d) k ∙ z)) (sym (number_place (numbers_of disk d) k) ∙ e ∙ sym table))))
+    (λ e. place_apart k (one_place (numbers_of disk d) (place k) direct h.once (λ z. ne (number_place (numbers_of disk d) k ∙ z)) (sym (number_place (numbers_of disk d) k) ∙ e ∙ sym table))))

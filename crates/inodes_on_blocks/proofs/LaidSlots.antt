@@ -1,5 +1,5 @@
 -- A directory's slot that is put, or one more behind its last.
-use Rattle.inodes_on_blocks.proofs.Vocabulary.{◌≡◌, ◌≢◌, ℕ, zero, suc, ◌*◌, ◌/◌, ◌%◌, ◌<◌, ◌≤◌, inl, inr, refl, sym, ◌∙◌, ap, subst, arith, List, [], ◌∷◌, ◌++◌, length, length-append, length-take, take, drop, map, append_assoc, Option, Some, max, take_all, drop_all, take-append-le, drop-append-le, Dinode, Dirent, dirent_at, recovered, reads_back, others_stay, Slot, Node, Directory, numbers_of, block_number, content_block, slot_on as slot_at, first_slots, slots_of, largest_size, same_or, entry_of, IsSlotPut, IsLaidOut, slots_with, Becomes, slot_by, first_slots_by, One}
+use Rattle.inodes_on_blocks.proofs.Vocabulary.{◌≡◌, ◌≢◌, ℕ, zero, suc, ◌*◌, ◌/◌, ◌%◌, ◌<◌, ◌≤◌, inl, inr, refl, sym, ◌∙◌, ap, subst, arith, List, [], ◌∷◌, ◌++◌, length, length-append, length-take, take, drop, map, append_assoc, Option, Some, max, take_all, drop_all, take-append-le, drop-append-le, Dinode, Dirent, dirent_at, recovered, reads_back, others_stay, Slot, Node, Directory, numbers_of, block_number, content_block, slot_on as slot_at, first_slots, slots_of, largest_size, same_or, entry_of, IsSlotPut, IsLaidOut, slots_with, Becomes, slot_by, first_slots_by, One, block_len, dirent_len, dirents_per_block}
 use Rattle.std.proofs.Common.{length-drop}
 use Rattle.std.proofs.lemmas.List.{take_at}
 use Rattle.inodes_on_blocks.proofs.Basics.{length_slots, block_of, addrs_alone, block_alone}
@@ -7,7 +7,8 @@ use Rattle.inodes_on_blocks.proofs.LaidContent.{this_block, other_block, becomes
 
 -- ---- slots in a row
 
-slot_is : (disk : List (List ℕ)) (d : Dinode) (s : ℕ) → slot_at disk d s ≡ dirent_at (s % 64) (content_block disk d (s / 64))
+slot_is : (disk : List (List ℕ)) (d : Dinode) (s : ℕ)
+    → slot_at disk d s ≡ dirent_at (s % dirents_per_block) (content_block disk d (s / dirents_per_block))
 unfolding slot_by
 slot_is disk d s = refl
 
@@ -79,7 +80,7 @@ with_last xs ys s x long front many =
     ∙ ap (λ (zs : List (Option Dirent)). take s ys ++ x ∷ zs) (drop_all (suc s) xs (omega (arith, many)) ∙ sym (drop_all (suc s) ys (omega (arith, long))))
 
 module _ (disk new : List (List ℕ)) (owner : ℕ → ℕ) (i s count : ℕ) (slots : List (Option Slot)) (slot : Option Slot) (entry : Dirent) (d : Dinode)
-    (h : IsLaidOut disk owner i d (record { count = count; kind = Directory slots })) (past : s ≤ length slots) (limit : 16 * suc s ≤ largest_size)
+    (h : IsLaidOut disk owner i d (record { count = count; kind = Directory slots })) (past : s ≤ length slots) (limit : dirent_len * suc s ≤ largest_size)
     (same : entry_of slot ≡ Some entry) (put : IsSlotPut disk new d s entry) where
   abbrev was : Node
   was = record { count = count; kind = Directory slots }
@@ -88,32 +89,33 @@ module _ (disk new : List (List ℕ)) (owner : ℕ → ℕ) (i s count : ℕ) (s
   now = record { count = count; kind = Directory (slots_with slots s slot) }
 
   abbrev e : Dinode
-  e = record d { size = max d.size (16 * suc s) }
+  e = record d { size = max d.size (dirent_len * suc s) }
 
   abbrev b : ℕ
-  b = block_number (numbers_of disk d) (s / 64)
+  b = block_number (numbers_of disk d) (s / dirents_per_block)
 
-  block_now : content_block new d (s / 64) ≡ recovered new b
-  block_now = this_block disk new owner i (s / 64) d was h put.some put.block
+  block_now : content_block new d (s / dirents_per_block) ≡ recovered new b
+  block_now = this_block disk new owner i (s / dirents_per_block) d was h put.some put.block
 
   this_slot : slot_at new d s ≡ Some entry
-  this_slot = slot_is new d s ∙ ap (dirent_at (s % 64)) block_now ∙ reads_back One (recovered disk b) (recovered new b) (s % 64) entry put.room put.spelled put.written
+  this_slot = slot_is new d s ∙ ap (dirent_at (s % dirents_per_block)) block_now ∙ reads_back One (recovered disk b) (recovered new b) (s % dirents_per_block) entry put.room put.spelled put.written
 
   other_slot : (q : ℕ) → q ≢ s → slot_at new d q ≡ slot_at disk d q
-  other_slot q ne = elim (same_or (q / 64) (s / 64)) [
-    | inr apart ↦ slot_is new d q ∙ ap (dirent_at (q % 64)) (other_block disk new owner i (s / 64) d was h put.some put.block (q / 64) apart) ∙ sym (slot_is disk d q)
+  other_slot q ne = elim (same_or (q / dirents_per_block) (s / dirents_per_block)) [
+    | inr apart ↦ slot_is new d q ∙ ap (dirent_at (q % dirents_per_block)) (other_block disk new owner i (s / dirents_per_block) d was h put.some put.block (q / dirents_per_block) apart) ∙ sym (slot_is disk d q)
     | inl same ↦
         slot_is new d q
-        ∙ ap (λ (k : ℕ). dirent_at (q % 64) (content_block new d k)) same
-        ∙ ap (dirent_at (q % 64)) block_now
-        ∙ others_stay One (recovered disk b) (recovered new b) (s % 64) (q % 64) entry put.room put.spelled (λ r. ne (omega (arith, same, r))) put.written
-        ∙ ap (dirent_at (q % 64)) (sym (block_of disk d (s / 64)))
-        ∙ ap (λ (k : ℕ). dirent_at (q % 64) (content_block disk d k)) (sym same)
+        ∙ ap (λ (k : ℕ). dirent_at (q % dirents_per_block) (content_block new d k)) same
+        ∙ ap (dirent_at (q % dirents_per_block)) block_now
+        ∙ others_stay One (recovered disk b) (recovered new b) (s % dirents_per_block) (q % dirents_per_block) entry put.room put.spelled (λ r. ne (omega (arith, same, r))) put.written
+        ∙ ap (dirent_at (q % dirents_per_block)) (sym (block_of disk d (s / dirents_per_block)))
+        ∙ ap (λ (k : ℕ). dirent_at (q % dirents_per_block) (content_block disk d k)) (sym same)
         ∙ sym (slot_is disk d q)
   ]
 
   held : first_slots disk d (length slots) ≡ map entry_of slots
-  held = let size = h.inode.size in let many : length slots ≡ d.size / 16 = omega (arith, size) in ap (first_slots disk d) many ∙ h.content
+  held = let size = h.inode.size in let many : length slots ≡ d.size / dirent_len = omega (arith, size) in
+      ap (first_slots disk d) many ∙ h.content
 
   -- within the slots, and behind them
   slots_now : first_slots new d (max (length slots) (suc s)) ≡ with_one (map entry_of slots) s (Some entry)
@@ -136,15 +138,15 @@ module _ (disk new : List (List ℕ)) (owner : ℕ → ℕ) (i s count : ℕ) (s
   content_now : slots_of new e ≡ map entry_of (slots_with slots s slot)
   content_now =
       let size = h.inode.size in
-      let many : e.size / 16 ≡ max (length slots) (suc s) = omega (arith, size) in
+      let many : e.size / dirent_len ≡ max (length slots) (suc s) = omega (arith, size) in
       ap (first_slots new e) many
-      ∙ slots_by new new d e (max (length slots) (suc s)) (λ q _. slot_is new e q ∙ ap (dirent_at (q % 64)) (block_alone new d e refl (q / 64)) ∙ sym (slot_is new d q))
+      ∙ slots_by new new d e (max (length slots) (suc s)) (λ q _. slot_is new e q ∙ ap (dirent_at (q % dirents_per_block)) (block_alone new d e refl (q / dirents_per_block)) ∙ sym (slot_is new d q))
       ∙ slots_now
       ∙ ap (λ (x : Option Dirent). with_one (map entry_of slots) s x) (sym same)
       ∙ sym (map_one slots s slot)
 
-  there : (k : ℕ) → 1024 * k < max d.size (16 * suc s) → block_number (numbers_of disk d) k ≢ 0
-  there k l = elim (same_or k (s / 64)) [
+  there : (k : ℕ) → block_len * k < max d.size (dirent_len * suc s) → block_number (numbers_of disk d) k ≢ 0
+  there k l = elim (same_or k (s / dirents_per_block)) [
     | inl is ↦ subst (λ (n : ℕ). block_number (numbers_of disk d) n ≢ 0) (sym is) put.some
     | inr ne ↦ let size = h.inode.size in h.room.there k (omega (arith, size, l, past, ne))
   ]
@@ -153,7 +155,7 @@ module _ (disk new : List (List ℕ)) (owner : ℕ → ℕ) (i s count : ℕ) (s
   slot_laid =
       let is = h.inode in
       let size = is.size in
-      becomes disk new owner i (s / 64) d was h put.some put.block e now refl
+      becomes disk new owner i (s / dirents_per_block) d was h put.some put.block e now refl
       (record { kind = is.kind; count = is.count; size = omega (arith, size, length_one slots s slot past); device = tt })
       content_now
       (record {

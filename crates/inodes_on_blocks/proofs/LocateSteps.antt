@@ -1,5 +1,5 @@
 -- A block of the content of an inode that a hart is changing: found by its number, or taken where it is missing, and named. Nothing of it is seen above.
-use Rattle.inodes_on_blocks.proofs.Vocabulary.{get_or-set_other, get_or-set_same, inr, ◌≡◌, ◌≢◌, ℕ, suc, ◌+◌, ◌-◌, ◌^◌, ◌<◌, ◌≤◌, ◌==◌, Bool, true, false, List, length, Option, Some, None, refl, sym, ◌∙◌, ap, subst, arith, if◌then◌else◌, slice_index, Dinode, Super, IsBytes, numbers_in, IsDinode, IsOutsideLog, sizes_of, holder_of, given_back, IsData, numbers_of, block_number, IsOwned, Node, hart_count, eq_is, Do, bind, unmarked, Machine, Laws, P, Wp, Both, joined, Stable, bind-assoc, Wp-more, with_seats, fetch, seen_of, Put, Direct, InTable, Located, table_of, with_address, take_one, located, name_direct, name_in_table, look_up, locate_in_table, with_table, locate_at, locate, Spent, size, with_number as with_block, most_recorded, Inv, World, log_of, disk_of, KeepsRoom, in_hand, IsFetched, Carry, below, buffer_in, Labels, labelled, Keeps, IsChanging, Shows}
+use Rattle.inodes_on_blocks.proofs.Vocabulary.{get_or-set_other, get_or-set_same, inr, ◌≡◌, ◌≢◌, ℕ, suc, ◌+◌, ◌-◌, ◌^◌, ◌<◌, ◌≤◌, ◌==◌, Bool, true, false, List, length, Option, Some, None, refl, sym, ◌∙◌, ap, subst, arith, if◌then◌else◌, slice_index, Dinode, Super, IsBytes, numbers_in, IsDinode, IsOutsideLog, sizes_of, holder_of, given_back, IsData, numbers_of, block_number, IsOwned, Node, hart_count, eq_is, Do, bind, unmarked, Machine, Laws, P, Wp, Both, joined, Stable, bind-assoc, Wp-more, with_seats, fetch, seen_of, Put, Direct, InTable, Located, table_of, with_address, take_one, located, name_direct, name_in_table, look_up, locate_in_table, with_table, locate_at, locate, Spent, size, with_number as with_block, most_recorded, Inv, World, log_of, disk_of, KeepsRoom, in_hand, IsFetched, Carry, below, buffer_in, Labels, labelled, Keeps, IsChanging, Shows, addresses, block_len, direct, most_blocks}
 use Rattle.inodes_on_blocks.proofs.Basics.{at_index, good_seen, HasBlocks, extra, extra_there, number_again, number_more, number_before, number_stays, extra_missing, cost_more, cost_both, named_room, block_room, buffer_then, with_buffers, s-fetch, s-back, back_hand, same_view, below_laws, held_back, block_shown, empty_hand, has_number}
 use Rattle.inode_data.specs.Writing.{with_number}
 use Rattle.inode_machine.specs.Budget as budget
@@ -87,12 +87,12 @@ module _ (sizes : Super) (l : Labels) (laws : Laws (labelled l)) (keeps : Keeps 
 
     -- ---- in the indirect block
 
-    module _ (d : Dinode) (fits : Fits was d) (bs : List ℕ) (is_far : far ≡ true) (some : table_of d ≢ 0) (past : 12 ≤ k) (low : k < 268) (cost : length bs + extra true bs (table_of d) ≤ most) where
+    module _ (d : Dinode) (fits : Fits was d) (bs : List ℕ) (is_far : far ≡ true) (some : table_of d ≢ 0) (past : direct ≤ k) (low : k < most_blocks) (cost : length bs + extra true bs (table_of d) ≤ most) where
       abbrev t : ℕ
       t = table_of d
 
       abbrev i : ℕ
-      i = k - 12
+      i = k - direct
 
       few : length bs ≤ most
       few = omega (arith, cost)
@@ -102,7 +102,7 @@ module _ (sizes : Super) (l : Labels) (laws : Laws (labelled l)) (keeps : Keeps 
       table_owned r g changing =
           let place = table_place (disk_of (log_of r)) (sized z d) fits.0.thirteen in
           subst (λ (q : ℕ). IsOwned (disk_of (log_of r)) (owner_with h n r) n q) place.0
-          (at_index (IsOwned (disk_of (log_of r)) (owner_with h n r) n) (numbers_of (disk_of (log_of r)) (sized z d)) 12 changing.laid.owned (λ e. some (sym place.0 ∙ e)))
+          (at_index (IsOwned (disk_of (log_of r)) (owner_with h n r) n) (numbers_of (disk_of (log_of r)) (sized z d)) direct changing.laid.owned (λ e. some (sym place.0 ∙ e)))
 
       table_data : (r : World) (g : above.World) → Shows r g → Changing h n c o (sized z d) x r g → (log_of r).sizes ≡ sizes → IsData sizes t
       table_data r g shows changing at =
@@ -128,7 +128,7 @@ module _ (sizes : Super) (l : Labels) (laws : Laws (labelled l)) (keeps : Keeps 
         one : in_hand h v.real ≡ 1
         one = got.count ∙ ap suc start.none
 
-        whole : (length bytes ≡ 1024) × IsBytes bytes
+        whole : (length bytes ≡ block_len) × IsBytes bytes
         whole =
             let home = data_home v.real v.seen got.shows t (subst (λ (q : Super). IsData q t) (sym at_v) block) in
             (got.shows.blocks.seen.whole t home.within home.outside, got.shows.bytes t home.within home.outside)
@@ -170,7 +170,7 @@ module _ (sizes : Super) (l : Labels) (laws : Laws (labelled l)) (keeps : Keeps 
         puts b u gs free took =
             let buffer = buffer_then h t bytes v.real u.real took.buffer got.buffer in
             let tiny = small_block u.real u.seen took.shows b took.spare.spare.owned.block in
-            s-own sizes l laws keeps h lt B Q G stable n changes (HasSpare h n b c o (sized z d) x) (λ r g. Changing h n c o (sized z d) x r g × (slice_index (numbers_of (disk_of (log_of r)) (sized z d)) (13 + i) ≡ b)) (spare_stays h n b c o (sized z d) x)
+            s-own sizes l laws keeps h lt B Q G stable n changes (HasSpare h n b c o (sized z d) x) (λ r g. Changing h n c o (sized z d) x r g × (slice_index (numbers_of (disk_of (log_of r)) (sized z d)) (addresses + i) ≡ b)) (spare_stays h n b c o (sized z d) x)
             t bytes (with_number i b bytes) block (number_long i b bytes (omega (arith, low, past)) whole.0) (number_bytes i b bytes whole.1) own
             (λ r g shows is made. number_then h n b c o (sized z d) x r g is fits.0.thirteen shows i bytes some (omega (arith, low, past)) whole.0 tiny free made)
             (HasBlocks sizes h s (with_block bs b)) (HasBlocks sizes h s (with_block (with_block bs b) t)) (block_room sizes h t s (with_block bs b) room)
@@ -197,7 +197,7 @@ module _ (sizes : Super) (l : Labels) (laws : Laws (labelled l)) (keeps : Keeps 
             own : (r : World) (g : above.World) → HasSpare h n b c o (sized z d) x r g → owner_with h n r t ≡ n
             own r g is =
                 let place = table_place (disk_of (log_of r)) (sized z d) fits.0.thirteen in
-                ap (owner_with h n r) (sym place.0) ∙ (at_index (IsOwned (disk_of (log_of r)) (owner_with h n r) n) (numbers_of (disk_of (log_of r)) (sized z d)) 12 is.laid.owned (λ e. some (sym place.0 ∙ e))).owner_is
+                ap (owner_with h n r) (sym place.0) ∙ (at_index (IsOwned (disk_of (log_of r)) (owner_with h n r) n) (numbers_of (disk_of (log_of r)) (sized z d)) direct is.laid.owned (λ e. some (sym place.0 ∙ e))).owner_is
 
             room : budget.has (with_block bs b) t ≡ false → size s + length (with_block bs b) < most_recorded
             room isnt = let one_ = extra_missing bs t (number_before bs b t isnt) in let a = number_more bs b in omega (arith, one_, a, cost, small)
@@ -250,7 +250,7 @@ module _ (sizes : Super) (l : Labels) (laws : Laws (labelled l)) (keeps : Keeps 
 
     -- ---- wherever it stands
 
-    module _ (d : Dinode) (fits : Fits was d) (bs : List ℕ) (low : k < 268) (cost : length bs + extra far bs (table_of d) ≤ most) (w : W) (es : List l.Step) (start : In d bs es w) where
+    module _ (d : Dinode) (fits : Fits was d) (bs : List ℕ) (low : k < most_blocks) (cost : length bs + extra far bs (table_of d) ≤ most) (w : W) (es : List l.Step) (start : In d bs es w) where
       fewer : length bs ≤ most
       fewer = omega (arith, cost)
 
@@ -272,7 +272,7 @@ module _ (sizes : Super) (l : Labels) (laws : Laws (labelled l)) (keeps : Keeps 
           })
 
       -- among the inode's own numbers
-      module _ (near : k < 12) where
+      module _ (near : k < direct) where
         direct_there : slice_index d.addrs k ≢ 0 → Wp M h B Q (f (record { inode = d; number = Some (slice_index d.addrs k) })) j es w
         direct_there is =
             rest (record { inode = d; number = Some (slice_index d.addrs k) }) w es (record {
@@ -294,32 +294,32 @@ module _ (sizes : Super) (l : Labels) (laws : Laws (labelled l)) (keeps : Keeps 
                 (λ e. absurd (let low_b = took.spare.spare.owned.block.0 in omega (arith, e, low_b))),
                 names.1,
                 subst (λ (q : List ℕ). length q + extra far q (table_of (with_address k b d)) ≤ suc most) (sym (number_again (with_block bs b) b (has_number bs b)))
-                    (subst (λ (q : ℕ). length (with_block bs b) + extra far (with_block bs b) q ≤ suc most) (sym (get_or-set_other d.addrs k 12 b 0 (λ e. absurd (omega (arith, e, near)))))
+                    (subst (λ (q : ℕ). length (with_block bs b) + extra far (with_block bs b) q ≤ suc most) (sym (get_or-set_other d.addrs k direct b 0 (λ e. absurd (omega (arith, e, near)))))
                     (let more = cost_more far bs b (table_of d) in omega (arith, more, cost))),
               );
             })
 
-        direct : (q : Bool) → (slice_index d.addrs k == 0) ≡ q → Wp M h B Q (bind (if q then bind (take_one sizes) (name_direct k d) else located d (Some (slice_index d.addrs k))) f) (take_steps j) es w
-        direct false isnt = Wp-more M h (f (record { inode = d; number = Some (slice_index d.addrs k) })) B Q j (take_steps j) es w (omega arith) (direct_there (λ e. (let z : true ≡ false = sym (ap (λ (q : ℕ). q == 0) e) ∙ isnt in cc)))
-        direct true is =
+        own : (q : Bool) → (slice_index d.addrs k == 0) ≡ q → Wp M h B Q (bind (if q then bind (take_one sizes) (name_direct k d) else located d (Some (slice_index d.addrs k))) f) (take_steps j) es w
+        own false isnt = Wp-more M h (f (record { inode = d; number = Some (slice_index d.addrs k) })) B Q j (take_steps j) es w (omega arith) (direct_there (λ e. (let z : true ≡ false = sym (ap (λ (q : ℕ). q == 0) e) ∙ isnt in cc)))
+        own true is =
             subst (λ (p : P M A). Wp M h B Q p (take_steps j) es w) (sym (bind-assoc (take_one sizes) (name_direct k d) f))
             (takes (λ a. bind (name_direct k d a) f) j lacking (named (eq_is (slice_index d.addrs k) 0 is)))
 
       -- in the indirect block, which may be missing
-      module _ (past : 12 ≤ k) (is_far : far ≡ true) where
+      module _ (past : direct ≤ k) (is_far : far ≡ true) where
         cost_far : length bs + extra true bs (table_of d) ≤ most
         cost_far = subst (λ (q : Bool). length bs + extra q bs (table_of d) ≤ most) is_far cost
 
         -- it was taken
         with_new : table_of d ≡ 0 → (b : ℕ) (u : W) (gs : List l.Step) → Took h n b (table_of d) (G gs) c o (sized z d) x (HasBlocks sizes h s (with_block bs b)) w u
-            → Wp M h B Q (bind (with_table sizes (k - 12) d (Some b)) f) (look_steps j) gs u
+            → Wp M h B Q (bind (with_table sizes (k - direct) d (Some b)) f) (look_steps j) gs u
         with_new free b u gs took =
-            let here : table_of (with_address 12 b d) ≡ b = get_or-set_same d.addrs 12 b 0 (let thirteen = fits.0.thirteen in omega (arith, thirteen)) in
+            let here : table_of (with_address direct b d) ≡ b = get_or-set_same d.addrs direct b 0 (let thirteen = fits.0.thirteen in omega (arith, thirteen)) in
             let low_b = took.spare.spare.owned.block.0 in
-            let some : table_of (with_address 12 b d) ≢ 0 = (λ e. absurd (omega (arith, here, e, low_b))) in
+            let some : table_of (with_address direct b d) ≢ 0 = (λ e. absurd (omega (arith, here, e, low_b))) in
             let one : extra true bs (table_of d) ≡ 1 = ap (extra true bs) free in
-            let none : extra true (with_block bs b) (table_of (with_address 12 b d)) ≡ 0 = extra_there true (with_block bs b) (table_of (with_address 12 b d)) some (ap (budget.has (with_block bs b)) here ∙ has_number bs b) in
-            s-look (with_address 12 b d) (addressed_fits 12 b d (small_block u.real u.seen took.shows b took.spare.spare.owned.block) fits.0, fits.1) (with_block bs b) is_far some past low
+            let none : extra true (with_block bs b) (table_of (with_address direct b d)) ≡ 0 = extra_there true (with_block bs b) (table_of (with_address direct b d)) some (ap (budget.has (with_block bs b)) here ∙ has_number bs b) in
+            s-look (with_address direct b d) (addressed_fits direct b d (small_block u.real u.seen took.shows b took.spare.spare.owned.block) fits.0, fits.1) (with_block bs b) is_far some past low
             (let a = number_more bs b in omega (arith, cost_far, one, none, a)) u gs
             (record {
               changing = table_then h n b c o (sized z d) x u.real u.seen took.spare fits.0.thirteen free took.zeros_are;
@@ -331,30 +331,31 @@ module _ (sizes : Super) (l : Labels) (laws : Laws (labelled l)) (keeps : Keeps 
             })
             b (sym here)
 
-        lists : (q : Bool) → (table_of d == 0) ≡ q → Wp M h B Q (bind (if q then bind (take_one sizes) (with_table sizes (k - 12) d) else locate_in_table sizes (k - 12) d) f) (take_steps (look_steps j)) es w
+        lists : (q : Bool) → (table_of d == 0) ≡ q → Wp M h B Q (bind (if q then bind (take_one sizes) (with_table sizes (k - direct) d) else locate_in_table sizes (k - direct) d) f) (take_steps (look_steps j)) es w
         lists false isnt =
-            Wp-more M h (bind (locate_in_table sizes (k - 12) d) f) B Q (look_steps j) (take_steps (look_steps j)) es w (omega arith)
+            Wp-more M h (bind (locate_in_table sizes (k - direct) d) f) B Q (look_steps j) (take_steps (look_steps j)) es w (omega arith)
             (s-look d fits bs is_far (λ e. (let z : true ≡ false = sym (ap (λ (q : ℕ). q == 0) e) ∙ isnt in cc)) past low cost_far w es start (table_of d) refl)
         lists true is =
-            subst (λ (p : P M A). Wp M h B Q p (take_steps (look_steps j)) es w) (sym (bind-assoc (take_one sizes) (with_table sizes (k - 12) d) f))
-            (takes (λ a. bind (with_table sizes (k - 12) d a) f) (look_steps j)
+            subst (λ (p : P M A). Wp M h B Q p (take_steps (look_steps j)) es w) (sym (bind-assoc (take_one sizes) (with_table sizes (k - direct) d) f))
+            (takes (λ a. bind (with_table sizes (k - direct) d a) f) (look_steps j)
             (λ u gs took. Wp-more M h (f (record { inode = d; number = None })) B Q j (look_steps j) gs u (omega arith) (lacking u gs took)) (with_new (eq_is (table_of d) 0 is)))
 
       -- Block k: where it is missing it is taken, and an indirect block before it.
-      pub s-locate : (far ≡ false → k < 12) → Wp M h B Q (bind (locate sizes d k) f) (locate_steps far j) es w
+      pub s-locate : (far ≡ false → k < direct) → Wp M h B Q (bind (locate sizes d k) f) (locate_steps far j) es w
       s-locate near =
           either_place k (Wp M h B Q (bind (locate sizes d k) f) (locate_steps far j) es w)
           (λ close e.
-          subst (λ (q : Bool). Wp M h B Q (bind (locate_at sizes d (if q then Direct k else InTable (k - 12))) f) (locate_steps far j) es w) (sym e)
-          (Wp-more M h (bind (locate_at sizes d (Direct k)) f) B Q (take_steps j) (locate_steps far j) es w (enough far) (direct close (slice_index d.addrs k == 0) refl)))
+          subst (λ (q : Bool). Wp M h B Q (bind (locate_at sizes d (if q then Direct k else InTable (k - direct))) f) (locate_steps far j) es w) (sym e)
+          (Wp-more M h (bind (locate_at sizes d (Direct k)) f) B Q (take_steps j) (locate_steps far j) es w (enough far) (own close (slice_index d.addrs k == 0) refl)))
           (λ past e.
-          subst (λ (q : Bool). Wp M h B Q (bind (locate_at sizes d (if q then Direct k else InTable (k - 12))) f) (locate_steps far j) es w) (sym e)
+          subst (λ (q : Bool). Wp M h B Q (bind (locate_at sizes d (if q then Direct k else InTable (k - direct))) f) (locate_steps far j) es w) (sym e)
           (distant past far refl))
         where
           enough : (q : Bool) → take_steps j ≤ locate_steps q j
           enough true = omega arith
           enough false = omega arith
 
-          distant : 12 ≤ k → (q : Bool) → far ≡ q → Wp M h B Q (bind (locate_at sizes d (InTable (k - 12))) f) (locate_steps far j) es w
-          distant past true is = subst (λ (q : Bool). Wp M h B Q (bind (locate_at sizes d (InTable (k - 12))) f) (locate_steps q j) es w) (sym is) (lists past is (table_of d == 0) refl)
+          distant : direct ≤ k → (q : Bool) → far ≡ q
+              → Wp M h B Q (bind (locate_at sizes d (InTable (k - direct))) f) (locate_steps far j) es w
+          distant past true is = subst (λ (q : Bool). Wp M h B Q (bind (locate_at sizes d (InTable (k - direct))) f) (locate_steps q j) es w) (sym is) (lists past is (table_of d == 0) refl)
           distant past false is = absurd (let close = near is in omega (arith, close, past))

@@ -1,5 +1,5 @@
 -- What a search of a directory's blocks finds is what its node has: under a name, and past its first two entries.
-use Rattle.inodes_on_blocks.proofs.Vocabulary.{◌≡◌, ◌≢◌, ⊎_elim, ℕ, zero, suc, ◌-◌, ◌*◌, ◌/◌, ◌<◌, ◌≤◌, nat_lt, ◌&&◌, ◌||◌, not, ℤ, pos, Bool, true, false, List, [], ◌∷◌, length, drop, get_or, Option, Some, None, is_some, refl, sym, ◌∙◌, ap, subst, arith, if◌then◌else◌, cases_lt, le-leb, get_or_append_left, get_or-append_right, get_or-map, none-some, Free, Used, Found, is_sought, number_of, IsFirst, Aim, Named, block_count, slot_count, is_used, Dinode, Dirent, block_len, inode_of, is_free, content_block, slot_on, first_slots, HoldsAt, HasContent, entry_of, size_in, type_in, Slot, Node, NodeKind, Directory, File, Device, any_used, Name, first_slot, live_directory, look, same_name, same_pointwise, is_empty_kind, is_empty_node, has_name, IsFirstNamed, IsKnown, number_found, learned, first_slots_by, slot_by}
+use Rattle.inodes_on_blocks.proofs.Vocabulary.{◌≡◌, ◌≢◌, ⊎_elim, ℕ, zero, suc, ◌-◌, ◌*◌, ◌/◌, ◌<◌, ◌≤◌, nat_lt, ◌&&◌, ◌||◌, not, ℤ, pos, Bool, true, false, List, [], ◌∷◌, length, drop, get_or, Option, Some, None, is_some, refl, sym, ◌∙◌, ap, subst, arith, if◌then◌else◌, cases_lt, le-leb, get_or_append_left, get_or-append_right, get_or-map, none-some, Free, Used, Found, is_sought, number_of, IsFirst, Aim, Named, block_count, slot_count, is_used, Dinode, Dirent, block_len, inode_of, is_free, content_block, slot_on, first_slots, HoldsAt, HasContent, entry_of, size_in, type_in, Slot, Node, NodeKind, Directory, File, Device, any_used, Name, first_slot, live_directory, look, same_name, same_pointwise, is_empty_kind, is_empty_node, has_name, IsFirstNamed, IsKnown, number_found, learned, first_slots_by, slot_by, dirent_len, most_blocks}
 use Rattle.directory.proofs.Indexed.{searched, searched_right}
 use Rattle.directory.specs.Laws.{AreSlots, slot_at}
 use Rattle.directory.specs.Programs.{Entry, Searched, is_number, is_positive, is_directory, is_live_directory}
@@ -175,11 +175,11 @@ module _ (disk : List (List ℕ)) (owner : ℕ → ℕ) (i : ℕ) (v : Node) (ho
   pub shown : (slots : List (Option Slot)) → v.kind ≡ Directory slots → AreRead (slot_at content) slots × (slot_count d ≡ length slots)
   unfolding slot_by
   shown slots is =
-      let size : d.size ≡ 16 * length slots = holds.inode.size ∙ ap size_in is in
+      let size : d.size ≡ dirent_len * length slots = holds.inode.size ∙ ap size_in is in
       let has : HasContent disk d (Directory slots) = subst (HasContent disk d) is holds.content in
       let limit = (holds.room used).limit in (
         λ s lt.
-            sym (read_slots disk d (d.size / 16) s None (omega (arith, size, lt))) ∙ ap (λ (xs : List (Option Dirent)). get_or xs s None) has ∙ get_or-map entry_of slots s None None lt,
+            sym (read_slots disk d (d.size / dirent_len) s None (omega (arith, size, lt))) ∙ ap (λ (xs : List (Option Dirent)). get_or xs s None) has ∙ get_or-map entry_of slots s None None lt,
         omega (arith, size, limit),
       )
 
@@ -269,5 +269,5 @@ module _ (disk : List (List ℕ)) (owner : ℕ → ℕ) (i : ℕ) (v : Node) (ho
   block_within k lt = omega (arith, lt)
 
 -- a directory's blocks are at most as many as a content has
-pub few_blocks : (d : Dinode) → block_count d ≤ 268
+pub few_blocks : (d : Dinode) → block_count d ≤ most_blocks
 few_blocks d = omega arith

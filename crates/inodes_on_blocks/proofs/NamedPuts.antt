@@ -1,5 +1,5 @@
 -- A record is put that names blocks which the hart has taken: they are the inode's then.
-use Rattle.inodes_on_blocks.proofs.Vocabulary.{◌≡◌, ◌≢◌, ◌⊎◌, inl, inr, ℕ, zero, suc, ◌<◌, ◌≤◌, ◌==◌, Bool, true, false, ◌&&◌, List, [], ◌∷◌, length, get_or, Option, Some, None, refl, sym, ◌∙◌, ap, subst, arith, eqb, if◌then◌else◌, nat_lt, Contains, nat_tests, Super, Dinode, IsDinode, sizes_of, one_if, either, same_or, eq_self, eq_not, one_yes, times, is_block, numbers_by, named_by, last, IsData, HoldsAt, owner_upto, LeavesOthers, lock_holder, LogPart, put_block, seen_of, inode_block, with_dinode, is_hart, if_kept, Owners, named_of, is_named, inode_put, World, log_of, tables_of, disk_of, owners_of, CanPut, PutLeaves, Shows}
+use Rattle.inodes_on_blocks.proofs.Vocabulary.{◌≡◌, ◌≢◌, ◌⊎◌, inl, inr, ℕ, zero, suc, ◌<◌, ◌≤◌, ◌==◌, Bool, true, false, ◌&&◌, List, [], ◌∷◌, length, get_or, Option, Some, None, refl, sym, ◌∙◌, ap, subst, arith, eqb, if◌then◌else◌, nat_lt, Contains, nat_tests, Super, Dinode, IsDinode, sizes_of, one_if, either, same_or, eq_self, eq_not, one_yes, times, is_block, numbers_by, named_by, last, IsData, HoldsAt, owner_upto, LeavesOthers, lock_holder, LogPart, put_block, seen_of, inode_block, with_dinode, is_hart, if_kept, Owners, named_of, is_named, inode_put, World, log_of, tables_of, disk_of, owners_of, CanPut, PutLeaves, Shows, block_len}
 use Rattle.inodes_on_blocks.proofs.Basics.{untouched, block_true, times_nil, times_cons, no_hit, times_filtered, good_seen, lock_range, record_put, leaves_others, taken_stays}
 use Rattle.inode_machine.specs.World as above
 
@@ -59,7 +59,7 @@ some_one f (suc most) b n low high some e = elim (either (nat_lt 0 (times b (f (
 -- ---- the put
 
 module _ (h n : ℕ) (d : Dinode) (r : World) (g : above.World) (shows : Shows r g) (mine : g.lock n ≡ Some h) (joined : (g.desks h).joined ≡ true) (low : 1 ≤ n) (bound : n < (log_of r).sizes.ninodes) (is : IsDinode d)
-    (can : CanPut h (inode_block (log_of r).sizes.inodestart n) (with_dinode n d (seen_of (log_of r) (inode_block (log_of r).sizes.inodestart n))) (log_of r)) (long : length (seen_of (log_of r) (inode_block (log_of r).sizes.inodestart n)) ≡ 1024)
+    (can : CanPut h (inode_block (log_of r).sizes.inodestart n) (with_dinode n d (seen_of (log_of r) (inode_block (log_of r).sizes.inodestart n))) (log_of r)) (long : length (seen_of (log_of r) (inode_block (log_of r).sizes.inodestart n)) ≡ block_len)
     (others : (j : ℕ) → j ≢ n → lock_holder j (tables_of r) ≡ Some h → HoldsAt (disk_of (log_of r)) r.owner j (g.disk j)) where
   abbrev l : LogPart
   l = log_of r

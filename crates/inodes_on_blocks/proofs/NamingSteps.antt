@@ -1,5 +1,5 @@
 -- An operation that puts the record of an inode that the hart was changing acts at the put.
-use Rattle.inodes_on_blocks.proofs.Vocabulary.{◌≡◌, ◌≢◌, ℕ, suc, ◌<◌, false, List, length, Option, Some, None, is_some, sym, ◌∙◌, ap, subst, arith, Super, Dinode, IsDinode, IsOutsideLog, holder_of, kept, has, HasRoom, Node, put, hart_count, Ret, bind, Ran, Laws, Machine, Wp, Both, joined, Below, Lasts, Handover, Wp-weaker, Here, ToAct, to_act, may_act, Acting, s-act, Outside, fetch, seen_of, Put, inode_block, with_dinode, marked, with_mark, Inv, World, log_of, exec, KeepsRoom, world_with, in_hand, IsFetched, NothingMore, Has, Carry, below, Labels, labelled, Keeps, put_named, CanPut, IsChanging, owners_with, GivesRoom, Shows}
+use Rattle.inodes_on_blocks.proofs.Vocabulary.{◌≡◌, ◌≢◌, ℕ, suc, ◌<◌, false, List, length, Option, Some, None, is_some, sym, ◌∙◌, ap, subst, arith, Super, Dinode, IsDinode, IsOutsideLog, holder_of, kept, has, HasRoom, Node, put, hart_count, Ret, bind, Ran, Laws, Machine, Wp, Both, joined, Below, Lasts, Handover, Wp-weaker, Here, ToAct, to_act, may_act, Acting, s-act, Outside, fetch, seen_of, Put, inode_block, with_dinode, marked, with_mark, Inv, World, log_of, exec, KeepsRoom, world_with, in_hand, IsFetched, NothingMore, Has, Carry, below, Labels, labelled, Keeps, put_named, CanPut, IsChanging, owners_with, GivesRoom, Shows, block_len}
 use Rattle.fs_machine.specs.Steps as steps
 use Rattle.fs_machine.specs.Premises as premises
 use Rattle.fs_machine.specs.InMemory.{IndexState, Loaded}
@@ -87,7 +87,7 @@ module _ (sizes : Super) (l : Labels) (laws : Laws (labelled l)) (keeps : Keeps 
         let bytes : seen_of (log_of u.real) (at u.real) ≡ seen_of (log_of v.real) b = ap (seen_of (log_of u.real)) (sym where_) ∙ buffer_seen h b (seen_of (log_of v.real) b) u.real buffer in
         let range = lock_range n h u.real u.seen here.shows is.lock in
         let home = inode_home (log_of u.real) n here.shows.blocks.seen.good here.shows.blocks.seen.sized range.1 in
-        let long : length (seen_of (log_of u.real) (at u.real)) ≡ 1024 = here.shows.blocks.seen.whole (at u.real) home.within home.outside in
+        let long : length (seen_of (log_of u.real) (at u.real)) ≡ block_len = here.shows.blocks.seen.whole (at u.real) home.within home.outside in
         let knows_there : Knows u.real = room.gives.lasts v.real u.real here.same (room.gives.fetched b w.real v.real got.since knows) in
         let can : CanPut h (at u.real) (with_record n d u.real) (log_of u.real) = record {
           holder = subst (λ (k : ℕ). holder_of k (log_of u.real).seats ≡ Some h) where_ buffer.holder;

@@ -1,5 +1,5 @@
 -- A block put for an inode that a hart is changing, from what is known of the inode before the put to what is known behind it.
-use Rattle.inodes_on_blocks.proofs.Vocabulary.{◌≡◌, ◌≢◌, ℕ, suc, ◌<◌, List, length, Option, Some, is_some, refl, sym, ◌∙◌, ap, subst, if◌then◌else◌, Super, IsBytes, recovered, sizes_of, holder_of, IsData, IsPut, hart_count, Do, unmarked, Machine, Laws, P, Wp, Both, joined, Stable, seen_of, Put, if_kept, is_hart, Inv, World, log_of, disk_of, world_with, KeepsRoom, in_hand, HasBuffer, Kept, buffer_in, below, Labels, labelled, Keeps, CanPut, IsChanging, PutLeaves, log_with, owners_with, Shows}
+use Rattle.inodes_on_blocks.proofs.Vocabulary.{◌≡◌, ◌≢◌, ℕ, suc, ◌<◌, List, length, Option, Some, is_some, refl, sym, ◌∙◌, ap, subst, if◌then◌else◌, Super, IsBytes, recovered, sizes_of, holder_of, IsData, IsPut, hart_count, Do, unmarked, Machine, Laws, P, Wp, Both, joined, Stable, seen_of, Put, if_kept, is_hart, Inv, World, log_of, disk_of, world_with, KeepsRoom, in_hand, HasBuffer, Kept, buffer_in, below, Labels, labelled, Keeps, CanPut, IsChanging, PutLeaves, log_with, owners_with, Shows, block_len}
 use Rattle.inodes_on_blocks.proofs.Basics.{good_seen, buffer_then, buffer_seen, same_view, below_laws, disk_put, put_bytes, old_bytes, put_hand}
 use Rattle.inode_machine.specs.World as above
 use Rattle.inodes_on_blocks.proofs.Changing.{owner_with, LeftTo, left_same, data_owners}
@@ -15,7 +15,7 @@ pub record IsOwnPut (h n b : ℕ) (old bytes : List ℕ) (r : World) : Type 0 wh
   pub now : recovered (disk_of (log_with h b bytes r)) b ≡ bytes
   pub owners : owner_with h n (world_with h b bytes r) ≡ owner_with h n r
   pub taken : (world_with h b bytes r).taken ≡ r.taken
-  pub any : (others : List ℕ) → length others ≡ 1024 → IsBytes others → (mid : List (List ℕ)) × IsPut (disk_of (log_of r)) mid b × (recovered mid b ≡ others)
+  pub any : (others : List ℕ) → length others ≡ block_len → IsBytes others → (mid : List (List ℕ)) × IsPut (disk_of (log_of r)) mid b × (recovered mid b ≡ others)
 
 -- Where a hart goes on after it put block b, from v.
 pub record PutOn (h b : ℕ) (Stage : above.World → Type 0) (After : World → above.World → Type 0) (Then : World → Type 0) (v x : Both World above.World) : Type 0 where
@@ -53,7 +53,7 @@ module _ (sizes : Super) (l : Labels) (laws : Laws (labelled l)) (keeps : Keeps 
   module _ {A : Type 0} (Q : A → List l.Step → W → Type 0) (G : List l.Step → above.World → Type 0) (stable : Stable (labelled l) (below sizes) laws (below_laws sizes l keeps) h B G)
       (n : ℕ) (changes : (fs : List l.Step) (g : above.World) → G fs g → Inv g → IsChanging h n g) (Before After : World → above.World → Type 0)
       (lasts : (v w : World) (g u : above.World) → Shows v g → Shows w u → LeftTo h v w → Kept h g u → Before v g → Before w u)
-      (b : ℕ) (old bytes : List ℕ) (block : IsData sizes b) (long : length bytes ≡ 1024) (are : IsBytes bytes) (own : (r : World) (g : above.World) → Before r g → owner_with h n r b ≡ n)
+      (b : ℕ) (old bytes : List ℕ) (block : IsData sizes b) (long : length bytes ≡ block_len) (are : IsBytes bytes) (own : (r : World) (g : above.World) → Before r g → owner_with h n r b ≡ n)
       (makes : (r : World) (g : above.World) → Shows r g → Before r g → IsOwnPut h n b old bytes r → After (world_with h b bytes r) g)
       (Knows Then : World → Type 0) (room : KeepsRoom h b Knows Then) where
     pub s-own : (k : Unit {0} → P M A) (j : ℕ) (fs : List l.Step) (v : W) → G fs v.seen → Shows v.real v.seen → Before v.real v.seen → HasBuffer h b old v.real → (log_of v.real).sizes ≡ sizes → Knows v.real

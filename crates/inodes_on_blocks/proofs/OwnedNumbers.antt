@@ -1,5 +1,5 @@
 -- The block numbers of an inode in the order in which their blocks are given back: its own, those in its indirect block, and that block's.
-use Rattle.inodes_on_blocks.proofs.Vocabulary.{◌≡◌, ◌≢◌, inl, inr, ℕ, zero, suc, ◌+◌, ◌≤◌, ◌==◌, List, [], ◌∷◌, ◌++◌, length, take, filter, slice_index, refl, sym, ◌∙◌, ap, subst, arith, Contains-append_left, Contains-append_right, Contains-append_cases, Dinode, Super, sizes_of, Node, eq_self, one_yes, IsData, is_block, indirect_numbers, numbers_of, times, IsOwned, NamesOwned, IsLaidOut, table_of, direct, Avoids, Owns}
+use Rattle.inodes_on_blocks.proofs.Vocabulary.{◌≡◌, ◌≢◌, inl, inr, ℕ, zero, suc, ◌+◌, ◌≤◌, ◌==◌, List, [], ◌∷◌, ◌++◌, length, take, filter, slice_index, refl, sym, ◌∙◌, ap, subst, arith, Contains-append_left, Contains-append_right, Contains-append_cases, Dinode, Super, sizes_of, Node, eq_self, one_yes, IsData, is_block, indirect_numbers, numbers_of, times, IsOwned, NamesOwned, IsLaidOut, table_of, direct, Avoids, Owns, addresses}
 use Rattle.std.proofs.Common.{Contains}
 use Rattle.inodes_on_blocks.proofs.ImageBlocks.{block_true, once_times}
 use Rattle.inodes_on_blocks.proofs.Lists.{times_cons, times_filtered, times_nil}
@@ -37,20 +37,20 @@ front_and_last (suc n) (x ∷ xs) e = let rest = front_and_last n xs (omega (ari
 abbrev pub given_order : List (List ℕ) → Dinode → List ℕ
 given_order disk d = take direct d.addrs ++ (indirect_numbers disk d ++ table_of d ∷ [])
 
-module _ (disk : List (List ℕ)) (d : Dinode) (thirteen : length d.addrs ≡ 13) where
-  own : d.addrs ≡ take 12 d.addrs ++ slice_index d.addrs 12 ∷ []
-  own = front_and_last 12 d.addrs thirteen
+module _ (disk : List (List ℕ)) (d : Dinode) (thirteen : length d.addrs ≡ addresses) where
+  own : d.addrs ≡ take direct d.addrs ++ slice_index d.addrs direct ∷ []
+  own = front_and_last direct d.addrs thirteen
 
   as_often : (b : ℕ) → times b (given_order disk d) ≡ times b (numbers_of disk d)
   unfolding numbers_of
   as_often b =
-      let all = times_append b (take 12 d.addrs) (indirect_numbers disk d ++ slice_index d.addrs 12 ∷ []) in
-      let behind = times_append b (indirect_numbers disk d) (slice_index d.addrs 12 ∷ []) in
+      let all = times_append b (take direct d.addrs) (indirect_numbers disk d ++ slice_index d.addrs direct ∷ []) in
+      let behind = times_append b (indirect_numbers disk d) (slice_index d.addrs direct ∷ []) in
       let before = times_append b d.addrs (indirect_numbers disk d) in
-      let own_times : times b d.addrs ≡ times b (take 12 d.addrs) + times b (slice_index d.addrs 12 ∷ []) = ap (times b) own ∙ times_append b (take 12 d.addrs) (slice_index d.addrs 12 ∷ []) in
+      let own_times : times b d.addrs ≡ times b (take direct d.addrs) + times b (slice_index d.addrs direct ∷ []) = ap (times b) own ∙ times_append b (take direct d.addrs) (slice_index d.addrs direct ∷ []) in
       omega (arith, all, behind, before, own_times)
 
-  in_own : (b : ℕ) → Contains (take 12 d.addrs ++ slice_index d.addrs 12 ∷ []) b → Contains (numbers_of disk d) b
+  in_own : (b : ℕ) → Contains (take direct d.addrs ++ slice_index d.addrs direct ∷ []) b → Contains (numbers_of disk d) b
   unfolding numbers_of
   in_own b has = Contains-append_left d.addrs (indirect_numbers disk d) b (subst (λ (ns : List ℕ). Contains ns b) (sym own) has)
 
@@ -59,26 +59,27 @@ module _ (disk : List (List ℕ)) (d : Dinode) (thirteen : length d.addrs ≡ 13
   in_indirect b has = Contains-append_right d.addrs (indirect_numbers disk d) b has
 
   numbers_have : (b : ℕ) → Contains (given_order disk d) b → Contains (numbers_of disk d) b
-  numbers_have b has = elim (Contains-append_cases (take 12 d.addrs) (indirect_numbers disk d ++ slice_index d.addrs 12 ∷ []) b has) [
-    | inl first ↦ in_own b (Contains-append_left (take 12 d.addrs) (slice_index d.addrs 12 ∷ []) b first)
-    | inr later ↦ elim (Contains-append_cases (indirect_numbers disk d) (slice_index d.addrs 12 ∷ []) b later) [
-      | inl inside ↦ in_indirect b inside
-      | inr table ↦ in_own b (Contains-append_right (take 12 d.addrs) (slice_index d.addrs 12 ∷ []) b table)
-    ]
-  ]
+  numbers_have b has = elim (Contains-append_cases (take direct d.addrs)
+      (indirect_numbers disk d ++ slice_index d.addrs direct ∷ []) b has) [
+        | inl first ↦ in_own b (Contains-append_left (take direct d.addrs) (slice_index d.addrs direct ∷ []) b first)
+        | inr later ↦ elim (Contains-append_cases (indirect_numbers disk d) (slice_index d.addrs direct ∷ []) b later) [
+          | inl inside ↦ in_indirect b inside
+          | inr table ↦ in_own b (Contains-append_right (take direct d.addrs) (slice_index d.addrs direct ∷ []) b table)
+        ]
+      ]
 
   order_has : (b : ℕ) → Contains (numbers_of disk d) b → Contains (given_order disk d) b
   unfolding numbers_of
   order_has b has = elim (Contains-append_cases d.addrs (indirect_numbers disk d) b has) [
-    | inl first ↦ elim (Contains-append_cases (take 12 d.addrs) (slice_index d.addrs 12 ∷ []) b (subst (λ (ns : List ℕ). Contains ns b) own first)) [
-      | inl front ↦ Contains-append_left (take 12 d.addrs) (indirect_numbers disk d ++ slice_index d.addrs 12 ∷ []) b front
+    | inl first ↦ elim (Contains-append_cases (take direct d.addrs) (slice_index d.addrs direct ∷ []) b (subst (λ (ns : List ℕ). Contains ns b) own first)) [
+      | inl front ↦ Contains-append_left (take direct d.addrs) (indirect_numbers disk d ++ slice_index d.addrs direct ∷ []) b front
       | inr table ↦
-          Contains-append_right (take 12 d.addrs) (indirect_numbers disk d ++ slice_index d.addrs 12 ∷ []) b
-          (Contains-append_right (indirect_numbers disk d) (slice_index d.addrs 12 ∷ []) b table)
+          Contains-append_right (take direct d.addrs) (indirect_numbers disk d ++ slice_index d.addrs direct ∷ []) b
+          (Contains-append_right (indirect_numbers disk d) (slice_index d.addrs direct ∷ []) b table)
     ]
     | inr inside ↦
-        Contains-append_right (take 12 d.addrs) (indirect_numbers disk d ++ slice_index d.addrs 12 ∷ []) b
-        (Contains-append_left (indirect_numbers disk d) (slice_index d.addrs 12 ∷ []) b inside)
+        Contains-append_right (take direct d.addrs) (indirect_numbers disk d ++ slice_index d.addrs direct ∷ []) b
+        (Contains-append_left (indirect_numbers disk d) (slice_index d.addrs direct ∷ []) b inside)
   ]
 
   module _ (sizes : Super) (owner : ℕ → ℕ) (n : ℕ) (v : Node) (laid : IsLaidOut disk owner n d v) (here : sizes_of disk ≡ sizes) where

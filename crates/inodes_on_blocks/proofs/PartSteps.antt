@@ -1,5 +1,5 @@
 -- A part of a content is written into its next block, which is found or taken for it, by a hart that is changing the inode. Nothing of it is seen above.
-use Rattle.inodes_on_blocks.proofs.Vocabulary.{◌≡◌, ◌≢◌, ℕ, suc, ◌+◌, ◌-◌, ◌%◌, ◌<◌, ◌≤◌, nat_lt, Bool, true, false, List, length, length-take, Option, Some, None, sym, ◌∙◌, ap, subst, arith, if◌then◌else◌, Dinode, Super, IsBytes, length-overwrite, IsData, numbers_of, block_number, IsOwned, NamesOwned, IsLaidOut, Becomes, Node, hart_count, bind, Machine, Laws, P, Wp, Both, joined, Stable, bind-assoc, Wp-more, fetch, seen_of, Located, table_of, WriteResult, front_of, with_part, put_part, write_in, write_located, locate, Spent, size, with_number as with_block, most_recorded, Inv, World, log_of, disk_of, KeepsRoom, world_with, Kept, Carry, below, Labels, labelled, Keeps, IsChanging, log_with, Shows}
+use Rattle.inodes_on_blocks.proofs.Vocabulary.{◌≡◌, ◌≢◌, ℕ, suc, ◌+◌, ◌-◌, ◌%◌, ◌<◌, ◌≤◌, nat_lt, Bool, true, false, List, length, length-take, Option, Some, None, sym, ◌∙◌, ap, subst, arith, if◌then◌else◌, Dinode, Super, IsBytes, length-overwrite, IsData, numbers_of, block_number, IsOwned, NamesOwned, IsLaidOut, Becomes, Node, hart_count, bind, Machine, Laws, P, Wp, Both, joined, Stable, bind-assoc, Wp-more, fetch, seen_of, Located, table_of, WriteResult, front_of, with_part, put_part, write_in, write_located, locate, Spent, size, with_number as with_block, most_recorded, Inv, World, log_of, disk_of, KeepsRoom, world_with, Kept, Carry, below, Labels, labelled, Keeps, IsChanging, log_with, Shows, block_len, direct, most_blocks}
 use Rattle.inodes_on_blocks.proofs.Basics.{at_index, good_seen, HasBlocks, extra, number_new, block_room, s-fetch, below_laws, empty_hand, overwrite_bytes, take_bytes}
 use Rattle.inode_machine.specs.World as above
 use Rattle.inodes_on_blocks.proofs.Changing.{owner_with, LeftTo, Changing, left_but, changing_then, changed_put, numbers_stay}
@@ -10,19 +10,20 @@ use Rattle.inodes_on_blocks.proofs.OwnPuts.{IsOwnPut, s-own}
 
 -- ---- bytes
 
-part_fits : (at : ℕ) (bytes : List ℕ) → at % 1024 + length (front_of at bytes) ≤ 1024
-part_fits at bytes = let part = length-take (1024 - at % 1024) bytes in omega (arith, part)
+part_fits : (at : ℕ) (bytes : List ℕ) → at % block_len + length (front_of at bytes) ≤ block_len
+part_fits at bytes = let part = length-take (block_len - at % block_len) bytes in omega (arith, part)
 
-part_long : (at : ℕ) (bytes block : List ℕ) → length block ≡ 1024 → length (with_part at bytes block) ≡ 1024
-part_long at bytes block long = length-overwrite block (front_of at bytes) (at % 1024) (let fits = part_fits at bytes in omega (arith, long, fits)) ∙ long
+part_long : (at : ℕ) (bytes block : List ℕ) → length block ≡ block_len → length (with_part at bytes block) ≡ block_len
+part_long at bytes block long = length-overwrite block (front_of at bytes) (at % block_len) (let fits = part_fits at bytes in omega (arith, long, fits)) ∙ long
 
 part_bytes : (at : ℕ) (bytes block : List ℕ) → IsBytes bytes → IsBytes block → IsBytes (with_part at bytes block)
-part_bytes at bytes block are old = overwrite_bytes block (front_of at bytes) (at % 1024) old (take_bytes (1024 - at % 1024) bytes are)
+part_bytes at bytes block are old =
+    overwrite_bytes block (front_of at bytes) (at % block_len) old (take_bytes (block_len - at % block_len) bytes are)
 
 -- What such a put makes of the inode, whose block k it is: it is laid out for node y then, with size e.
 abbrev pub MakesPart : (h n k z e at : ℕ) → List ℕ → Carry → Option Node → (x y : Node) → Type 0
 MakesPart h n k z e at bytes c o x y =
-    (d : Dinode) (b : ℕ) (old : List ℕ) (r : World) (g : above.World) → Shows r g → Changing h n c o (sized z d) x r g → b ≢ 0 → block_number (numbers_of (disk_of (log_of r)) (sized z d)) k ≡ b → length old ≡ 1024 → IsBytes old
+    (d : Dinode) (b : ℕ) (old : List ℕ) (r : World) (g : above.World) → Shows r g → Changing h n c o (sized z d) x r g → b ≢ 0 → block_number (numbers_of (disk_of (log_of r)) (sized z d)) k ≡ b → length old ≡ block_len → IsBytes old
     → IsOwnPut h n b old (with_part at bytes old) r
     → Becomes (disk_of (log_of r)) (disk_of (log_with h b (with_part at bytes old) r)) (owner_with h n r) (owner_with h n r) n (sized z d) (sized e d) y
 
@@ -58,7 +59,7 @@ module _ (sizes : Super) (l : Labels) (laws : Laws (labelled l)) (keeps : Keeps 
       owned : (r : World) (g : above.World) → Known r g → IsOwned (disk_of (log_of r)) (owner_with h n r) n b
       owned r g is =
           subst (λ (q : ℕ). IsOwned (disk_of (log_of r)) (owner_with h n r) n q) is.1
-          (at_index (IsOwned (disk_of (log_of r)) (owner_with h n r) n) (numbers_of (disk_of (log_of r)) (sized z d)) (if nat_lt k 12 then k else k + 1) is.0.laid.owned (λ q. some (sym is.1 ∙ q)))
+          (at_index (IsOwned (disk_of (log_of r)) (owner_with h n r) n) (numbers_of (disk_of (log_of r)) (sized z d)) (if nat_lt k direct then k else k + 1) is.0.laid.owned (λ q. some (sym is.1 ∙ q)))
 
       block : IsData sizes b
       block =
@@ -68,7 +69,7 @@ module _ (sizes : Super) (l : Labels) (laws : Laws (labelled l)) (keeps : Keeps 
       room : KeepsRoom h b (HasBlocks sizes h s bs) (HasBlocks sizes h s (with_block bs b))
       room = block_room sizes h b s bs (λ isnt. let new = number_new bs b isnt in omega (arith, new, cost, small))
 
-      put_then : (old : List ℕ) → length old ≡ 1024 → IsBytes old → (r : World) (g : above.World) → Shows r g → Known r g → IsOwnPut h n b old (with_part at bytes old) r → Changing h n c o (sized e d) y (world_with h b (with_part at bytes old) r) g
+      put_then : (old : List ℕ) → length old ≡ block_len → IsBytes old → (r : World) (g : above.World) → Shows r g → Known r g → IsOwnPut h n b old (with_part at bytes old) r → Changing h n c o (sized e d) y (world_with h b (with_part at bytes old) r) g
       put_then old long bytes_are r g shows is made =
           let now = with_part at bytes old in
           let becomes = makes d b old r g shows is.0 some is.1 long bytes_are made in
@@ -86,7 +87,7 @@ module _ (sizes : Super) (l : Labels) (laws : Laws (labelled l)) (keeps : Keeps 
           let sized_ = got.since.sizes ∙ there.at in
           let home = data_home u.real u.seen got.shows b (subst (λ (q : Super). IsData q b) (sym sized_) block) in
           let old = seen_of (log_of u.real) b in
-          let long : length old ≡ 1024 = got.shows.blocks.seen.whole b home.within home.outside in
+          let long : length old ≡ block_len = got.shows.blocks.seen.whole b home.within home.outside in
           s-own sizes l laws keeps h lt B Q G stable n changes Known (λ r g. Changing h n c o (sized e d) y r g) known_stays b old (with_part at bytes old) block (part_long at bytes old long) (part_bytes at bytes old are (got.shows.bytes b home.within home.outside))
           (λ r g is. (owned r g is).owner_is) (λ r g shows is made. put_then old long (got.shows.bytes b home.within home.outside) r g shows is made) (HasBlocks sizes h s bs) (HasBlocks sizes h s (with_block bs b)) room
           (λ _. bind (more d) f) j gs u got.stage got.shows (known_stays v.real u.real v.seen u.seen there.shows got.shows (left_but h b v.real u.real got.since) got.kept (there.changing, number)) got.buffer sized_ (room.gives.fetched b v.real u.real got.since there.known)
@@ -107,7 +108,7 @@ module _ (sizes : Super) (l : Labels) (laws : Laws (labelled l)) (keeps : Keeps 
     found d None v fs is = Wp-more M h (f (record { inode = d; upto = at })) B Q j (suc (suc (suc j))) fs v (omega arith) (lacks d is.after v fs is.between is.fits is.is)
     found d (Some b) v fs is = writes d is.fits b is.after is.is.0 is.is.2 v fs is.between is.is.1
 
-    pub s-part : (d : Dinode) (fits : Fits was d) (bs : List ℕ) (low : k < 268) (cost : length bs + extra far bs (table_of d) ≤ most) (w : W) (es : List l.Step) → Between sizes h n (G es) c o (sized z d) x (HasBlocks sizes h s bs) w → (far ≡ false → k < 12)
+    pub s-part : (d : Dinode) (fits : Fits was d) (bs : List ℕ) (low : k < most_blocks) (cost : length bs + extra far bs (table_of d) ≤ most) (w : W) (es : List l.Step) → Between sizes h n (G es) c o (sized z d) x (HasBlocks sizes h s bs) w → (far ≡ false → k < direct)
         → Wp M h B Q (bind (bind (locate sizes d k) (write_located more at bytes)) f) (locate_steps far (suc (suc (suc j)))) es w
     s-part d fits bs low cost w es start near =
         subst (λ (p : P M A). Wp M h B Q p (locate_steps far (suc (suc (suc j)))) es w) (sym (bind-assoc (locate sizes d k) (write_located more at bytes) f))

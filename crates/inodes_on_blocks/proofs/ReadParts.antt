@@ -1,5 +1,5 @@
 -- A part of the content of an inode that holds its node: what its blocks have of it, and how long that is.
-use Rattle.inodes_on_blocks.proofs.Vocabulary.{◌≡◌, ◌≢◌, ⊎_elim, ℕ, ℤ, ◌+◌, ◌-◌, ◌*◌, ◌/◌, ◌<◌, ◌≤◌, Bool, cond, false, List, [], length, take, drop, Some, None, refl, sym, ◌∙◌, ap, subst, arith, cases_lt, lt-ltb, le-ltb, length-drop, none-some, Dinode, IsBytes, block_len, largest_size, is_free, content_block, blocks_for, numbers_of, block_number, HoldsAt, blocks_between, end_of, front, NoDriver, Node, Device, no_driver, seen_of, World, log_of, disk_of, inode_in, Shows}
+use Rattle.inodes_on_blocks.proofs.Vocabulary.{◌≡◌, ◌≢◌, ⊎_elim, ℕ, ℤ, ◌+◌, ◌-◌, ◌*◌, ◌/◌, ◌<◌, ◌≤◌, Bool, cond, false, List, [], length, take, drop, Some, None, refl, sym, ◌∙◌, ap, subst, arith, cases_lt, lt-ltb, le-ltb, length-drop, none-some, Dinode, IsBytes, block_len, largest_size, is_free, content_block, blocks_for, numbers_of, block_number, HoldsAt, blocks_between, end_of, front, NoDriver, Node, Device, no_driver, seen_of, World, log_of, disk_of, inode_in, Shows, most_blocks}
 use Rattle.std.proofs.lemmas.List.{length-take}
 use Rattle.plain_tree.specs.VersionOne as tree
 use Rattle.inode_machine.specs.Exec.{part_of}
@@ -10,13 +10,13 @@ use Rattle.inodes_on_blocks.proofs.ContentReads.{filled_from}
 use Rattle.inodes_on_blocks.proofs.NodeBytes.{all_whole, node_bytes}
 
 -- how many blocks have bytes between two offsets
-pub many_between : (from upto : ℕ) → from < upto → blocks_between from upto ≡ ((upto - 1) / 1024 + 1) - from / 1024
-many_between from upto lt = ap (λ (b : Bool). cond b (((upto - 1) / 1024 + 1) - from / 1024) 0) (lt-ltb from upto lt)
+pub many_between : (from upto : ℕ) → from < upto → blocks_between from upto ≡ ((upto - 1) / block_len + 1) - from / block_len
+many_between from upto lt = ap (λ (b : Bool). cond b (((upto - 1) / block_len + 1) - from / block_len) 0) (lt-ltb from upto lt)
 
 pub none_there : (from upto : ℕ) → upto ≤ from → blocks_between from upto ≡ 0
-none_there from upto le = ap (λ (b : Bool). cond b (((upto - 1) / 1024 + 1) - from / 1024) 0) (le-ltb from upto le)
+none_there from upto le = ap (λ (b : Bool). cond b (((upto - 1) / block_len + 1) - from / block_len) 0) (le-ltb from upto le)
 
-few_between : (from upto : ℕ) → upto ≤ largest_size → blocks_between from upto ≤ 268
+few_between : (from upto : ℕ) → upto ≤ largest_size → blocks_between from upto ≤ most_blocks
 few_between from upto small =
     ⊎_elim
     (λ (lt : from < upto). let many = many_between from upto lt in omega (arith, many, small))
@@ -24,7 +24,7 @@ few_between from upto small =
     (cases_lt from upto)
 
 -- and each of these begins before the second one
-within_between : (from upto q : ℕ) → q < blocks_between from upto → 1024 * (from / 1024 + q) < upto
+within_between : (from upto q : ℕ) → q < blocks_between from upto → block_len * (from / block_len + q) < upto
 within_between from upto q below =
     ⊎_elim
     (λ (lt : from < upto). let many = many_between from upto lt in omega (arith, many, below, lt))
@@ -54,14 +54,14 @@ module _ (v : World) (g : above.World) (shows : Shows v g) (n : ℕ) (node : Nod
   block_is : (k : ℕ) → block_len * k < d.size → block k ≡ seen_of (log_of v) (block_number (numbers_of disk d) k)
   block_is k below = sym (block_seen v g shows n (Some node) holds used k below)
 
-  whole : (k : ℕ) → 1024 * k < d.size → length (block k) ≡ 1024
+  whole : (k : ℕ) → block_len * k < d.size → length (block k) ≡ block_len
   whole k below =
       let at = data_place v g shows (block_number (numbers_of disk d) k) (block_data v g shows n (Some node) holds used k below) in
       let small_ = at.1 in
       let sized = shows.blocks.seen.sized in
       ap length (block_is k below) ∙ shows.blocks.seen.whole (block_number (numbers_of disk d) k) (omega (arith, small_, sized)) at.0
 
-  fits : (k : ℕ) → 1024 * k < d.size → IsBytes (block k)
+  fits : (k : ℕ) → block_len * k < d.size → IsBytes (block k)
   fits k below =
       let at = data_place v g shows (block_number (numbers_of disk d) k) (block_data v g shows n (Some node) holds used k below) in
       let small_ = at.1 in
@@ -96,7 +96,7 @@ module _ (v : World) (g : above.World) (shows : Shows v g) (n : ℕ) (node : Nod
       let part = length-take count (drop offset (tree.content node.kind)) in
       omega (arith, limit, long, same, rest, part, within)
 
-  pub few_blocks : blocks_between offset (end_of d offset count) ≤ 268
+  pub few_blocks : blocks_between offset (end_of d offset count) ≤ most_blocks
   few_blocks = let ends = ends_within in let limit = small in few_between offset (end_of d offset count) (omega (arith, ends, limit))
 
   pub blocks_within : (q : ℕ) → q < blocks_between offset (end_of d offset count) → block_len * (offset / block_len + q) < d.size

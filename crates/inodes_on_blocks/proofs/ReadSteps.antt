@@ -1,5 +1,5 @@
 -- A part of a locked file is read, and the operation acts where the lock is given up and the offset moves.
-use Rattle.inodes_on_blocks.proofs.Vocabulary.{◌≡◌, ◌≢◌, ℕ, zero, suc, ◌+◌, ◌-◌, ◌/◌, ◌<◌, ◌≤◌, nat_lt, Bool, true, false, List, [], length, Option, Some, None, refl, sym, ◌∙◌, ap, subst, arith, if◌then◌else◌, option_map, unwrap_or, IfSome, none-some, same_Some, Dinode, Super, largest_size, HoldsAt, Node, put, hart_count, put_other, Ret, bind, Ran, Machine, Laws, Wp, Both, Handover, joined, Below, Lasts, Acting, ToAct, to_act, may_act, s-act, Wp-more, Inode, unlock_inode, TablesState, file_named, lock_holder, Outside, no_record, Direct, InTable, FilledMemory, blocks_between, end_of, fetch_at, next_block, read_blocks, read_from, read_part, Entry, ReadFile, entry_at, entry_moved, offset_of, read_at, slot_at, unlocked, with_offset, Inv, loaded, file_of, ActsOnceAt, World, log_of, tables_of, disk_of, inode_in, exec, give_read, read_file, Apart, Emptied, Has, Had, Carry, InHand, IsLoaded, Stands, below, Labels, labelled, Keeps, record_had, Shows, OffsetsShow, record_in, Loaded, unindexed}
+use Rattle.inodes_on_blocks.proofs.Vocabulary.{◌≡◌, ◌≢◌, ℕ, zero, suc, ◌+◌, ◌-◌, ◌/◌, ◌<◌, ◌≤◌, nat_lt, Bool, true, false, List, [], length, Option, Some, None, refl, sym, ◌∙◌, ap, subst, arith, if◌then◌else◌, option_map, unwrap_or, IfSome, none-some, same_Some, Dinode, Super, largest_size, HoldsAt, Node, put, hart_count, put_other, Ret, bind, Ran, Machine, Laws, Wp, Both, Handover, joined, Below, Lasts, Acting, ToAct, to_act, may_act, s-act, Wp-more, Inode, unlock_inode, TablesState, file_named, lock_holder, Outside, no_record, Direct, InTable, FilledMemory, blocks_between, end_of, fetch_at, next_block, read_blocks, read_from, read_part, Entry, ReadFile, entry_at, entry_moved, offset_of, read_at, slot_at, unlocked, with_offset, Inv, loaded, file_of, ActsOnceAt, World, log_of, tables_of, disk_of, inode_in, exec, give_read, read_file, Apart, Emptied, Has, Had, Carry, InHand, IsLoaded, Stands, below, Labels, labelled, Keeps, record_had, Shows, OffsetsShow, record_in, Loaded, unindexed, block_len, direct}
 use Rattle.fs_machine.specs.declared.files.OpenFile as files
 use Rattle.fs_machine.specs.Premises as premises
 use Rattle.fs_machine.specs.Steps as steps
@@ -76,9 +76,9 @@ module _ (l : Labels) (laws : Laws (labelled l)) (keeps : Keeps l) (h : ℕ) (lt
   takes : (B : List l.Step → Type 0) (k : ℕ) (d : Dinode) (from upto : ℕ) (f : FilledMemory) (c : Carry) → TakesStep sizes l laws keeps h lt B (bind (read_blocks k d from upto f) (give_read fd n offset count m c))
   unfolding read_blocks
   takes B zero d from upto f c = tt
-  takes B (suc k) d from upto f c = by (nat_lt (from / 1024) 12)
+  takes B (suc k) d from upto f c = by (nat_lt (from / block_len) direct)
     where
-      by : (b : Bool) → TakesStep sizes l laws keeps h lt B (bind (bind (fetch_at d (if b then Direct (from / 1024) else InTable (from / 1024 - 12))) (read_part (read_blocks k d (next_block from) upto) from upto f)) (give_read fd n offset count m c))
+      by : (b : Bool) → TakesStep sizes l laws keeps h lt B (bind (bind (fetch_at d (if b then Direct (from / block_len) else InTable (from / block_len - direct))) (read_part (read_blocks k d (next_block from) upto) from upto f)) (give_read fd n offset count m c))
       by true = tt
       by false = tt
 

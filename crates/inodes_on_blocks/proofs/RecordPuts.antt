@@ -1,5 +1,5 @@
 -- An inode's record is put by the hart that has its lock, in its transaction, where it has taken no block.
-use Rattle.inodes_on_blocks.proofs.Vocabulary.{◌≡◌, ◌≢◌, inl, inr, ℕ, ◌+◌, ◌/◌, ◌%◌, ◌<◌, ◌≤◌, Bool, true, false, List, length, Option, Some, None, refl, sym, ◌∙◌, ap, subst, arith, if◌then◌else◌, nat_lt, none-some, Super, Dinode, dinode_at, IsDinode, recovered, sizes_of, Node, either, same_or, eq_not, put_other, IsData, IsPut, IsInodePut, LeavesOthers, LogPart, put_block, seen_of, inode_block, with_dinode, stores_one, with_record, is_dead, if_kept, is_hart, loaded, is_joined, Owners, is_named, named_of, inode_put, owners_put, World, log_of, tables_of, disk_of, owners_of, CanPut, PutLeaves, Shows, if_joined, on_blocks, IsRunning, IsIndexOf}
+use Rattle.inodes_on_blocks.proofs.Vocabulary.{◌≡◌, ◌≢◌, inl, inr, ℕ, ◌+◌, ◌/◌, ◌%◌, ◌<◌, ◌≤◌, Bool, true, false, List, length, Option, Some, None, refl, sym, ◌∙◌, ap, subst, arith, if◌then◌else◌, nat_lt, none-some, Super, Dinode, dinode_at, IsDinode, recovered, sizes_of, Node, either, same_or, eq_not, put_other, IsData, IsPut, IsInodePut, LeavesOthers, LogPart, put_block, seen_of, inode_block, with_dinode, stores_one, with_record, is_dead, if_kept, is_hart, loaded, is_joined, Owners, is_named, named_of, inode_put, owners_put, World, log_of, tables_of, disk_of, owners_of, CanPut, PutLeaves, Shows, if_joined, on_blocks, IsRunning, IsIndexOf, block_len, inodes_per_block}
 use Rattle.inodes_on_blocks.proofs.HeldPuts.{inode_leaves}
 use Rattle.inodes_on_blocks.proofs.RunningBlocks.{node_any}
 use Rattle.inodes_on_blocks.proofs.SeenDisks.{good_seen}
@@ -52,7 +52,7 @@ module _ (h n : ℕ) (d : Dinode) (r : World) (g : above.World) (shows : Shows r
   within : n < (sizes_of (disk_of l)).ninodes
   within = subst (λ (s : Super). n < s.ninodes) (sym here) bound
 
-  module _ (can : CanPut h b stored l) (long : length (seen_of l b) ≡ 1024) where
+  module _ (can : CanPut h b stored l) (long : length (seen_of l b) ≡ block_len) where
     abbrev now : LogPart
     now = put_block h b (Some stored) l
 
@@ -60,12 +60,14 @@ module _ (h n : ℕ) (d : Dinode) (r : World) (g : above.World) (shows : Shows r
     pub record_put : IsInodePut (disk_of l) (disk_of now) n d
     record_put =
         let one = stores_one n d (seen_of l b) is long in
-        let same : b ≡ (sizes_of (disk_of l)).inodestart + n / 16 = ap (λ (s : Super). s.inodestart + n / 16) (sym here) in
+        let same : b ≡ (sizes_of (disk_of l)).inodestart + n / inodes_per_block =
+        ap (λ (s : Super). s.inodestart + n / inodes_per_block) (sym here) in
         let new_ : recovered (disk_of now) b ≡ stored = put_bytes h b stored r.state shows.whole shows.blocks.seen can in
         let old_ : recovered (disk_of l) b ≡ seen_of l b = old_bytes h b stored r.state shows.whole shows.blocks.seen can in
         record {
           block = subst (λ (c : ℕ). IsPut (disk_of l) (disk_of now) c) same (disk_put h b stored r.state shows.whole shows.blocks.seen can);
-          this = subst (λ (c : ℕ). dinode_at (n % 16) (recovered (disk_of now) c) ≡ d) same (ap (dinode_at (n % 16)) new_ ∙ one.0);
+          this = subst (λ (c : ℕ). dinode_at (n % inodes_per_block) (recovered (disk_of now) c) ≡ d) same
+              (ap (dinode_at (n % inodes_per_block)) new_ ∙ one.0);
           others = λ q lt ne. subst (λ (c : ℕ). dinode_at q (recovered (disk_of now) c) ≡ dinode_at q (recovered (disk_of l) c)) same (ap (dinode_at q) new_ ∙ one.1 q lt ne ∙ sym (ap (dinode_at q) old_));
         }
 

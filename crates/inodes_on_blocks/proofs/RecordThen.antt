@@ -1,5 +1,5 @@
 -- An inode's record put by the hart that has its lock: what the hart has of its own then.
-use Rattle.inodes_on_blocks.proofs.Vocabulary.{◌≡◌, ◌≢◌, inr, ℕ, ◌+◌, ◌/◌, ◌%◌, ◌<◌, ◌≤◌, true, false, List, length, Option, Some, None, sym, ◌∙◌, ap, subst, arith, is_some, Super, Dinode, dinode_at, IsDinode, recovered, sizes_of, has, HasRoom, IsHome, Node, hart_count, IsData, IsGoodSuper, inode_of, HoldsAt, NamesOwned, IsInodePut, lock_holder, LogPart, put_block, seen_of, inode_block, with_dinode, if_kept, Idle, World, log_of, tables_of, disk_of, inode_in, owners_of, in_hand, HasBuffer, KeepsInode, Kept, Same, Carry, IsLoaded, InHand, IsThrough, CanPut, PutLeaves, Shows}
+use Rattle.inodes_on_blocks.proofs.Vocabulary.{◌≡◌, ◌≢◌, inr, ℕ, ◌+◌, ◌/◌, ◌%◌, ◌<◌, ◌≤◌, true, false, List, length, Option, Some, None, sym, ◌∙◌, ap, subst, arith, is_some, Super, Dinode, dinode_at, IsDinode, recovered, sizes_of, has, HasRoom, IsHome, Node, hart_count, IsData, IsGoodSuper, inode_of, HoldsAt, NamesOwned, IsInodePut, lock_holder, LogPart, put_block, seen_of, inode_block, with_dinode, if_kept, Idle, World, log_of, tables_of, disk_of, inode_in, owners_of, in_hand, HasBuffer, KeepsInode, Kept, Same, Carry, IsLoaded, InHand, IsThrough, CanPut, PutLeaves, Shows, block_len, inodes_per_block}
 use Rattle.inodes_on_blocks.proofs.HeldFrames.{untouched}
 use Rattle.inodes_on_blocks.proofs.HeldPuts.{inode_is}
 use Rattle.inodes_on_blocks.proofs.SeenDisks.{good_seen}
@@ -33,9 +33,9 @@ unfolding inode_of
 seen_dinode r g shows n bound =
     let good = good_seen (log_of r).sizes (seen_of (log_of r)) (length (log_of r).contents) shows.blocks.seen in
     let home = inode_home (log_of r) n shows.blocks.seen.good shows.blocks.seen.sized bound in
-    let same : (sizes_of (disk_of (log_of r))).inodestart + n / 16 ≡ (log_of r).sizes.inodestart + n / 16 = ap (λ (s : Super). s.inodestart + n / 16) good.sizes_are in
-    subst (λ (bytes : List ℕ). IsDinode (dinode_at (n % 16) bytes)) (sym (ap (recovered (disk_of (log_of r))) same ∙ good.blocks ((log_of r).sizes.inodestart + n / 16) home.within home.outside))
-    (placed_dinode (n % 16) (seen_of (log_of r) ((log_of r).sizes.inodestart + n / 16)) (shows.bytes ((log_of r).sizes.inodestart + n / 16) home.within home.outside))
+    let same : (sizes_of (disk_of (log_of r))).inodestart + n / inodes_per_block ≡ (log_of r).sizes.inodestart + n / inodes_per_block = ap (λ (s : Super). s.inodestart + n / inodes_per_block) good.sizes_are in
+    subst (λ (bytes : List ℕ). IsDinode (dinode_at (n % inodes_per_block) bytes)) (sym (ap (recovered (disk_of (log_of r))) same ∙ good.blocks ((log_of r).sizes.inodestart + n / inodes_per_block) home.within home.outside))
+    (placed_dinode (n % inodes_per_block) (seen_of (log_of r) ((log_of r).sizes.inodestart + n / inodes_per_block)) (shows.bytes ((log_of r).sizes.inodestart + n / inodes_per_block) home.within home.outside))
 
 -- ---- a hart before it puts a record
 
@@ -69,11 +69,12 @@ place_in n r = inode_block (log_of r).sizes.inodestart n
 -- with its buffer in hand, and room, it may be put with this record in it
 pub can_record : (h n : ℕ) (d : Dinode) (bytes : List ℕ) (r : World) (g : above.World) → h < hart_count → Shows r g → g.lock n ≡ Some h → (g.desks h).joined ≡ true → IsDinode d → HasBuffer h (place_in n r) bytes r
     → (has (log_of r).group (place_in n r) ≡ false → HasRoom (log_of r).members h)
-    → CanPut h (place_in n r) (with_dinode n d (seen_of (log_of r) (place_in n r))) (log_of r) × (length (seen_of (log_of r) (place_in n r)) ≡ 1024)
+    → CanPut h (place_in n r) (with_dinode n d (seen_of (log_of r) (place_in n r))) (log_of r) × (length (seen_of (log_of r) (place_in n r)) ≡ block_len)
 can_record h n d bytes r g lt shows mine joined is buffer room =
     let range = lock_range n h r g shows mine in
     let home = inode_home (log_of r) n shows.blocks.seen.good shows.blocks.seen.sized range.1 in
-    let long : length (seen_of (log_of r) (place_in n r)) ≡ 1024 = shows.blocks.seen.whole (place_in n r) home.within home.outside in (
+    let long : length (seen_of (log_of r) (place_in n r)) ≡ block_len =
+    shows.blocks.seen.whole (place_in n r) home.within home.outside in (
       record {
         holder = buffer.holder;
         valid = ap (λ (o : Option (List ℕ)). is_some o) buffer.has;
@@ -90,7 +91,7 @@ can_record h n d bytes r g lt shows mine joined is buffer room =
 -- ---- and after it
 
 module _ (h n : ℕ) (d : Dinode) (c : Carry) (r : World) (g : above.World) (shows : Shows r g) (mine : g.lock n ≡ Some h) (joined : (g.desks h).joined ≡ true) (is : IsDinode d)
-    (can : CanPut h (place_in n r) (with_dinode n d (seen_of (log_of r) (place_in n r))) (log_of r)) (long : length (seen_of (log_of r) (place_in n r)) ≡ 1024) where
+    (can : CanPut h (place_in n r) (with_dinode n d (seen_of (log_of r) (place_in n r))) (log_of r)) (long : length (seen_of (log_of r) (place_in n r)) ≡ block_len) where
   range : (1 ≤ n) × (n < (log_of r).sizes.ninodes)
   range = lock_range n h r g shows mine
 

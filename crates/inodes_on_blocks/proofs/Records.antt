@@ -1,5 +1,5 @@
 -- An inode as it stands in a block, and in one that it was stored in.
-use Rattle.inodes_on_blocks.proofs.Vocabulary.{◌≡◌, ◌⊎◌, inl, inr, ℕ, zero, suc, pos, ◌+◌, ◌*◌, ◌^◌, ◌<◌, ◌≤◌, List, [], ◌∷◌, ◌++◌, length, take, drop, ◌∙◌, subst, arith, w16, FitsSigned, flat_map, AllByRecursion, byte_at, cast_unsigned, Fits-of_lt, sfits_to_z, Dinode, overwrite, u16_bytes, u32_bytes, i16_bytes, u16_at, i16_at, u32s_at, IsBytes, spell_dinode, dinode_of, dinode_at, IsDinode, length-spell_dinode, u16_at-lt, u32_at-lt, length-u32s_at, length-overwrite, with_dinode}
+use Rattle.inodes_on_blocks.proofs.Vocabulary.{◌≡◌, ◌⊎◌, inl, inr, ℕ, zero, suc, pos, ◌+◌, ◌*◌, ◌^◌, ◌<◌, ◌≤◌, List, [], ◌∷◌, ◌++◌, length, take, drop, ◌∙◌, subst, arith, w16, FitsSigned, flat_map, AllByRecursion, byte_at, cast_unsigned, Fits-of_lt, sfits_to_z, Dinode, overwrite, u16_bytes, u32_bytes, i16_bytes, u16_at, i16_at, u32s_at, IsBytes, spell_dinode, dinode_of, dinode_at, IsDinode, length-spell_dinode, u16_at-lt, u32_at-lt, length-u32s_at, length-overwrite, with_dinode, addresses, block_len, inode_len}
 use Rattle.inode_table.specs.Programs.{place_of}
 
 -- ---- bytes
@@ -84,12 +84,13 @@ dinode_is bytes are = record {
   minor = signed bytes 4 are;
   nlink = signed bytes 6 are;
   size = u32_at-lt bytes 8 are;
-  thirteen = length-u32s_at 13 bytes 12;
-  addrs = u32s_small 13 bytes 12 are;
+  thirteen = length-u32s_at addresses bytes 12;
+  addrs = u32s_small addresses bytes 12 are;
 }
 
 pub placed_dinode : (q : ℕ) (block : List ℕ) → IsBytes block → IsDinode (dinode_at q block)
-placed_dinode q block are = dinode_is (take 64 (drop (64 * q) block)) (take_bytes 64 (drop (64 * q) block) (drop_bytes (64 * q) block are))
+placed_dinode q block are = dinode_is (take inode_len (drop (inode_len * q) block))
+    (take_bytes inode_len (drop (inode_len * q) block) (drop_bytes (inode_len * q) block are))
 
 -- with a count that a node may have
 pub count_fits : (d : Dinode) (count old : ℕ) → d.nlink ≡ pos old → IsDinode d → (count ≤ 32767) ⊎ (count ≤ old) → IsDinode (record d { nlink = pos count })
@@ -111,11 +112,12 @@ count_fits d count old is fits some = record {
 
 -- ---- a block with a record
 
-pub stored_long : (n : ℕ) (d : Dinode) (block : List ℕ) → IsDinode d → length block ≡ 1024 → length (with_dinode n d block) ≡ 1024
+pub stored_long : (n : ℕ) (d : Dinode) (block : List ℕ) → IsDinode d → length block ≡ block_len
+    → length (with_dinode n d block) ≡ block_len
 unfolding with_dinode
 stored_long n d block is long =
-    let spelled = length-spell_dinode d is.thirteen in length-overwrite block (spell_dinode d) (64 * place_of n) (omega (arith, spelled, long)) ∙ long
+    let spelled = length-spell_dinode d is.thirteen in length-overwrite block (spell_dinode d) (inode_len * place_of n) (omega (arith, spelled, long)) ∙ long
 
 pub stored_bytes : (n : ℕ) (d : Dinode) (block : List ℕ) → IsBytes block → IsBytes (with_dinode n d block)
 unfolding with_dinode
-stored_bytes n d block are = overwrite_bytes block (spell_dinode d) (64 * place_of n) are (spelled_bytes d)
+stored_bytes n d block are = overwrite_bytes block (spell_dinode d) (inode_len * place_of n) are (spelled_bytes d)

@@ -1,11 +1,11 @@
 -- The disk as it is seen.
-use Rattle.inodes_on_blocks.proofs.Vocabulary.{◌≡◌, ◌≢◌, ⊎_elim, ℕ, zero, suc, ◌+◌, ◌<◌, ◌≤◌, inl, inr, refl, sym, ◌∙◌, ap, subst, arith, List, [], ◌∷◌, ◌++◌, length, length-append, replicate, get_or, true, false, if◌then◌else◌, ◌⊎◌, nat_tests, All, cases_lt, get_or_past, get_or_append_left, length-replicate, All-nil, HasWholeBlocks, block_at, Super, u32_at, super_fields, log_head_at, log_count, logged, recovered, sizes_of, IsOutsideLog, logged-empty, recovered-empty, recovered-own, IsOnce, IsGoodSuper, HasGoodLog, UpToLog, IsWellFormed, tree_in, IsViewOf, once_nil, checks_see_recovered, trees_see_recovered, same_or, IsPut, is_in_log, seen_blocks, AreSeen, IsGoodSeen, AreSeenAlike, IsSeenPut, IsRecoveredSo, One}
+use Rattle.inodes_on_blocks.proofs.Vocabulary.{◌≡◌, ◌≢◌, ⊎_elim, ℕ, zero, suc, ◌+◌, ◌<◌, ◌≤◌, inl, inr, refl, sym, ◌∙◌, ap, subst, arith, List, [], ◌∷◌, ◌++◌, length, length-append, replicate, get_or, true, false, if◌then◌else◌, ◌⊎◌, nat_tests, All, cases_lt, get_or_past, get_or_append_left, length-replicate, All-nil, HasWholeBlocks, block_at, Super, u32_at, super_fields, log_head_at, log_count, logged, recovered, sizes_of, IsOutsideLog, logged-empty, recovered-empty, recovered-own, IsOnce, IsGoodSuper, HasGoodLog, UpToLog, IsWellFormed, tree_in, IsViewOf, once_nil, checks_see_recovered, trees_see_recovered, same_or, IsPut, is_in_log, seen_blocks, AreSeen, IsGoodSeen, AreSeenAlike, IsSeenPut, IsRecoveredSo, One, block_len}
 
 -- ---- its blocks
 
 -- what the seen disk has as block b
 abbrev shown : Super → (ℕ → List ℕ) → ℕ → List ℕ
-shown sizes see b = if is_in_log sizes b then replicate 1024 0 else see b
+shown sizes see b = if is_in_log sizes b then replicate block_len 0 else see b
 
 length_seen : (sizes : Super) (see : ℕ → List ℕ) (n : ℕ) → length (seen_blocks sizes see n) ≡ n
 unfolding seen_blocks
@@ -49,7 +49,7 @@ either_side sizes b =
     (cases_lt b (sizes.logstart + sizes.nlog)))
     (cases_lt b sizes.logstart)
 
-shown_log : (sizes : Super) (see : ℕ → List ℕ) (b : ℕ) → is_in_log sizes b ≡ true → shown sizes see b ≡ replicate 1024 0
+shown_log : (sizes : Super) (see : ℕ → List ℕ) (b : ℕ) → is_in_log sizes b ≡ true → shown sizes see b ≡ replicate block_len 0
 shown_log sizes see b is = rw is refl
 
 shown_out : (sizes : Super) (see : ℕ → List ℕ) (b : ℕ) → IsOutsideLog sizes b → shown sizes see b ≡ see b
@@ -61,7 +61,7 @@ shown_alike sizes see now b same = elim (either_side sizes b) [
   | inr out ↦ shown_out sizes now b out ∙ same out ∙ sym (shown_out sizes see b out)
 ]
 
-zeros_count : u32_at (replicate 1024 0) 0 ≡ 0
+zeros_count : u32_at (replicate block_len 0) 0 ≡ 0
 unfolding u32_at
 zeros_count = refl
 
@@ -85,7 +85,7 @@ module _ (sizes : Super) (see : ℕ → List ℕ) (n : ℕ) (these : AreSeen siz
   unfolding sizes_of
   seen_sizes = ap super_fields super_seen ∙ these.sizes_are
 
-  head_seen : log_head_at disk ≡ replicate 1024 0
+  head_seen : log_head_at disk ≡ replicate block_len 0
   head_seen =
       let good = these.good in
       let nlog = good.nlog in
@@ -124,9 +124,9 @@ module _ (sizes : Super) (see : ℕ → List ℕ) (n : ℕ) (these : AreSeen siz
       any_block (x ∷ xs) zero d l = refl
       any_block (x ∷ xs) (suc k) d l = any_block xs k d (omega arith)
 
-      whole_shown : (k : ℕ) → k < n → length (shown sizes see k) ≡ 1024
+      whole_shown : (k : ℕ) → k < n → length (shown sizes see k) ≡ block_len
       whole_shown k within = elim (either_side sizes k) [
-        | inl is ↦ ap length (shown_log sizes see k is) ∙ length-replicate {A = ℕ} 1024 0
+        | inl is ↦ ap length (shown_log sizes see k is) ∙ length-replicate {A = ℕ} block_len 0
         | inr out ↦ ap length (shown_out sizes see k out) ∙ these.whole k within out
       ]
 

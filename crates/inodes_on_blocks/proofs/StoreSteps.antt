@@ -1,5 +1,5 @@
 -- An operation that puts an inode's record acts at the put.
-use Rattle.inodes_on_blocks.proofs.Vocabulary.{◌≡◌, ◌≢◌, inl, inr, ℕ, suc, pos, ◌<◌, true, false, List, length, Option, Some, None, refl, sym, ◌∙◌, ap, subst, arith, unwrap_or, none-some, Super, Dinode, IsDinode, sizes_of, IsOutsideLog, holder_of, has, HasRoom, Node, node_or, put, hart_count, same_or, put_same, put_other, UpToLog, numbers_of, HoldsAt, NamesOwned, IsInodePut, IsLaidOut, Ret, bind, once, Ran, Laws, Machine, Wp, Both, joined, Below, Lasts, Handover, Here, ToAct, to_act, may_act, Acting, s-act, lock_holder, LogPart, Outside, put_block, fetch, seen_of, Put, no_record, inode_block, with_dinode, Store, with_record, with_count, marked, with_mark, Inv, more, Owners, World, log_of, tables_of, disk_of, inode_in, owners_of, exec, CanPut, Shows, NothingMore, Had, Apart, Has, Emptied, Carry, record_had, IsLoaded, InHand, Base, Stands, below, Labels, labelled, Keeps, IsOpened, IsThrough, in_hand, HasBuffer, IsFetched, GivesRoom, record_in, put_record, store, unindexed, index_in, recorded_had, all_slots}
+use Rattle.inodes_on_blocks.proofs.Vocabulary.{◌≡◌, ◌≢◌, inl, inr, ℕ, suc, pos, ◌<◌, true, false, List, length, Option, Some, None, refl, sym, ◌∙◌, ap, subst, arith, unwrap_or, none-some, Super, Dinode, IsDinode, sizes_of, IsOutsideLog, holder_of, has, HasRoom, Node, node_or, put, hart_count, same_or, put_same, put_other, UpToLog, numbers_of, HoldsAt, NamesOwned, IsInodePut, IsLaidOut, Ret, bind, once, Ran, Laws, Machine, Wp, Both, joined, Below, Lasts, Handover, Here, ToAct, to_act, may_act, Acting, s-act, lock_holder, LogPart, Outside, put_block, fetch, seen_of, Put, no_record, inode_block, with_dinode, Store, with_record, with_count, marked, with_mark, Inv, more, Owners, World, log_of, tables_of, disk_of, inode_in, owners_of, exec, CanPut, Shows, NothingMore, Had, Apart, Has, Emptied, Carry, record_had, IsLoaded, InHand, Base, Stands, below, Labels, labelled, Keeps, IsOpened, IsThrough, in_hand, HasBuffer, IsFetched, GivesRoom, record_in, put_record, store, unindexed, index_in, recorded_had, all_slots, block_len}
 use Rattle.inodes_on_blocks.proofs.Basics.{laid_before, node_held, count_laid, good_seen, marked_same, shows_marked, below_laws, base_marked, AllInHand, in_hand_then, lent_then, through_then, through_put, back_hand, buffer_then, buffer_seen, s-fetch, count_fits, may_put, after, lock_range, quiet_owners, node_then, AllBut, LastsInHand, Ready, inode_home, seen_dinode, untaken, place_in, can_record, then_, is_put, same_then, inode_then, others_then, none_then, open_alike, indexed_file, indexed_in}
 use Rattle.fs_machine.specs.Steps as steps
 use Rattle.fs_machine.specs.Premises as premises
@@ -37,7 +37,7 @@ module _ (sizes : Super) (l : Labels) (laws : Laws (labelled l)) (keeps : Keeps 
   -- ---- the put, at the world where it is made
 
   module _ (op : above.Op) (answer : above.Answer op) (d : Dinode) (had : Had) (c : Carry) (r : World) (g : above.World) (shows : Shows r g) (all : AllBut n h c r g) (one : in_hand h r ≡ 1) (none : (k : ℕ) → r.taken k ≢ Some h)
-      (through : IsThrough h r) (p : PutsRecord h op n answer d had r g) (can : CanPut h (at r) (with_dinode n d (seen_of (log_of r) (at r))) (log_of r)) (long : length (seen_of (log_of r) (at r)) ≡ 1024) where
+      (through : IsThrough h r) (p : PutsRecord h op n answer d had r g) (can : CanPut h (at r) (with_dinode n d (seen_of (log_of r) (at r))) (log_of r)) (long : length (seen_of (log_of r) (at r)) ≡ block_len) where
     abbrev put_then : World
     put_then = then_ h n d c r g shows p.mine p.joined p.is can long
 
@@ -102,7 +102,7 @@ module _ (sizes : Super) (l : Labels) (laws : Laws (labelled l)) (keeps : Keeps 
 
     -- the put, where the buffer is in hand
     acts_there : (v : W) → Shows v.real v.seen → AllBut n h c v.real v.seen → in_hand h v.real ≡ 1 → ((k : ℕ) → v.real.taken k ≢ Some h) → IsThrough h v.real → PutsRecord h op n answer d had v.real v.seen
-        → CanPut h (at v.real) (with_dinode n d (seen_of (log_of v.real) (at v.real))) (log_of v.real) → length (seen_of (log_of v.real) (at v.real)) ≡ 1024 → (log_of v.real).sizes ≡ sizes
+        → CanPut h (at v.real) (with_dinode n d (seen_of (log_of v.real) (at v.real))) (log_of v.real) → length (seen_of (log_of v.real) (at v.real)) ≡ block_len → (log_of v.real).sizes ≡ sizes
         → Acts v (at v.real) (with_dinode n d (seen_of (log_of v.real) (at v.real)))
     unfolding steps.exec premises.MayWait premises.Honest
     acts_there v shows all one none through p can long here =

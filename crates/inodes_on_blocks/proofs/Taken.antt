@@ -1,5 +1,5 @@
 -- The law of a block taken.
-use Rattle.inodes_on_blocks.proofs.Vocabulary.{slice_index, ◌≡◌, inl, inr, ℕ, List, [], length, Option, Some, None, refl, sym, ◌∙◌, subst, arith, Dinode, Super, sizes_of, IsData, Node, Ret, bind, Machine, P, Wp, Both, joined, Stable, seen_of, take_block, Spent, with_contents, World, log_of, disk_of, inode_in, whole, alone, Done, in_hand, Carry, Kept, below, HasSpent, ChangesStill, TookOne, BlocksAreTaken}
+use Rattle.inodes_on_blocks.proofs.Vocabulary.{slice_index, ◌≡◌, inl, inr, ℕ, List, [], length, Option, Some, None, refl, sym, ◌∙◌, subst, arith, Dinode, Super, sizes_of, IsData, Node, Ret, bind, Machine, P, Wp, Both, joined, Stable, seen_of, take_block, Spent, with_contents, World, log_of, disk_of, inode_in, whole, alone, Done, in_hand, Carry, Kept, below, HasSpent, ChangesStill, TookOne, BlocksAreTaken, direct}
 use Rattle.inodes_on_blocks.proofs.Basics.{good_seen, alone_laws, alone_keeps, kept_then, below_laws, kept_disk, empty_hand, lock_range, seen_dinode, other_spends, spent_gives, spent_stays, s-here}
 use Rattle.inode_machine.specs.World as above
 use Rattle.inodes_on_blocks.proofs.BlockTaking.{Took, TookNone, s-take}
@@ -65,8 +65,8 @@ blocks_are_taken sizes h n c x s w lt is free stands mine node has few spent =
     let long = (seen_dinode v.real v.seen here.shows n (lock_range n h v.real v.seen here.shows here.stage.is.lock).1).thirteen in
     s-take sizes alone alone_laws alone_keeps h lt (λ es. es ≡ []) (Ends sizes h n c (inode_in (log_of w.real) n) x s w) (IsStage h n) stable n (λ gs g st i. st.is) c (Some x) (inode_in (log_of v.real) n) x long (HasSpent sizes h s) (λ b. HasSpent sizes h (with_contents 1 s))
     (spent_gives sizes h sizes.bmapstart s (inr (has, refl)) (omega (arith, few))) (λ b. other_spends sizes h b s few) (λ a. Ret a) 0 v (let none = stands_v.0.free in omega (arith, none)) (λ q ne. empty_hand h q v.real stands_v.0.free) stands_v.1 here.shows changing (spent_stays sizes h s w.real v.real here.same spent)
-    (λ z gs took. subst (λ (e : Dinode). Ends sizes h n c e x s w None gs z) same (took_none sizes h n (slice_index (inode_in (log_of v.real) n).addrs 12) c (Some x) (inode_in (log_of v.real) n) x s w v z gs here.kept stands_v.0.free took))
-    (λ b z gs took. subst (λ (e : Dinode). Ends sizes h n c e x s w (Some b) gs z) same (took_one sizes h n (slice_index (inode_in (log_of v.real) n).addrs 12) c (Some x) (inode_in (log_of v.real) n) x s w v z gs here.kept stands_v.0.free b stands_v.1 took))
+    (λ z gs took. subst (λ (e : Dinode). Ends sizes h n c e x s w None gs z) same (took_none sizes h n (slice_index (inode_in (log_of v.real) n).addrs direct) c (Some x) (inode_in (log_of v.real) n) x s w v z gs here.kept stands_v.0.free took))
+    (λ b z gs took. subst (λ (e : Dinode). Ends sizes h n c e x s w (Some b) gs z) same (took_one sizes h n (slice_index (inode_in (log_of v.real) n).addrs direct) c (Some x) (inode_in (log_of v.real) n) x s w v z gs here.kept stands_v.0.free b stands_v.1 took))
     fs here.stage))
   where
     stable : Stable whole (below sizes) alone_laws (below_laws sizes alone alone_keeps) h (λ es. es ≡ []) (IsStage h n)

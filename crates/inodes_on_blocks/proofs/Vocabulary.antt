@@ -1,5 +1,5 @@
 -- What this crate's proofs speak of: its own definitions, and what the crates below and the library call things.
-pub use Rattle.inodes_on_blocks.specs.Vocabulary.{After, AtEntries, AtName, AtNothing, Below, Both, Cause, CheckFile, Claim, Claims, Clear, Commit, Commits, Counts, Desk, Device, ExecResult, Dies, Dinode, Directory, DirectorySlot as Slot, Dirent, Do, Double, Doubled, Down, DroppedState, Empty, Enter, Entry, Face, FetchedBlock as BlockInHand, File, FilePlace, Fill, FilledMemory, Forget, Found, Freed, UnlockInode, Given, Halted, Handover, HasRoom, HasWholeBlocks, Hold, Idle, Inode, Install, Inv, IsBytes, IsData, IsDinode, IsDirent, IsGoodSuper, IsHome, IsMember, IsNamedPart, IsOnce, IsOutsideLog, IsSoundTables, IsWellFormed, IsWholeLog, Join, JoinFile, Keeps as Stays, NodeKind, Lasts, Leave, Lend, LendDirectory, Lent, LoanResult, Lock, LockOpen, LockResult, LockedState, Locks, LocksIt, LogPart, LowerLayer, Machine, Moved, Name, Named, Node, NotLocked, Number, OfDevice, OfDirectory, OfFile, Open, OpenFile, Outside, Phase, Prog, Put, Query, Ran, ReadFile, Refused, Refuses, Release, Ret, Say, SeatState, SetDirectory, Short, Shut, ShutState, Sight, SlotState, InodeType, Spent, StatFile, State, Stopped, Stops, Store, Super, TablesState, Take, Taken, Tree, Unused, Up, UpStart, UpToLog, Used, Waits, WalkDown, Walked, Whole, Whom, Wp, WriteFile, WriteResult, Wrote, after_leave, all_slots, at_rest, bind, bit_of, block_at, block_len, block_number, blocks_between, content_of, dead_of, descriptor_count, dinode_at, dirents_per_block, dot, dotdot, fetch, fetch_block, file_count, file_named, free_block, free_in, free_indirect, free_numbers, freed, fresh, grown, hart_count, has, holder_in, holder_of, holding, if_kept, inode_block, inode_blocks, inodes_per_block, is_at, is_block, is_dead, is_free, is_hart, is_held_by, is_marked, is_number, joined, joined_count, kept, largest_size, last, load_unless, lock_holder, look_at, lookup, more, most_recorded, named_by, new_record, no_record, numbers_in, once, option_map, overwrite, own_of as above_own, place_of, put_block, read_from, read_refused, references_in, refusal_of, released, root, search, seen_in, seen_of, size, slot_at, slot_count, slot_for, slots_of, spell_dirent, spent_after, start_number, store_inode, super_fields, table_of, take_block, times, tree_in, tree_of, unmarked, unspent, unwrap_or, with_bitmap, with_contents, with_offset, with_record as with_inode, with_slot, without_content, write_refused}
+pub use Rattle.inodes_on_blocks.specs.Vocabulary.{After, AtEntries, AtName, AtNothing, Below, Both, Cause, CheckFile, Claim, Claims, Clear, Commit, Commits, Counts, Desk, Device, ExecResult, Dies, Dinode, Directory, DirectorySlot as Slot, Dirent, Do, Double, Doubled, Down, DroppedState, Empty, Enter, Entry, Face, FetchedBlock as BlockInHand, File, FilePlace, Fill, FilledMemory, Forget, Found, Freed, UnlockInode, Given, Halted, Handover, HasRoom, HasWholeBlocks, Hold, Idle, Inode, Install, Inv, IsBytes, IsData, IsDinode, IsDirent, IsGoodSuper, IsHome, IsMember, IsNamedPart, IsOnce, IsOutsideLog, IsSoundTables, IsWellFormed, IsWholeLog, Join, JoinFile, Keeps as Stays, NodeKind, Lasts, Leave, Lend, LendDirectory, Lent, LoanResult, Lock, LockOpen, LockResult, LockedState, Locks, LocksIt, LogPart, LowerLayer, Machine, Moved, Name, Named, Node, NotLocked, Number, OfDevice, OfDirectory, OfFile, Open, OpenFile, Outside, Phase, Prog, Put, Query, Ran, ReadFile, Refused, Refuses, Release, Ret, Say, SeatState, SetDirectory, Short, Shut, ShutState, Sight, SlotState, InodeType, Spent, StatFile, State, Stopped, Stops, Store, Super, TablesState, Take, Taken, Tree, Unused, Up, UpStart, UpToLog, Used, Waits, WalkDown, Walked, Whole, Whom, Wp, WriteFile, WriteResult, Wrote, after_leave, all_slots, at_rest, bind, bit_of, block_at, block_len, block_number, blocks_between, content_of, dead_of, descriptor_count, dinode_at, dirent_len, dirents_per_block, dot, dotdot, fetch, fetch_block, file_count, file_named, free_block, free_in, free_indirect, free_numbers, freed, fresh, grown, hart_count, has, holder_in, holder_of, holding, if_kept, inode_block, inode_blocks, inodes_per_block, is_at, is_block, is_dead, is_free, is_hart, is_held_by, is_marked, is_number, joined, joined_count, kept, largest_size, last, load_unless, lock_holder, look_at, lookup, more, most_blocks, most_recorded, most_slots, named_by, new_record, no_record, numbers_in, numbers_per_block, once, option_map, overwrite, own_of as above_own, place_of, put_block, read_from, read_refused, references_in, refusal_of, released, root, search, seen_in, seen_of, size, slot_at, slot_count, slot_for, slots_of, spell_dirent, spent_after, start_number, store_inode, super_fields, table_of, take_block, times, tree_in, tree_of, unmarked, unspent, unwrap_or, with_bitmap, with_contents, with_offset, with_record as with_inode, with_slot, without_content, write_refused}
 unfoldable pub use Rattle.inodes_on_blocks.specs.Vocabulary.{any_below, double_descriptor, drop_inode, drop_walked, found_in, give_next, inode_of, lock_file, lock_inode, logged, node_by, numbers_by, numbers_of, one_if, open_file, put, raises, recovered, same_name, settle, settle_inode, shut_descriptor, sizes_of, take_place, u32_at, unlock_inode, unused_from, up_directory, up_inode, with_bit, with_dinode, with_dirent, without_bit, write_blocks, zeros}
 pub use Rattle.inodes_on_blocks.specs.Vocabulary.{node_of}
 pub use Rattle.fs_machine.proofs.Vocabulary.{Bool, Fails, Get, GetLaws, IfSome, InsideFits, IsElsewhere, IsSome, IsSoundInodes, List, LockFile, MatchOption, MayLockFile, None, Option, Passes, PlaceFits, Read, Some, [], ap, arith, as_new, begun_at, cases_eq, change_at, change_first, change_to_end, claim_first, claims, commit_if, commit_unless, commits, cond, count_by, counted_at, dead_in, descriptors_of, exec_result_in, directory_of, double_at, double_to, drop_at, drop_dying, drop_which, dying, eqb-true, failed, false, file_in, filled, first_empty, first_free, first_passes, freed_at as uncounted_freed, freed_if, get_by, get_laws, get_new, get_or, get_or_from_slice_get, give_at, give_by, given_back, given_directory, got_by, group_in, hand_of, has_block, holder_at, if◌then◌else◌, in_log, in_tables, inl, inr, is_file_of, is_none, is_open, is_some, is_unreferenced, is_unused, join_if, join_unless, join_waits, joins, left_at, length, length-set, limit_of, list_any, lock_open as lock_opened, lock_row_at, lock_unless, locked_as, members_with, mine_of, moved_at, names, nat_lt, nat_tests, next_full, next_phase, none-some, not, one_less, open_at, open_by, open_in, open_of, opened, option_and_then, option_map_or, others_given_back, own_of, phase_at_leave, pick, place_named, position-Some, position_or_len, read_block, read_unless, references_at, references_of, refl, replicate, row_of, same_Some, seat_changed, seat_given_back, seat_in, seat_of, seat_of_others, seats_after, seats_at_fault, set, shut_at, slice_get, slice_get-get_or, slice_get-set_other, slice_get-set_same, slice_get_within, slice_index, slice_set, subst, suc, sym, take_at, taken, true, turn_is_out, uncounted_at, under_way, unlock_at, up_whom, with_block, with_content, with_descriptor, with_directory, with_file, with_hand, with_holder, with_offset as tables_offset, with_open, with_pin, with_seat, with_seats, without_holder, written, zero, ℕ, ⊎_elim, ◌&&◌, ◌++◌, ◌+◌, ◌-◌, ◌<◌, ◌==◌, ◌∙◌, ◌∷◌, ◌≡◌, ◌≢◌, ◌≤◌, ◌⊎◌}
@@ -8,7 +8,7 @@ pub use Rattle.inode_machine.proofs.Vocabulary.{Begin, Fills, Fine, Folders, Fre
 unfoldable pub use Rattle.inode_machine.proofs.Vocabulary.{all_used, any_used, cleared, effect_by, entries_by, first_from, first_slot, follow, look, lowest_from, sum_below}
 pub use Rattle.image_tree.proofs.Vocabulary.{All, AllByRecursion, AllPairs, Contains-append_left, Contains-append_right, HasGoodLog, HasGoodNumbers, HasGoodTypes, HasMarks, HasRoot, IsDotDot, IsGoodType, NamesOnce, blocks_for, cases_lt, count_of, drop, drop_all, eqb, false_from_ne_true, false≢true, flat_map, get_or-map, get_or-replicate, get_or_append_left, get_or_at, get_or_past, is_directory, is_file, is_live, is_positive, length-map, length-replicate, length-u32s_at, list_all, log_count, log_head_at, logged-empty, lt-ltb, min, nat_le, negsuc, number_in, pos, recovered-empty, recovered-own, recursion_from_All, slot_numbers, slot_of, sum_by-append, sum_by-cons, ℤ, ◌%◌, ◌<ℤ◌, ◌≤ℤ◌}
 pub use Rattle.image_tree.specs.VersionOne.{IsViewOf, HasGoodCounts, HasGoodSizes, HasGoodSlots, IsOneTree, children_of, further_in, further_names_of, named_in, names_of, parent_of, proper_in, proper_names_of, up, first_nodes, first_slots, slot_at as slot_on, slots_in}
-pub use Rattle.fs_layout.specs.VersionOne.{dirent_at}
+pub use Rattle.fs_layout.specs.VersionOne.{dirent_at, name_len}
 pub use Rattle.inodes_on_blocks.specs.Vocabulary.{One}
 unfoldable pub use Rattle.image_tree.proofs.Vocabulary.{climb, content_block, first_nodes as first_nodes_by, first_slots as first_slots_by, front_blocks, gathered, is_live_directory, is_node, slot_at as slot_by, slots_in as slots_in_by, u32s_at}
 unfoldable pub use Rattle.image_tree.specs.Trees.{kind_of as kind_by}
@@ -108,7 +108,7 @@ pub use Rattle.fs_layout.proofs.Inodes.{length-spell_dinode}
 pub use Rattle.fs_layout.proofs.Numbers.{length-u32_bytes, u32_at-lt, u32s_at-bytes}
 pub use Rattle.fs_layout.proofs.RecoveredDisk.{length-logged, place_of_cases}
 pub use Rattle.fs_layout.proofs.Words.{u32s_at-write}
-pub use Rattle.fs_layout.specs.Widths.{addresses}
+pub use Rattle.fs_layout.specs.Widths.{addresses, inode_len}
 pub use Rattle.fs_machine.proofs.Dying.{drop_counted, drop_dies, walked_counted, walked_kept}
 pub use Rattle.fs_machine.proofs.Locking.{lock_good, lock_ran}
 pub use Rattle.fs_machine.proofs.Making.{fresh_good}

@@ -1,5 +1,5 @@
 -- Bytes are written into the blocks of a file that a hart is changing, one block after the other. Nothing of it is seen above.
-use Rattle.inodes_on_blocks.proofs.Vocabulary.{◌≡◌, ⊎_elim, ℕ, zero, suc, ◌+◌, ◌-◌, ◌*◌, ◌/◌, ◌%◌, ◌<◌, ◌≤◌, true, false, List, [], ◌++◌, length, take, drop, Option, sym, ◌∙◌, ap, subst, arith, length-append, length-take, max, min, cases_lt, take_all, take-append-drop, Dinode, Super, IsBytes, overwrite, recovered, overwrite-overwrite, largest_size, Becomes, IsBytesPut, IsPut, Node, File, hart_count, bind, Machine, Laws, P, Wp, Both, joined, Stable, Wp-more, seen_of, table_of, blocks_between, next_block, WriteResult, front_of, with_part, write_blocks, side_by_side, some_between, next_between, Spent, size, most_recorded, Inv, World, log_of, disk_of, Carry, below, Labels, labelled, Keeps, IsChanging, log_with}
+use Rattle.inodes_on_blocks.proofs.Vocabulary.{◌≡◌, ⊎_elim, ℕ, zero, suc, ◌+◌, ◌-◌, ◌*◌, ◌/◌, ◌%◌, ◌<◌, ◌≤◌, true, false, List, [], ◌++◌, length, take, drop, Option, sym, ◌∙◌, ap, subst, arith, length-append, length-take, max, min, cases_lt, take_all, take-append-drop, Dinode, Super, IsBytes, overwrite, recovered, overwrite-overwrite, largest_size, Becomes, IsBytesPut, IsPut, Node, File, hart_count, bind, Machine, Laws, P, Wp, Both, joined, Stable, Wp-more, seen_of, table_of, blocks_between, next_block, WriteResult, front_of, with_part, write_blocks, side_by_side, some_between, next_between, Spent, size, most_recorded, Inv, World, log_of, disk_of, Carry, below, Labels, labelled, Keeps, IsChanging, log_with, block_len}
 use Rattle.std.proofs.Common.{length-drop}
 use Rattle.inodes_on_blocks.proofs.LaidBytes.{bytes_laid}
 use Rattle.inodes_on_blocks.proofs.Basics.{good_seen, HasBlocks, extra, below_laws, drop_bytes}
@@ -16,14 +16,14 @@ file count bytes = record { count = count; kind = File bytes }
 
 -- ---- one part
 
-front_long : (at : ℕ) (bytes : List ℕ) → 0 < length bytes → (0 < length (front_of at bytes)) × (at % 1024 + length (front_of at bytes) ≤ 1024) × (length (front_of at bytes) ≤ length bytes)
-front_long at bytes some = let part = length-take (1024 - at % 1024) bytes in (omega (arith, part, some), omega (arith, part), omega (arith, part))
+front_long : (at : ℕ) (bytes : List ℕ) → 0 < length bytes → (0 < length (front_of at bytes)) × (at % block_len + length (front_of at bytes) ≤ block_len) × (length (front_of at bytes) ≤ length bytes)
+front_long at bytes some = let part = length-take (block_len - at % block_len) bytes in (omega (arith, part, some), omega (arith, part), omega (arith, part))
 
 pub part_makes : (h n at z count : ℕ) (bytes cur : List ℕ) (c : Carry) (o : Option Node) → 0 < length bytes → at ≤ length cur → at + length (front_of at bytes) ≤ largest_size
-    → MakesPart h n (at / 1024) z (max z (at + length (front_of at bytes))) at bytes c o (file count cur) (file count (overwrite cur at (front_of at bytes)))
+    → MakesPart h n (at / block_len) z (max z (at + length (front_of at bytes))) at bytes c o (file count cur) (file count (overwrite cur at (front_of at bytes)))
 part_makes h n at z count bytes cur c o some start limit d b old r g shows changing ne number long are made =
     subst (λ (k : ℕ). Becomes disk new (owner_with h n r) (owner_with h n r) n (sized z d) (sized (max z (k + length front)) d) (file count (overwrite cur k front))) sum
-    (bytes_laid disk new (owner_with h n r) n (at / 1024) (at % 1024) count cur front (sized z d) (good_seen (log_of r).sizes (seen_of (log_of r)) (length (log_of r).contents) shows.blocks.seen).whole shows.blocks.running.front changing.laid put
+    (bytes_laid disk new (owner_with h n r) n (at / block_len) (at % block_len) count cur front (sized z d) (good_seen (log_of r).sizes (seen_of (log_of r)) (length (log_of r).contents) shows.blocks.seen).whole shows.blocks.running.front changing.laid put
     (omega (arith, start)) (omega (arith, limit)))
   where
     disk : List (List ℕ)
@@ -35,16 +35,16 @@ part_makes h n at z count bytes cur c o some start limit d b old r g shows chang
     front : List ℕ
     front = front_of at bytes
 
-    sum : 1024 * (at / 1024) + at % 1024 ≡ at
+    sum : block_len * (at / block_len) + at % block_len ≡ at
     sum = omega arith
 
-    put : IsBytesPut disk new (sized z d) (at / 1024) (at % 1024) front
+    put : IsBytesPut disk new (sized z d) (at / block_len) (at % block_len) front
     put = record {
       some = λ q. ne (sym number ∙ q);
       block = subst (IsPut disk new) (sym number) made.put;
       some_bytes = (front_long at bytes some).0;
       room = (front_long at bytes some).1;
-      bytes = ap (recovered new) number ∙ made.now ∙ ap (λ (xs : List ℕ). overwrite xs (at % 1024) front) (sym (ap (recovered disk) number ∙ made.was));
+      bytes = ap (recovered new) number ∙ made.now ∙ ap (λ (xs : List ℕ). overwrite xs (at % block_len) front) (sym (ap (recovered disk) number ∙ made.was));
     }
 
 -- ---- what the parts come to
@@ -53,39 +53,39 @@ part_makes h n at z count bytes cur c o some start limit d b old r g shows chang
 front_then : (at k : ℕ) (bytes : List ℕ) → front_of at bytes ++ take k (drop (length (front_of at bytes)) bytes) ≡ take (length (front_of at bytes) + k) bytes
 front_then at k bytes =
     let n : ℕ = length (front_of at bytes) in
-    let part = length-take (1024 - at % 1024) bytes in
+    let part = length-take (block_len - at % block_len) bytes in
     let less : n + k - n ≡ k = omega arith in
     let whole : take (n + k) (take n bytes) ≡ front_of at bytes = take_all (n + k) (take n bytes) (omega (arith, length-take n bytes)) ∙ front_is in
     ap (λ (xs : List ℕ). xs ++ take k (drop n bytes)) (sym whole) ∙ ap (λ (j : ℕ). take (n + k) (take n bytes) ++ take j (drop n bytes)) (sym less) ∙ side_by_side (n + k) n bytes
   where
     front_is : take (length (front_of at bytes)) bytes ≡ front_of at bytes
     front_is =
-        let part = length-take (1024 - at % 1024) bytes in
+        let part = length-take (block_len - at % block_len) bytes in
         ⊎_elim
-        (λ (lt : 1024 - at % 1024 < length bytes). let same : length (front_of at bytes) ≡ 1024 - at % 1024 = omega (arith, part, lt) in ap (λ (j : ℕ). take j bytes) same)
-        (λ (le : length bytes ≤ 1024 - at % 1024). take_all (length (front_of at bytes)) bytes (omega (arith, part, le)) ∙ sym (take_all (1024 - at % 1024) bytes le))
-        (cases_lt (1024 - at % 1024) (length bytes))
+        (λ (lt : block_len - at % block_len < length bytes). let same : length (front_of at bytes) ≡ block_len - at % block_len = omega (arith, part, lt) in ap (λ (j : ℕ). take j bytes) same)
+        (λ (le : length bytes ≤ block_len - at % block_len). take_all (length (front_of at bytes)) bytes (omega (arith, part, le)) ∙ sym (take_all (block_len - at % block_len) bytes le))
+        (cases_lt (block_len - at % block_len) (length bytes))
 
 -- how many blocks are left behind it
 left_between : (m at : ℕ) (bytes : List ℕ) → suc m ≡ blocks_between at (at + length bytes) → 0 < length bytes
     → m ≡ blocks_between (at + length (front_of at bytes)) (at + length (front_of at bytes) + length (drop (length (front_of at bytes)) bytes))
 left_between m at bytes is some =
     ⊎_elim
-    (λ (lt : length bytes < 1024 - at % 1024).
+    (λ (lt : length bytes < block_len - at % block_len).
     let many = many_between at (at + length bytes) (omega (arith, some)) in
     let none : m ≡ 0 = omega (arith, is, many, lt, some) in
     none ∙ sym (none_there (at + n) (at + n + length (drop n bytes)) (omega (arith, part, lt, rest))))
-    (λ (le : 1024 - at % 1024 ≤ length bytes).
+    (λ (le : block_len - at % block_len ≤ length bytes).
     let next : next_block at ≡ at + n = omega (arith, part, le) in
     let ends : at + length bytes ≡ at + n + length (drop n bytes) = omega (arith, part, le, rest) in
     next_between m at (at + length bytes) is (omega (arith, some)) ∙ (λ z. blocks_between (next z) (ends z)))
-    (cases_lt (length bytes) (1024 - at % 1024))
+    (cases_lt (length bytes) (block_len - at % block_len))
   where
     n : ℕ
     n = length (front_of at bytes)
 
-    part : length (front_of at bytes) ≡ min (1024 - at % 1024) (length bytes)
-    part = length-take (1024 - at % 1024) bytes
+    part : length (front_of at bytes) ≡ min (block_len - at % block_len) (length bytes)
+    part = length-take (block_len - at % block_len) bytes
 
     rest : length (drop (length (front_of at bytes)) bytes) ≡ length bytes - length (front_of at bytes)
     rest = length-drop (length (front_of at bytes)) bytes
@@ -141,7 +141,7 @@ module _ (sizes : Super) (l : Labels) (laws : Laws (labelled l)) (keeps : Keeps 
     unfolding write_blocks write_steps
     s-blocks zero at z most bytes cur is are long le limit small d fits bs cost w es there rest = nothing_written at z (most + 0) bytes cur le rest d bs w es there fits (omega (arith, cost))
     s-blocks (suc m) at z most bytes cur is are long le limit small d fits bs cost w es there rest =
-        s-part sizes l laws keeps h lt B Q G stable n changes c o (file count cur) (file count (overwrite cur at front)) s bitmap true (at / 1024) z (max z (at + size_of)) was most (omega (arith, small)) at bytes are
+        s-part sizes l laws keeps h lt B Q G stable n changes c o (file count cur) (file count (overwrite cur at front)) s bitmap true (at / block_len) z (max z (at + size_of)) was most (omega (arith, small)) at bytes are
         (part_makes h n at z count bytes cur c o some (omega (arith, le, long)) (omega (arith, few, limit))) (write_blocks m sizes (at + size_of) later) f (write_steps m j)
         (λ e cs v fs now fits_e less.
         Wp-more M h (f (record { inode = e; upto = at })) B Q j (write_steps m j) fs v (let steps_ = write_steps_are m j in omega (arith, steps_)) (nothing_written at z (most + suc m) bytes cur le rest e cs v fs now fits_e (omega (arith, less))))

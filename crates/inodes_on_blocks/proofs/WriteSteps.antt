@@ -1,5 +1,5 @@
 -- A piece is written into a locked file, and the operation acts where the lock is given up; or it is refused.
-use Rattle.inodes_on_blocks.proofs.Vocabulary.{◌≡◌, ⊎_elim, ℕ, zero, suc, ◌+◌, ◌-◌, ◌/◌, ◌<◌, ◌≤◌, ◌==◌, ◌&&◌, not, nat_lt, Bool, true, false, List, [], ◌∷◌, length, take, drop, Option, Some, None, refl, sym, ◌∙◌, ap, subst, arith, append_assoc, if◌then◌else◌, slice_index, max, unwrap_or, cases_lt, nat_tests, none-some, Dinode, Super, IsBytes, overwrite, IsDinode, largest_size, HoldsAt, Cause, BadOffset, TooBig, Node, NodeKind, Directory, File, Device, content, node_or, write_kind, hart_count, Ret, bind, Machine, Laws, P, Wp, Both, Handover, joined, Below, Lasts, ToAct, to_act, may_act, bind-assoc, Wp-more, lock_holder, inode_block, no_record, store_inode, Direct, InTable, table_of, blocks_between, WriteResult, front_of, grown, locate_at, locate_in_table, located, name_direct, store_written, take_one, with_table, write_blocks, write_located, Spent, size, with_bitmap, with_contents, with_inode, most_recorded, Wrote, WriteFile, with_bytes, Inv, World, log_of, tables_of, disk_of, inode_in, Apart, Emptied, Has, Had, Carry, IsLoaded, Stands, below, Labels, labelled, Keeps, record_had, IsChanging, HasSpent, Shows, ActsWithin, DoesItWithin, NoMore, record_in, deny_write, give_written, refused_in, write_file, write_unless, Answers, IsDone, alone, unindexed, IsIndexOf, index_in, all_slots}
+use Rattle.inodes_on_blocks.proofs.Vocabulary.{◌≡◌, ⊎_elim, ℕ, zero, suc, ◌+◌, ◌-◌, ◌/◌, ◌<◌, ◌≤◌, ◌==◌, ◌&&◌, not, nat_lt, Bool, true, false, List, [], ◌∷◌, length, take, drop, Option, Some, None, refl, sym, ◌∙◌, ap, subst, arith, append_assoc, if◌then◌else◌, slice_index, max, unwrap_or, cases_lt, nat_tests, none-some, Dinode, Super, IsBytes, overwrite, IsDinode, largest_size, HoldsAt, Cause, BadOffset, TooBig, Node, NodeKind, Directory, File, Device, content, node_or, write_kind, hart_count, Ret, bind, Machine, Laws, P, Wp, Both, Handover, joined, Below, Lasts, ToAct, to_act, may_act, bind-assoc, Wp-more, lock_holder, inode_block, no_record, store_inode, Direct, InTable, table_of, blocks_between, WriteResult, front_of, grown, locate_at, locate_in_table, located, name_direct, store_written, take_one, with_table, write_blocks, write_located, Spent, size, with_bitmap, with_contents, with_inode, most_recorded, Wrote, WriteFile, with_bytes, Inv, World, log_of, tables_of, disk_of, inode_in, Apart, Emptied, Has, Had, Carry, IsLoaded, Stands, below, Labels, labelled, Keeps, record_had, IsChanging, HasSpent, Shows, ActsWithin, DoesItWithin, NoMore, record_in, deny_write, give_written, refused_in, write_file, write_unless, Answers, IsDone, alone, unindexed, IsIndexOf, index_in, all_slots, block_len, direct}
 use Rattle.plain_tree.specs.Steps.{is_file}
 use Rattle.inode_machine.specs.World as above
 use Rattle.inode_machine.specs.Rules as rules
@@ -21,16 +21,16 @@ is_over a b e = grind (arith, nat_tests)
 -- some bytes, as above
 refused_as : (d : Dinode) (fs : List ℕ) (offset : ℕ) (bytes : List ℕ) → d.size ≡ length fs → 0 < length bytes → write_kind (File fs) offset bytes ≡ refused_in d offset bytes
 refused_as d fs offset [] same some = absurd (omega (arith, some))
-refused_as d fs offset (b ∷ bs) same some = ap (λ (k : ℕ). if nat_lt k offset then Some BadOffset else (if nat_lt 274432 (offset + length (b ∷ bs)) then Some TooBig else None)) (sym same)
+refused_as d fs offset (b ∷ bs) same some = ap (λ (k : ℕ). if nat_lt k offset then Some BadOffset else (if nat_lt largest_size (offset + length (b ∷ bs)) then Some TooBig else None)) (sym same)
 
 -- what isn't goes no further than a content may
 fits_in : (d : Dinode) (offset : ℕ) (bytes : List ℕ) → refused_in d offset bytes ≡ None → (offset ≤ d.size) × (offset + length bytes ≤ largest_size)
-fits_in d offset bytes e = by (nat_lt d.size offset) refl (nat_lt 274432 (offset + length bytes)) refl e
+fits_in d offset bytes e = by (nat_lt d.size offset) refl (nat_lt largest_size (offset + length bytes)) refl e
   where
-    by : (p : Bool) → nat_lt d.size offset ≡ p → (q : Bool) → nat_lt 274432 (offset + length bytes) ≡ q → (if p then Some BadOffset else (if q then Some TooBig else None)) ≡ None → (offset ≤ d.size) × (offset + length bytes ≤ largest_size)
+    by : (p : Bool) → nat_lt d.size offset ≡ p → (q : Bool) → nat_lt largest_size (offset + length bytes) ≡ q → (if p then Some BadOffset else (if q then Some TooBig else None)) ≡ None → (offset ≤ d.size) × (offset + length bytes ≤ largest_size)
     by true is q far z = absurd (none-some BadOffset (sym z))
     by false is true far z = absurd (none-some TooBig (sym z))
-    by false is false far z = (is_over d.size offset is, is_over 274432 (offset + length bytes) far)
+    by false is false far z = (is_over d.size offset is, is_over largest_size (offset + length bytes) far)
 
 -- a record with another size
 sized_fits : (z : ℕ) (d : Dinode) → z ≤ largest_size → IsDinode d → IsDinode (sized z d)
@@ -95,22 +95,22 @@ module _ (sizes : Super) (l : Labels) (laws : Laws (labelled l)) (keeps : Keeps 
   blocks_take : {A : Type 0} (k at : ℕ) (bs : List ℕ) (d : Dinode) (f : WriteResult → P M A) → ((w : WriteResult) → TakesStep sizes l laws keeps h lt B (f w)) → TakesStep sizes l laws keeps h lt B (bind (write_blocks k sizes at bs d) f)
   unfolding write_blocks
   blocks_take zero at bs d f each = each (record { inode = d; upto = at })
-  blocks_take {A} (suc k) at bs d f each = by (nat_lt (at / 1024) 12)
+  blocks_take {A} (suc k) at bs d f each = by (nat_lt (at / block_len) direct)
     where
       more : Dinode → P M WriteResult
       more = write_blocks k sizes (at + length (front_of at bs)) (drop (length (front_of at bs)) bs)
 
-      direct : (b : Bool) → TakesStep sizes l laws keeps h lt B
-          (bind (bind (if b then bind (take_one sizes) (name_direct (at / 1024) d) else located d (Some (slice_index d.addrs (at / 1024)))) (write_located more at bs)) f)
-      direct true = tt
-      direct false = tt
+      own : (b : Bool) → TakesStep sizes l laws keeps h lt B
+          (bind (bind (if b then bind (take_one sizes) (name_direct (at / block_len) d) else located d (Some (slice_index d.addrs (at / block_len)))) (write_located more at bs)) f)
+      own true = tt
+      own false = tt
 
-      table : (b : Bool) → TakesStep sizes l laws keeps h lt B (bind (bind (if b then bind (take_one sizes) (with_table sizes (at / 1024 - 12) d) else locate_in_table sizes (at / 1024 - 12) d) (write_located more at bs)) f)
+      table : (b : Bool) → TakesStep sizes l laws keeps h lt B (bind (bind (if b then bind (take_one sizes) (with_table sizes (at / block_len - direct) d) else locate_in_table sizes (at / block_len - direct) d) (write_located more at bs)) f)
       table true = tt
       table false = tt
 
-      by : (b : Bool) → TakesStep sizes l laws keeps h lt B (bind (bind (locate_at sizes d (if b then Direct (at / 1024) else InTable (at / 1024 - 12))) (write_located more at bs)) f)
-      by true = direct (slice_index d.addrs (at / 1024) == 0)
+      by : (b : Bool) → TakesStep sizes l laws keeps h lt B (bind (bind (locate_at sizes d (if b then Direct (at / block_len) else InTable (at / block_len - direct))) (write_located more at bs)) f)
+      by true = own (slice_index d.addrs (at / block_len) == 0)
       by false = table (table_of d == 0)
 
   takes : (why : Option Cause) → TakesStep sizes l laws keeps h lt B (write_unless sizes fd n offset bytes m c why)
