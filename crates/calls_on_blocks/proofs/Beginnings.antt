@@ -1,4 +1,6 @@
 -- A stop leaves the tree after a beginning of the history.
+use Rattle.image_versions.specs.declared.version.Version.TheVariants.{One}
+use Rattle.inode_machine.specs.VersionOne as one
 use Rattle.calls_on_blocks.proofs.Vocabulary.{◌≡◌, inl, inr, ℕ, ◌+◌, ◌≤◌, false, List, [], ◌∷◌, ◌++◌, length, sym, subst, arith, append_assoc, append-nil, Call, Placed, Chain, IsNamedPart, Rises, Shown, Tree, tree_of, TreeData, tree_in, IsRecoveredSo, Told, Turn, climbing, IsStartBy, Starts, Steps, Nothing, NeverClimbs, IsHart, MayStart, Apart, apart_alone, apart_calm, Marks, AgreeOutside, joined, seen_of, RisesBy, no_marks, beginning, Theory, Event, State, AllHonest, makes, next, run, Sound, sound_run, Outside, MoveMachine, IsMoving, NoneClimbs, Alone, StartsBy, climbs_at, shown_by, shows, Turns, clean_before, IsMountable, block_moves, first, RunsOn, marks_after, marks_next, log_at, LeavesABeginning, StopsLeaveABeginning, OneHartLeavesABeginning}
 use Rattle.tree_laws.specs.WellFormed as trees
 use Rattle.group_log.specs.CrashLaw.{Blocks}
@@ -8,7 +10,6 @@ use Rattle.calls_on_blocks.proofs.Events.{next_now}
 use Rattle.calls_on_blocks.proofs.Following.{Followed, followed_on, event_of}
 use Rattle.calls_on_blocks.proofs.Histories.{Book, book_more, explains, first_book, leads, rises}
 use Rattle.calls_on_blocks.proofs.Stops.{T, sizes, stored_respects, itself_stored, quiet_stored, first_state, first_followed, first_image, next_same}
-use Rattle.inode_machine.specs.Kept as kept
 
 rises_so : (lo : ℕ) (list : List Placed) → Rises lo list → RisesBy event_of lo list
 unfolding Rises RisesBy
@@ -50,7 +51,7 @@ module _ (disk : List (List ℕ)) (failures : ℕ) (mountable : IsMountable disk
     pub book : BookOf (run L events s) (shown ++ shows N events s) list
     pub followed : Followed (sizes disk failures mountable) (length disk) Image (run L events s) list (marks_after (sizes disk failures mountable) events s m)
 
-  module _ (starts : (e : Event Call Outside) (s t : State L) (told : Told) (x : Turns N is_moving e (makes L e s).came t told (kept.placed N e s)) → OkAt e → MayStart Ok x.event) where
+  module _ (starts : (e : Event Call Outside) (s t : State L) (told : Told) (x : Turns One N is_moving e (makes L e s).came t told (one.placed N e s)) → OkAt e → MayStart Ok x.event) where
     follow : (events : List (Event Call Outside)) (s : State L) (shown : List Shown) (list : List Placed) (m : Marks) → BookOf s shown list → Followed (sizes disk failures mountable) (length disk) Image s list m → AllHonest L events s
         → N.Clean (run L events s).world → AllObey OkAt events → After events s shown m
     follow [] s shown list m b f honest clean ok = record {
@@ -61,7 +62,7 @@ module _ (disk : List (List ℕ)) (failures : ℕ) (mountable : IsMountable disk
     follow (e ∷ es) s shown list m b f honest clean ok =
         let t : State L = next L e s in
         let after : Sound L t = sound_run L (e ∷ []) s f.sound (honest.0, tt) in
-        let more = book_more N is_moving Ok apart base well OkAt starts e s shown list f.sound honest.0 (clean_before N is_moving es t after honest.1 clean) (next_now (sizes disk failures mountable) e s) ok.0 b in
+        let more = book_more N is_moving Ok apart base well OkAt starts e s shown list f.sound honest.0 (clean_before One N is_moving es t after honest.1 clean) (next_now (sizes disk failures mountable) e s) ok.0 b in
         let same = next_same disk failures mountable e s m f honest.0 in
         let quiet : t.stopped ≡ false → joined (log_at (sizes disk failures mountable) t).members ≡ 0 → Image (list ++ more.news) (seen_of itself (log_in (log_at (sizes disk failures mountable) t))) =
         (λ runs none. (

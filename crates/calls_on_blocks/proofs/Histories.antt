@@ -1,9 +1,10 @@
 -- The history of a run beside its log: a stop leaves the tree after a beginning of it.
+use Rattle.image_versions.specs.declared.version.Version.TheVariants.{One}
+use Rattle.inode_machine.specs.VersionOne as one
 use Rattle.calls_on_blocks.proofs.Vocabulary.{◌≡◌, ℕ, suc, ◌+◌, List, [], ◌∷◌, ◌++◌, map, refl, sym, ◌∙◌, ap, subst, arith, AllByRecursion, Call, Placed, Trace, Shown, Chain, Explains, Rises, trace_of, TreeData, Tree, tree_of, Stage, Told, Turn, Happens, Goings, opened, shown_of, runs_more, runs_none, runs_one, AllBelow, AllFrom, run_grew, run_below, AllMayStart, MayStart, Apart, happens_trace, opened_ok, run_explained, run_ok, Theory, Event, State, IsHonest, fresh, makes, next, Sound, sound_keeps, MoveMachine, IsMoving, shown_by, theory_of, Beside, Turns, event_turns}
 use Rattle.tree_laws.specs.WellFormed.{IsWellFormed}
 use Rattle.calls_on_blocks.proofs.Following.{event_of}
 use Rattle.tree_laws.proofs.Cut.{noted_events}
-use Rattle.inode_machine.specs.Kept as kept
 
 -- ---- entries of an event
 
@@ -14,7 +15,7 @@ one_numbered n [] (e ∷ es) from below = (let a = from.0 in let b = below.0 in 
 one_numbered n (x ∷ old) more from below = one_numbered n old more from below.1
 
 happens_now : (w w' : Told) (e : Turn) → Happens w e w' → w'.history.trace.events ≡ w.history.trace.events + 1
-happens_now w w' e o = ap (λ (z : Trace). z.events) (happens_trace w w' e o) ∙ noted_events w.history.trace (shown_of e)
+happens_now w w' e o = ap (λ (z : Trace). z.events) (happens_trace One w w' e o) ∙ noted_events w.history.trace (shown_of e)
 
 map_append : {A B : Type 0} (f : A → B) (xs ys : List A) → map f (xs ++ ys) ≡ map f xs ++ map f ys
 map_append f [] ys = refl
@@ -29,7 +30,7 @@ module _ (N : MoveMachine) (moving : IsMoving N) (Ok : ℕ → Call → Type 0) 
     pub told : Told
     pub turns : List Turn
     pub runs : Goings (opened (tree_of base)) turns told
-    pub beside : Beside N moving s told
+    pub beside : Beside One N moving s told
     pub list_is : told.history.list ≡ list
     pub events : told.history.trace.events ≡ s.now
     pub below : AllBelow told.history.trace.events told.history.list
@@ -41,17 +42,17 @@ module _ (N : MoveMachine) (moving : IsMoving N) (Ok : ℕ → Call → Type 0) 
   leads s shown list b =
       subst (λ (l : List Placed). Chain (tree_of base) l (N.tree s.world).tree) b.list_is
       (subst (λ (z : Tree). Chain (tree_of base) b.told.history.list z) (ap (λ (z : Stage). z.tree) b.beside.stage)
-      (run_ok Ok (tree_of base) (opened (tree_of base)) b.told b.turns apart b.may (opened_ok Ok (tree_of base) well) b.runs).book.chain)
+      (run_ok One Ok (tree_of base) (opened (tree_of base)) b.told b.turns apart b.may (opened_ok One Ok (tree_of base) well) b.runs).book.chain)
 
   pub rises : (s : State L) (shown : List Shown) (list : List Placed) → Book s shown list → Rises 0 list
   rises s shown list b =
       subst (λ (l : List Placed). Rises 0 l) b.list_is
-      (run_ok Ok (tree_of base) (opened (tree_of base)) b.told b.turns apart b.may (opened_ok Ok (tree_of base) well) b.runs).book.rises
+      (run_ok One Ok (tree_of base) (opened (tree_of base)) b.told b.turns apart b.may (opened_ok One Ok (tree_of base) well) b.runs).book.rises
 
   pub explains : (s : State L) (shown : List Shown) (list : List Placed) → Book s shown list → Explains base (trace_of shown) list
   explains s shown list b =
       subst (λ (z : List Shown). Explains base (trace_of z) list) b.shown_is
-      (subst (λ (l : List Placed). Explains base (trace_of (map shown_of b.turns)) l) b.list_is (run_explained Ok base b.told b.turns apart b.may well b.runs))
+      (subst (λ (l : List Placed). Explains base (trace_of (map shown_of b.turns)) l) b.list_is (run_explained One Ok base b.told b.turns apart b.may well b.runs))
 
   -- before the first event
   nothing_below : AllBelow 0 []
@@ -66,7 +67,7 @@ module _ (N : MoveMachine) (moving : IsMoving N) (Ok : ℕ → Call → Type 0) 
   first_book w tree idle = record {
     told = opened (tree_of base);
     turns = [];
-    runs = runs_none (opened (tree_of base));
+    runs = runs_none One (opened (tree_of base));
     beside = record {
       stage = λ z. record { tree = sym tree z; walk = λ h. sym (moving.rests h w (idle h)) z };
       free = λ h q. refl;
@@ -92,14 +93,14 @@ module _ (N : MoveMachine) (moving : IsMoving N) (Ok : ℕ → Call → Type 0) 
     pub now : AllByRecursion (λ p. event_of p ≡ s.now) news
     pub book : Book (next L e s) (shown ++ shown_by e (makes L e s).came ∷ []) (list ++ news)
 
-  pub book_more : (OkAt : Event Call N.Outside → Type 0) → ((e : Event Call N.Outside) (s t : State L) (told : Told) (x : Turns N moving e (makes L e s).came t told (kept.placed N e s)) → OkAt e → MayStart Ok x.event)
+  pub book_more : (OkAt : Event Call N.Outside → Type 0) → ((e : Event Call N.Outside) (s t : State L) (told : Told) (x : Turns One N moving e (makes L e s).came t told (one.placed N e s)) → OkAt e → MayStart Ok x.event)
       → (e : Event Call N.Outside) (s : State L) (shown : List Shown) (list : List Placed) → Sound L s → IsHonest L e s → N.Clean (next L e s).world → (next L e s).now ≡ s.now + 1 → OkAt e → Book s shown list → More e s shown list
   book_more OkAt starts e s shown list sound honest clean counts ok b =
-      let x = event_turns N moving (N.tree sound.first) e s b.told (sound_keeps L moving.lawful s sound) b.beside honest clean in
-      let one = runs_one b.told x.then_ x.event x.happens in
-      let g = run_grew b.told x.then_ (x.event ∷ []) one in
+      let x = event_turns One N moving (N.tree sound.first) e s b.told (sound_keeps L moving.lawful s sound) b.beside honest clean in
+      let one = runs_one One b.told x.then_ x.event x.happens in
+      let g = run_grew One b.told x.then_ (x.event ∷ []) one in
       let at : x.then_.history.trace.events ≡ s.now + 1 = happens_now b.told x.then_ x.event x.happens ∙ ap (λ (k : ℕ). k + 1) b.events in
-      let low : AllBelow x.then_.history.trace.events x.then_.history.list = run_below b.told x.then_ (x.event ∷ []) one b.below in
+      let low : AllBelow x.then_.history.trace.events x.then_.history.list = run_below One b.told x.then_ (x.event ∷ []) one b.below in
       let below : AllBelow (suc s.now) (b.told.history.list ++ g.more) = subst (λ (l : List Placed). AllBelow (suc s.now) l) g.is (subst (λ (k : ℕ). AllBelow k x.then_.history.list) (at ∙ add_one s.now) low) in
       record {
         news = g.more;
@@ -107,7 +108,7 @@ module _ (N : MoveMachine) (moving : IsMoving N) (Ok : ℕ → Call → Type 0) 
         book = record {
           told = x.then_;
           turns = b.turns ++ x.event ∷ [];
-          runs = runs_more (opened (tree_of base)) b.told x.then_ b.turns x.event b.runs x.happens;
+          runs = runs_more One (opened (tree_of base)) b.told x.then_ b.turns x.event b.runs x.happens;
           beside = x.beside;
           list_is = g.is ∙ ap (λ (l : List Placed). l ++ g.more) b.list_is;
           events = at ∙ sym counts;

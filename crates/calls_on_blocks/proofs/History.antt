@@ -1,4 +1,5 @@
 -- Runs on a mounted disk as one list of tree steps.
+use Rattle.image_versions.specs.declared.version.Version.TheVariants.{One}
 use Rattle.calls_on_blocks.proofs.Vocabulary.{◌≡◌, ◌⊎◌, inl, ◌<◌, ℕ, Bool, List, [], ◌∷◌, ◌++◌, Option, Some, None, refl, sym, ◌∙◌, ap, subst, arith, Super, sizes_of, Call, none-some, Tree, put, hart_count, tree_in, settle_again, settled_well, MoveStep, ExecResult, Waits, Ran, Stops, placed_with, Began, Refuses, Begins, Event, ActOf, Both, act_places, placed_at, began_to, begun_both, Outside, stage_of, go, IsMoving, RunsFrom, machine, Refusal, places_one, moves_history, moves_alone, start_is, ShowsItsTree, first_world, mounts_show_their_trees, block_moves, first, RunsOn, MountsHaveOneHistory, OneHartHasOneHistory, World, shared_of, serves, served_calls, child_of, begins as begins_below, block_calls}
 use Rattle.tree_laws.specs.WellFormed.{IsWellFormed}
 use Rattle.inode_machine.specs.World as above
@@ -14,7 +15,7 @@ places_any h (Some t) w = by (go h t.outside t.op t.mark w)
   where
     by : (d : ExecResult (above.Answer t.op) above.World) → (placed_at (placed_with machine h t.op t.mark w) d ≡ []) ⊎ ((e : MoveStep) × (placed_at (placed_with machine h t.op t.mark w) d ≡ (h, e) ∷ []))
     by Waits = inl refl
-    by (Ran b u) = places_one h t.op b (t.mark b) w
+    by (Ran b u) = places_one One h t.op b (t.mark b) w
     by (Stops u) = inl refl
 
 -- a start leaves the tree and the walks
@@ -58,14 +59,14 @@ runs_from disk failures events r = record {
     shows = mounts_show_their_trees disk failures r.mountable
 
 pub one_history : MountsHaveOneHistory
-one_history disk failures events r calm = moves_history (block_moves (sizes_of disk)) (moving (sizes_of disk)) (tree_in disk) (first disk failures) events (runs_from disk failures events r) calm
+one_history disk failures events r calm = moves_history One (block_moves (sizes_of disk)) (moving (sizes_of disk)) (tree_in disk) (first disk failures) events (runs_from disk failures events r) calm
 
 pub one_hart : OneHartHasOneHistory
-one_hart disk failures h events r alone = moves_alone (block_moves (sizes_of disk)) (moving (sizes_of disk)) (tree_in disk) (first disk failures) h events (runs_from disk failures events r) alone
+one_hart disk failures h events r alone = moves_alone One (block_moves (sizes_of disk)) (moving (sizes_of disk)) (tree_in disk) (first disk failures) h events (runs_from disk failures events r) alone
 
 pub makes_moves : MountsMakeMoves
 makes_moves disk failures before later e r =
-    run_moves (block_moves (sizes_of disk)) (moving (sizes_of disk)) (tree_in disk) (first disk failures) before later e (runs_from disk failures (before ++ e ∷ later) r)
+    run_moves One (block_moves (sizes_of disk)) (moving (sizes_of disk)) (tree_in disk) (first disk failures) before later e (runs_from disk failures (before ++ e ∷ later) r)
     (let size = shows.shows.size in let many = shows.shows.blocks.seen.good.many_inodes in omega (arith, size, many))
   where
     shows : ShowsItsTree disk failures

@@ -1,6 +1,6 @@
 -- No operation gives a hart a lender: a start alone does.
 use Rattle.calls_on_blocks.proofs.Vocabulary.{◌≡◌, ℕ, ◌+◌, Bool, true, false, ◌==◌, nat_lt, List, [], Option, Some, None, refl, sym, ◌∙◌, if◌then◌else◌, take, none-some, Cause, has_room, node_or, write_kind, OpenFile, Name, put, ExecResult, Waits, Ran, Stops, ActOf, ran_to, seen_after, IfRan, slot_at, entry_of, double_at, double_if, close_at, close_if, lock_if, lock_at, stat_at, unlocked, start_if, start_number, has_place, referenced, place_count, claim_if, claimed, up_if, is_last, walk_down_if, down_if, slot_if, first_from, file_count, is_empty_slot, install_if, read_refused, write_refused, write_if, write_at, changed_record, with_bytes, read_at, with_offset, join_at, enter_if, is_full_directory, next_used, lend_if, lend_last, with_lent, InodeType, with_mark, machine, Desk, Entry, Take, UnlockInode, UpStart, WalkDown, Forget, Store, Fill, Enter, Clear, Empty, Slot, Install, StatFile, ReadFile, JoinFile, WriteFile, Shut, SetDirectory, Lend, LendDirectory, Release, Join, Leave, Say, Room, RoomFor, Picks, put_elim, part_same, marked_same, Reserves}
-use Rattle.inode_machine.specs.Exec.{exec}
+use Rattle.inode_machine.specs.VersionOne.{exec}
 use Rattle.inode_machine.specs.World as above
 use Rattle.inode_machine.specs.World.Op.{Up, Down, Free, Claim, LockFile, CheckFile, LockOpen, Double}
 

@@ -2,7 +2,7 @@
 use Rattle.std.specs.Prelude.{ℕ, List, ◌∷◌, ◌++◌, None}
 use Rattle.calls_on_blocks.specs.Vocabulary.{Super, sizes_of, Call, tree_in, Event, AllHonest, fresh, run, Both, Outside, MoveMachine, HasOneHistory, NoneClimbs, Alone, IsMountable, first_world, mounted}
 use Rattle.inode_machine.specs.World as above
-use Rattle.inode_machine.specs.Making.{MakesItsMoves}
+use Rattle.inode_machine.specs.VersionOne.{MakesItsMoves}
 use Rattle.calls_on_blocks.specs.Layer.{World}
 use Rattle.calls_on_blocks.specs.Theory.{block_calls}
 

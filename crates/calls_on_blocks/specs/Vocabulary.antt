@@ -1,11 +1,13 @@
 -- What the crates below call things: the words that this crate's definitions and contracts use.
 pub use Rattle.inodes_on_blocks.specs.Vocabulary.{Answer, Both, Commit, ExecResult, Do, IsGoodSuper, IsNamedPart, IsPlaced, IsWellFormed, LogPart, LowerLayer, Op, Outside, Ran, Ret, SeatState, Stops, TablesState, Tree, UpToLog, descriptor_count, file_named, hart_count, is_at, joined_count as joined, tree_in, tree_of}
 unfoldable pub use Rattle.inodes_on_blocks.specs.Vocabulary.{any_below, put, sizes_of}
-pub use Rattle.inode_machine.specs.Vocabulary.{AllHonest, Began, Begins, DidEnd, Event, Lawful, Refuses, Run, Start, State, Step, Theory, fresh, makes, next, run, Chain}
+pub use Rattle.inode_machine.specs.Vocabulary.{AllHonest, Began, Begins, DidEnd, Event, Lawful, Refuses, Run, Start, State, Step, Theory, fresh, makes, next, run}
+pub use Rattle.plain_tree.specs.VersionOne.{Chain}
 pub use Rattle.fs_machine.specs.Vocabulary.{exec_result_in}
 pub use Rattle.group_log.specs.Stories.{IsMarked, after_leave, after_write, no_marks}
 pub use Rattle.group_log.specs.declared.marks.Marks.{Marks}
-pub use Rattle.inode_machine.specs.MoveCalls.{Alone, HasOneHistory, MoveMachine, NoneClimbs}
+pub use Rattle.inode_machine.specs.MoveCalls.{Alone, MoveMachine, NoneClimbs}
+pub use Rattle.inode_machine.specs.VersionOne.{HasOneHistory}
 pub use Rattle.inodes_on_blocks.specs.Mounted.{IsMountable, first_world, mounted}
 pub use Rattle.atomic_programs.specs.Logic.{P}
 pub use Rattle.atomic_programs.specs.Lowered.{Part, Starts, code_part, lowered_calls}
@@ -18,7 +20,8 @@ pub use Rattle.fs_machine.specs.declared.kind.Kind.{Kind}
 pub use Rattle.group_log.specs.Phases.{is_point}
 pub use Rattle.group_log.specs.Soundness.{IsSoundLog}
 pub use Rattle.group_log.specs.declared.commit.Progress.TheVariants.{Ended, Failed, Wrote}
-pub use Rattle.inode_machine.specs.Theory.{Busy, NoSuchHart, NotCovered, NotEmptyHart, PathTooLong, Refusal, ZeroInPath, are_bytes, asks_wrong, calls_that, has_zero, is_covered, path_limit}
+pub use Rattle.inode_machine.specs.Theory.{Busy, NoSuchHart, NotCovered, NotEmptyHart, PathTooLong, Refusal, ZeroInPath, are_bytes, asks_wrong, has_zero, is_covered, path_limit}
+pub use Rattle.inode_machine.specs.VersionOne.{calls_that}
 pub use Rattle.inodes_on_blocks.specs.Below.{World as Blocks, exec as exec_blocks}
 pub use Rattle.inodes_on_blocks.specs.Lowering.{below}
 pub use Rattle.inodes_on_blocks.specs.Programs.{handlers}

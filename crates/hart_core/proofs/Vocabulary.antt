@@ -8,7 +8,8 @@ pub use Rattle.plain_tree.proofs.Vocabulary.{Act, Belongs, act_of, cases_Bool, f
 unfoldable pub use Rattle.plain_tree.proofs.Vocabulary.{AllBelong, pieces}
 pub use Rattle.inodes_on_blocks.proofs.Vocabulary.{All-cons, All-head, All-nil, All-tail, MatchOption, get_or_past, length-append, length-map, min, mounted, resting_log}
 pub use Rattle.fs_machine.proofs.Vocabulary.{part_of}
-pub use Rattle.inode_machine.proofs.Vocabulary.{HasOneHistory, first_wrong, has_zero, path_limit, path_wrong}
+pub use Rattle.inode_machine.proofs.Vocabulary.{first_wrong, has_zero, path_limit, path_wrong}
+pub use Rattle.inode_machine.specs.VersionOne.{HasOneHistory}
 pub use Rattle.syscalls.proofs.Vocabulary.{HasOne, IsCall, IsPath}
 pub use Rattle.hart_core.specs.Harts.{AreHarts, HartFits, HartsOf, busy_in, children_in, outcome_of, programs_of, shared_of}
 pub use Rattle.calls_on_blocks.proofs.Lawful.{is_code, lawful}

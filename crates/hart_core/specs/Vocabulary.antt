@@ -3,7 +3,8 @@ pub use Rattle.calls_on_blocks.specs.Vocabulary.{Answer, Begins, Code, DidEnd, E
 unfoldable pub use Rattle.calls_on_blocks.specs.Vocabulary.{exec, sizes_of}
 pub use Rattle.inodes_on_blocks.specs.Vocabulary.{HasBytes, HasWholeBlocks, IsOutsideLog, Machine, State, block_at, buffer_count, count_of, holder_of as buffer_holder, is_held_by, is_marked, lock_holder as holder_of, seen_of}
 unfoldable pub use Rattle.inodes_on_blocks.specs.Vocabulary.{May, MayWait, logged, numbers_by, recovered, unused_from}
-pub use Rattle.tree_laws.specs.Vocabulary.{Explains, Other, Replied, Shown, Started, TreeData, call_climbs, noted, trace_of}
+pub use Rattle.tree_laws.specs.Vocabulary.{Other, Replied, Shown, Started, TreeData, call_climbs, noted, trace_of}
+pub use Rattle.plain_tree.specs.VersionOne.{Explains}
 unfoldable pub use Rattle.tree_laws.specs.Vocabulary.{acts_of}
 pub use Rattle.syscalls.specs.Vocabulary.{CallsOnce, LeavesTied, P, state_of}
 pub use Rattle.fs_machine.specs.Vocabulary.{hart_count, list_any, turn_is_out}

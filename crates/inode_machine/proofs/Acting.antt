@@ -1,4 +1,5 @@
 -- A step of the tree acts at a walk's last lookup: what it leaves of the world.
+use Rattle.image_versions.specs.declared.version.Version.{Version}
 use Rattle.inode_machine.proofs.Vocabulary.{◌≡◌, ◌≢◌, ◌⊎◌, inl, inr, ℕ, ◌+◌, ◌<◌, ◌≤◌, Bool, true, false, List, [], ◌∷◌, Option, Some, None, refl, sym, ◌∙◌, ap, subst, arith, P, own, onto, Fine, Wp, Node, Action, Inherit, StepAnswer, hart_count, Name, Tree, put, look, is_live, live_directory, settle, makes_node, opens_one, refusal_with, effect_with, answer_with, StepWith, AsksForWhatStays, row_of, settle_alive, settle_live, settle_again, settled_step, settled_makes, IsWellFormed, same_or, put_same, put_other, sum_same, look_live, look_same, Walk, Deed, Stage, Step, walks_at, Look, Mine, Note, Desk, World, stage_of, IsOfRange, type_of, with_walk, Made, acts, act_entered, act_left, found_by, look_made, looked, made_by, new_id, with_made, own_names, Stands, file_tables_of, Found, IsReferredTo, IsReached, IsAlone, Inv, machine}
 use Rattle.inode_machine.proofs.Frame.{ours_some, FilesStep, HartStep, Ours, Fair, two_refs, refers_on, type_on}
 use Rattle.inode_machine.proofs.Freeing.{lone_file}
@@ -76,17 +77,17 @@ acts_did h v all p alone next D c lt inv none fits =
     pin j (inr a) = inr (grow j a)
 
 -- A step that isn't refused, as the machine makes it.
-pub acts_gone : (b : Tree) (h : ℕ) (s : Action) (res : Option ℕ) (par : Option (ℕ × Name)) (new id : ℕ) → refusal_with b h s res par ≡ None
-    → acts b h s res par new id ≡ record {
-      all = effect_with b h s res par new id;
+pub acts_gone : (version : Version) (b : Tree) (h : ℕ) (s : Action) (res : Option ℕ) (par : Option (ℕ × Name)) (new id : ℕ) → refusal_with version b h s res par ≡ None
+    → acts version b h s res par new id ≡ record {
+      all = effect_with version b h s res par new id;
       walk = None;
       found = found_by s res;
       opened = act_entered None (opens_one b h s) id;
       entered = act_entered None (makes_node b s par) new;
       left = act_left None s (b.cwd h);
-      told = Some (record { act = record { step = s; answer = answer_with b h s res par id }; new = new });
+      told = Some (record { act = record { step = s; answer = answer_with version b h s res par id }; new = new });
     }
-acts_gone b h s res par new id goes = rw goes refl
+acts_gone version b h s res par new id goes = rw goes refl
 
 abbrev pub told_step : ℕ → Action → StepAnswer → Step
 told_step new s a = record { move = Look new; told = Some (record { act = record { step = s; answer = a }; new = new }) }
@@ -100,18 +101,18 @@ asks t d e f well live is = record {
 }
 
 -- The step acts at the last lookup, where the walk stands at d. u: the world once the disk is changed; x: what the move makes; T: the tree after the step.
-pub act_good_to : {A : Type 0} (h more n : ℕ) (B : List Step → Type 0) (Q : A → List Step → World → Type 0) (es : List Step) (v u : World) (s : Action) (d new : ℕ) (range : IsOfRange (stage_of v) (Look new)) (e : Name) (f : Option ℕ) (a : StepAnswer) (x : Made) (T : Tree) (p : P machine A)
+pub act_good_to : (version : Version) {A : Type 0} (h more n : ℕ) (B : List Step → Type 0) (Q : A → List Step → World → Type 0) (es : List Step) (v u : World) (s : Action) (d new : ℕ) (range : IsOfRange (stage_of v) (Look new)) (e : Name) (f : Option ℕ) (a : StepAnswer) (x : Made) (T : Tree) (p : P (machine version) A)
     → h < hart_count → Inv v → (v.harts h).walk ≡ Some (record { step = s; at = d; next = e; rest = [] }) → live_directory (v.all.nodes d) ≡ true → look v.all.nodes d e ≡ f → ((g : ℕ) → s ≡ Inherit g → ⊥)
-    → acts v.all h s f (Some (d, e)) new (new_id v) ≡ x → x.told ≡ Some (record { act = record { step = s; answer = a }; new = new })
-    → StepWith v.all h s f (Some (d, e)) a new (new_id v) T → settle T ≡ settle x.all
+    → acts version v.all h s f (Some (d, e)) new (new_id v) ≡ x → x.told ≡ Some (record { act = record { step = s; answer = a }; new = new })
+    → StepWith version v.all h s f (Some (d, e)) a new (new_id v) T → settle T ≡ settle x.all
     → (makes_node v.all s (Some (d, e)) ≡ true → (g : ℕ) → g < hart_count → g ≢ h → walks_at (v.harts g).walk new → ⊥)
     → Fair h v (with_made h x u) → stage_of (with_made h x u) ≡ record { tree = settle x.all; walk = put (λ g. (v.harts g).walk) h None } → B (told_step new s a ∷ es) → more < n
-    → ((l : ℕ) → l + (more + 1) ≡ n → Wp machine h B Q p l (told_step new s a ∷ es) (with_made h x u))
-    → Fine machine h ((h, record { move = Look new; told = (made_by v.all h (new_id v) (v.harts h).walk (Look new)).told }) ∷ []) more n B es v (with_made h (made_by v.all h (new_id v) (v.harts h).walk (Look new)) u)
-    (λ l. Wp machine h B Q p l (onto (own h ((h, record { move = Look new; told = (made_by v.all h (new_id v) (v.harts h).walk (Look new)).told }) ∷ [])) es) (with_made h (made_by v.all h (new_id v) (v.harts h).walk (Look new)) u))
-act_good_to {A} h more n B Q es v u s d new range e f a x T p lt inv mine live is inherits made told step same alone f2 stage b pos next =
-    moves_good h more n B Q es v u (Look new) range p (made_by v.all h (new_id v) (v.harts h).walk (Look new)) x
-    (ap (λ (o : Option Walk). look_made v.all h o new (new_id v)) mine ∙ (λ i. looked v.all h y [] (is i) new (new_id v)) ∙ made)
+    → ((l : ℕ) → l + (more + 1) ≡ n → Wp (machine version) h B Q p l (told_step new s a ∷ es) (with_made h x u))
+    → Fine (machine version) h ((h, record { move = Look new; told = (made_by version v.all h (new_id v) (v.harts h).walk (Look new)).told }) ∷ []) more n B es v (with_made h (made_by version v.all h (new_id v) (v.harts h).walk (Look new)) u)
+    (λ l. Wp (machine version) h B Q p l (onto (own h ((h, record { move = Look new; told = (made_by version v.all h (new_id v) (v.harts h).walk (Look new)).told }) ∷ [])) es) (with_made h (made_by version v.all h (new_id v) (v.harts h).walk (Look new)) u))
+act_good_to version {A} h more n B Q es v u s d new range e f a x T p lt inv mine live is inherits made told step same alone f2 stage b pos next =
+    moves_good version h more n B Q es v u (Look new) range p (made_by version v.all h (new_id v) (v.harts h).walk (Look new)) x
+    (ap (λ (o : Option Walk). look_made version v.all h o new (new_id v)) mine ∙ (λ i. looked version v.all h y [] (is i) new (new_id v)) ∙ made)
     f2
     (record {
       walk = y;
@@ -121,15 +122,15 @@ act_good_to {A} h more n B Q es v u s d new range e f a x T p lt inv mine live i
         answer = a;
         id = new_id v;
         deed = told;
-        step = subst (λ (g : Option ℕ). StepWith (settle v.all) h s g (Some (d, e)) a new (new_id v) (stage_of (with_made h x u)).tree) (sym look_is)
-            (subst (λ (t : Tree). StepWith (settle v.all) h s f (Some (d, e)) a new (new_id v) t) (same ∙ sym (ap (λ (m : Stage). m.tree) stage)) (settled_step v.all h s f (Some (d, e)) a new (new_id v) T (asks v.all d e f inv.well live is) step));
+        step = subst (λ (g : Option ℕ). StepWith version (settle v.all) h s g (Some (d, e)) a new (new_id v) (stage_of (with_made h x u)).tree) (sym look_is)
+            (subst (λ (t : Tree). StepWith version (settle v.all) h s f (Some (d, e)) a new (new_id v) t) (same ∙ sym (ap (λ (m : Stage). m.tree) stage)) (settled_step version v.all h s f (Some (d, e)) a new (new_id v) T (asks v.all d e f inv.well live is) step));
         walk = ap (λ (m : Stage). m.walk) stage;
         alone = λ ok q. alone (sym (settled_makes v.all h s f (Some (d, e)) lt (asks v.all d e f inv.well live is)) ∙ q);
         idle = λ g l q. absurd (inherits g q);
       };
     })
     (subst (λ (o : Option Deed). B (record { move = Look new; told = o } ∷ es)) (sym told) b) pos
-    (λ l q. subst (λ (o : Option Deed). Wp machine h B Q p l (record { move = Look new; told = o } ∷ es) (with_made h x u)) (sym told) (next l q))
+    (λ l q. subst (λ (o : Option Deed). Wp (machine version) h B Q p l (record { move = Look new; told = o } ∷ es) (with_made h x u)) (sym told) (next l q))
   where
     y : Walk
     y = record { step = s; at = d; next = e; rest = [] }
@@ -141,16 +142,16 @@ act_good_to {A} h more n B Q es v u s d new range e f a x T p lt inv mine live i
     look_is = look_same v.all.nodes (settle v.all).nodes d e settled ∙ is
 
 -- the same of a step that isn't refused
-pub act_good : {A : Type 0} (h more n : ℕ) (B : List Step → Type 0) (Q : A → List Step → World → Type 0) (es : List Step) (v u : World) (s : Action) (d new : ℕ) (range : IsOfRange (stage_of v) (Look new)) (e : Name) (f : Option ℕ) (a : StepAnswer) (x : Made) (p : P machine A)
+pub act_good : (version : Version) {A : Type 0} (h more n : ℕ) (B : List Step → Type 0) (Q : A → List Step → World → Type 0) (es : List Step) (v u : World) (s : Action) (d new : ℕ) (range : IsOfRange (stage_of v) (Look new)) (e : Name) (f : Option ℕ) (a : StepAnswer) (x : Made) (p : P (machine version) A)
     → h < hart_count → Inv v → (v.harts h).walk ≡ Some (record { step = s; at = d; next = e; rest = [] }) → live_directory (v.all.nodes d) ≡ true → look v.all.nodes d e ≡ f → ((g : ℕ) → s ≡ Inherit g → ⊥)
-    → acts v.all h s f (Some (d, e)) new (new_id v) ≡ x → x.told ≡ Some (record { act = record { step = s; answer = a }; new = new }) → refusal_with v.all h s f (Some (d, e)) ≡ None
-    → StepWith v.all h s f (Some (d, e)) a new (new_id v) (settle x.all)
+    → acts version v.all h s f (Some (d, e)) new (new_id v) ≡ x → x.told ≡ Some (record { act = record { step = s; answer = a }; new = new }) → refusal_with version v.all h s f (Some (d, e)) ≡ None
+    → StepWith version v.all h s f (Some (d, e)) a new (new_id v) (settle x.all)
     → (makes_node v.all s (Some (d, e)) ≡ true → (g : ℕ) → g < hart_count → g ≢ h → walks_at (v.harts g).walk new → ⊥)
     → Fair h v (with_made h x u) → stage_of (with_made h x u) ≡ record { tree = settle x.all; walk = put (λ g. (v.harts g).walk) h None } → B (told_step new s a ∷ es) → more < n
-    → ((l : ℕ) → l + (more + 1) ≡ n → Wp machine h B Q p l (told_step new s a ∷ es) (with_made h x u))
-    → Fine machine h ((h, record { move = Look new; told = (made_by v.all h (new_id v) (v.harts h).walk (Look new)).told }) ∷ []) more n B es v (with_made h (made_by v.all h (new_id v) (v.harts h).walk (Look new)) u)
-    (λ l. Wp machine h B Q p l (onto (own h ((h, record { move = Look new; told = (made_by v.all h (new_id v) (v.harts h).walk (Look new)).told }) ∷ [])) es) (with_made h (made_by v.all h (new_id v) (v.harts h).walk (Look new)) u))
-act_good h more n B Q es v u s d new range e f a x p lt inv mine live is inherits made told goes step alone f2 stage b pos next = act_good_to h more n B Q es v u s d new range e f a x (settle x.all) p lt inv mine live is inherits made told step (sym (settle_again x.all)) alone f2 stage b pos next
+    → ((l : ℕ) → l + (more + 1) ≡ n → Wp (machine version) h B Q p l (told_step new s a ∷ es) (with_made h x u))
+    → Fine (machine version) h ((h, record { move = Look new; told = (made_by version v.all h (new_id v) (v.harts h).walk (Look new)).told }) ∷ []) more n B es v (with_made h (made_by version v.all h (new_id v) (v.harts h).walk (Look new)) u)
+    (λ l. Wp (machine version) h B Q p l (onto (own h ((h, record { move = Look new; told = (made_by version v.all h (new_id v) (v.harts h).walk (Look new)).told }) ∷ [])) es) (with_made h (made_by version v.all h (new_id v) (v.harts h).walk (Look new)) u))
+act_good version h more n B Q es v u s d new range e f a x p lt inv mine live is inherits made told goes step alone f2 stage b pos next = act_good_to version h more n B Q es v u s d new range e f a x (settle x.all) p lt inv mine live is inherits made told step (sym (settle_again x.all)) alone f2 stage b pos next
 
 -- nobody's walk is at an inode that one hart keeps alone
 pub no_walk : (h i g : ℕ) (v : World) → Inv v → h < hart_count → v.alone i ≡ true → v.keeper i ≡ Some h → g < hart_count → g ≢ h → walks_at (v.harts g).walk i → ⊥

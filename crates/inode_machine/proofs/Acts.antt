@@ -1,4 +1,5 @@
 -- A step that acts where its walk ends: at the last lookup, or at the start of a path without elements.
+use Rattle.image_versions.specs.declared.version.Version.{Version}
 use Rattle.inode_machine.proofs.Vocabulary.{◌≡◌, inl, inr, ℕ, ◌<◌, true, false, List, [], Option, Some, None, refl, sym, ◌∙◌, ap, subst, Cause, Node, Action, Inherit, StepAnswer, Failed, AsksForWhatStays, hart_count, root, Name, Tree, put, look, live_directory, is_absolute, start_of, elements, settle, path_of, follows_path, makes_node, refusal_with, IsInPlace, StepWith, settle_alive, settle_live, settle_named, settled_step, IsWellFormed, look_live, cwd_named, look_same, either, put_same, Walk, Acts, LookupLeadsTo, PlaysStep, Begin, Look, Desk, Note, World, stage_of, type_of, with_walk, found_by, acts, looked, look_made, begun, Own, Held, own_of, Inv}
 use Rattle.tree_laws.specs.Moves.{StartLeadsTo}
 use Rattle.inode_machine.proofs.Frame.{Fair, fair, fair_then}
@@ -9,15 +10,15 @@ use Rattle.inode_machine.proofs.Looks.{note_of, noting}
 
 -- What the machine makes of it.
 
-pub last_made : (b : Tree) (h : ℕ) (k : Option Walk) (y : Walk) (new id j : ℕ) → k ≡ Some y → y.rest ≡ [] → look b.nodes y.at y.next ≡ Some j → look_made b h k new id ≡ acts b h y.step (Some j) (Some (y.at, y.next)) new id
-last_made b h k y new id j is rest found = ap (λ (z : Option Walk). look_made b h z new id) is ∙ (λ i. looked b h y (rest i) (found i) new id)
+pub last_made : (version : Version) (b : Tree) (h : ℕ) (k : Option Walk) (y : Walk) (new id j : ℕ) → k ≡ Some y → y.rest ≡ [] → look b.nodes y.at y.next ≡ Some j → look_made version b h k new id ≡ acts version b h y.step (Some j) (Some (y.at, y.next)) new id
+last_made version b h k y new id j is rest found = ap (λ (z : Option Walk). look_made version b h z new id) is ∙ (λ i. looked version b h y (rest i) (found i) new id)
 
-pub start_made : (b : Tree) (h : ℕ) (s : Action) (new id : ℕ) → elements (path_of s) ≡ [] → begun b h s (elements (path_of s)) new id ≡ record (acts b h s (Some (start_of b h (path_of s))) None new id) { found = None }
-start_made b h s new id path = ap (λ (z : List Name). begun b h s z new id) path
+pub start_made : (version : Version) (b : Tree) (h : ℕ) (s : Action) (new id : ℕ) → elements version (path_of s) ≡ [] → begun version b h s (elements version (path_of s)) new id ≡ record (acts version b h s (Some (start_of b h (path_of s))) None new id) { found = None }
+start_made version b h s new id path = ap (λ (z : List Name). begun version b h s z new id) path
 
-pub refused_made : (b : Tree) (h : ℕ) (s : Action) (res : Option ℕ) (par : Option (ℕ × Name)) (new id : ℕ) (c : Cause) → refusal_with b h s res par ≡ Some c
-    → acts b h s res par new id ≡ record { all = b; walk = None; found = found_by s res; opened = None; entered = None; left = None; told = Some (record { act = record { step = s; answer = Failed c }; new = new }) }
-refused_made b h s res par new id c r = rw r refl
+pub refused_made : (version : Version) (b : Tree) (h : ℕ) (s : Action) (res : Option ℕ) (par : Option (ℕ × Name)) (new id : ℕ) (c : Cause) → refusal_with version b h s res par ≡ Some c
+    → acts version b h s res par new id ≡ record { all = b; walk = None; found = found_by s res; opened = None; entered = None; left = None; told = Some (record { act = record { step = s; answer = Failed c }; new = new }) }
+refused_made version b h s res par new id c r = rw r refl
 
 -- The step of the tree.
 
@@ -27,28 +28,28 @@ pub record Finder (s : Action) : Type 0 where
   pub makes : (t : Tree) (q : Option (ℕ × Name)) → makes_node t s q ≡ false
   pub inherits : (g : ℕ) → s ≡ Inherit g → ⊥
 
-acts_takes : (h : ℕ) (v u : World) (s : Action) (res : Option ℕ) (par : Option (ℕ × Name)) (a : StepAnswer) (id : ℕ) (T : Tree) → Finder s → AsksForWhatStays v.all res par → StepWith v.all h s res par a 0 id T → settle T ≡ settle u.all → (stage_of u).walk ≡ put (λ g. (v.harts g).walk) h None
-    → Acts (stage_of v) h s res par 0 (Some (record { act = record { step = s; answer = a }; new = 0 })) (stage_of u)
-acts_takes h v u s res par a id T finder asks step same walks = record {
+acts_takes : (version : Version) (h : ℕ) (v u : World) (s : Action) (res : Option ℕ) (par : Option (ℕ × Name)) (a : StepAnswer) (id : ℕ) (T : Tree) → Finder s → AsksForWhatStays v.all res par → StepWith version v.all h s res par a 0 id T → settle T ≡ settle u.all → (stage_of u).walk ≡ put (λ g. (v.harts g).walk) h None
+    → Acts version (stage_of v) h s res par 0 (Some (record { act = record { step = s; answer = a }; new = 0 })) (stage_of u)
+acts_takes version h v u s res par a id T finder asks step same walks = record {
   answer = a;
   id = id;
   deed = refl;
-  step = subst (λ (z : Tree). StepWith (settle v.all) h s res par a 0 id z) same (settled_step v.all h s res par a 0 id T asks step);
+  step = subst (λ (z : Tree). StepWith version (settle v.all) h s res par a 0 id z) same (settled_step version v.all h s res par a 0 id T asks step);
   walk = walks;
   alone = λ ok m. absurd (let f = finder.makes (settle v.all) par in cc (f, m));
   idle = λ g l q. absurd (finder.inherits g q);
 }
 
-pub last_takes : (h d : ℕ) (v u : World) (O : Own) (x : Held) (y : Walk) (j : ℕ) (a : StepAnswer) (id : ℕ) (T : Tree) → Finder y.step → own_of h v ≡ O → Inv v → O.mine.walk ≡ Some y → y.at ≡ d → O.inodes d ≡ Some x → live_directory x.node ≡ true → y.rest ≡ [] → look v.all.nodes y.at y.next ≡ Some j
-    → StepWith v.all h y.step (Some j) (Some (y.at, y.next)) a 0 id T → settle T ≡ settle u.all → (stage_of u).walk ≡ put (λ g. (v.harts g).walk) h None
-    → PlaysStep (stage_of v) h (record { move = Look 0; told = Some (record { act = record { step = y.step; answer = a }; new = 0 }) }) (stage_of u)
-last_takes h d v u O x y j a id T finder ov inv walks at isd live rest found step same after = record {
+pub last_takes : (version : Version) (h d : ℕ) (v u : World) (O : Own) (x : Held) (y : Walk) (j : ℕ) (a : StepAnswer) (id : ℕ) (T : Tree) → Finder y.step → own_of h v ≡ O → Inv v → O.mine.walk ≡ Some y → y.at ≡ d → O.inodes d ≡ Some x → live_directory x.node ≡ true → y.rest ≡ [] → look v.all.nodes y.at y.next ≡ Some j
+    → StepWith version v.all h y.step (Some j) (Some (y.at, y.next)) a 0 id T → settle T ≡ settle u.all → (stage_of u).walk ≡ put (λ g. (v.harts g).walk) h None
+    → PlaysStep version (stage_of v) h (record { move = Look 0; told = Some (record { act = record { step = y.step; answer = a }; new = 0 }) }) (stage_of u)
+last_takes version h d v u O x y j a id T finder ov inv walks at isd live rest found step same after = record {
   walk = y;
   is = ap (λ (o : Own). o.mine.walk) ov ∙ walks;
   live = ap (λ (z : Option Node). live_directory z) settled ∙ live_at;
-  looks = subst (λ (z : List Name). LookupLeadsTo (stage_of v) h y z (look (settle v.all).nodes y.at y.next) 0 (Some (record { act = record { step = y.step; answer = a }; new = 0 })) (stage_of u)) (sym rest)
-      (subst (λ (z : Option ℕ). LookupLeadsTo (stage_of v) h y [] z 0 (Some (record { act = record { step = y.step; answer = a }; new = 0 })) (stage_of u)) (sym (look_same v.all.nodes (settle v.all).nodes y.at y.next settled ∙ found))
-      (acts_takes h v u y.step (Some j) (Some (y.at, y.next)) a id T finder asks step same after));
+  looks = subst (λ (z : List Name). LookupLeadsTo version (stage_of v) h y z (look (settle v.all).nodes y.at y.next) 0 (Some (record { act = record { step = y.step; answer = a }; new = 0 })) (stage_of u)) (sym rest)
+      (subst (λ (z : Option ℕ). LookupLeadsTo version (stage_of v) h y [] z 0 (Some (record { act = record { step = y.step; answer = a }; new = 0 })) (stage_of u)) (sym (look_same v.all.nodes (settle v.all).nodes y.at y.next settled ∙ found))
+      (acts_takes version h v u y.step (Some j) (Some (y.at, y.next)) a id T finder asks step same after));
 }
   where
     live_at : live_directory (v.all.nodes y.at) ≡ true
@@ -78,16 +79,16 @@ start_stays t h path well lt = elim (either (is_absolute path)) [
   | inr y ↦ rw y (settle_named t (t.cwd h) (cwd_named t h lt))
 ]
 
-pub start_takes : (h : ℕ) (v u : World) (s : Action) (a : StepAnswer) (id : ℕ) (T : Tree) → Finder s → h < hart_count → Inv v → (v.harts h).walk ≡ None → elements (path_of s) ≡ [] → IsInPlace (settle v.all) h s
-    → StepWith v.all h s (Some (start_of v.all h (path_of s))) None a 0 id T → settle T ≡ settle u.all → (stage_of u).walk ≡ put (λ g. (v.harts g).walk) h None
-    → PlaysStep (stage_of v) h (record { move = Begin s 0; told = Some (record { act = record { step = s; answer = a }; new = 0 }) }) (stage_of u)
+pub start_takes : (version : Version) (h : ℕ) (v u : World) (s : Action) (a : StepAnswer) (id : ℕ) (T : Tree) → Finder s → h < hart_count → Inv v → (v.harts h).walk ≡ None → elements version (path_of s) ≡ [] → IsInPlace (settle v.all) h s
+    → StepWith version v.all h s (Some (start_of v.all h (path_of s))) None a 0 id T → settle T ≡ settle u.all → (stage_of u).walk ≡ put (λ g. (v.harts g).walk) h None
+    → PlaysStep version (stage_of v) h (record { move = Begin s 0; told = Some (record { act = record { step = s; answer = a }; new = 0 }) }) (stage_of u)
 unfolding settle
-start_takes h v u s a id T finder lt inv rests path place step same after = record {
+start_takes version h v u s a id T finder lt inv rests path place step same after = record {
   follows = finder.follows;
   rests = rests;
   place = place;
-  begins = subst (λ (z : List Name). StartLeadsTo (stage_of v) h s z 0 (Some (record { act = record { step = s; answer = a }; new = 0 })) (stage_of u)) (sym path)
-      (acts_takes h v u s (Some (start_of v.all h (path_of s))) None a id T finder (record {
+  begins = subst (λ (z : List Name). StartLeadsTo version (stage_of v) h s z 0 (Some (record { act = record { step = s; answer = a }; new = 0 })) (stage_of u)) (sym path)
+      (acts_takes version h v u s (Some (start_of v.all h (path_of s))) None a id T finder (record {
         node = λ n q. let e : start_of v.all h (path_of s) ≡ n = cc in subst (λ (z : ℕ). (settle v.all).nodes z ≡ v.all.nodes z) e (start_stays v.all h (path_of s) inv.well lt);
         directory = λ p q. absurd cc;
         child = λ p n q r. absurd cc;

@@ -1,4 +1,5 @@
 -- A new inode's name is entered: its node comes into the tree, and it is the hart's alone no longer.
+use Rattle.image_versions.specs.declared.version.Version.{Version}
 use Rattle.inode_machine.proofs.Vocabulary.{◌≡◌, ◌≢◌, inl, inr, ℕ, ◌<◌, true, false, Option, Some, None, refl, sym, ◌∙◌, ap, Node, hart_count, Tree, put, is_live, live_directory, with_nodes, IsWellFormed, same_or, put_same, put_other, Note, World, InodeType, OfDirectory, type_of, type_of_kind, with_walk, Own, Held, view, is_hart, if_kept, own_of, file_tables_of, Inv}
 use Rattle.inode_machine.proofs.Basics.{file_tables_same, stands_in, kept_here, Fair, fair, fair_then, has_inode, locks_it, has_node, Writes, writes, Fits, acts_did, two_put}
 use Rattle.inode_machine.proofs.Removes.{type_of_directory}
@@ -20,10 +21,10 @@ pub record Adding (h d i : ℕ) (r : Option Node) (X x y : Node) (a z : Held) (v
   pub is : v.all.nodes d ≡ Some X
 
 -- a: what the hart has of the directory, whose node was X; z: what it has of the new inode
-pub adding : (h d i : ℕ) (r : Option Node) (X x y : Node) (a z : Held) (v : World) (O : Own) → own_of h v ≡ O → O.desk.lender ≡ None → h < hart_count → Inv v → O.desk.joined ≡ true → O.mine.pending ≡ None
+pub adding : Version → (h d i : ℕ) (r : Option Node) (X x y : Node) (a z : Held) (v : World) (O : Own) → own_of h v ≡ O → O.desk.lender ≡ None → h < hart_count → Inv v → O.desk.joined ≡ true → O.mine.pending ≡ None
     → O.inodes d ≡ Some a → a.node ≡ Some X → a.alone ≡ false → live_directory (Some X) ≡ true → type_of_kind x.kind ≡ OfDirectory → O.inodes i ≡ Some z → z.alone ≡ true → z.locked ≡ true → z.node ≡ None → ((t : Note) → O.desk.noted ≡ Some t → t.number ≢ i)
     → ((v.all.nodes d ≡ Some X) → (v.all.nodes i ≡ None) → IsWellFormed (with_nodes v.all (added_nodes v.all.nodes d i x y))) → Adding h d i r X x y a z v O
-adding h d i r X x y a z v O ov free lt inv joined none isd an shared live sorted isi lone locked blank notes well = record {
+adding version h d i r X x y a z v O ov free lt inv joined none isd an shared live sorted isi lone locked blank notes well = record {
   fair = fair_then wr.fair (fair wr.fair.inv (acts_did h u1 all None (put v.alone i false) v.next v.desks v.clean lt wr.fair.inv idle fits));
   owned = owned;
   here = put_i;
@@ -34,7 +35,7 @@ adding h d i r X x y a z v O ov free lt inv joined none isd an shared live sorte
 }
   where
     wr : Writes h d r a O v
-    wr = writes h d r a O v free lt joined inv ov isd
+    wr = writes version h d r a O v free lt joined inv ov isd
 
     u1 : World
     u1 = record v { disk = put v.disk d r }

@@ -1,4 +1,5 @@
 -- No transaction of a call records more than ten blocks.
+use Rattle.image_versions.specs.declared.version.Version.{Version}
 use Rattle.inode_machine.proofs.Vocabulary.{◌≡◌, ◌⊎◌, inl, inr, ℕ, zero, suc, ◌+◌, ◌-◌, ◌≤◌, ◌==◌, ◌||◌, List, [], ◌∷◌, length, Bool, true, false, Option, Some, None, refl, subst, arith, if◌then◌else◌, Cause, NoEntry, Reply, Call, Action, Name, elements, same_name, dot, dotdot, creates, piece_count, descriptor_count, one_if, either, eq_self, Do, unmarked, InodeType, Face, face_or, is_live_face, is_directory_face, is_directory_type, Mark, ClaimResult, New, NoInode, NoPlace, EntryResult, InPlace, NoBlock, NoSlot, LockResult, NotLocked, LocksIt, JoinResult, NotJoined, Joined, Wrote, Whole, Refused, Short, LoanResult, Lent, Moved, Free, Forget, Store, Enter, Clear, ThisP as P, WalkStop, NotThere, NoMemory, done, failed, stopped, drop, give_up, free_all, tail, walk, walk_step, walk_parent, leave_directory, with_last, start, start_on, joined_on, read_on, dup_on, stat_on, close_on, write_from, wrote_on, write_program, installed_on, take_descriptor, open_end, open_face, open_at, open_old, open_new, make_on, make_with, create_found, create_in, unmake, empties, lower_parent, clear_name, unlink_child, unlink_found, unlink_in, name_directory, mkdir_with, mkdir_on, mkdir_in, mkdir_refused, lower, named_on, link_found, link_in, link_name, link_raise, link_at, bump_refused, in_parent, chdir_at, inherit_end, lend_on, lend_from, Spent, unspent, size, with_record, with_bitmap, with_contents, spent_after, HasRoom, TransactionsAreSmall}
 use Rattle.plain_tree.specs.declared.call.Call.TheVariants as calls
 use Rattle.plain_tree.specs.declared.step.Action.TheVariants as steps
@@ -147,9 +148,9 @@ module _ {A : Type 0} where
         by (Some d) = goes d
 
 -- a path's start, and a walk from there: to its end, or to its last directory
-module _ {A : Type 0} (s : Spent) (ok : size s ≤ 10) (lost : WalkStop → List ℕ → P A) (is_lost : (why : WalkStop) (ms : List ℕ) → HasRoom s (lost why ms)) where
-  walks_to : (a : Action) (path : List ℕ) (k : ℕ → List ℕ → P A) → ((n : ℕ) (ms : List ℕ) → HasRoom s (k n ms)) → HasRoom s (start a path [] (λ d. walk a d (elements path) [] k lost) lost)
-  walks_to a path k rest = started s ok lost is_lost a path [] (λ d. walk a d (elements path) [] k lost) (λ d. walked s ok lost is_lost a d (elements path) [] k rest)
+module _ (version : Version) {A : Type 0} (s : Spent) (ok : size s ≤ 10) (lost : WalkStop → List ℕ → P A) (is_lost : (why : WalkStop) (ms : List ℕ) → HasRoom s (lost why ms)) where
+  walks_to : (a : Action) (path : List ℕ) (k : ℕ → List ℕ → P A) → ((n : ℕ) (ms : List ℕ) → HasRoom s (k n ms)) → HasRoom s (start a path [] (λ d. walk a d (elements version path) [] k lost) lost)
+  walks_to a path k rest = started s ok lost is_lost a path [] (λ d. walk a d (elements version path) [] k lost) (λ d. walked s ok lost is_lost a d (elements version path) [] k rest)
 
   walks_near : (a : Action) (path list : List ℕ) (e : Name) (es : List Name) (k : ℕ → Name → List ℕ → P A) → ((d : ℕ) (x : Name) (ms : List ℕ) → HasRoom s (k d x ms))
       → HasRoom s (start a path list (λ d. walk_parent a d e es list k lost) lost)
@@ -198,14 +199,14 @@ module _ (c : Call) where
   is_lost : (why : WalkStop) (ms : List ℕ) → HasRoom unspent (lost why ms)
   is_lost why ms = tailed ms (stopped c why) unspent few
 
-on_parent : (s : Spent) (c : Call) (a : Action) (path : List ℕ) (k : ℕ → Name → List ℕ → P Reply) (es : List Name) → ((d : ℕ) (e : Name) (ms : List ℕ) → HasRoom unspent (k d e ms)) → HasRoom s (in_parent c a path k es)
-on_parent s c a path k [] rest = (few, λ _. tailed [] (failed c NoEntry) unspent few)
-on_parent s c a path k (e ∷ es) rest = (few, λ _. walks_near unspent few (lost c) (is_lost c) a path [] e es k rest)
+on_parent : Version → (s : Spent) (c : Call) (a : Action) (path : List ℕ) (k : ℕ → Name → List ℕ → P Reply) (es : List Name) → ((d : ℕ) (e : Name) (ms : List ℕ) → HasRoom unspent (k d e ms)) → HasRoom s (in_parent c a path k es)
+on_parent version s c a path k [] rest = (few, λ _. tailed [] (failed c NoEntry) unspent few)
+on_parent version s c a path k (e ∷ es) rest = (few, λ _. walks_near version unspent few (lost c) (is_lost c) a path [] e es k rest)
 
-opens_old : (path : List ℕ) (flags : ℕ) → HasRoom unspent (open_old path flags)
-opens_old path flags = (
+opens_old : (version : Version) (path : List ℕ) (flags : ℕ) → HasRoom unspent (open_old version path flags)
+opens_old version path flags = (
   few,
-  λ _. walks_to unspent few (lost (calls.Open path flags)) (is_lost (calls.Open path flags)) (steps.Open path flags) path (open_at path flags)
+  λ _. walks_to version unspent few (lost (calls.Open path flags)) (is_lost (calls.Open path flags)) (steps.Open path flags) path (open_at path flags)
       (λ n ms. at_inode path flags (n ∷ []) 2 (omega arith) n ms unspent (here n []) (named [] 1 n unspent start_within)),
 )
 
@@ -362,7 +363,7 @@ module _ (path : List ℕ) (d : ℕ) (e : Name) (list : List ℕ) where
 
 -- ---- link
 
-module _ (old new : List ℕ) (n : ℕ) where
+module _ (version : Version) (old new : List ℕ) (n : ℕ) where
   abbrev linked : List ℕ
   linked = n ∷ []
 
@@ -413,13 +414,13 @@ module _ (old new : List ℕ) (n : ℕ) where
   links_name : (list : List ℕ) (es : List Name) → HasRoom (with_record n unspent) (link_name old new n list es)
   links_name list [] = (few_stored n, λ _. gone NotThere list (failed (calls.Link old new) NoEntry))
   links_name list (e ∷ es) =
-      (few_stored n, λ _. walks_near (with_record n unspent) (few_stored n) back (λ why ms. gone why ms (stopped (calls.Link old new) why)) (steps.Enter new) new list e es (link_in old new n) (λ d e ms. links_in d e ms))
+      (few_stored n, λ _. walks_near version (with_record n unspent) (few_stored n) back (λ why ms. gone why ms (stopped (calls.Link old new) why)) (steps.Enter new) new list e es (link_in old new n) (λ d e ms. links_in d e ms))
 
-  raises : (list : List ℕ) (f : Face) (why : Option Cause) → HasRoom unspent (link_raise old new n list f why)
+  raises : (list : List ℕ) (f : Face) (why : Option Cause) → HasRoom unspent (link_raise version old new n list f why)
   raises list f (Some c) = ended linked 2 (omega arith) n list _ unspent (here n []) (named [] 1 n unspent start_within)
-  raises list f None = (few_stored n, λ _. links_name list (elements new))
+  raises list f None = (few_stored n, λ _. links_name list (elements version new))
 
-  links_at : (list : List ℕ) → HasRoom unspent (link_at old new n list)
+  links_at : (list : List ℕ) → HasRoom unspent (link_at version old new n list)
   links_at list = (
     few,
     λ a. either_way unspent (is_directory_type (face_or a.face).inode_type) _ _
@@ -470,39 +471,39 @@ writes fd (b ∷ bs) = (few, λ a. by a)
     by (NotJoined c) = tt
     by (Joined n) = writes_from fd n (b ∷ bs) (piece_count (b ∷ bs) - 1) 0
 
-creates_new : (path : List ℕ) (flags : ℕ) (es : List Name) → HasRoom unspent (open_new path flags es)
-creates_new path flags [] = (few, λ _. tailed [] (failed (calls.Open path flags) NoEntry) unspent few)
-creates_new path flags (e ∷ es) =
-    (few, λ _. walks_near unspent few (lost (calls.Open path flags)) (is_lost (calls.Open path flags)) (steps.Open path flags) path [] e es (create_in path flags) (λ d e ms. creates_in path d e ms flags))
+creates_new : Version → (path : List ℕ) (flags : ℕ) (es : List Name) → HasRoom unspent (open_new path flags es)
+creates_new version path flags [] = (few, λ _. tailed [] (failed (calls.Open path flags) NoEntry) unspent few)
+creates_new version path flags (e ∷ es) =
+    (few, λ _. walks_near version unspent few (lost (calls.Open path flags)) (is_lost (calls.Open path flags)) (steps.Open path flags) path [] e es (create_in path flags) (λ d e ms. creates_in path d e ms flags))
 
-pub transactions_are_small : TransactionsAreSmall
-transactions_are_small (calls.Open path flags) = either_way unspent (creates flags) (open_new path flags (elements path)) (open_old path flags) (creates_new path flags (elements path)) (opens_old path flags)
-transactions_are_small (calls.Read fd buffer) = (few, λ a. by a)
+pub transactions_are_small : (version : Version) → TransactionsAreSmall version
+transactions_are_small version (calls.Open path flags) = either_way unspent (creates flags) (open_new path flags (elements version path)) (open_old version path flags) (creates_new version path flags (elements version path)) (opens_old version path flags)
+transactions_are_small version (calls.Read fd buffer) = (few, λ a. by a)
   where
     by : (a : LockResult) → HasRoom unspent (read_on fd buffer a)
     by (NotLocked c) = tt
     by (LocksIt n offset) = (few, λ _. (few, λ _. tt))
-transactions_are_small (calls.Write fd bytes) = writes fd bytes
-transactions_are_small (calls.Link old new) = (few, λ _. walks_to unspent few (lost (calls.Link old new)) (is_lost (calls.Link old new)) (steps.Find old) old (link_at old new) (λ n ms. links_at old new n ms))
-transactions_are_small (calls.Unlink path) = on_parent unspent (calls.Unlink path) (steps.Unlink path) path (unlink_in path) (elements path) (λ d e ms. unlinks_in path d e ms)
-transactions_are_small (calls.Mkdir path) = on_parent unspent (calls.Mkdir path) (steps.Mkdir path) path (mkdir_in path) (elements path) (λ d e ms. makes_in path d e ms)
-transactions_are_small (calls.Chdir path) = (few, λ _. walks_to unspent few (lost (calls.Chdir path)) (is_lost (calls.Chdir path)) (steps.Chdir path) path (chdir_at path) (λ n ms. changes_at path n ms))
-transactions_are_small (calls.Dup fd) = (few, λ a. by a)
+transactions_are_small version (calls.Write fd bytes) = writes fd bytes
+transactions_are_small version (calls.Link old new) = (few, λ _. walks_to version unspent few (lost (calls.Link old new)) (is_lost (calls.Link old new)) (steps.Find old) old (link_at version old new) (λ n ms. links_at version old new n ms))
+transactions_are_small version (calls.Unlink path) = on_parent version unspent (calls.Unlink path) (steps.Unlink path) path (unlink_in path) (elements version path) (λ d e ms. unlinks_in path d e ms)
+transactions_are_small version (calls.Mkdir path) = on_parent version unspent (calls.Mkdir path) (steps.Mkdir path) path (mkdir_in path) (elements version path) (λ d e ms. makes_in path d e ms)
+transactions_are_small version (calls.Chdir path) = (few, λ _. walks_to version unspent few (lost (calls.Chdir path)) (is_lost (calls.Chdir path)) (steps.Chdir path) path (chdir_at path) (λ n ms. changes_at path n ms))
+transactions_are_small version (calls.Dup fd) = (few, λ a. by a)
   where
     by : (a : Option (Option ℕ)) → HasRoom unspent (dup_on fd a)
     by None = tt
     by (Some None) = (few, λ _. tt)
     by (Some (Some f)) = (few, λ _. tt)
-transactions_are_small (calls.Fstat fd) = (few, λ a. by a)
+transactions_are_small version (calls.Fstat fd) = (few, λ a. by a)
   where
     by : (a : Option (ℕ × Face)) → HasRoom unspent (stat_on fd a)
     by None = tt
     by (Some p) = (few, λ _. (few, λ _. tt))
-transactions_are_small (calls.Close fd) = (few, λ a. by a)
+transactions_are_small version (calls.Close fd) = (few, λ a. by a)
   where
     by : (a : Option (Option ℕ)) → HasRoom unspent (close_on fd a)
     by None = tt
     by (Some None) = (few, λ _. tt)
     by (Some (Some n)) =
         (few, λ _. dropped (n ∷ []) 2 (omega arith) n _ unspent (here n []) (named [] 1 n unspent start_within) (λ t w. (fits (n ∷ []) 2 t w (omega arith), λ _. (fits (n ∷ []) 2 t w (omega arith), λ _. tt))))
-transactions_are_small (calls.Inherit child) = lends_from child descriptor_count 0
+transactions_are_small version (calls.Inherit child) = lends_from child descriptor_count 0

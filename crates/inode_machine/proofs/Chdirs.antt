@@ -1,29 +1,30 @@
 -- A change of directory: the tree's step, what is taken back of it, and the hart's own.
+use Rattle.image_versions.specs.declared.version.Version.{Version}
 use Rattle.inode_machine.proofs.Vocabulary.{◌≡◌, inl, inr, ℕ, ◌+◌, ◌<◌, Bool, true, false, ◌==◌, ◌||◌, List, [], Option, Some, None, refl, sym, ◌∙◌, ap, subst, arith, Do, unmarked, P, Fine, Safe, Wp, NotDirectory, Node, NodeKind, Directory, File, Device, Chdir, Done, Failed, hart_count, Name, Tree, put, is_directory, hold_names, settle, node_at, node_or, answer_by, effect_by, place_of, refusal_with, refusal_by, StepWith, key_names, row_of, one_if, either, eq_is, or_right, put_same, put_other, well_chdir, Step, Desk, World, SetDirectory, OfDirectory, type_of, type_of_kind, is_at, unlocked, with_directory, with_walk, child_of, acts, mended, unheld, unmoved, unopened, Own, Held, key_in, left_or, own_names, own_of, file_tables_of, Inv, IsReached, machine}
 use Rattle.inode_machine.proofs.Basics.{file_tables_same, directory_named, HartStep, Fair, fair, fair_then, has_inode, s-owned, quiet, locks_it, my_refs, below_is, gives, walk_named_did, own_walk, with_new, Flagging, desk_changes, names_less, KeepsHold, unheld_is, type_of_directory, Mending}
 
 -- The tree's step.
 
-chdir_goes : (t : Tree) (h j : ℕ) (path : List ℕ) (par : Option (ℕ × Name)) → is_directory (node_at t j).kind ≡ true → refusal_with t h (Chdir path) (Some j) par ≡ None
+chdir_goes : (version : Version) (t : Tree) (h j : ℕ) (path : List ℕ) (par : Option (ℕ × Name)) → is_directory (node_at t j).kind ≡ true → refusal_with version t h (Chdir path) (Some j) par ≡ None
 unfolding refusal_by
-chdir_goes t h j path par e = rw e refl
+chdir_goes version t h j path par e = rw e refl
 
-chdir_refused : (t : Tree) (h j : ℕ) (path : List ℕ) (par : Option (ℕ × Name)) → is_directory (node_at t j).kind ≡ false → refusal_with t h (Chdir path) (Some j) par ≡ Some NotDirectory
+chdir_refused : (version : Version) (t : Tree) (h j : ℕ) (path : List ℕ) (par : Option (ℕ × Name)) → is_directory (node_at t j).kind ≡ false → refusal_with version t h (Chdir path) (Some j) par ≡ Some NotDirectory
 unfolding refusal_by
-chdir_refused t h j path par e = rw e refl
+chdir_refused version t h j path par e = rw e refl
 
-pub chdir_made : (t : Tree) (h j new id : ℕ) (path : List ℕ) (par : Option (ℕ × Name)) → is_directory (node_at t j).kind ≡ true
-    → acts t h (Chdir path) (Some j) par new id ≡ record { all = record t { cwd = put t.cwd h j }; walk = None; found = Some j; opened = None; entered = None; left = Some (t.cwd h); told = Some (record { act = record { step = Chdir path; answer = Done }; new = new }) }
+pub chdir_made : (version : Version) (t : Tree) (h j new id : ℕ) (path : List ℕ) (par : Option (ℕ × Name)) → is_directory (node_at t j).kind ≡ true
+    → acts version t h (Chdir path) (Some j) par new id ≡ record { all = record t { cwd = put t.cwd h j }; walk = None; found = Some j; opened = None; entered = None; left = Some (t.cwd h); told = Some (record { act = record { step = Chdir path; answer = Done }; new = new }) }
 unfolding effect_by answer_by
-chdir_made t h j new id path par e = rw (chdir_goes t h j path par e) refl
+chdir_made version t h j new id path par e = rw (chdir_goes version t h j path par e) refl
 
-pub chdir_step : (t : Tree) (h j id : ℕ) (path : List ℕ) (par : Option (ℕ × Name)) → h < hart_count → is_directory (node_at t j).kind ≡ true → StepWith t h (Chdir path) (Some j) par Done 0 id (settle (record t { cwd = put t.cwd h j }))
+pub chdir_step : (version : Version) (t : Tree) (h j id : ℕ) (path : List ℕ) (par : Option (ℕ × Name)) → h < hart_count → is_directory (node_at t j).kind ≡ true → StepWith version t h (Chdir path) (Some j) par Done 0 id (settle (record t { cwd = put t.cwd h j }))
 unfolding effect_by answer_by place_of
-chdir_step t h j id path par lt e = (chdir_goes t h j path par e, refl, record { node = λ z. absurd cc; file = λ z. absurd cc }, refl, rw (below_is h hart_count lt) refl)
+chdir_step version t h j id path par lt e = (chdir_goes version t h j path par e, refl, record { node = λ z. absurd cc; file = λ z. absurd cc }, refl, rw (below_is h hart_count lt) refl)
 
-pub chdir_refused_step : (t : Tree) (h j id : ℕ) (path : List ℕ) (par : Option (ℕ × Name)) → h < hart_count → is_directory (node_at t j).kind ≡ false → (refusal_with t h (Chdir path) (Some j) par ≡ Some NotDirectory) × StepWith t h (Chdir path) (Some j) par (Failed NotDirectory) 0 id t
+pub chdir_refused_step : (version : Version) (t : Tree) (h j id : ℕ) (path : List ℕ) (par : Option (ℕ × Name)) → h < hart_count → is_directory (node_at t j).kind ≡ false → (refusal_with version t h (Chdir path) (Some j) par ≡ Some NotDirectory) × StepWith version t h (Chdir path) (Some j) par (Failed NotDirectory) 0 id t
 unfolding place_of
-chdir_refused_step t h j id path par lt e = (chdir_refused t h j path par e, (chdir_refused t h j path par e, refl, rw (below_is h hart_count lt) refl))
+chdir_refused_step version t h j id path par lt e = (chdir_refused version t h j path par e, (chdir_refused version t h j path par e, refl, rw (below_is h hart_count lt) refl))
 
 pub kind_directory : (o : Option Node) → type_of o ≡ Some OfDirectory → is_directory (node_or o).kind ≡ true
 kind_directory None e = absurd cc
@@ -35,8 +36,8 @@ kind_directory (Some v) e = at v.kind e
     at (Device major minor size) q = absurd cc
 
 -- The tree's current directory changes, where the one that the hart refers to is the one that it leaves.
-cwd_did : (h x k : ℕ) (v : World) → (v.desks h).lender ≡ None → h < hart_count → Inv v → (v.desks h).left ≡ Some k → type_of (v.all.nodes x) ≡ Some OfDirectory → IsReached v h x → HartStep h v (record v { all = record (v.all) { cwd = put v.all.cwd h x } })
-cwd_did h x k v free lt inv left inode_type reached = record {
+cwd_did : Version → (h x k : ℕ) (v : World) → (v.desks h).lender ≡ None → h < hart_count → Inv v → (v.desks h).left ≡ Some k → type_of (v.all.nodes x) ≡ Some OfDirectory → IsReached v h x → HartStep h v (record v { all = record (v.all) { cwd = put v.all.cwd h x } })
+cwd_did version h x k v free lt inv left inode_type reached = record {
   hart = lt;
   inodes = λ j. inl (record { lock = refl; keeper = refl; disk = refl; node = refl; alone = refl });
   mine = λ g ne. refl;
@@ -93,9 +94,9 @@ pub record Leaving (h j : ℕ) (v : World) (O : Own) : Type 0 where
   pub fair : Fair h v (left_world h j v)
   pub owned : own_of h (left_world h j v) ≡ record O { row = record (O.row) { cwd = j }; desk = record (O.desk) { left = Some (O.row.cwd) } }
 
-pub leaving : (h j : ℕ) (v : World) (O : Own) → own_of h v ≡ O → O.desk.lender ≡ None → h < hart_count → Inv v → O.desk.left ≡ None → type_of (v.all.nodes j) ≡ Some OfDirectory → IsReached v h j → Leaving h j v O
-leaving h j v O ov free lt inv none inode_type reached = record {
-  fair = fair_then f.fair (fair f.fair.inv (cwd_did h j (v.all.cwd h) u (ap (λ (o : Own). o.desk.lender) f.owned ∙ free) lt f.fair.inv (ap (λ (z : Desk). z.left) (put_same v.desks h new)) inode_type reached));
+pub leaving : Version → (h j : ℕ) (v : World) (O : Own) → own_of h v ≡ O → O.desk.lender ≡ None → h < hart_count → Inv v → O.desk.left ≡ None → type_of (v.all.nodes j) ≡ Some OfDirectory → IsReached v h j → Leaving h j v O
+leaving version h j v O ov free lt inv none inode_type reached = record {
+  fair = fair_then f.fair (fair f.fair.inv (cwd_did version h j (v.all.cwd h) u (ap (λ (o : Own). o.desk.lender) f.owned ∙ free) lt f.fair.inv (ap (λ (z : Desk). z.left) (put_same v.desks h new)) inode_type reached));
   owned = own_cwd h j u (record O { desk = record (O.desk) { left = Some (O.row.cwd) } }) f.owned;
 }
   where
@@ -123,9 +124,9 @@ leaving h j v O ov free lt inv none inode_type reached = record {
         ]
 
 -- Where the call finds no room after that, the hart is in its old directory again. k: that directory.
-pub mends_left : (h k : ℕ) (v : World) (O : Own) → own_of h v ≡ O → O.desk.lender ≡ None → h < hart_count → Inv v → O.desk.opening ≡ None → O.desk.left ≡ Some k → KeepsHold O.row.hold → ((i : ℕ) → own_names (record (O.row) { cwd = k }) (record (O.desk) { left = None }) i ≡ true → 0 < O.mine.refs i)
+pub mends_left : Version → (h k : ℕ) (v : World) (O : Own) → own_of h v ≡ O → O.desk.lender ≡ None → h < hart_count → Inv v → O.desk.opening ≡ None → O.desk.left ≡ Some k → KeepsHold O.row.hold → ((i : ℕ) → own_names (record (O.row) { cwd = k }) (record (O.desk) { left = None }) i ≡ true → 0 < O.mine.refs i)
     → Mending h v (mended h v) (record O { row = record (O.row) { cwd = k }; desk = record (O.desk) { opening = None; left = None; full = true }; mine = record { refs = O.mine.refs; walk = None; pending = None } })
-mends_left h k v O ov free lt inv opening left hold names = subst (λ (z : World). Mending h v z M) (sym is) (record {
+mends_left version h k v O ov free lt inv opening left hold names = subst (λ (z : World). Mending h v z M) (sym is) (record {
   fair = fair_then back (fair_then f.fair (fair f.fair.inv (walk_named_did h None None u2 (ap (λ (o : Own). o.desk.lender) f.owned ∙ free) lt f.fair.inv named (λ m q e. absurd cc) (λ z q. absurd cc) (λ i q. absurd cc))));
   bad = refl;
   owned = own_walk h None None u2 O2 f.owned;
@@ -153,7 +154,7 @@ mends_left h k v O ov free lt inv opening left hold names = subst (λ (z : World
     reached = subst (λ (z : ℕ). IsReached v h z) stands (inv.named h (v.desks h).directory lt (ap (λ (o : Own). o.desk.lender) ov ∙ free) (directory_named (row_of v.all h) (v.desks h) ((inv.directory h lt).at (ap (λ (o : Own). o.desk.lender) ov ∙ free))))
 
     back : Fair h v u1
-    back = fair inv (cwd_did h k k v (ap (λ (o : Own). o.desk.lender) ov ∙ free) lt inv left_v inode_type reached)
+    back = fair inv (cwd_did version h k k v (ap (λ (o : Own). o.desk.lender) ov ∙ free) lt inv left_v inode_type reached)
 
     ov1 : own_of h u1 ≡ O1
     ov1 = own_cwd h k v O ov
@@ -199,18 +200,18 @@ mends_left h k v O ov free lt inv opening left hold names = subst (λ (z : World
         tree = (λ z. unheld (unmoved (unopened v.all h ((ap (λ (o : Own). o.desk.opening) ov ∙ opening) z)) h (left_v z)) h (v.all.holds h)) ∙ unheld_is (record (v.all) { cwd = put v.all.cwd h k }) h (v.all.holds h) (subst KeepsHold (sym (ap (λ (o : Own). o.row.hold) ov)) hold)
 
 -- The lock is given up, and the tree's current directory is the hart's.
-pub s-settle : {A : Type 0} {h i : ℕ} {x : Held} {k : ℕ → P machine A} {B : List Step → Type 0} {Q : A → List Step → World → Type 0} {n : ℕ} {es : List Step} {w : World} {O : Own}
+pub s-settle : (version : Version) {A : Type 0} {h i : ℕ} {x : Held} {k : ℕ → P (machine version) A} {B : List Step → Type 0} {Q : A → List Step → World → Type 0} {n : ℕ} {es : List Step} {w : World} {O : Own}
     → own_of h w ≡ O → O.desk.lender ≡ None → h < hart_count → 0 < n → O.inodes i ≡ Some x → x.locked ≡ true → x.alone ≡ false → x.disk ≡ x.node → O.mine.pending ≡ None → O.row.cwd ≡ i → one_if (O.desk.directory == i) < O.mine.refs i → child_of O.desk ≡ None
-    → ((l : ℕ) (u : World) → l + 1 ≡ n → own_of h u ≡ record O { inodes = put O.inodes i None; desk = record (O.desk) { directory = i; left = None } } → Safe machine h B Q (k O.desk.directory) l es u)
-    → Safe machine h B Q (Do (SetDirectory i) unmarked k) n es w
-s-settle {A} {h} {i} {x} {k} {B} {Q} {n} {es} {w} {O} owns free lt pos isi has shared whole none stands spare childless rest = s-owned owns free pos (λ v inv ov. (
+    → ((l : ℕ) (u : World) → l + 1 ≡ n → own_of h u ≡ record O { inodes = put O.inodes i None; desk = record (O.desk) { directory = i; left = None } } → Safe (machine version) h B Q (k O.desk.directory) l es u)
+    → Safe (machine version) h B Q (Do (SetDirectory i) unmarked k) n es w
+s-settle version {A} {h} {i} {x} {k} {B} {Q} {n} {es} {w} {O} owns free lt pos isi has shared whole none stands spare childless rest = s-owned version owns free pos (λ v inv ov. (
   (locks_it h i v O x ov isi has, subst (λ (o : Own). one_if (o.desk.directory == i) < o.mine.refs i) (sym ov) spare),
   (λ _ _.
       let a : v.alone i ≡ false = ap (λ (y : Held). y.alone) (has_inode h i v O x ov isi).1 ∙ shared in
       let f = settles v inv ov in
-      let g = gives h i x (record O { desk = record (O.desk) { directory = i; left = None } }) (with_new v h (record (v.desks h) { directory = i; left = None }) v.clean) free lt f.fair.inv f.owned isi shared whole none in
-      subst (λ (b : Bool). Fine machine h [] 0 n B es v (with_directory (unlocked i v b) h i) (λ l. Wp machine h B Q (k (v.desks h).directory) l es (with_directory (unlocked i v b) h i))) (sym a)
-      (quiet (fair_then f.fair g.fair) refl pos (λ l q. subst (λ (z : ℕ). Wp machine h B Q (k z) l es (with_directory (unlocked i v false) h i)) (sym (ap (λ (o : Own). o.desk.directory) ov)) (rest l (with_directory (unlocked i v false) h i) q g.owned).wp))),
+      let g = gives version h i x (record O { desk = record (O.desk) { directory = i; left = None } }) (with_new v h (record (v.desks h) { directory = i; left = None }) v.clean) free lt f.fair.inv f.owned isi shared whole none in
+      subst (λ (b : Bool). Fine (machine version) h [] 0 n B es v (with_directory (unlocked i v b) h i) (λ l. Wp (machine version) h B Q (k (v.desks h).directory) l es (with_directory (unlocked i v b) h i))) (sym a)
+      (quiet version (fair_then f.fair g.fair) refl pos (λ l q. subst (λ (z : ℕ). Wp (machine version) h B Q (k z) l es (with_directory (unlocked i v false) h i)) (sym (ap (λ (o : Own). o.desk.directory) ov)) (rest l (with_directory (unlocked i v false) h i) q g.owned).wp))),
 ))
   where
     settles : (v : World) → Inv v → own_of h v ≡ O → Flagging h v O (record (v.desks h) { directory = i; left = None }) (record (O.desk) { directory = i; left = None }) v.clean

@@ -1,4 +1,5 @@
 -- A new inode: claimed, and its count and its entries stored; and what a call takes back where it finds no room.
+use Rattle.image_versions.specs.declared.version.Version.{Version}
 use Rattle.inode_machine.proofs.Vocabulary.{◌≡◌, ◌≢◌, ◌⊎◌, inl, inr, ℕ, ◌+◌, ◌<◌, ◌≤◌, Bool, true, false, ◌==◌, nat_lt, List, [], Option, Some, None, refl, sym, ◌∙◌, ap, subst, arith, if◌then◌else◌, Do, Ran, unmarked, P, own, onto, Good, Fine, Safe, Wp, Node, Directory, count_limit, hart_count, put, settle, node_or, sum_below, eq_is, same_or, put_same, put_other, and_true, Walk, Step, Mine, World, ClaimResult, New, NoInode, NoPlace, Outside, Room, RoomFor, Picks, Claim, Store, Fill, InodeType, is_nothing, blank, claimed, claim_if, is_free, place_count, referenced, with_count, with_dots, fill_if, with_mark, mended, places, Own, file_tables_of, own_names, Held, view, is_hart, own_of, IsReferredTo, Inv, machine, IsReached, HonestClaim, mends_if_full, mends_unless_new}
 use Rattle.inode_machine.proofs.Frame.{file_tables_same, put_elim, ours_none, ours_some, kept_here, HartStep, Fair, fair, own_inodes, has_inode, found_more, one_refs, refers_put}
 use Rattle.inode_machine.proofs.Rules.{opens_slots, s-owned, quiet, each_refs, here_refs, walks_refs, total_same, total_changed, my_refs, has_disk, locks_it, has_node}
@@ -17,12 +18,12 @@ pub record Mendable (O : Own) : Type 0 where
 abbrev pub mended_own : Own → Own
 mended_own O = record O { desk = record (O.desk) { opening = None; left = None; full = true }; mine = record { refs = O.mine.refs; walk = None; pending = None } }
 
-pub mend_fine : {A : Type 0} (h more n : ℕ) (B : List Step → Type 0) (Q : A → List Step → World → Type 0) (es : List Step) (v : World) (O : Own) (p : P machine A) → own_of h v ≡ O → O.desk.lender ≡ None → h < hart_count → Inv v → Mendable O → more < n
-    → ((l : ℕ) (u : World) → l + (more + 1) ≡ n → own_of h u ≡ mended_own O → Safe machine h B Q p l es u)
-    → Fine machine h [] more n B es v (mended h v) (λ l. Wp machine h B Q p l es (mended h v))
-mend_fine h more n B Q es v O p ov free lt inv can pos rest =
+pub mend_fine : (version : Version) {A : Type 0} (h more n : ℕ) (B : List Step → Type 0) (Q : A → List Step → World → Type 0) (es : List Step) (v : World) (O : Own) (p : P (machine version) A) → own_of h v ≡ O → O.desk.lender ≡ None → h < hart_count → Inv v → Mendable O → more < n
+    → ((l : ℕ) (u : World) → l + (more + 1) ≡ n → own_of h u ≡ mended_own O → Safe (machine version) h B Q p l es u)
+    → Fine (machine version) h [] more n B es v (mended h v) (λ l. Wp (machine version) h B Q p l es (mended h v))
+mend_fine version h more n B Q es v O p ov free lt inv can pos rest =
     let m = mends h v O ov free lt inv can.opening can.left can.hold can.names in
-    spoilt m.fair m.bad pos (λ l q. (rest l (mended h v) q m.owned).wp)
+    spoilt version m.fair m.bad pos (λ l q. (rest l (mended h v) q m.owned).wp)
 
 -- A claim.
 
@@ -44,8 +45,8 @@ pub record Claiming (h i : ℕ) (inode_type : InodeType) (v : World) (O : Own) :
   pub zero : O.mine.refs i ≡ 0
   pub owned : own_of h (claimed h inode_type v i) ≡ record O { inodes = put O.inodes i (Some (claimed_held inode_type)); mine = record { refs = put O.mine.refs i (O.mine.refs i + 1); walk = O.mine.walk; pending = O.mine.pending } }
 
-pub claiming : (h i : ℕ) (inode_type : InodeType) (v : World) (O : Own) → own_of h v ≡ O → O.desk.lender ≡ None → h < hart_count → Inv v → O.desk.joined ≡ true → is_free v i ≡ true → Claiming h i inode_type v O
-claiming h i inode_type v O ov free lt inv joined is_free_i = record { fair = fair inv did; stage = walks_refs v.harts h i ((v.harts h).refs i + 1); out = out (O.inodes i) refl; zero = sym (my_refs h v O i ov) ∙ zero; owned = owned }
+pub claiming : Version → (h i : ℕ) (inode_type : InodeType) (v : World) (O : Own) → own_of h v ≡ O → O.desk.lender ≡ None → h < hart_count → Inv v → O.desk.joined ≡ true → is_free v i ≡ true → Claiming h i inode_type v O
+claiming version h i inode_type v O ov free lt inv joined is_free_i = record { fair = fair inv did; stage = walks_refs v.harts h i ((v.harts h).refs i + 1); out = out (O.inodes i) refl; zero = sym (my_refs h v O i ov) ∙ zero; owned = owned }
   where
     u : World
     u = claimed h inode_type v i
@@ -181,57 +182,57 @@ claiming h i inode_type v O ov free lt inv joined is_free_i = record { fair = fa
       desk = ap (λ (o : Own). o.desk) ov z;
     }
 
-pub s-claim : {A : Type 0} {h : ℕ} (inode_type : InodeType) {k : ClaimResult → P machine A} {B : List Step → Type 0} {Q : A → List Step → World → Type 0} {n : ℕ} {es : List Step} {w : World} {O : Own}
+pub s-claim : (version : Version) {A : Type 0} {h : ℕ} (inode_type : InodeType) {k : ClaimResult → P (machine version) A} {B : List Step → Type 0} {Q : A → List Step → World → Type 0} {n : ℕ} {es : List Step} {w : World} {O : Own}
     → own_of h w ≡ O → O.desk.lender ≡ None → h < hart_count → 12300 < n → O.desk.joined ≡ true → Mendable O
     → ((l i : ℕ) (u : World) → l + 12301 ≡ n → 1 ≤ i → i < O.ninodes → O.inodes i ≡ None → O.mine.refs i ≡ 0
-    → own_of h u ≡ record O { inodes = put O.inodes i (Some (claimed_held inode_type)); mine = record { refs = put O.mine.refs i (O.mine.refs i + 1); walk = O.mine.walk; pending = O.mine.pending } } → Safe machine h B Q (k (New i)) l es u)
-    → ((l : ℕ) (u : World) → l + 12301 ≡ n → own_of h u ≡ mended_own O → Safe machine h B Q (k NoInode) l es u)
-    → ((l : ℕ) (u : World) → l + 12301 ≡ n → own_of h u ≡ mended_own O → Safe machine h B Q (k NoPlace) l es u)
-    → Safe machine h B Q (Do (Claim inode_type) mends_unless_new k) n es w
-s-claim {A} {h} inode_type {k} {B} {Q} {n} {es} {w} {O} owns free lt pos joined can then_ none full = s-owned owns free pos (λ v inv ov. (ap (λ (o : Own). o.desk.joined) ov ∙ joined, (λ x honest. at v inv ov x honest)))
+    → own_of h u ≡ record O { inodes = put O.inodes i (Some (claimed_held inode_type)); mine = record { refs = put O.mine.refs i (O.mine.refs i + 1); walk = O.mine.walk; pending = O.mine.pending } } → Safe (machine version) h B Q (k (New i)) l es u)
+    → ((l : ℕ) (u : World) → l + 12301 ≡ n → own_of h u ≡ mended_own O → Safe (machine version) h B Q (k NoInode) l es u)
+    → ((l : ℕ) (u : World) → l + 12301 ≡ n → own_of h u ≡ mended_own O → Safe (machine version) h B Q (k NoPlace) l es u)
+    → Safe (machine version) h B Q (Do (Claim inode_type) mends_unless_new k) n es w
+s-claim version {A} {h} inode_type {k} {B} {Q} {n} {es} {w} {O} owns free lt pos joined can then_ none full = s-owned version owns free pos (λ v inv ov. (ap (λ (o : Own). o.desk.joined) ov ∙ joined, (λ x honest. at v inv ov x honest)))
   where
     Goal : World → Outside → Type 0
-    Goal v x = Good machine ClaimResult h (λ a. places h (Claim inode_type) a (mends_unless_new a) v) 12300 n B es v ⊥ (with_mark h mends_unless_new (claim_if h inode_type v x)) (λ l a u. Wp machine h B Q (k a) l (onto (own h (places h (Claim inode_type) a (mends_unless_new a) v)) es) u)
+    Goal v x = Good (machine version) ClaimResult h (λ a. places version h (Claim inode_type) a (mends_unless_new a) v) 12300 n B es v ⊥ (with_mark version h mends_unless_new (claim_if h inode_type v x)) (λ l a u. Wp (machine version) h B Q (k a) l (onto (own h (places version h (Claim inode_type) a (mends_unless_new a) v)) es) u)
 
     at : (v : World) → Inv v → own_of h v ≡ O → (x : Outside) → HonestClaim v x → Goal v x
-    at v inv ov Room honest = mend_fine h 12300 n B Q es v O (k NoInode) ov free lt inv can pos none
-    at v inv ov (RoomFor j) honest = mend_fine h 12300 n B Q es v O (k NoPlace) ov free lt inv can pos full
+    at v inv ov Room honest = mend_fine version h 12300 n B Q es v O (k NoInode) ov free lt inv can pos none
+    at v inv ov (RoomFor j) honest = mend_fine version h 12300 n B Q es v O (k NoPlace) ov free lt inv can pos full
     at v inv ov (Picks i) honest = by_place (nat_lt (referenced v) place_count)
       where
-        by_place : (b : Bool) → Good machine ClaimResult h (λ a. places h (Claim inode_type) a (mends_unless_new a) v) 12300 n B es v ⊥ (with_mark h mends_unless_new (if b then Ran (New i) (claimed h inode_type v i) else Ran NoPlace v)) (λ l a u. Wp machine h B Q (k a) l (onto (own h (places h (Claim inode_type) a (mends_unless_new a) v)) es) u)
-        by_place false = mend_fine h 12300 n B Q es v O (k NoPlace) ov free lt inv can pos full
+        by_place : (b : Bool) → Good (machine version) ClaimResult h (λ a. places version h (Claim inode_type) a (mends_unless_new a) v) 12300 n B es v ⊥ (with_mark version h mends_unless_new (if b then Ran (New i) (claimed h inode_type v i) else Ran NoPlace v)) (λ l a u. Wp (machine version) h B Q (k a) l (onto (own h (places version h (Claim inode_type) a (mends_unless_new a) v)) es) u)
+        by_place false = mend_fine version h 12300 n B Q es v O (k NoPlace) ov free lt inv can pos full
         by_place true =
-            let c = claiming h i inode_type v O ov free lt inv joined honest.2 in
-            quiet c.fair (λ z. record { tree = settle v.all; walk = c.stage z }) pos (λ l q. (then_ l i (claimed h inode_type v i) q honest.0 (let s = ap (λ (o : Own). o.ninodes) ov in let b = honest.1 in omega (arith, s, b)) c.out c.zero c.owned).wp)
+            let c = claiming version h i inode_type v O ov free lt inv joined honest.2 in
+            quiet version c.fair (λ z. record { tree = settle v.all; walk = c.stage z }) pos (λ l q. (then_ l i (claimed h inode_type v i) q honest.0 (let s = ap (λ (o : Own). o.ninodes) ov in let b = honest.1 in omega (arith, s, b)) c.out c.zero c.owned).wp)
 
 -- A record of an inode that the hart has locked.
 
-pub s-store : {A : Type 0} {h : ℕ} (i c : ℕ) {x : Held} (y : Node) {k : Unit {0} → P machine A} {B : List Step → Type 0} {Q : A → List Step → World → Type 0} {n : ℕ} {es : List Step} {w : World} {O : Own}
+pub s-store : (version : Version) {A : Type 0} {h : ℕ} (i c : ℕ) {x : Held} (y : Node) {k : Unit {0} → P (machine version) A} {B : List Step → Type 0} {Q : A → List Step → World → Type 0} {n : ℕ} {es : List Step} {w : World} {O : Own}
     → own_of h w ≡ O → O.desk.lender ≡ None → h < hart_count → 2 < n → O.desk.joined ≡ true → O.inodes i ≡ Some x → x.locked ≡ true → x.disk ≡ Some y → ((c ≤ count_limit) ⊎ (c ≤ y.count))
-    → ((l : ℕ) (u : World) → l + 3 ≡ n → own_of h u ≡ record O { inodes = put O.inodes i (Some (record x { disk = Some (with_count c y) })) } → Safe machine h B Q (k tt) l es u)
-    → Safe machine h B Q (Do (Store i c) unmarked k) n es w
-s-store {A} {h} i c {x} y {k} {B} {Q} {n} {es} {w} {O} owns free lt pos joined isi has disk count rest = s-owned owns free pos (λ v inv ov. (
+    → ((l : ℕ) (u : World) → l + 3 ≡ n → own_of h u ≡ record O { inodes = put O.inodes i (Some (record x { disk = Some (with_count c y) })) } → Safe (machine version) h B Q (k tt) l es u)
+    → Safe (machine version) h B Q (Do (Store i c) unmarked k) n es w
+s-store version {A} {h} i c {x} y {k} {B} {Q} {n} {es} {w} {O} owns free lt pos joined isi has disk count rest = s-owned version owns free pos (λ v inv ov. (
   ((locks_it h i v O x ov isi has, ap (λ (o : Own). o.desk.joined) ov ∙ joined), record { node = y; is = has_disk h i v O x ov isi ∙ disk; fits = count }),
   (λ _ _.
-      let wr = writes h i (Some (with_count c y)) x O v free lt joined inv ov isi in
-      subst (λ (z : Option Node). Fine machine h [] 2 n B es v (record v { disk = put v.disk i (Some (with_count c (node_or z))) }) (λ l. Wp machine h B Q (k tt) l es (record v { disk = put v.disk i (Some (with_count c (node_or z))) }))) (sym (has_disk h i v O x ov isi ∙ disk))
-      (quiet wr.fair refl pos (λ l q. (rest l (record v { disk = put v.disk i (Some (with_count c y)) }) q wr.owned).wp))),
+      let wr = writes version h i (Some (with_count c y)) x O v free lt joined inv ov isi in
+      subst (λ (z : Option Node). Fine (machine version) h [] 2 n B es v (record v { disk = put v.disk i (Some (with_count c (node_or z))) }) (λ l. Wp (machine version) h B Q (k tt) l es (record v { disk = put v.disk i (Some (with_count c (node_or z))) }))) (sym (has_disk h i v O x ov isi ∙ disk))
+      (quiet version wr.fair refl pos (λ l q. (rest l (record v { disk = put v.disk i (Some (with_count c y)) }) q wr.owned).wp))),
 ))
 
-pub s-fill : {A : Type 0} {h : ℕ} (i d : ℕ) {x : Held} (y : Node) {k : Bool → P machine A} {B : List Step → Type 0} {Q : A → List Step → World → Type 0} {n : ℕ} {es : List Step} {w : World} {O : Own}
+pub s-fill : (version : Version) {A : Type 0} {h : ℕ} (i d : ℕ) {x : Held} (y : Node) {k : Bool → P (machine version) A} {B : List Step → Type 0} {Q : A → List Step → World → Type 0} {n : ℕ} {es : List Step} {w : World} {O : Own}
     → own_of h w ≡ O → O.desk.lender ≡ None → h < hart_count → 12 < n → O.desk.joined ≡ true → O.inodes i ≡ Some x → x.locked ≡ true → x.disk ≡ Some y → y.kind ≡ Directory [] → (z : Held) (Z : Node) → O.inodes d ≡ Some z → z.node ≡ Some Z → Mendable O
-    → ((l : ℕ) (u : World) → l + 13 ≡ n → own_of h u ≡ record O { inodes = put O.inodes i (Some (record x { disk = Some (with_dots i d y) })) } → Safe machine h B Q (k true) l es u)
-    → ((l : ℕ) (u : World) → l + 13 ≡ n → own_of h u ≡ mended_own O → Safe machine h B Q (k false) l es u)
-    → Safe machine h B Q (Do (Fill i d) mends_if_full k) n es w
-s-fill {A} {h} i d {x} y {k} {B} {Q} {n} {es} {w} {O} owns free lt pos joined isi has disk empty z Z isd node can rest full = s-owned owns free pos (λ v inv ov. (
+    → ((l : ℕ) (u : World) → l + 13 ≡ n → own_of h u ≡ record O { inodes = put O.inodes i (Some (record x { disk = Some (with_dots i d y) })) } → Safe (machine version) h B Q (k true) l es u)
+    → ((l : ℕ) (u : World) → l + 13 ≡ n → own_of h u ≡ mended_own O → Safe (machine version) h B Q (k false) l es u)
+    → Safe (machine version) h B Q (Do (Fill i d) mends_if_full k) n es w
+s-fill version {A} {h} i d {x} y {k} {B} {Q} {n} {es} {w} {O} owns free lt pos joined isi has disk empty z Z isd node can rest full = s-owned version owns free pos (λ v inv ov. (
   ((locks_it h i v O x ov isi has, ap (λ (o : Own). o.desk.joined) ov ∙ joined), record { node = y; is = has_disk h i v O x ov isi ∙ disk; fits = empty }, inv.well.range d Z (has_node h d v O z ov isd ∙ node)),
   (λ o _. at v inv ov o),
 ))
   where
-    at : (v : World) → Inv v → own_of h v ≡ O → (o : Outside) → Good machine Bool h (λ a. places h (Fill i d) a (mends_if_full a) v) 12 n B es v ⊥ (with_mark h mends_if_full (fill_if i d v o)) (λ l a u. Wp machine h B Q (k a) l (onto (own h (places h (Fill i d) a (mends_if_full a) v)) es) u)
-    at v inv ov (RoomFor j) = mend_fine h 12 n B Q es v O (k false) ov free lt inv can pos full
-    at v inv ov (Picks j) = mend_fine h 12 n B Q es v O (k false) ov free lt inv can pos full
+    at : (v : World) → Inv v → own_of h v ≡ O → (o : Outside) → Good (machine version) Bool h (λ a. places version h (Fill i d) a (mends_if_full a) v) 12 n B es v ⊥ (with_mark version h mends_if_full (fill_if i d v o)) (λ l a u. Wp (machine version) h B Q (k a) l (onto (own h (places version h (Fill i d) a (mends_if_full a) v)) es) u)
+    at v inv ov (RoomFor j) = mend_fine version h 12 n B Q es v O (k false) ov free lt inv can pos full
+    at v inv ov (Picks j) = mend_fine version h 12 n B Q es v O (k false) ov free lt inv can pos full
     at v inv ov Room =
-        let wr = writes h i (Some (with_dots i d y)) x O v free lt joined inv ov isi in
-        subst (λ (z : Option Node). Fine machine h [] 12 n B es v (record v { disk = put v.disk i (Some (with_dots i d (node_or z))) }) (λ l. Wp machine h B Q (k true) l es (record v { disk = put v.disk i (Some (with_dots i d (node_or z))) }))) (sym (has_disk h i v O x ov isi ∙ disk))
-        (quiet wr.fair refl pos (λ l q. (rest l (record v { disk = put v.disk i (Some (with_dots i d y)) }) q wr.owned).wp))
+        let wr = writes version h i (Some (with_dots i d y)) x O v free lt joined inv ov isi in
+        subst (λ (z : Option Node). Fine (machine version) h [] 12 n B es v (record v { disk = put v.disk i (Some (with_dots i d (node_or z))) }) (λ l. Wp (machine version) h B Q (k true) l es (record v { disk = put v.disk i (Some (with_dots i d (node_or z))) }))) (sym (has_disk h i v O x ov isi ∙ disk))
+        (quiet version wr.fair refl pos (λ l q. (rest l (record v { disk = put v.disk i (Some (with_dots i d y)) }) q wr.owned).wp))

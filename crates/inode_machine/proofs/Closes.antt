@@ -1,4 +1,5 @@
 -- Close: a descriptor goes, and with the last one its open file, whose reference is the hart's then.
+use Rattle.image_versions.specs.declared.version.Version.{Version}
 use Rattle.inode_machine.proofs.Vocabulary.{◌≡◌, ◌≢◌, ◌⊎◌, inl, inr, ℕ, ◌+◌, ◌-◌, ◌<◌, ◌≤◌, Bool, true, false, ◌==◌, ◌&&◌, nat_lt, List, [], ◌∷◌, Option, Some, None, refl, sym, ◌∙◌, ap, subst, arith, if◌then◌else◌, Do, P, own, onto, Good, Safe, Wp, BadDescriptor, OpenFile, Close, Done, hart_count, descriptor_count, Name, Tree, put, fd_names, file_names, settle, resolve, parent, file_at, refusal_with, refusal_by, effect_with, effect_by, answer_with, answer_by, place_of, IsInPlace, has_fd, closed, Row, key_at, key_of, row_of, with_open, NamesLess, settle_less, file_settled, sum_below, one_if, eq_self, eq_is, eq_isnt, either, same_or, put_same, put_other, sum_same, sum_changed, one_no, one_yes, well_closed, Walk, Stage, Step, PlaysStep, OwnMove, is_at, file_count, with_refs, with_walk, slot_at, entry_at, close_at, close_if, close_less, close_last, Mine, Entry, Desk, World, stage_of, places, with_mark, made_by, new_id, Shut, Own, file_tables_of, number_is, users, own_names, own_of, IsAlone, Inv, machine, nothing, reference_limit, HasType, own_step}
 use Rattle.inode_machine.proofs.Basics.{bond_of, put_elim, stands_on, Fair, fair, has_none, one_refs, s-owned, my_refs, each_refs, here_refs, walks_refs, total_same, total_changed, opens_slots, locks_none, below_is, refs_walk, stage_walk, moves_good, with_fd, users_put, users_fd, Changes, changes, changed_file_tables, tied_closed, kept_open, sells_did, own_takes, names_less, Behind, behind, behind_none, Refused, fails, refused_good, renewed, renewed_slots, renewed_at, renewed_same, SameRow, SameDesk, less_is, not_one, renewed_types, same_desk}
 
@@ -13,36 +14,36 @@ left_open t h fd = (closed (record t { fds = fewer t h fd })).files
 abbrev pub without_fd : Tree → ℕ → ℕ → Tree
 without_fd t h fd = with_open t (fewer t h fd) (left_open t h fd)
 
-close_goes : (t : Tree) (h fd : ℕ) (f : OpenFile) (res : Option ℕ) (par : Option (ℕ × Name)) → file_at t h fd ≡ Some f → refusal_with t h (Close fd) res par ≡ None
+close_goes : (version : Version) (t : Tree) (h fd : ℕ) (f : OpenFile) (res : Option ℕ) (par : Option (ℕ × Name)) → file_at t h fd ≡ Some f → refusal_with version t h (Close fd) res par ≡ None
 unfolding refusal_by
-close_goes t h fd f res par e = rw e refl
+close_goes version t h fd f res par e = rw e refl
 
-close_refused : (t : Tree) (h fd : ℕ) (res : Option ℕ) (par : Option (ℕ × Name)) → file_at t h fd ≡ None → refusal_with t h (Close fd) res par ≡ Some BadDescriptor
+close_refused : (version : Version) (t : Tree) (h fd : ℕ) (res : Option ℕ) (par : Option (ℕ × Name)) → file_at t h fd ≡ None → refusal_with version t h (Close fd) res par ≡ Some BadDescriptor
 unfolding refusal_by
-close_refused t h fd res par e = rw e refl
+close_refused version t h fd res par e = rw e refl
 
-close_effect : (t : Tree) (h fd new id : ℕ) (res : Option ℕ) (par : Option (ℕ × Name)) → effect_with t h (Close fd) res par new id ≡ without_fd t h fd
+close_effect : (version : Version) (t : Tree) (h fd new id : ℕ) (res : Option ℕ) (par : Option (ℕ × Name)) → effect_with version t h (Close fd) res par new id ≡ without_fd t h fd
 unfolding effect_by
-close_effect t h fd new id res par = refl
+close_effect version t h fd new id res par = refl
 
-close_effect_settled : (t : Tree) (h fd new id : ℕ) (res : Option ℕ) (par : Option (ℕ × Name)) → effect_with (settle t) h (Close fd) res par new id ≡ with_open (settle t) (fewer t h fd) (left_open t h fd)
+close_effect_settled : (version : Version) (t : Tree) (h fd new id : ℕ) (res : Option ℕ) (par : Option (ℕ × Name)) → effect_with version (settle t) h (Close fd) res par new id ≡ with_open (settle t) (fewer t h fd) (left_open t h fd)
 unfolding effect_by settle has_fd
-close_effect_settled t h fd new id res par = refl
+close_effect_settled version t h fd new id res par = refl
 
-close_answer : (t : Tree) (h fd id : ℕ) (res : Option ℕ) (par : Option (ℕ × Name)) → answer_with t h (Close fd) res par id ≡ Done
+close_answer : (version : Version) (t : Tree) (h fd id : ℕ) (res : Option ℕ) (par : Option (ℕ × Name)) → answer_with version t h (Close fd) res par id ≡ Done
 unfolding answer_by
-close_answer t h fd id res par = refl
+close_answer version t h fd id res par = refl
 
 close_place : (t : Tree) (h fd : ℕ) → h < hart_count → IsInPlace t h (Close fd)
 unfolding place_of
 close_place t h fd lt = rw (below_is h hart_count lt) refl
 
-pub close_is_refused : (h fd : ℕ) (v : World) → h < hart_count → file_at v.all h fd ≡ None → Refused h (Close fd) BadDescriptor v
-close_is_refused h fd v lt e = record {
+pub close_is_refused : (version : Version) (h fd : ℕ) (v : World) → h < hart_count → file_at v.all h fd ≡ None → Refused version h (Close fd) BadDescriptor v
+close_is_refused version h fd v lt e = record {
   follows = refl;
   path = refl;
-  now = λ res par. close_refused v.all h fd res par e;
-  then_ = λ res par. close_refused (settle v.all) h fd res par (file_settled v.all h fd ∙ e);
+  now = λ res par. close_refused version v.all h fd res par e;
+  then_ = λ res par. close_refused version (settle v.all) h fd res par (file_settled v.all h fd ∙ e);
   found = λ res. refl;
   stays = refl;
   place = close_place (settle v.all) h fd lt;
@@ -114,15 +115,15 @@ shut_world h fd v F S H = record v { files = F; desks = with_fd v.desks h fd Non
 abbrev pub shut_step : ℕ → Step
 shut_step fd = record { move = OwnMove (Close fd) 0; told = Some (record { act = record { step = Close fd; answer = Done }; new = 0 }) }
 
-pub record Shuts (h fd : ℕ) (v : World) (O : Own) (F : ℕ → Option Entry) (S : ℕ → ℕ) (H : ℕ → Mine) : Type 0 where
+pub record Shuts (version : Version) (h fd : ℕ) (v : World) (O : Own) (F : ℕ → Option Entry) (S : ℕ → ℕ) (H : ℕ → Mine) : Type 0 where
   pub fair : Fair h v (shut_world h fd v F S H)
-  pub takes : PlaysStep (stage_of v) h (shut_step fd) (stage_of (shut_world h fd v F S H))
+  pub takes : PlaysStep version (stage_of v) h (shut_step fd) (stage_of (shut_world h fd v F S H))
   pub row : SameRow (row_of (without_fd v.all h fd) h) O.row
   pub desk : SameDesk (with_fd v.desks h fd None h) O.desk
 
-pub shuts : (h fd s : ℕ) (e : Entry) (v : World) (O : Own) (F : ℕ → Option Entry) (S : ℕ → ℕ) (H : ℕ → Mine) → Inv v → own_of h v ≡ O → O.desk.lender ≡ None → h < hart_count → (v.harts h).walk ≡ None → (v.harts h).pending ≡ None → (v.desks h).opening ≡ None → ((j : ℕ) → O.inodes j ≡ None) → O.desk.noted ≡ None
-    → Behind h fd s e v → Closing h fd v F S H → Shuts h fd v O F S H
-shuts h fd s e v O F S H inv ov free lt walk still idle empty unnoted hit c = record {
+pub shuts : (version : Version) (h fd s : ℕ) (e : Entry) (v : World) (O : Own) (F : ℕ → Option Entry) (S : ℕ → ℕ) (H : ℕ → Mine) → Inv v → own_of h v ≡ O → O.desk.lender ≡ None → h < hart_count → (v.harts h).walk ≡ None → (v.harts h).pending ≡ None → (v.desks h).opening ≡ None → ((j : ℕ) → O.inodes j ≡ None) → O.desk.noted ≡ None
+    → Behind h fd s e v → Closing h fd v F S H → Shuts version h fd v O F S H
+shuts version h fd s e v O F S H inv ov free lt walk still idle empty unnoted hit c = record {
   fair = fair inv (sells_did h v F D S T H lt inv (record {
     kin = record {
       tied = tied_closed (changed_file_tables (file_tables_of v) h fd None None F S) (record (v.all) { fds = fewer v.all h fd }) (changes (file_tables_of v) h fd None None F S inv.tied c.changes) refl refl;
@@ -159,11 +160,11 @@ shuts h fd s e v O F S H inv ov free lt walk still idle empty unnoted hit c = re
     walk = c.walk;
     lone = c.lone;
   }));
-  takes = own_takes h v (shut_world h fd v F S H) (Close fd) Done refl refl walk (λ z. refl) (λ g z. absurd cc) (
-    close_goes (settle v.all) h fd e.file (resolve (settle v.all) h []) (parent (settle v.all) h []) (file_settled v.all h fd ∙ hit.file),
-    sym (close_answer (settle v.all) h fd (new_id v) (resolve (settle v.all) h []) (parent (settle v.all) h [])),
+  takes = own_takes version h v (shut_world h fd v F S H) (Close fd) Done refl refl walk (λ z. refl) (λ g z. absurd cc) (
+    close_goes version (settle v.all) h fd e.file (resolve version (settle v.all) h []) (parent version (settle v.all) h []) (file_settled v.all h fd ∙ hit.file),
+    sym (close_answer version (settle v.all) h fd (new_id v) (resolve version (settle v.all) h []) (parent version (settle v.all) h [])),
     record { node = λ z. absurd cc; file = λ z. absurd cc },
-    settle_less v.all (fewer v.all h fd) (left_open v.all h fd) (fewer_names v.all h fd) ∙ ap (λ (z : Tree). settle z) (sym (close_effect_settled v.all h fd 0 (new_id v) (resolve (settle v.all) h []) (parent (settle v.all) h []))),
+    settle_less v.all (fewer v.all h fd) (left_open v.all h fd) (fewer_names v.all h fd) ∙ ap (λ (z : Tree). settle z) (sym (close_effect_settled version v.all h fd 0 (new_id v) (resolve version (settle v.all) h []) (parent version (settle v.all) h []))),
     close_place (settle v.all) h fd lt,
   ) c.walks;
   row = record { cwd = ap (λ (o : Own). o.row.cwd) ov; hold = ap (λ (o : Own). o.row.hold) ov };
@@ -314,14 +315,14 @@ closing_last h fd s e v inv lt idle unlent hit one room = record {
           | inr ne ↦ (let p = put_other v.slots n (v.slots n - 1) j ne in let o = not_one n j (λ z. ne (sym z)) in omega (arith, a, b, c, d, p, o))
         ]
 
-pub s-shut : {A : Type 0} {h : ℕ} (fd : ℕ) {k : Option (Option ℕ) → P machine A} {B : List Step → Type 0} {Q : A → List Step → World → Type 0} {n : ℕ} {es : List Step} {w : World} {O : Own}
+pub s-shut : (version : Version) {A : Type 0} {h : ℕ} (fd : ℕ) {k : Option (Option ℕ) → P (machine version) A} {B : List Step → Type 0} {Q : A → List Step → World → Type 0} {n : ℕ} {es : List Step} {w : World} {O : Own}
     → own_of h w ≡ O → O.desk.lender ≡ None → h < hart_count → 0 < n → O.mine.walk ≡ None → O.mine.pending ≡ None → O.desk.opening ≡ None → ((j : ℕ) → O.inodes j ≡ None) → O.desk.noted ≡ None → O.desk.lent ≡ nothing → ((j : ℕ) → O.mine.refs j < reference_limit)
     → B (fails (Close fd) BadDescriptor ∷ es) → B (shut_step fd ∷ es)
-    → ((l : ℕ) (u : World) → l + 1 ≡ n → own_of h u ≡ record O { mine = record { refs = O.mine.refs; walk = None; pending = None } } → Safe machine h B Q (k None) l (fails (Close fd) BadDescriptor ∷ es) u)
-    → ((l : ℕ) (r : Row) (d : Desk) (u : World) → l + 1 ≡ n → SameRow r O.row → SameDesk d O.desk → own_of h u ≡ record O { row = r; desk = d; mine = record { refs = O.mine.refs; walk = None; pending = None } } → Safe machine h B Q (k (Some None)) l (shut_step fd ∷ es) u)
-    → ((l m : ℕ) (r : Row) (d : Desk) (u : World) → l + 1 ≡ n → SameRow r O.row → SameDesk d O.desk → ((0 < O.mine.refs m) ⊎ (own_names r d m ≡ false)) → own_of h u ≡ record O { row = r; desk = d; mine = record { refs = put O.mine.refs m (O.mine.refs m + 1); walk = None; pending = None } } → Safe machine h B Q (k (Some (Some m))) l (shut_step fd ∷ es) u)
-    → Safe machine h B Q (Do (Shut fd) (λ (_ : Option (Option ℕ)). own_step (Close fd)) k) n es w
-s-shut {A} {h} fd {k} {B} {Q} {n} {es} {w} {O} owns free lt pos walks none idle empty unnoted unlent room bf bd bad less last = s-owned owns free pos (λ v inv ov. ((locks_none h v O inv ov (λ i x q. absurd (let a = empty i in cc (a, q))), ap (λ (o : Own). o.desk.lent) ov ∙ unlent), (λ _ _. at v inv ov (slot_at v h fd) refl)))
+    → ((l : ℕ) (u : World) → l + 1 ≡ n → own_of h u ≡ record O { mine = record { refs = O.mine.refs; walk = None; pending = None } } → Safe (machine version) h B Q (k None) l (fails (Close fd) BadDescriptor ∷ es) u)
+    → ((l : ℕ) (r : Row) (d : Desk) (u : World) → l + 1 ≡ n → SameRow r O.row → SameDesk d O.desk → own_of h u ≡ record O { row = r; desk = d; mine = record { refs = O.mine.refs; walk = None; pending = None } } → Safe (machine version) h B Q (k (Some None)) l (shut_step fd ∷ es) u)
+    → ((l m : ℕ) (r : Row) (d : Desk) (u : World) → l + 1 ≡ n → SameRow r O.row → SameDesk d O.desk → ((0 < O.mine.refs m) ⊎ (own_names r d m ≡ false)) → own_of h u ≡ record O { row = r; desk = d; mine = record { refs = put O.mine.refs m (O.mine.refs m + 1); walk = None; pending = None } } → Safe (machine version) h B Q (k (Some (Some m))) l (shut_step fd ∷ es) u)
+    → Safe (machine version) h B Q (Do (Shut fd) (λ (_ : Option (Option ℕ)). own_step (Close fd)) k) n es w
+s-shut version {A} {h} fd {k} {B} {Q} {n} {es} {w} {O} owns free lt pos walks none idle empty unnoted unlent room bf bd bad less last = s-owned version owns free pos (λ v inv ov. ((locks_none h v O inv ov (λ i x q. absurd (let a = empty i in cc (a, q))), ap (λ (o : Own). o.desk.lent) ov ∙ unlent), (λ _ _. at v inv ov (slot_at v h fd) refl)))
   where
     opening_none : (v : World) → own_of h v ≡ O → (v.desks h).opening ≡ None
     opening_none v ov = ap (λ (o : Own). o.desk.opening) ov ∙ idle
@@ -338,16 +339,16 @@ s-shut {A} {h} fd {k} {B} {Q} {n} {es} {w} {O} owns free lt pos walks none idle 
       | inr y ↦ inr (names_less (row_of (without_fd v.all h fd) h) (row_of v.all h) (with_fd v.desks h fd None h) (v.desks h) m refl refl (same ∙ idle) (opening_none v ov) (ap (λ (z : Desk). z.left) (put_same v.desks h (record (v.desks h) { fds = put (v.desks h).fds fd None }))) ∙ y)
     ]
 
-    made_is : (v : World) (s : ℕ) (e : Entry) → Behind h fd s e v → made_by v.all h (new_id v) (v.harts h).walk (OwnMove (Close fd) 0) ≡ record { all = without_fd v.all h fd; walk = None; found = None; opened = None; entered = None; left = None; told = (shut_step fd).told }
-    made_is v s e hit = rw (close_goes v.all h fd e.file (resolve v.all h []) (parent v.all h []) hit.file)
-        (λ r. record { all = close_effect v.all h fd 0 (new_id v) (resolve v.all h []) (parent v.all h []) r; walk = None; found = None; opened = None; entered = None; left = None; told = Some (record { act = record { step = Close fd; answer = close_answer v.all h fd (new_id v) (resolve v.all h []) (parent v.all h []) r }; new = 0 }) })
+    made_is : (v : World) (s : ℕ) (e : Entry) → Behind h fd s e v → made_by version v.all h (new_id v) (v.harts h).walk (OwnMove (Close fd) 0) ≡ record { all = without_fd v.all h fd; walk = None; found = None; opened = None; entered = None; left = None; told = (shut_step fd).told }
+    made_is v s e hit = rw (close_goes version v.all h fd e.file (resolve version v.all h []) (parent version v.all h []) hit.file)
+        (λ r. record { all = close_effect version v.all h fd 0 (new_id v) (resolve version v.all h []) (parent version v.all h []) r; walk = None; found = None; opened = None; entered = None; left = None; told = Some (record { act = record { step = Close fd; answer = close_answer version v.all h fd (new_id v) (resolve version v.all h []) (parent version v.all h []) r }; new = 0 }) })
 
     rest : (v : World) → Inv v → own_of h v ≡ O → (s : ℕ) (e : Entry) → Behind h fd s e v → (b : Bool) → (e.references == 1) ≡ b
-        → Good machine (Option (Option ℕ)) h (λ a. places h (Shut fd) a (own_step (Close fd)) v) 0 n B es v ⊥ (with_mark h (λ (_ : Option (Option ℕ)). own_step (Close fd)) (close_if h v fd s e b)) (λ l a u. Wp machine h B Q (k a) l (onto (own h (places h (Shut fd) a (own_step (Close fd)) v)) es) u)
+        → Good (machine version) (Option (Option ℕ)) h (λ a. places version h (Shut fd) a (own_step (Close fd)) v) 0 n B es v ⊥ (with_mark version h (λ (_ : Option (Option ℕ)). own_step (Close fd)) (close_if h v fd s e b)) (λ l a u. Wp (machine version) h B Q (k a) l (onto (own h (places version h (Shut fd) a (own_step (Close fd)) v)) es) u)
     rest v inv ov s e hit false q =
         let c = closing_less h fd s e v inv lt (opening_none v ov) (ap (λ (o : Own). o.desk.lent) ov ∙ unlent) hit (eq_isnt e.references 1 q) in
-        let x = shuts h fd s e v O _ _ _ inv ov free lt (walk v ov) (still v ov) (opening_none v ov) empty unnoted hit c in
-        moves_good h 0 n B Q es v (close_less h v fd s e) (OwnMove (Close fd) 0) tt (k (Some None)) (made_by v.all h (new_id v) (v.harts h).walk (OwnMove (Close fd) 0)) (record { all = without_fd v.all h fd; walk = None; found = None; opened = None; entered = None; left = None; told = (shut_step fd).told })
+        let x = shuts version h fd s e v O _ _ _ inv ov free lt (walk v ov) (still v ov) (opening_none v ov) empty unnoted hit c in
+        moves_good version h 0 n B Q es v (close_less h v fd s e) (OwnMove (Close fd) 0) tt (k (Some None)) (made_by version v.all h (new_id v) (v.harts h).walk (OwnMove (Close fd) 0)) (record { all = without_fd v.all h fd; walk = None; found = None; opened = None; entered = None; left = None; told = (shut_step fd).told })
         (made_is v s e hit) x.fair x.takes bd pos
         (λ l r. (less l (row_of (without_fd v.all h fd) h) (with_fd v.desks h fd None h) (shut_world h fd v (put v.files s (Some (record { file = e.file; inode_type = e.inode_type; references = e.references - 1 }))) v.slots (with_walk v.harts h None None)) r x.row x.desk
         (λ z. record {
@@ -359,8 +360,8 @@ s-shut {A} {h} fd {k} {B} {Q} {n} {es} {w} {O} owns free lt pos walks none idle 
         })).wp)
     rest v inv ov s e hit true q =
         let c = closing_last h fd s e v inv lt (opening_none v ov) (ap (λ (o : Own). o.desk.lent) ov ∙ unlent) hit (eq_is e.references 1 q) (let r = my_refs h v O e.file.number ov in let a = room e.file.number in omega (arith, r, a)) in
-        let x = shuts h fd s e v O _ _ _ inv ov free lt (walk v ov) (still v ov) (opening_none v ov) empty unnoted hit c in
-        moves_good h 0 n B Q es v (close_last h v fd s e) (OwnMove (Close fd) 0) tt (k (Some (Some e.file.number))) (made_by v.all h (new_id v) (v.harts h).walk (OwnMove (Close fd) 0)) (record { all = without_fd v.all h fd; walk = None; found = None; opened = None; entered = None; left = None; told = (shut_step fd).told })
+        let x = shuts version h fd s e v O _ _ _ inv ov free lt (walk v ov) (still v ov) (opening_none v ov) empty unnoted hit c in
+        moves_good version h 0 n B Q es v (close_last h v fd s e) (OwnMove (Close fd) 0) tt (k (Some (Some e.file.number))) (made_by version v.all h (new_id v) (v.harts h).walk (OwnMove (Close fd) 0)) (record { all = without_fd v.all h fd; walk = None; found = None; opened = None; entered = None; left = None; told = (shut_step fd).told })
         (made_is v s e hit) x.fair x.takes bd pos
         (λ l r. (last l e.file.number (row_of (without_fd v.all h fd) h) (with_fd v.desks h fd None h) (shut_world h fd v (put v.files s None) (put v.slots e.file.number (v.slots e.file.number - 1)) (last_refs h v e.file.number)) r x.row x.desk (named v inv ov e.file.number x.desk.opening)
         (λ z. record {
@@ -374,9 +375,9 @@ s-shut {A} {h} fd {k} {B} {Q} {n} {es} {w} {O} owns free lt pos walks none idle 
         })).wp)
 
     at : (v : World) → Inv v → own_of h v ≡ O → (o : Option ℕ) → slot_at v h fd ≡ o
-        → Good machine (Option (Option ℕ)) h (λ a. places h (Shut fd) a (own_step (Close fd)) v) 0 n B es v ⊥ (with_mark h (λ (_ : Option (Option ℕ)). own_step (Close fd)) (close_at h v fd o (entry_at v.files o))) (λ l a u. Wp machine h B Q (k a) l (onto (own h (places h (Shut fd) a (own_step (Close fd)) v)) es) u)
-    at v inv ov None q = refused_good h 0 n B Q es v O (Close fd) BadDescriptor (k None) ov free lt inv walks none (close_is_refused h fd v lt (behind_none h fd v inv lt (opening_none v ov) q)) bf pos bad
+        → Good (machine version) (Option (Option ℕ)) h (λ a. places version h (Shut fd) a (own_step (Close fd)) v) 0 n B es v ⊥ (with_mark version h (λ (_ : Option (Option ℕ)). own_step (Close fd)) (close_at h v fd o (entry_at v.files o))) (λ l a u. Wp (machine version) h B Q (k a) l (onto (own h (places version h (Shut fd) a (own_step (Close fd)) v)) es) u)
+    at v inv ov None q = refused_good version h 0 n B Q es v O (Close fd) BadDescriptor (k None) ov free lt inv walks none (close_is_refused version h fd v lt (behind_none h fd v inv lt (opening_none v ov) q)) bf pos bad
     at v inv ov (Some s) q =
         let b = behind h fd s v inv lt (opening_none v ov) q in
-        subst (λ (z : Option Entry). Good machine (Option (Option ℕ)) h (λ a. places h (Shut fd) a (own_step (Close fd)) v) 0 n B es v ⊥ (with_mark h (λ (_ : Option (Option ℕ)). own_step (Close fd)) (close_at h v fd (Some s) z)) (λ l a u. Wp machine h B Q (k a) l (onto (own h (places h (Shut fd) a (own_step (Close fd)) v)) es) u)) (sym b.1.at)
+        subst (λ (z : Option Entry). Good (machine version) (Option (Option ℕ)) h (λ a. places version h (Shut fd) a (own_step (Close fd)) v) 0 n B es v ⊥ (with_mark version h (λ (_ : Option (Option ℕ)). own_step (Close fd)) (close_at h v fd (Some s) z)) (λ l a u. Wp (machine version) h B Q (k a) l (onto (own h (places version h (Shut fd) a (own_step (Close fd)) v)) es) u)) (sym b.1.at)
         (rest v inv ov s b.0 b.1 (b.0.references == 1) refl)

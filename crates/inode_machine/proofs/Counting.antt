@@ -1,4 +1,5 @@
 -- Unlocking, writing, counting down, and claiming a free number.
+use Rattle.image_versions.specs.declared.version.Version.{Version}
 use Rattle.inode_machine.proofs.Vocabulary.{◌≡◌, ◌≢◌, ◌⊎◌, inl, inr, ℕ, ◌+◌, ◌-◌, ◌<◌, ◌≤◌, Bool, true, false, ◌==◌, List, [], Option, Some, None, refl, sym, ◌∙◌, ap, subst, arith, nat_tests, Do, unmarked, P, Good, Fine, Safe, Wp, Node, hart_count, put, is_live, settle, row_of, sum_below, one_if, eq_is, eq_not, either, same_or, put_same, put_other, and_true, one_no, Walk, Step, Mine, World, stage_of, with_mark, unlocked, counted_down, down_if, is_dead, is_last, reserved, walk_down_if, Down, UnlockInode, WalkDown, Own, file_tables_of, own_names, Held, view, is_hart, if_kept, own_of, IsReferredTo, Inv, machine, IsReached, Spares, left_or}
 use Rattle.inode_machine.proofs.Frame.{file_tables_same, put_elim, ours_none, ours_some, kept_here, HartStep, Fair, fair, own_inodes, has_inode, has_none, directory_named, one_refs, two_refs, refers_put}
 use Rattle.inode_machine.proofs.Rules.{opens_slots, s-owned, quiet, each_refs, here_refs, walks_refs, total_same, total_changed, my_refs, not_alone, has_disk, has_node, is_me, is_mine, locks_it, locks_not}
@@ -11,8 +12,8 @@ pub record Gives (h i : ℕ) (O : Own) (v : World) : Type 0 where
   pub fair : Fair h v (after_unlock i v)
   pub owned : own_of h (after_unlock i v) ≡ record O { inodes = put O.inodes i None }
 
-pub gives : (h i : ℕ) (x : Held) (O : Own) (v : World) → O.desk.lender ≡ None → h < hart_count → Inv v → own_of h v ≡ O → O.inodes i ≡ Some x → x.alone ≡ false → x.disk ≡ x.node → O.mine.pending ≡ None → Gives h i O v
-gives h i x O v free lt inv ov isi shared whole none = record { fair = fair inv did; owned = owned }
+pub gives : Version → (h i : ℕ) (x : Held) (O : Own) (v : World) → O.desk.lender ≡ None → h < hart_count → Inv v → own_of h v ≡ O → O.inodes i ≡ Some x → x.alone ≡ false → x.disk ≡ x.node → O.mine.pending ≡ None → Gives h i O v
+gives version h i x O v free lt inv ov isi shared whole none = record { fair = fair inv did; owned = owned }
   where
     kept : v.keeper i ≡ Some h
     kept = (has_inode h i v O x ov isi).0
@@ -70,17 +71,17 @@ gives h i x O v free lt inv ov isi shared whole none = record { fair = fair inv 
       desk = ap (λ (o : Own). o.desk) ov z;
     }
 
-pub s-give : {A : Type 0} {h i : ℕ} {x : Held} {k : Unit {0} → P machine A} {B : List Step → Type 0} {Q : A → List Step → World → Type 0} {n : ℕ} {es : List Step} {w : World} {O : Own}
+pub s-give : (version : Version) {A : Type 0} {h i : ℕ} {x : Held} {k : Unit {0} → P (machine version) A} {B : List Step → Type 0} {Q : A → List Step → World → Type 0} {n : ℕ} {es : List Step} {w : World} {O : Own}
     → own_of h w ≡ O → O.desk.lender ≡ None → h < hart_count → 0 < n → O.inodes i ≡ Some x → x.locked ≡ true → x.alone ≡ false → x.disk ≡ x.node → O.mine.pending ≡ None
-    → ((l : ℕ) (u : World) → l + 1 ≡ n → own_of h u ≡ record O { inodes = put O.inodes i None } → Safe machine h B Q (k tt) l es u)
-    → Safe machine h B Q (Do (UnlockInode i) unmarked k) n es w
-s-give {A} {h} {i} {x} {k} {B} {Q} {n} {es} {w} {O} owns free lt pos isi has shared whole none rest = s-owned owns free pos (λ v inv ov. (
+    → ((l : ℕ) (u : World) → l + 1 ≡ n → own_of h u ≡ record O { inodes = put O.inodes i None } → Safe (machine version) h B Q (k tt) l es u)
+    → Safe (machine version) h B Q (Do (UnlockInode i) unmarked k) n es w
+s-give version {A} {h} {i} {x} {k} {B} {Q} {n} {es} {w} {O} owns free lt pos isi has shared whole none rest = s-owned version owns free pos (λ v inv ov. (
   locks_it h i v O x ov isi has,
   (λ _ _.
       let a : v.alone i ≡ false = ap (λ (y : Held). y.alone) (has_inode h i v O x ov isi).1 ∙ shared in
-      let g = gives h i x O v free lt inv ov isi shared whole none in
-      subst (λ (b : Bool). Fine machine h [] 0 n B es v (unlocked i v b) (λ l. Wp machine h B Q (k tt) l es (unlocked i v b))) (sym a)
-      (quiet g.fair refl pos (λ l q. (rest l (after_unlock i v) q g.owned).wp))),
+      let g = gives version h i x O v free lt inv ov isi shared whole none in
+      subst (λ (b : Bool). Fine (machine version) h [] 0 n B es v (unlocked i v b) (λ l. Wp (machine version) h B Q (k tt) l es (unlocked i v b))) (sym a)
+      (quiet version g.fair refl pos (λ l q. (rest l (after_unlock i v) q g.owned).wp))),
 ))
 
 -- a record is written, of an inode that the hart keeps
@@ -88,8 +89,8 @@ pub record Writes (h i : ℕ) (y : Option Node) (x : Held) (O : Own) (v : World)
   pub fair : Fair h v (record v { disk = put v.disk i y })
   pub owned : own_of h (record v { disk = put v.disk i y }) ≡ record O { inodes = put O.inodes i (Some (record x { disk = y })) }
 
-pub writes : (h i : ℕ) (y : Option Node) (x : Held) (O : Own) (v : World) → O.desk.lender ≡ None → h < hart_count → O.desk.joined ≡ true → Inv v → own_of h v ≡ O → O.inodes i ≡ Some x → Writes h i y x O v
-writes h i y x O v free lt joined inv ov isi = record { fair = fair inv did; owned = owned }
+pub writes : Version → (h i : ℕ) (y : Option Node) (x : Held) (O : Own) (v : World) → O.desk.lender ≡ None → h < hart_count → O.desk.joined ≡ true → Inv v → own_of h v ≡ O → O.inodes i ≡ Some x → Writes h i y x O v
+writes version h i y x O v free lt joined inv ov isi = record { fair = fair inv did; owned = owned }
   where
     kept : v.keeper i ≡ Some h
     kept = (has_inode h i v O x ov isi).0
@@ -159,9 +160,9 @@ pub record Lasting (h i : ℕ) (v : World) (O : Own) (L : ℕ → Option ℕ) (b
   pub only : O.mine.refs i ≡ 1
   pub owned : own_of h (record (reserved h i v) { lock = L }) ≡ record O { inodes = put O.inodes i (Some (record { disk = v.all.nodes i; node = v.all.nodes i; alone = true; locked = b })) }
 
-pub lasting : (h i : ℕ) (v : World) (O : Own) (L : ℕ → Option ℕ) (b : Bool) → own_of h v ≡ O → O.desk.lender ≡ None → h < hart_count → Inv v → O.inodes i ≡ None → 0 < O.mine.refs i → O.mine.pending ≡ None → is_last v i ≡ true
+pub lasting : Version → (h i : ℕ) (v : World) (O : Own) (L : ℕ → Option ℕ) (b : Bool) → own_of h v ≡ O → O.desk.lender ≡ None → h < hart_count → Inv v → O.inodes i ≡ None → 0 < O.mine.refs i → O.mine.pending ≡ None → is_last v i ≡ true
     → ((j : ℕ) → j ≢ i → L j ≡ v.lock j) → is_hart (L i) h ≡ b → ((g : ℕ) → L i ≡ Some g → g ≡ h) → Lasting h i v O L b
-lasting h i v O L b ov free lt inv out refers none e there here mine = record { fair = fair inv did; dead = dead; only = only; owned = owned }
+lasting version h i v O L b ov free lt inv out refers none e there here mine = record { fair = fair inv did; dead = dead; only = only; owned = owned }
   where
     more_v : 0 < (v.harts h).refs i
     more_v = let r = my_refs h v O i ov in omega (arith, r, refers)
@@ -280,8 +281,8 @@ spares h i v O ov refers may = subst (λ (o : Own). one_if (o.desk.directory == 
     at (inl m) = let o = one_most (O.desk.directory == i) in omega (arith, m, o)
     at (inr ne) = let o = one_no (O.desk.directory == i) (eq_not O.desk.directory i ne) in omega (arith, refers, o)
 
-pub counting : (h i : ℕ) (v : World) (O : Own) → own_of h v ≡ O → O.desk.lender ≡ None → h < hart_count → Inv v → O.inodes i ≡ None → 0 < O.mine.refs i → O.mine.pending ≡ None → MayDrop O i → Counting h i v O
-counting h i v O ov free lt inv out refers none still = record { fair = fair inv did; stage = (λ z. record { tree = settle v.all; walk = walks_refs v.harts h i ((v.harts h).refs i - 1) z }); owned = owned }
+pub counting : Version → (h i : ℕ) (v : World) (O : Own) → own_of h v ≡ O → O.desk.lender ≡ None → h < hart_count → Inv v → O.inodes i ≡ None → 0 < O.mine.refs i → O.mine.pending ≡ None → MayDrop O i → Counting h i v O
+counting version h i v O ov free lt inv out refers none still = record { fair = fair inv did; stage = (λ z. record { tree = settle v.all; walk = walks_refs v.harts h i ((v.harts h).refs i - 1) z }); owned = owned }
   where
     more_v : 0 < (v.harts h).refs i
     more_v = let r = my_refs h v O i ov in omega (arith, r, refers)
@@ -395,33 +396,33 @@ counting h i v O ov free lt inv out refers none still = record { fair = fair inv
 lock_free : (h i : ℕ) (v : World) (O : Own) → Inv v → own_of h v ≡ O → O.inodes i ≡ None → is_hart (v.lock i) h ≡ false
 lock_free h i v O inv ov out = elim (either (is_hart (v.lock i) h)) [ inr y ↦ y | inl y ↦ absurd (locks_not h i v O inv ov out (is_mine h (v.lock i) y)) ]
 
-pub s-down : {A : Type 0} {h i : ℕ} {k : Bool → P machine A} {B : List Step → Type 0} {Q : A → List Step → World → Type 0} {n : ℕ} {es : List Step} {w : World} {O : Own}
+pub s-down : (version : Version) {A : Type 0} {h i : ℕ} {k : Bool → P (machine version) A} {B : List Step → Type 0} {Q : A → List Step → World → Type 0} {n : ℕ} {es : List Step} {w : World} {O : Own}
     → own_of h w ≡ O → O.desk.lender ≡ None → h < hart_count → 0 < n → O.inodes i ≡ None → 0 < O.mine.refs i → O.mine.pending ≡ None → MayDrop O i
-    → ((l : ℕ) (s : Option Node) (u : World) → l + 1 ≡ n → is_live s ≡ false → O.mine.refs i ≡ 1 → own_of h u ≡ record O { inodes = put O.inodes i (Some (record { disk = s; node = s; alone = true; locked = true })) } → Safe machine h B Q (k true) l es u)
-    → ((l : ℕ) (u : World) → l + 1 ≡ n → own_of h u ≡ record O { mine = record { refs = put O.mine.refs i (O.mine.refs i - 1); walk = O.mine.walk; pending = O.mine.pending } } → Safe machine h B Q (k false) l es u)
-    → Safe machine h B Q (Do (Down i) unmarked k) n es w
-s-down {A} {h} {i} {k} {B} {Q} {n} {es} {w} {O} owns free lt pos out refers none still last rest = s-owned owns free pos (λ v inv ov. ((spares h i v O ov refers (elim still [ inl m ↦ inl m | inr m ↦ inr (not_home h i v O O.desk.opening inv ov free lt m.0) ]), has_none h i v O ov out), (λ x honest. at v inv ov (is_last v i) refl)))
+    → ((l : ℕ) (s : Option Node) (u : World) → l + 1 ≡ n → is_live s ≡ false → O.mine.refs i ≡ 1 → own_of h u ≡ record O { inodes = put O.inodes i (Some (record { disk = s; node = s; alone = true; locked = true })) } → Safe (machine version) h B Q (k true) l es u)
+    → ((l : ℕ) (u : World) → l + 1 ≡ n → own_of h u ≡ record O { mine = record { refs = put O.mine.refs i (O.mine.refs i - 1); walk = O.mine.walk; pending = O.mine.pending } } → Safe (machine version) h B Q (k false) l es u)
+    → Safe (machine version) h B Q (Do (Down i) unmarked k) n es w
+s-down version {A} {h} {i} {k} {B} {Q} {n} {es} {w} {O} owns free lt pos out refers none still last rest = s-owned version owns free pos (λ v inv ov. ((spares h i v O ov refers (elim still [ inl m ↦ inl m | inr m ↦ inr (not_home h i v O O.desk.opening inv ov free lt m.0) ]), has_none h i v O ov out), (λ x honest. at v inv ov (is_last v i) refl)))
   where
-    at : (v : World) → Inv v → own_of h v ≡ O → (b : Bool) → is_last v i ≡ b → Good machine Bool h (λ a. []) 0 n B es v ⊥ (with_mark h unmarked (down_if h i v b)) (λ l a u. Wp machine h B Q (k a) l es u)
+    at : (v : World) → Inv v → own_of h v ≡ O → (b : Bool) → is_last v i ≡ b → Good (machine version) Bool h (λ a. []) 0 n B es v ⊥ (with_mark version h unmarked (down_if h i v b)) (λ l a u. Wp (machine version) h B Q (k a) l es u)
     at v inv ov true e =
-        let a = lasting h i v O (put v.lock i (Some h)) true ov free lt inv out refers none e (λ j ne. put_other v.lock i (Some h) j ne) (is_me h (put v.lock i (Some h) i) (put_same v.lock i (Some h)))
+        let a = lasting version h i v O (put v.lock i (Some h)) true ov free lt inv out refers none e (λ j ne. put_other v.lock i (Some h) j ne) (is_me h (put v.lock i (Some h) i) (put_same v.lock i (Some h)))
         (λ g q. let s : Some h ≡ Some g = sym (put_same v.lock i (Some h)) ∙ q in let c : h ≡ g = cc in sym c) in
-        quiet a.fair refl pos (λ l q. (last l (v.all.nodes i) (record (reserved h i v) { lock = put v.lock i (Some h) }) q a.dead a.only a.owned).wp)
-    at v inv ov false e = let a = counting h i v O ov free lt inv out refers none still in quiet a.fair a.stage pos (λ l q. (rest l (counted_down h i v) q a.owned).wp)
+        quiet version a.fair refl pos (λ l q. (last l (v.all.nodes i) (record (reserved h i v) { lock = put v.lock i (Some h) }) q a.dead a.only a.owned).wp)
+    at v inv ov false e = let a = counting version h i v O ov free lt inv out refers none still in quiet version a.fair a.stage pos (λ l q. (rest l (counted_down h i v) q a.owned).wp)
 
 -- in a walk: what was the last one is kept for later, without its lock
-pub s-walk-down : {A : Type 0} {h i : ℕ} {k : Bool → P machine A} {B : List Step → Type 0} {Q : A → List Step → World → Type 0} {n : ℕ} {es : List Step} {w : World} {O : Own}
+pub s-walk-down : (version : Version) {A : Type 0} {h i : ℕ} {k : Bool → P (machine version) A} {B : List Step → Type 0} {Q : A → List Step → World → Type 0} {n : ℕ} {es : List Step} {w : World} {O : Own}
     → own_of h w ≡ O → O.desk.lender ≡ None → h < hart_count → 0 < n → O.inodes i ≡ None → 0 < O.mine.refs i → O.mine.pending ≡ None → MayDrop O i
-    → ((l : ℕ) (s : Option Node) (u : World) → l + 1 ≡ n → is_live s ≡ false → s ≢ None → O.mine.refs i ≡ 1 → own_of h u ≡ record O { inodes = put O.inodes i (Some (record { disk = s; node = s; alone = true; locked = false })) } → Safe machine h B Q (k true) l es u)
-    → ((l : ℕ) (u : World) → l + 1 ≡ n → own_of h u ≡ record O { mine = record { refs = put O.mine.refs i (O.mine.refs i - 1); walk = O.mine.walk; pending = O.mine.pending } } → Safe machine h B Q (k false) l es u)
-    → Safe machine h B Q (Do (WalkDown i) unmarked k) n es w
-s-walk-down {A} {h} {i} {k} {B} {Q} {n} {es} {w} {O} owns free lt pos out refers none still last rest = s-owned owns free pos (λ v inv ov. ((spares h i v O ov refers (elim still [ inl m ↦ inl m | inr m ↦ inr (not_home h i v O O.desk.opening inv ov free lt m.0) ]), has_none h i v O ov out), (λ x honest. at v inv ov (is_last v i) refl)))
+    → ((l : ℕ) (s : Option Node) (u : World) → l + 1 ≡ n → is_live s ≡ false → s ≢ None → O.mine.refs i ≡ 1 → own_of h u ≡ record O { inodes = put O.inodes i (Some (record { disk = s; node = s; alone = true; locked = false })) } → Safe (machine version) h B Q (k true) l es u)
+    → ((l : ℕ) (u : World) → l + 1 ≡ n → own_of h u ≡ record O { mine = record { refs = put O.mine.refs i (O.mine.refs i - 1); walk = O.mine.walk; pending = O.mine.pending } } → Safe (machine version) h B Q (k false) l es u)
+    → Safe (machine version) h B Q (Do (WalkDown i) unmarked k) n es w
+s-walk-down version {A} {h} {i} {k} {B} {Q} {n} {es} {w} {O} owns free lt pos out refers none still last rest = s-owned version owns free pos (λ v inv ov. ((spares h i v O ov refers (elim still [ inl m ↦ inl m | inr m ↦ inr (not_home h i v O O.desk.opening inv ov free lt m.0) ]), has_none h i v O ov out), (λ x honest. at v inv ov (is_last v i) refl)))
   where
-    at : (v : World) → Inv v → own_of h v ≡ O → (b : Bool) → is_last v i ≡ b → Good machine Bool h (λ a. []) 0 n B es v ⊥ (with_mark h unmarked (walk_down_if h i v b)) (λ l a u. Wp machine h B Q (k a) l es u)
+    at : (v : World) → Inv v → own_of h v ≡ O → (b : Bool) → is_last v i ≡ b → Good (machine version) Bool h (λ a. []) 0 n B es v ⊥ (with_mark version h unmarked (walk_down_if h i v b)) (λ l a u. Wp (machine version) h B Q (k a) l es u)
     at v inv ov true e =
-        let a = lasting h i v O v.lock false ov free lt inv out refers none e (λ j ne. refl) (lock_free h i v O inv ov out)
+        let a = lasting version h i v O v.lock false ov free lt inv out refers none e (λ j ne. refl) (lock_free h i v O inv ov out)
         (λ g q. absurd (let c : is_last v i ≡ true = e in elim (same_or g h) [ inl s ↦ locks_not h i v O inv ov out (q ∙ ap (λ (z : ℕ). Some z) s) | inr ne ↦ held_not g v inv ov ne q c ])) in
-        quiet a.fair refl pos (λ l q. (last l (v.all.nodes i) (reserved h i v) q a.dead (there a.owned) a.only a.owned).wp)
+        quiet version a.fair refl pos (λ l q. (last l (v.all.nodes i) (reserved h i v) q a.dead (there a.owned) a.only a.owned).wp)
       where
         -- what has no links has a record
         there : own_of h (reserved h i v) ≡ record O { inodes = put O.inodes i (Some (record { disk = v.all.nodes i; node = v.all.nodes i; alone = true; locked = false })) } → v.all.nodes i ≢ None
@@ -439,4 +440,4 @@ s-walk-down {A} {h} {i} {k} {B} {Q} {n} {es} {w} {O} owns free lt pos out refers
             let one = one_is (v.refs i) (and_true (v.refs i == 1) (is_dead (v.disk i)) c).0 in
             let m = my_refs h v O i ov in
             elim p.1 [ inl b ↦ (let a = opens_slots v g i inv b in omega (arith, t, one, m, refers, a)) | inr a ↦ omega (arith, t, one, m, refers, a) ]
-    at v inv ov false e = let a = counting h i v O ov free lt inv out refers none still in quiet a.fair a.stage pos (λ l q. (rest l (counted_down h i v) q a.owned).wp)
+    at v inv ov false e = let a = counting version h i v O ov free lt inv out refers none still in quiet version a.fair a.stage pos (λ l q. (rest l (counted_down h i v) q a.owned).wp)

@@ -1,4 +1,5 @@
 -- A descriptor's open file, a refused step, want of room, and one more descriptor.
+use Rattle.image_versions.specs.declared.version.Version.{Version}
 use Rattle.inode_machine.proofs.Vocabulary.{◌≡◌, ◌≢◌, ◌⊎◌, inl, inr, ℕ, ◌+◌, ◌<◌, Bool, true, false, ◌==◌, ◌&&◌, ◌||◌, nat_lt, List, [], ◌∷◌, Option, Some, None, refl, sym, ◌∙◌, ap, subst, arith, if◌then◌else◌, nat_tests, Do, unmarked, P, own, onto, Good, Fine, Safe, Wp, Cause, BadDescriptor, OpenFile, Action, Dup, Inherit, NewFd, Failed, hart_count, descriptor_count, Name, Tree, put, fd_names, and_then, settle, resolve, parent, hold_names, no_fd as is_nothing, path_of, follows_path, file_at, lowest, has_room, refusal_with, refusal_by, effect_with, effect_by, answer_with, answer_by, makes_node, place_of, refused, IsInPlace, holds_raised, Row, key_at, row_of, key_names, with_open, NamesLess, settle_less, file_settled, sum_below, one_if, IsWellFormed, eq_self, eq_not, same_or, put_same, put_other, sum_same, one_no, one_yes, well_dup, Stage, Step, OwnMove, is_at, file_count, with_walk, slot_at, entry_at, doubled, double_at, double_if, with_joined, child_of, places, with_mark, with_made, made_by, found_by, refused_all, new_id, Mine, Entry, Desk, World, Note, dups, Double, Join, Leave, Say, Own, file_tables_of, FileTables, IsTied, id_at, number_is, users, own_names, own_of, Inv, machine, Held, key_in, Stands, view, IsReached, HasType, KeepsFiles, InodeType, type_of}
 use Rattle.inode_machine.proofs.Frame.{bond_of, put_elim, stands_on, Fair, fair, fair_same, kept_here}
 use Rattle.inode_machine.proofs.Rules.{s-owned, quiet, UnlocksAll, locks_none, s-owned-from}
@@ -40,11 +41,11 @@ behind_none h fd v inv lt idle is = go (nat_lt fd descriptor_count) refl is
     go true q e = ap (λ (o : Option ℕ). and_then o (λ id. v.all.files id)) (inv.tied.fds h fd lt (less_is fd descriptor_count q) (not_at v h fd idle) ∙ ap (λ (z : Option ℕ). id_at v.ids z) e)
 
 -- A step of the call's own that is refused.
-pub record Refused (h : ℕ) (s : Action) (c : Cause) (v : World) : Type 0 where
+pub record Refused (version : Version) (h : ℕ) (s : Action) (c : Cause) (v : World) : Type 0 where
   pub follows : follows_path s ≡ false
   pub path : path_of s ≡ []
-  pub now : (res : Option ℕ) (par : Option (ℕ × Name)) → refusal_with v.all h s res par ≡ Some c
-  pub then_ : (res : Option ℕ) (par : Option (ℕ × Name)) → refusal_with (settle v.all) h s res par ≡ Some c
+  pub now : (res : Option ℕ) (par : Option (ℕ × Name)) → refusal_with version v.all h s res par ≡ Some c
+  pub then_ : (res : Option ℕ) (par : Option (ℕ × Name)) → refusal_with version (settle v.all) h s res par ≡ Some c
   pub found : (res : Option ℕ) → found_by s res ≡ None
   pub stays : refused (settle v.all) h s ≡ settle v.all
   pub keeps : refused_all v.all h s ≡ v.all
@@ -55,15 +56,15 @@ pub record Refused (h : ℕ) (s : Action) (c : Cause) (v : World) : Type 0 where
 abbrev pub fails : Action → Cause → Step
 fails s c = record { move = OwnMove s 0; told = Some (record { act = record { step = s; answer = Failed c }; new = 0 }) }
 
-pub refused_good : {A : Type 0} (h more n : ℕ) (B : List Step → Type 0) (Q : A → List Step → World → Type 0) (es : List Step) (v : World) (O : Own) (s : Action) (c : Cause) (p : P machine A) → own_of h v ≡ O → O.desk.lender ≡ None → h < hart_count → Inv v → O.mine.walk ≡ None → O.mine.pending ≡ None → Refused h s c v
-    → B (fails s c ∷ es) → more < n → ((l : ℕ) (u : World) → l + (more + 1) ≡ n → own_of h u ≡ record O { mine = record { refs = O.mine.refs; walk = None; pending = None } } → Safe machine h B Q p l (fails s c ∷ es) u)
-    → Fine machine h ((h, record { move = OwnMove s 0; told = (made_by v.all h (new_id v) (v.harts h).walk (OwnMove s 0)).told }) ∷ []) more n B es v (with_made h (made_by v.all h (new_id v) (v.harts h).walk (OwnMove s 0)) v) (λ l. Wp machine h B Q p l (onto (own h ((h, record { move = OwnMove s 0; told = (made_by v.all h (new_id v) (v.harts h).walk (OwnMove s 0)).told }) ∷ [])) es) (with_made h (made_by v.all h (new_id v) (v.harts h).walk (OwnMove s 0)) v))
-refused_good h more n B Q es v O s c p ov free lt inv walks none r b pos next =
-    moves_good h more n B Q es v v (OwnMove s 0) tt p (made_by v.all h (new_id v) (v.harts h).walk (OwnMove s 0)) (record { all = v.all; walk = None; found = None; opened = None; entered = None; left = None; told = (fails s c).told })
-    (rw (r.now (resolve v.all h (path_of s)) (parent v.all h (path_of s))) (λ i. record { all = r.keeps i; walk = None; found = r.found (resolve v.all h (path_of s)) i; opened = None; entered = None; left = None; told = (fails s c).told }))
+pub refused_good : (version : Version) {A : Type 0} (h more n : ℕ) (B : List Step → Type 0) (Q : A → List Step → World → Type 0) (es : List Step) (v : World) (O : Own) (s : Action) (c : Cause) (p : P (machine version) A) → own_of h v ≡ O → O.desk.lender ≡ None → h < hart_count → Inv v → O.mine.walk ≡ None → O.mine.pending ≡ None → Refused version h s c v
+    → B (fails s c ∷ es) → more < n → ((l : ℕ) (u : World) → l + (more + 1) ≡ n → own_of h u ≡ record O { mine = record { refs = O.mine.refs; walk = None; pending = None } } → Safe (machine version) h B Q p l (fails s c ∷ es) u)
+    → Fine (machine version) h ((h, record { move = OwnMove s 0; told = (made_by version v.all h (new_id v) (v.harts h).walk (OwnMove s 0)).told }) ∷ []) more n B es v (with_made h (made_by version v.all h (new_id v) (v.harts h).walk (OwnMove s 0)) v) (λ l. Wp (machine version) h B Q p l (onto (own h ((h, record { move = OwnMove s 0; told = (made_by version v.all h (new_id v) (v.harts h).walk (OwnMove s 0)).told }) ∷ [])) es) (with_made h (made_by version v.all h (new_id v) (v.harts h).walk (OwnMove s 0)) v))
+refused_good version h more n B Q es v O s c p ov free lt inv walks none r b pos next =
+    moves_good version h more n B Q es v v (OwnMove s 0) tt p (made_by version v.all h (new_id v) (v.harts h).walk (OwnMove s 0)) (record { all = v.all; walk = None; found = None; opened = None; entered = None; left = None; told = (fails s c).told })
+    (rw (r.now (resolve version v.all h (path_of s)) (parent version v.all h (path_of s))) (λ i. record { all = r.keeps i; walk = None; found = r.found (resolve version v.all h (path_of s)) i; opened = None; entered = None; left = None; told = (fails s c).told }))
     (fair inv (walk_did h None None v (ap (λ (o : Own). o.desk.lender) ov ∙ free) lt inv (ap (λ (o : Own). o.mine.pending) ov ∙ none) (λ m q e. absurd cc) (λ z q. absurd cc) (λ j q. absurd cc)))
-    (own_takes h v (record v { harts = with_walk v.harts h None None }) s (Failed c) r.follows r.path (ap (λ (o : Own). o.mine.walk) ov ∙ walks) r.makes r.inherits
-    (r.then_ (resolve (settle v.all) h (path_of s)) (parent (settle v.all) h (path_of s)), sym r.stays, r.place) (ap (λ (m : Stage). m.walk) (stage_walk h None None v)))
+    (own_takes version h v (record v { harts = with_walk v.harts h None None }) s (Failed c) r.follows r.path (ap (λ (o : Own). o.mine.walk) ov ∙ walks) r.makes r.inherits
+    (r.then_ (resolve version (settle v.all) h (path_of s)) (parent version (settle v.all) h (path_of s)), sym r.stays, r.place) (ap (λ (m : Stage). m.walk) (stage_walk h None None v)))
     b pos
     (λ l q. (next l (record v { harts = with_walk v.harts h None None }) q (own_walk h None None v O ov)).wp)
 
@@ -187,50 +188,50 @@ filling h v O ov free lt inv = flagging h v O (record (v.desks h) { full = true 
     (record { fds = refl; hand = refl; lent = refl; opening = refl; left = refl; directory = refl }) (ap (λ (o : Own). o.desk.lender) ov ∙ free) (λ f j is. inv.quiet j h is f) (inv.raised h lt) (λ m q r s. inv.noted h m lt q r s) (λ q. refl) (λ q. refl) (λ q. absurd cc)
 
 -- The hart joins the transaction.
-pub s-join-from : {A : Type 0} {h : ℕ} {k : Unit {0} → P machine A} {B : List Step → Type 0} {Q : A → List Step → World → Type 0} {n : ℕ} {es : List Step} {w : World} {O : Own}
+pub s-join-from : (version : Version) {A : Type 0} {h : ℕ} {k : Unit {0} → P (machine version) A} {B : List Step → Type 0} {Q : A → List Step → World → Type 0} {n : ℕ} {es : List Step} {w : World} {O : Own}
     → own_of h w ≡ O → O.desk.lender ≡ None → h < hart_count → 0 < n → UnlocksAll O → O.desk.joined ≡ false
-    → ((l : ℕ) (v u : World) → l + 1 ≡ n → KeepsFiles h w v → u.files ≡ v.files → own_of h u ≡ record O { desk = record (O.desk) { joined = true } } → Safe machine h B Q (k tt) l es u)
-    → Safe machine h B Q (Do Join unmarked k) n es w
-s-join-from {h = h} {O = O} owns free lt pos none out rest = s-owned-from owns free pos (λ v inv ov keeps. (
+    → ((l : ℕ) (v u : World) → l + 1 ≡ n → KeepsFiles h w v → u.files ≡ v.files → own_of h u ≡ record O { desk = record (O.desk) { joined = true } } → Safe (machine version) h B Q (k tt) l es u)
+    → Safe (machine version) h B Q (Do Join unmarked k) n es w
+s-join-from version {h = h} {O = O} owns free lt pos none out rest = s-owned-from version owns free pos (λ v inv ov keeps. (
   (locks_none h v O inv ov none, ap (λ (o : Own). o.desk.joined) ov ∙ out),
   (λ _ _.
       let new : Desk = record (v.desks h) { joined = true } in
       let f = flagging h v O new (record (O.desk) { joined = true }) v.clean ov free lt inv (ap (λ (o : Own). record (o.desk) { joined = true }) ov)
       (record { fds = refl; hand = refl; lent = refl; opening = refl; left = refl; directory = refl }) (ap (λ (o : Own). o.desk.lender) ov ∙ free) (λ f j is. absurd cc) (λ q. refl) (λ m q r s. inv.noted h m lt q r s) (λ q. inv.tied.spoiled h q) (λ q. q) (λ q. q) in
-      quiet f.fair refl pos (λ l q. (rest l v (with_joined v h true) q keeps refl f.owned).wp)),
+      quiet version f.fair refl pos (λ l q. (rest l v (with_joined v h true) q keeps refl f.owned).wp)),
 ))
 
-pub s-join : {A : Type 0} {h : ℕ} {k : Unit {0} → P machine A} {B : List Step → Type 0} {Q : A → List Step → World → Type 0} {n : ℕ} {es : List Step} {w : World} {O : Own}
-    → own_of h w ≡ O → O.desk.lender ≡ None → h < hart_count → 0 < n → UnlocksAll O → O.desk.joined ≡ false → ((l : ℕ) (u : World) → l + 1 ≡ n → own_of h u ≡ record O { desk = record (O.desk) { joined = true } } → Safe machine h B Q (k tt) l es u)
-    → Safe machine h B Q (Do Join unmarked k) n es w
-s-join owns free lt pos none out rest = s-join-from owns free lt pos none out (λ l v u q keeps same own. rest l u q own)
+pub s-join : (version : Version) {A : Type 0} {h : ℕ} {k : Unit {0} → P (machine version) A} {B : List Step → Type 0} {Q : A → List Step → World → Type 0} {n : ℕ} {es : List Step} {w : World} {O : Own}
+    → own_of h w ≡ O → O.desk.lender ≡ None → h < hart_count → 0 < n → UnlocksAll O → O.desk.joined ≡ false → ((l : ℕ) (u : World) → l + 1 ≡ n → own_of h u ≡ record O { desk = record (O.desk) { joined = true } } → Safe (machine version) h B Q (k tt) l es u)
+    → Safe (machine version) h B Q (Do Join unmarked k) n es w
+s-join version owns free lt pos none out rest = s-join-from version owns free lt pos none out (λ l v u q keeps same own. rest l u q own)
 
 -- It leaves it, with every inode as its node says.
-pub s-leave-from : {A : Type 0} {h : ℕ} {k : Unit {0} → P machine A} {B : List Step → Type 0} {Q : A → List Step → World → Type 0} {n : ℕ} {es : List Step} {w : World} {O : Own}
+pub s-leave-from : (version : Version) {A : Type 0} {h : ℕ} {k : Unit {0} → P (machine version) A} {B : List Step → Type 0} {Q : A → List Step → World → Type 0} {n : ℕ} {es : List Step} {w : World} {O : Own}
     → own_of h w ≡ O → O.desk.lender ≡ None → h < hart_count → 62 < n → UnlocksAll O → O.desk.joined ≡ true → holds_raised true O.row.hold ≡ false → ((i : ℕ) (x : Held) → O.inodes i ≡ Some x → x.disk ≡ x.node)
-    → ((l : ℕ) (v u : World) → l + 63 ≡ n → KeepsFiles h w v → u.files ≡ v.files → own_of h u ≡ record O { desk = record (O.desk) { joined = false; noted = None } } → Safe machine h B Q (k tt) l es u)
-    → Safe machine h B Q (Do Leave unmarked k) n es w
-s-leave-from {h = h} {O = O} owns free lt pos none joined low whole rest = s-owned-from owns free pos (λ v inv ov keeps. (
+    → ((l : ℕ) (v u : World) → l + 63 ≡ n → KeepsFiles h w v → u.files ≡ v.files → own_of h u ≡ record O { desk = record (O.desk) { joined = false; noted = None } } → Safe (machine version) h B Q (k tt) l es u)
+    → Safe (machine version) h B Q (Do Leave unmarked k) n es w
+s-leave-from version {h = h} {O = O} owns free lt pos none joined low whole rest = s-owned-from version owns free pos (λ v inv ov keeps. (
   (locks_none h v O inv ov none, ap (λ (o : Own). o.desk.joined) ov ∙ joined, ap (λ (o : Own). holds_raised true o.row.hold) ov ∙ low),
   (λ _ _.
       let new : Desk = record (v.desks h) { joined = false; noted = None } in
       let f = flagging h v O new (record (O.desk) { joined = false; noted = None }) v.clean ov free lt inv (ap (λ (o : Own). record (o.desk) { joined = false; noted = None }) ov)
       (record { fds = refl; hand = refl; lent = refl; opening = refl; left = refl; directory = refl }) (ap (λ (o : Own). o.desk.lender) ov ∙ free)
       (λ f j is. whole j (view v h j) (ap (λ (o : Own). o.inodes j) (sym ov) ∙ kept_here h (v.keeper j) (view v h j) is)) (λ q. absurd (let a : holds_raised true (v.all.holds h) ≡ false = ap (λ (o : Own). holds_raised true o.row.hold) ov ∙ low in cc (a, q))) (λ m q r s. absurd cc) (λ q. inv.tied.spoiled h q) (λ q. q) (λ q. q) in
-      quiet f.fair refl pos (λ l q. (rest l v (with_new v h new v.clean) q keeps refl f.owned).wp)),
+      quiet version f.fair refl pos (λ l q. (rest l v (with_new v h new v.clean) q keeps refl f.owned).wp)),
 ))
 
-pub s-leave : {A : Type 0} {h : ℕ} {k : Unit {0} → P machine A} {B : List Step → Type 0} {Q : A → List Step → World → Type 0} {n : ℕ} {es : List Step} {w : World} {O : Own}
+pub s-leave : (version : Version) {A : Type 0} {h : ℕ} {k : Unit {0} → P (machine version) A} {B : List Step → Type 0} {Q : A → List Step → World → Type 0} {n : ℕ} {es : List Step} {w : World} {O : Own}
     → own_of h w ≡ O → O.desk.lender ≡ None → h < hart_count → 62 < n → UnlocksAll O → O.desk.joined ≡ true → holds_raised true O.row.hold ≡ false → ((i : ℕ) (x : Held) → O.inodes i ≡ Some x → x.disk ≡ x.node)
-    → ((l : ℕ) (u : World) → l + 63 ≡ n → own_of h u ≡ record O { desk = record (O.desk) { joined = false; noted = None } } → Safe machine h B Q (k tt) l es u)
-    → Safe machine h B Q (Do Leave unmarked k) n es w
-s-leave owns free lt pos none joined low whole rest = s-leave-from owns free lt pos none joined low whole (λ l v u q keeps same own. rest l u q own)
+    → ((l : ℕ) (u : World) → l + 63 ≡ n → own_of h u ≡ record O { desk = record (O.desk) { joined = false; noted = None } } → Safe (machine version) h B Q (k tt) l es u)
+    → Safe (machine version) h B Q (Do Leave unmarked k) n es w
+s-leave version owns free lt pos none joined low whole rest = s-leave-from version owns free lt pos none joined low whole (λ l v u q keeps same own. rest l u q own)
 
 -- The reply is given.
-pub s-say : {A : Type 0} {h : ℕ} {k : Unit {0} → P machine A} {B : List Step → Type 0} {Q : A → List Step → World → Type 0} {n : ℕ} {es : List Step} {w : World} {O : Own}
-    → own_of h w ≡ O → O.desk.lender ≡ None → h < hart_count → 0 < n → UnlocksAll O → O.desk.joined ≡ false → ((l : ℕ) (u : World) → l + 1 ≡ n → (O.desk.full ≡ true → u.clean ≡ false) → own_of h u ≡ O → Safe machine h B Q (k tt) l es u)
-    → Safe machine h B Q (Do Say unmarked k) n es w
-s-say {h = h} {O = O} owns free lt pos none out rest = s-owned owns free pos (λ v inv ov. ((locks_none h v O inv ov none, ap (λ (o : Own). o.desk.joined) ov ∙ out), (λ _ _. quiet (fair_same inv) refl pos (λ l q. (rest l v q (λ f. inv.tied.spoiled h (ap (λ (o : Own). o.desk.full) ov ∙ f)) ov).wp))))
+pub s-say : (version : Version) {A : Type 0} {h : ℕ} {k : Unit {0} → P (machine version) A} {B : List Step → Type 0} {Q : A → List Step → World → Type 0} {n : ℕ} {es : List Step} {w : World} {O : Own}
+    → own_of h w ≡ O → O.desk.lender ≡ None → h < hart_count → 0 < n → UnlocksAll O → O.desk.joined ≡ false → ((l : ℕ) (u : World) → l + 1 ≡ n → (O.desk.full ≡ true → u.clean ≡ false) → own_of h u ≡ O → Safe (machine version) h B Q (k tt) l es u)
+    → Safe (machine version) h B Q (Do Say unmarked k) n es w
+s-say version {h = h} {O = O} owns free lt pos none out rest = s-owned version owns free pos (λ v inv ov. ((locks_none h v O inv ov none, ap (λ (o : Own). o.desk.joined) ov ∙ out), (λ _ _. quiet version (fair_same inv) refl pos (λ l q. (rest l v q (λ f. inv.tied.spoiled h (ap (λ (o : Own). o.desk.full) ov ∙ f)) ov).wp))))
 
 -- A slot's entry changes, but not its open file.
 pub record Renews (s : FileTables) (k : ℕ) (e f : Entry) (D : ℕ → Desk) : Type 0 where
@@ -324,29 +325,29 @@ not_one a b ne = one_no (a == b) (eq_not a b ne)
 
 -- Dup.
 
-dup_goes : (t : Tree) (h fd : ℕ) (f : OpenFile) (res : Option ℕ) (par : Option (ℕ × Name)) → file_at t h fd ≡ Some f → refusal_with t h (Dup fd) res par ≡ None
+dup_goes : (version : Version) (t : Tree) (h fd : ℕ) (f : OpenFile) (res : Option ℕ) (par : Option (ℕ × Name)) → file_at t h fd ≡ Some f → refusal_with version t h (Dup fd) res par ≡ None
 unfolding refusal_by
-dup_goes t h fd f res par e = rw e refl
+dup_goes version t h fd f res par e = rw e refl
 
-dup_refused : (t : Tree) (h fd : ℕ) (res : Option ℕ) (par : Option (ℕ × Name)) → file_at t h fd ≡ None → refusal_with t h (Dup fd) res par ≡ Some BadDescriptor
+dup_refused : (version : Version) (t : Tree) (h fd : ℕ) (res : Option ℕ) (par : Option (ℕ × Name)) → file_at t h fd ≡ None → refusal_with version t h (Dup fd) res par ≡ Some BadDescriptor
 unfolding refusal_by
-dup_refused t h fd res par e = rw e refl
+dup_refused version t h fd res par e = rw e refl
 
-dup_effect : (t : Tree) (h fd new id f : ℕ) (x : Option ℕ) (res : Option ℕ) (par : Option (ℕ × Name)) → lowest (t.fds h) ≡ f → t.fds h fd ≡ x → effect_with t h (Dup fd) res par new id ≡ with_open t (put t.fds h (put (t.fds h) f x)) t.files
+dup_effect : (version : Version) (t : Tree) (h fd new id f : ℕ) (x : Option ℕ) (res : Option ℕ) (par : Option (ℕ × Name)) → lowest (t.fds h) ≡ f → t.fds h fd ≡ x → effect_with version t h (Dup fd) res par new id ≡ with_open t (put t.fds h (put (t.fds h) f x)) t.files
 unfolding effect_by
-dup_effect t h fd new id f x res par e q = λ i. record t { fds = put t.fds h (put (t.fds h) (e i) (q i)) }
+dup_effect version t h fd new id f x res par e q = λ i. record t { fds = put t.fds h (put (t.fds h) (e i) (q i)) }
 
-dup_effect_settled : (t : Tree) (h fd new id f : ℕ) (x : Option ℕ) (res : Option ℕ) (par : Option (ℕ × Name)) → lowest (t.fds h) ≡ f → t.fds h fd ≡ x → effect_with (settle t) h (Dup fd) res par new id ≡ with_open (settle t) (put t.fds h (put (t.fds h) f x)) t.files
+dup_effect_settled : (version : Version) (t : Tree) (h fd new id f : ℕ) (x : Option ℕ) (res : Option ℕ) (par : Option (ℕ × Name)) → lowest (t.fds h) ≡ f → t.fds h fd ≡ x → effect_with version (settle t) h (Dup fd) res par new id ≡ with_open (settle t) (put t.fds h (put (t.fds h) f x)) t.files
 unfolding effect_by settle
-dup_effect_settled t h fd new id f x res par e q = λ i. record (settle t) { fds = put t.fds h (put (t.fds h) (e i) (q i)) }
+dup_effect_settled version t h fd new id f x res par e q = λ i. record (settle t) { fds = put t.fds h (put (t.fds h) (e i) (q i)) }
 
-dup_answer : (t : Tree) (h fd id f : ℕ) (res : Option ℕ) (par : Option (ℕ × Name)) → lowest (t.fds h) ≡ f → answer_with t h (Dup fd) res par id ≡ NewFd f
+dup_answer : (version : Version) (t : Tree) (h fd id f : ℕ) (res : Option ℕ) (par : Option (ℕ × Name)) → lowest (t.fds h) ≡ f → answer_with version t h (Dup fd) res par id ≡ NewFd f
 unfolding answer_by
-dup_answer t h fd id f res par e = ap (λ (z : ℕ). NewFd z) e
+dup_answer version t h fd id f res par e = ap (λ (z : ℕ). NewFd z) e
 
-dup_answer_settled : (t : Tree) (h fd id f : ℕ) (res : Option ℕ) (par : Option (ℕ × Name)) → lowest (t.fds h) ≡ f → answer_with (settle t) h (Dup fd) res par id ≡ NewFd f
+dup_answer_settled : (version : Version) (t : Tree) (h fd id f : ℕ) (res : Option ℕ) (par : Option (ℕ × Name)) → lowest (t.fds h) ≡ f → answer_with version (settle t) h (Dup fd) res par id ≡ NewFd f
 unfolding answer_by settle
-dup_answer_settled t h fd id f res par e = ap (λ (z : ℕ). NewFd z) e
+dup_answer_settled version t h fd id f res par e = ap (λ (z : ℕ). NewFd z) e
 
 dup_place : (t : Tree) (h fd : ℕ) → h < hart_count → ((file_at t h fd ≡ None) ⊎ (has_room (t.fds h) ≡ true)) → IsInPlace (settle t) h (Dup fd)
 unfolding place_of settle
@@ -360,12 +361,12 @@ dup_place t h fd lt (inr e) = rw (below_is h hart_count lt) (or_right (file_at t
 dup_stays : (t : Tree) (h fd : ℕ) → refused t h (Dup fd) ≡ t
 dup_stays t h fd = refl
 
-pub dup_is_refused : (h fd : ℕ) (v : World) → h < hart_count → file_at v.all h fd ≡ None → Refused h (Dup fd) BadDescriptor v
-dup_is_refused h fd v lt e = record {
+pub dup_is_refused : (version : Version) (h fd : ℕ) (v : World) → h < hart_count → file_at v.all h fd ≡ None → Refused version h (Dup fd) BadDescriptor v
+dup_is_refused version h fd v lt e = record {
   follows = refl;
   path = refl;
-  now = λ res par. dup_refused v.all h fd res par e;
-  then_ = λ res par. dup_refused (settle v.all) h fd res par (file_settled v.all h fd ∙ e);
+  now = λ res par. dup_refused version v.all h fd res par e;
+  then_ = λ res par. dup_refused version (settle v.all) h fd res par (file_settled v.all h fd ∙ e);
   found = λ res. refl;
   stays = refl;
   place = dup_place v.all h fd lt (inl e);
@@ -377,30 +378,30 @@ dup_is_refused h fd v lt e = record {
 abbrev pub dupped : ℕ → ℕ → Step
 dupped fd f = record { move = OwnMove (Dup fd) 0; told = Some (record { act = record { step = Dup fd; answer = NewFd f }; new = 0 }) }
 
-pub s-double : {A : Type 0} {h : ℕ} (fd : ℕ) {k : Option (Option ℕ) → P machine A} {B : List Step → Type 0} {Q : A → List Step → World → Type 0} {n : ℕ} {es : List Step} {w : World} {O : Own}
+pub s-double : (version : Version) {A : Type 0} {h : ℕ} (fd : ℕ) {k : Option (Option ℕ) → P (machine version) A} {B : List Step → Type 0} {Q : A → List Step → World → Type 0} {n : ℕ} {es : List Step} {w : World} {O : Own}
     → own_of h w ≡ O → O.desk.lender ≡ None → h < hart_count → 0 < n → O.mine.walk ≡ None → O.mine.pending ≡ None → O.desk.opening ≡ None
     → B (fails (Dup fd) BadDescriptor ∷ es) → ((f : ℕ) → B (dupped fd f ∷ es))
-    → ((l : ℕ) (u : World) → l + 1 ≡ n → own_of h u ≡ record O { mine = record { refs = O.mine.refs; walk = None; pending = None } } → Safe machine h B Q (k None) l (fails (Dup fd) BadDescriptor ∷ es) u)
-    → ((l : ℕ) (u : World) → l + 1 ≡ n → u.clean ≡ false → own_of h u ≡ record O { desk = record (O.desk) { full = true } } → Safe machine h B Q (k (Some None)) l es u)
-    → ((l f : ℕ) (r : Row) (d : Desk) (u : World) → l + 1 ≡ n → SameRow r O.row → SameDesk d O.desk → own_of h u ≡ record O { row = r; desk = d; mine = record { refs = O.mine.refs; walk = None; pending = None } } → Safe machine h B Q (k (Some (Some f))) l (dupped fd f ∷ es) u)
-    → Safe machine h B Q (Do (Double fd) (dups fd) k) n es w
-s-double {A} {h} fd {k} {B} {Q} {n} {es} {w} {O} owns free lt pos walks none idle bf bd bad full then_ = s-owned owns free pos (λ v inv ov. (tt, (λ _ _. at v inv ov (slot_at v h fd) refl)))
+    → ((l : ℕ) (u : World) → l + 1 ≡ n → own_of h u ≡ record O { mine = record { refs = O.mine.refs; walk = None; pending = None } } → Safe (machine version) h B Q (k None) l (fails (Dup fd) BadDescriptor ∷ es) u)
+    → ((l : ℕ) (u : World) → l + 1 ≡ n → u.clean ≡ false → own_of h u ≡ record O { desk = record (O.desk) { full = true } } → Safe (machine version) h B Q (k (Some None)) l es u)
+    → ((l f : ℕ) (r : Row) (d : Desk) (u : World) → l + 1 ≡ n → SameRow r O.row → SameDesk d O.desk → own_of h u ≡ record O { row = r; desk = d; mine = record { refs = O.mine.refs; walk = None; pending = None } } → Safe (machine version) h B Q (k (Some (Some f))) l (dupped fd f ∷ es) u)
+    → Safe (machine version) h B Q (Do (Double fd) (dups fd) k) n es w
+s-double version {A} {h} fd {k} {B} {Q} {n} {es} {w} {O} owns free lt pos walks none idle bf bd bad full then_ = s-owned version owns free pos (λ v inv ov. (tt, (λ _ _. at v inv ov (slot_at v h fd) refl)))
   where
     opening_none : (v : World) → own_of h v ≡ O → (v.desks h).opening ≡ None
     opening_none v ov = ap (λ (o : Own). o.desk.opening) ov ∙ idle
 
     rest : (v : World) → Inv v → own_of h v ≡ O → (s : ℕ) (e : Entry) → Behind h fd s e v → (b : Bool) → has_room (v.desks h).fds ≡ b
-        → Good machine (Option (Option ℕ)) h (λ a. places h (Double fd) a (dups fd a) v) 0 n B es v ⊥ (with_mark h (dups fd) (double_if h v s e b)) (λ l a u. Wp machine h B Q (k a) l (onto (own h (places h (Double fd) a (dups fd a) v)) es) u)
-    rest v inv ov s e hit false q = let f = filling h v O ov free lt inv in quiet f.fair refl pos (λ l r. (full l (record v { clean = false; desks = put v.desks h (record (v.desks h) { full = true }) }) r refl f.owned).wp)
+        → Good (machine version) (Option (Option ℕ)) h (λ a. places version h (Double fd) a (dups fd a) v) 0 n B es v ⊥ (with_mark version h (dups fd) (double_if h v s e b)) (λ l a u. Wp (machine version) h B Q (k a) l (onto (own h (places version h (Double fd) a (dups fd a) v)) es) u)
+    rest v inv ov s e hit false q = let f = filling h v O ov free lt inv in quiet version f.fair refl pos (λ l r. (full l (record v { clean = false; desks = put v.desks h (record (v.desks h) { full = true }) }) r refl f.owned).wp)
     rest v inv ov s e hit true q =
-        moves_good h 0 n B Q es v (doubled h v s e f) (OwnMove (Dup fd) 0) tt (k (Some (Some f))) (made_by v.all h (new_id v) (v.harts h).walk (OwnMove (Dup fd) 0)) (record { all = T; walk = None; found = None; opened = None; entered = None; left = None; told = (dupped fd f).told })
+        moves_good version h 0 n B Q es v (doubled h v s e f) (OwnMove (Dup fd) 0) tt (k (Some (Some f))) (made_by version v.all h (new_id v) (v.harts h).walk (OwnMove (Dup fd) 0)) (record { all = T; walk = None; found = None; opened = None; entered = None; left = None; told = (dupped fd f).told })
         made_is
         (fair inv (sells_did h v F D v.slots T (with_walk v.harts h None None) lt inv sells))
-        (own_takes h v u (Dup fd) (NewFd f) refl refl (ap (λ (o : Own). o.mine.walk) ov ∙ walks) (λ z. refl) (λ g z. absurd cc) (
-          dup_goes (settle v.all) h fd e.file (resolve (settle v.all) h []) (parent (settle v.all) h []) (file_settled v.all h fd ∙ hit.file),
-          sym (dup_answer_settled v.all h fd (new_id v) f (resolve (settle v.all) h []) (parent (settle v.all) h []) low),
+        (own_takes version h v u (Dup fd) (NewFd f) refl refl (ap (λ (o : Own). o.mine.walk) ov ∙ walks) (λ z. refl) (λ g z. absurd cc) (
+          dup_goes version (settle v.all) h fd e.file (resolve version (settle v.all) h []) (parent version (settle v.all) h []) (file_settled v.all h fd ∙ hit.file),
+          sym (dup_answer_settled version v.all h fd (new_id v) f (resolve version (settle v.all) h []) (parent version (settle v.all) h []) low),
           record { node = λ z. absurd cc; file = λ z. absurd cc },
-          settle_less v.all X v.all.files less ∙ ap (λ (z : Tree). settle z) (sym (dup_effect_settled v.all h fd 0 (new_id v) f (Some (v.ids s)) (resolve (settle v.all) h []) (parent (settle v.all) h []) low hit.tree)),
+          settle_less v.all X v.all.files less ∙ ap (λ (z : Tree). settle z) (sym (dup_effect_settled version v.all h fd 0 (new_id v) f (Some (v.ids s)) (resolve version (settle v.all) h []) (parent version (settle v.all) h []) low hit.tree)),
           dup_place v.all h fd lt (inr (ap (λ (z : ℕ). nat_lt z descriptor_count) low ∙ q)),
         )
         (ap (λ (m : Stage). m.walk) (stage_walk h None None v)))
@@ -436,9 +437,9 @@ s-double {A} {h} fd {k} {B} {Q} {n} {es} {w} {O} owns free lt pos walks none idl
         desk_is : D h ≡ record (v.desks h) { fds = put (v.desks h).fds f (Some s) }
         desk_is = put_same v.desks h (record (v.desks h) { fds = put (v.desks h).fds f (Some s) })
 
-        made_is : made_by v.all h (new_id v) (v.harts h).walk (OwnMove (Dup fd) 0) ≡ record { all = T; walk = None; found = None; opened = None; entered = None; left = None; told = (dupped fd f).told }
-        made_is = rw (dup_goes v.all h fd e.file (resolve v.all h []) (parent v.all h []) hit.file)
-            (λ r. record { all = dup_effect v.all h fd 0 (new_id v) f (Some (v.ids s)) (resolve v.all h []) (parent v.all h []) low hit.tree r; walk = None; found = None; opened = None; entered = None; left = None; told = Some (record { act = record { step = Dup fd; answer = dup_answer v.all h fd (new_id v) f (resolve v.all h []) (parent v.all h []) low r }; new = 0 }) })
+        made_is : made_by version v.all h (new_id v) (v.harts h).walk (OwnMove (Dup fd) 0) ≡ record { all = T; walk = None; found = None; opened = None; entered = None; left = None; told = (dupped fd f).told }
+        made_is = rw (dup_goes version v.all h fd e.file (resolve version v.all h []) (parent version v.all h []) hit.file)
+            (λ r. record { all = dup_effect version v.all h fd 0 (new_id v) f (Some (v.ids s)) (resolve version v.all h []) (parent version v.all h []) low hit.tree r; walk = None; found = None; opened = None; entered = None; left = None; told = Some (record { act = record { step = Dup fd; answer = dup_answer version v.all h fd (new_id v) f (resolve version v.all h []) (parent version v.all h []) low r }; new = 0 }) })
 
         uses_free : (j : ℕ) → one_if (is_at ((v.desks h).fds f) j) ≡ 0
         uses_free j = ap (λ (z : Option ℕ). one_if (is_at z j)) spare.1 ∙ one_no false refl
@@ -531,9 +532,9 @@ s-double {A} {h} fd {k} {B} {Q} {n} {es} {w} {O} owns free lt pos walks none idl
         }
 
     at : (v : World) → Inv v → own_of h v ≡ O → (o : Option ℕ) → slot_at v h fd ≡ o
-        → Good machine (Option (Option ℕ)) h (λ a. places h (Double fd) a (dups fd a) v) 0 n B es v ⊥ (with_mark h (dups fd) (double_at h v o (entry_at v.files o))) (λ l a u. Wp machine h B Q (k a) l (onto (own h (places h (Double fd) a (dups fd a) v)) es) u)
-    at v inv ov None q = refused_good h 0 n B Q es v O (Dup fd) BadDescriptor (k None) ov free lt inv walks none (dup_is_refused h fd v lt (behind_none h fd v inv lt (opening_none v ov) q)) bf pos bad
+        → Good (machine version) (Option (Option ℕ)) h (λ a. places version h (Double fd) a (dups fd a) v) 0 n B es v ⊥ (with_mark version h (dups fd) (double_at h v o (entry_at v.files o))) (λ l a u. Wp (machine version) h B Q (k a) l (onto (own h (places version h (Double fd) a (dups fd a) v)) es) u)
+    at v inv ov None q = refused_good version h 0 n B Q es v O (Dup fd) BadDescriptor (k None) ov free lt inv walks none (dup_is_refused version h fd v lt (behind_none h fd v inv lt (opening_none v ov) q)) bf pos bad
     at v inv ov (Some s) q =
         let b = behind h fd s v inv lt (opening_none v ov) q in
-        subst (λ (z : Option Entry). Good machine (Option (Option ℕ)) h (λ a. places h (Double fd) a (dups fd a) v) 0 n B es v ⊥ (with_mark h (dups fd) (double_at h v (Some s) z)) (λ l a u. Wp machine h B Q (k a) l (onto (own h (places h (Double fd) a (dups fd a) v)) es) u)) (sym b.1.at)
+        subst (λ (z : Option Entry). Good (machine version) (Option (Option ℕ)) h (λ a. places version h (Double fd) a (dups fd a) v) 0 n B es v ⊥ (with_mark version h (dups fd) (double_at h v (Some s) z)) (λ l a u. Wp (machine version) h B Q (k a) l (onto (own h (places version h (Double fd) a (dups fd a) v)) es) u)) (sym b.1.at)
         (rest v inv ov s b.0 b.1 (has_room (v.desks h).fds) refl)

@@ -1,4 +1,5 @@
 -- How a call on a path ends: what it was told, what it gives up, and what it has then.
+use Rattle.image_versions.specs.declared.version.Version.{Version}
 use Rattle.inode_machine.proofs.Vocabulary.{◌≡◌, ◌≢◌, ◌⊎◌, inl, inr, ℕ, ◌+◌, ◌-◌, ◌*◌, ◌<◌, ◌≤◌, Bool, true, false, ◌==◌, ◌||◌, List, [], ◌∷◌, ◌++◌, length, Option, Some, None, refl, sym, ◌∙◌, ap, subst, arith, onto, oldest_first, Safe, Begun, Ends, onto_is, NoEntry, Reply, Call, Node, Action, Failed, Act, next_of, hart_count, put, hold_names, Row, key_names, Hold, holds_raised, one_if, one_yes, either, same_or, put_same, put_other, Deed, Step, Move, begins, fail, IsNext, MayEnd, IsPlayed, IsWholeCall, Begin, Look, GiveUpWalk, Desk, World, InodeType, type_of, face_of, is_directory_face, is_directory_type, is_at, Own, Held, key_in, nothing, own_names, own_of, Idle, Inv, Rests, left_or, machine, ThisP as P, WalkStop, NotThere, NoMemory, failed, give_up, stopped, tail, covered_calls}
 use Rattle.inode_machine.proofs.Rules.{locked_held}
 use Rattle.inode_machine.proofs.Counting.{s-give, one_most}
@@ -29,8 +30,8 @@ pub walked_tells : (c : Call) (acts : List Act) (v : Move) (d : Deed) (es : List
 walked_tells c acts v d es next w = λ xs r p. w (tells v d ∷ xs) r (next, p)
 
 -- they begin the call, where something may come after them
-pub walked_begun : (c : Call) (acts : List Act) (es xs : List Step) (r : Reply) → Walked c acts es → IsPlayed c acts xs r → Begun covered_calls c es
-walked_begun c acts es xs r w p = (xs, r, subst (λ (z : List Step). IsWholeCall c z r) (onto_is es xs) (w xs r p))
+pub walked_begun : (version : Version) (c : Call) (acts : List Act) (es xs : List Step) (r : Reply) → Walked c acts es → IsPlayed c acts xs r → Begun (covered_calls version) c es
+walked_begun version c acts es xs r w p = (xs, r, subst (λ (z : List Step). IsWholeCall c z r) (onto_is es xs) (w xs r p))
 
 abbrev pub missed : Action → Act
 missed s = record { step = s; answer = Failed NoEntry }
@@ -40,17 +41,17 @@ pub record Follows (c : Call) (s : Action) : Type 0 where
   pub first : next_of c [] ≡ Some s
   pub missing : MayEnd c (missed s ∷ []) (failed c NoEntry)
 
-pub follows_look : (c : Call) (s : Action) → Follows c s → (es : List Step) → Walked c [] es → Walked c [] (looks (Look 0) ∷ es) × Begun covered_calls c (looks (Look 0) ∷ es)
-follows_look c s f es w = (walked_look c [] es w, walked_begun c [] (looks (Look 0) ∷ es) (tells (Look 0) (fail s) ∷ []) (failed c NoEntry) (walked_look c [] es w) (tt, f.missing))
+pub follows_look : (version : Version) (c : Call) (s : Action) → Follows c s → (es : List Step) → Walked c [] es → Walked c [] (looks (Look 0) ∷ es) × Begun (covered_calls version) c (looks (Look 0) ∷ es)
+follows_look version c s f es w = (walked_look c [] es w, walked_begun version c [] (looks (Look 0) ∷ es) (tells (Look 0) (fail s) ∷ []) (failed c NoEntry) (walked_look c [] es w) (tt, f.missing))
 
-pub follows_lost : (c : Call) (s : Action) → Follows c s → (es : List Step) → Walked c [] es → Walked c (missed s ∷ []) (tells (Look 0) (fail s) ∷ es) × Begun covered_calls c (tells (Look 0) (fail s) ∷ es)
-follows_lost c s f es w = let a = walked_tells c [] (Look 0) (fail s) es tt w in (a, walked_begun c (missed s ∷ []) (tells (Look 0) (fail s) ∷ es) [] (failed c NoEntry) a f.missing)
+pub follows_lost : (version : Version) (c : Call) (s : Action) → Follows c s → (es : List Step) → Walked c [] es → Walked c (missed s ∷ []) (tells (Look 0) (fail s) ∷ es) × Begun (covered_calls version) c (tells (Look 0) (fail s) ∷ es)
+follows_lost version c s f es w = let a = walked_tells c [] (Look 0) (fail s) es tt w in (a, walked_begun version c (missed s ∷ []) (tells (Look 0) (fail s) ∷ es) [] (failed c NoEntry) a f.missing)
 
-pub follows_quit : (c : Call) (s : Action) → Follows c s → (es : List Step) → Walked c [] es → Walked c (missed s ∷ []) (tells (GiveUpWalk s) (fail s) ∷ es) × Begun covered_calls c (tells (GiveUpWalk s) (fail s) ∷ es)
-follows_quit c s f es w = let a = walked_tells c [] (GiveUpWalk s) (fail s) es tt w in (a, walked_begun c (missed s ∷ []) (tells (GiveUpWalk s) (fail s) ∷ es) [] (failed c NoEntry) a f.missing)
+pub follows_quit : (version : Version) (c : Call) (s : Action) → Follows c s → (es : List Step) → Walked c [] es → Walked c (missed s ∷ []) (tells (GiveUpWalk s) (fail s) ∷ es) × Begun (covered_calls version) c (tells (GiveUpWalk s) (fail s) ∷ es)
+follows_quit version c s f es w = let a = walked_tells c [] (GiveUpWalk s) (fail s) es tt w in (a, walked_begun version c (missed s ∷ []) (tells (GiveUpWalk s) (fail s) ∷ es) [] (failed c NoEntry) a f.missing)
 
-pub follows_begin : (c : Call) (s : Action) → Follows c s → Walked c [] (looks (Begin s 0) ∷ []) × Begun covered_calls c (looks (Begin s 0) ∷ [])
-follows_begin c s f = let a = walked_begin c [] s [] f.first (λ xs r p. p) in (a, walked_begun c [] (looks (Begin s 0) ∷ []) (tells (Look 0) (fail s) ∷ []) (failed c NoEntry) a (tt, f.missing))
+pub follows_begin : (version : Version) (c : Call) (s : Action) → Follows c s → Walked c [] (looks (Begin s 0) ∷ []) × Begun (covered_calls version) c (looks (Begin s 0) ∷ [])
+follows_begin version c s f = let a = walked_begin c [] s [] f.first (λ xs r p. p) in (a, walked_begun version c [] (looks (Begin s 0) ∷ []) (tells (Look 0) (fail s) ∷ []) (failed c NoEntry) a (tt, f.missing))
 
 -- What a hart has.
 
@@ -89,20 +90,20 @@ rests_through O P base t m = record {
 }
 
 -- The call leaves its transaction, frees what is listed, and replies: it found no room, or its sequence is written.
-pub s-ends : (h : ℕ) (c : Call) (r : Reply) (base : ℕ → ℕ) (ns : List ℕ) (n : ℕ) (es : List Step) (w : World) (O : Own) → own_of h w ≡ O → O.desk.lender ≡ None → h < hart_count → 971 * length ns + 63 < n → O.desk.joined ≡ true
+pub s-ends : (version : Version) (h : ℕ) (c : Call) (r : Reply) (base : ℕ → ℕ) (ns : List ℕ) (n : ℕ) (es : List Step) (w : World) (O : Own) → own_of h w ≡ O → O.desk.lender ≡ None → h < hart_count → 971 * length ns + 63 < n → O.desk.joined ≡ true
     → Listed O base ns → ((i : ℕ) → O.mine.refs i ≡ base i + times i ns) → O.mine.walk ≡ None → O.mine.pending ≡ None → MayRest O base → ((O.desk.full ≡ true) ⊎ IsWholeCall c (oldest_first es) r)
-    → Safe machine h (Begun covered_calls c) (Ends covered_calls h c) (tail ns r) n es w
-s-ends h c r base ns n es w O owns free lt few joined listed refs walk pending may told =
-    s-tail h (Begun covered_calls c) (Ends covered_calls h c) r lt base ns n es w O owns free few joined (ap (λ (o : Option Hold). holds_raised true o) may.hold) listed refs walk pending (λ R u t full own. (
+    → Safe (machine version) h (Begun (covered_calls version) c) (Ends (covered_calls version) h c) (tail ns r) n es w
+s-ends version h c r base ns n es w O owns free lt few joined listed refs walk pending may told =
+    s-tail version h (Begun (covered_calls version) c) (Ends (covered_calls version) h c) r lt base ns n es w O owns free few joined (ap (λ (o : Option Hold). holds_raised true o) may.hold) listed refs walk pending (λ R u t full own. (
       (λ clean. elim told [ inl f ↦ absurd (let a = full (ap (λ (d : Desk). d.full) t.desk ∙ f) in cc (a, clean)) | inr y ↦ y ]),
       subst (λ (o : Own). Rests o) (sym own) (rests_through O R base t may),
     ))
 
 -- Where its walk was lost.
-pub s-lost : (h : ℕ) (c : Call) (s : Action) (K : ℕ) (base : ℕ → ℕ) (O0 : Own) → h < hart_count → Ready base O0 → MayRest O0 base → Follows c s → 64 ≤ K → (why : WalkStop) (ms : List ℕ) (l : ℕ) (es : List Step) (u : World) (R : Own) → 971 * length ms + K ≤ l → Gone h base ms O0 R u
-    → Lost (λ xs. Walked c (missed s ∷ []) xs) why es R → Safe machine h (Begun covered_calls c) (Ends covered_calls h c) (tail ms (stopped c why)) l es u
-s-lost h c s K base O0 lt ready may f enough why ms l es u R few g told =
-    s-ends h c (stopped c why) base ms l es u R g.owns (g.stays.lender ∙ ready.free) lt (omega (arith, few, enough)) (g.stays.joined ∙ ready.joined) g.listed g.refs g.walk g.pending (may_stay R O0 base g.stays may) (by why told)
+pub s-lost : (version : Version) (h : ℕ) (c : Call) (s : Action) (K : ℕ) (base : ℕ → ℕ) (O0 : Own) → h < hart_count → Ready base O0 → MayRest O0 base → Follows c s → 64 ≤ K → (why : WalkStop) (ms : List ℕ) (l : ℕ) (es : List Step) (u : World) (R : Own) → 971 * length ms + K ≤ l → Gone h base ms O0 R u
+    → Lost (λ xs. Walked c (missed s ∷ []) xs) why es R → Safe (machine version) h (Begun (covered_calls version) c) (Ends (covered_calls version) h c) (tail ms (stopped c why)) l es u
+s-lost version h c s K base O0 lt ready may f enough why ms l es u R few g told =
+    s-ends version h c (stopped c why) base ms l es u R g.owns (g.stays.lender ∙ ready.free) lt (omega (arith, few, enough)) (g.stays.joined ∙ ready.joined) g.listed g.refs g.walk g.pending (may_stay R O0 base g.stays may) (by why told)
   where
     by : (why : WalkStop) → Lost (λ xs. Walked c (missed s ∷ []) xs) why es R → (R.desk.full ≡ true) ⊎ IsWholeCall c (oldest_first es) (stopped c why)
     by NotThere t = inr (t [] (failed c NoEntry) f.missing)
@@ -125,14 +126,14 @@ back_at {A} f j x out i = elim (same_or i j) [
 ]
 
 -- Its lock is given up, and the reference dropped. O: what the hart has without the lock.
-pub s-give-up : {A : Type 0} {h : ℕ} (j : ℕ) (c : Option Node) (base : ℕ → ℕ) (ns : List ℕ) {k : P A} {B : List Step → Type 0} {Q : A → List Step → World → Type 0} {n : ℕ} {es : List Step} {w : World} {O : Own}
+pub s-give-up : (version : Version) {A : Type 0} {h : ℕ} (j : ℕ) (c : Option Node) (base : ℕ → ℕ) (ns : List ℕ) {k : P A} {B : List Step → Type 0} {Q : A → List Step → World → Type 0} {n : ℕ} {es : List Step} {w : World} {O : Own}
     → own_of h w ≡ record O { inodes = put O.inodes j (Some (locked_held c)) } → O.desk.lender ≡ None → h < hart_count → 904 < n → O.desk.joined ≡ true → Listed O base ns → O.inodes j ≡ None → ((i : ℕ) → O.mine.refs i ≡ base i + times i ns + one_if (j == i)) → O.mine.walk ≡ None → O.mine.pending ≡ None
     → (own_names O.row O.desk j ≡ true → 0 < base j)
-    → ((l : ℕ) (R : Own) (u : World) → n ≤ l + 905 → own_of h u ≡ R → Dropped base ns O R → Safe machine h B Q k l es u)
-    → Safe machine h B Q (give_up j k) n es w
-s-give-up {A} {h} j c base ns {k} {B} {Q} {n} {es} {w} {O} owns free lt few joined listed out refs walk pending spare rest =
-    s-give owns free lt (omega (arith, few)) (put_same O.inodes j (Some (locked_held c))) refl refl refl pending (λ l1 u1 q1 own1.
-    s-drop j own1 free lt (omega (arith, q1, few)) joined (put_same (put O.inodes j (Some (locked_held c))) j None) (let r = refs j in let o = one_at j in omega (arith, r, o)) pending walk may (λ l2 u2 q2 own2.
+    → ((l : ℕ) (R : Own) (u : World) → n ≤ l + 905 → own_of h u ≡ R → Dropped base ns O R → Safe (machine version) h B Q k l es u)
+    → Safe (machine version) h B Q (give_up j k) n es w
+s-give-up version {A} {h} j c base ns {k} {B} {Q} {n} {es} {w} {O} owns free lt few joined listed out refs walk pending spare rest =
+    s-give version owns free lt (omega (arith, few)) (put_same O.inodes j (Some (locked_held c))) refl refl refl pending (λ l1 u1 q1 own1.
+    s-drop version j own1 free lt (omega (arith, q1, few)) joined (put_same (put O.inodes j (Some (locked_held c))) j None) (let r = refs j in let o = one_at j in omega (arith, r, o)) pending walk may (λ l2 u2 q2 own2.
     rest l2 _ u2 (omega (arith, q1, q2)) own2 (record {
       row = refl;
       ninodes = refl;
@@ -159,12 +160,12 @@ s-give-up {A} {h} j c base ns {k} {B} {Q} {n} {es} {w} {O} owns free lt few join
     ]
 
 -- It is given up, and the call ends: it found no room, or was refused.
-pub s-refuse : (h : ℕ) (c : Call) (r : Reply) (j : ℕ) (x : Option Node) (base : ℕ → ℕ) (ns : List ℕ) (n : ℕ) (es : List Step) (w : World) (O : Own) → own_of h w ≡ record O { inodes = put O.inodes j (Some (locked_held x)) } → O.desk.lender ≡ None → h < hart_count → 971 * length ns + 970 ≤ n → O.desk.joined ≡ true
+pub s-refuse : (version : Version) (h : ℕ) (c : Call) (r : Reply) (j : ℕ) (x : Option Node) (base : ℕ → ℕ) (ns : List ℕ) (n : ℕ) (es : List Step) (w : World) (O : Own) → own_of h w ≡ record O { inodes = put O.inodes j (Some (locked_held x)) } → O.desk.lender ≡ None → h < hart_count → 971 * length ns + 970 ≤ n → O.desk.joined ≡ true
     → Listed O base ns → O.inodes j ≡ None → ((i : ℕ) → O.mine.refs i ≡ base i + times i ns + one_if (j == i)) → O.mine.walk ≡ None → O.mine.pending ≡ None → (own_names O.row O.desk j ≡ true → 0 < base j) → MayRest O base → ((O.desk.full ≡ true) ⊎ IsWholeCall c (oldest_first es) r)
-    → Safe machine h (Begun covered_calls c) (Ends covered_calls h c) (give_up j (tail ns r)) n es w
-s-refuse h c r j x base ns n es w O own free lt few joined listed out refs walk pending spare may told =
-    s-give-up j x base ns own free lt (omega (arith, few)) joined listed out refs walk pending spare (λ l M u q own2 g.
-    s-ends h c r base ns l es u M own2 (ap (λ (z : Desk). z.lender) g.desk ∙ free) lt (omega (arith, q, few)) (ap (λ (z : Desk). z.joined) g.desk ∙ joined) g.listed g.refs g.walk g.pending (record {
+    → Safe (machine version) h (Begun (covered_calls version) c) (Ends (covered_calls version) h c) (give_up j (tail ns r)) n es w
+s-refuse version h c r j x base ns n es w O own free lt few joined listed out refs walk pending spare may told =
+    s-give-up version j x base ns own free lt (omega (arith, few)) joined listed out refs walk pending spare (λ l M u q own2 g.
+    s-ends version h c r base ns l es u M own2 (ap (λ (z : Desk). z.lender) g.desk ∙ free) lt (omega (arith, q, few)) (ap (λ (z : Desk). z.joined) g.desk ∙ joined) g.listed g.refs g.walk g.pending (record {
       hold = ap (λ (z : Row). z.hold) g.row ∙ may.hold;
       hand = ap (λ (z : Desk). z.hand) g.desk ∙ may.hand;
       lent = ap (λ (z : Desk). z.lent) g.desk ∙ may.lent;
@@ -174,9 +175,9 @@ s-refuse h c r j x base ns n es w O own free lt few joined listed out refs walk 
     }) (elim told [ inl f ↦ inl (ap (λ (z : Desk). z.full) g.desk ∙ f) | inr y ↦ inr y ]))
 
 -- a face tells the type
-pub face_type : (v : Option Node) (s : InodeType) → type_of v ≡ Some s → is_directory_face (face_of v) ≡ is_directory_type s
-face_type None s e = absurd cc
-face_type (Some v) s e = ap (λ (z : InodeType). is_directory_type z) (some_is e)
+pub face_type : (version : Version) (v : Option Node) (s : InodeType) → type_of v ≡ Some s → is_directory_face (face_of version v) ≡ is_directory_type s
+face_type version None s e = absurd cc
+face_type version (Some v) s e = ap (λ (z : InodeType). is_directory_type z) (some_is e)
   where
     some_is : {a b : InodeType} → ◌≡◌ {A = Option InodeType} (Some a) (Some b) → a ≡ b
     some_is q = cc

@@ -1,5 +1,5 @@
 -- Computed runs.
-use Rattle.inode_machine.proofs.Vocabulary.{refl, pieces, put, any_below, same_name, first_slot, look, follow, parent_from, parent_of, file_in, is_named, settle, entries_by, any_used, lowest_from, refusal_by, place_of, first_free, cleared, has_fd, effect_by, answer_by, sum_below, one_if, all_used, first_from, NoSlotForDirectory, NoSlotForFile, NoSlotForName, doubled_to, doubles, steps, OpenFinishes, StatFinishes, ReadFinishes, DupFinishes, CloseFinishes, MkdirFinishes, ChdirFinishes, UnlinkFinishes, CreateFinishes, WriteFinishes, WalkerFails, NoInodeLeft, NoBlockLeft, LinkFinishes, LinkToTaken, LinkBelowNothing, LinkToNoName, LinkOfNothing, LinkOfDirectory, NoBlockForName, NoInodeForFile, NoBlockForFile, NoBlockForDirectory, NoBlockForPart, NoDescriptorToDouble, NoDescriptorToOpen, LinkOfMany, InheritFinishes, InheritMoves, InheritFrees, StartsRefused}
+use Rattle.inode_machine.proofs.Vocabulary.{refl, pieces, put, any_below, same_name, first_slot, look, follow, parent_from, parent_of, file_in, is_named, settle, entries_by, any_used, lowest_from, refusal_by, place_of, first_free, cleared, has_fd, effect_by, answer_by, sum_below, one_if, all_used, first_from, LongNamesAreTold, NoSlotForDirectory, NoSlotForFile, NoSlotForName, doubled_to, doubles, steps, OpenFinishes, StatFinishes, ReadFinishes, DupFinishes, CloseFinishes, MkdirFinishes, ChdirFinishes, UnlinkFinishes, CreateFinishes, WriteFinishes, WalkerFails, NoInodeLeft, NoBlockLeft, LinkFinishes, LinkToTaken, LinkBelowNothing, LinkToNoName, LinkOfNothing, LinkOfDirectory, NoBlockForName, NoInodeForFile, NoBlockForFile, NoBlockForDirectory, NoBlockForPart, NoDescriptorToDouble, NoDescriptorToOpen, LinkOfMany, InheritFinishes, InheritMoves, InheritFrees, StartsRefused}
 
 pub open_finishes : OpenFinishes
 unfolding pieces put any_below same_name first_slot look follow parent_from parent_of file_in is_named settle entries_by any_used lowest_from refusal_by place_of first_free cleared has_fd effect_by answer_by sum_below one_if all_used first_from steps
@@ -136,3 +136,7 @@ no_slot_for_file = refl
 pub no_slot_for_name : NoSlotForName
 unfolding pieces put any_below same_name first_slot look follow parent_from parent_of file_in is_named settle entries_by any_used lowest_from refusal_by place_of first_free cleared has_fd effect_by answer_by sum_below one_if all_used first_from steps
 no_slot_for_name = (refl, refl)
+
+pub long_names_are_told : LongNamesAreTold
+unfolding pieces put any_below same_name first_slot look follow parent_from parent_of file_in is_named settle entries_by any_used lowest_from refusal_by place_of first_free cleared has_fd effect_by answer_by sum_below one_if all_used first_from steps
+long_names_are_told = (refl, refl)

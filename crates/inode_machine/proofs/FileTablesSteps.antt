@@ -1,4 +1,5 @@
 -- Steps on the open-file table: what they leave, and the steps of the tree that they make.
+use Rattle.image_versions.specs.declared.version.Version.{Version}
 use Rattle.inode_machine.proofs.Vocabulary.{◌≡◌, ◌≢◌, inl, inr, ℕ, ◌+◌, ◌<◌, ◌≤◌, true, false, ◌==◌, ◌||◌, [], Option, Some, None, refl, sym, ◌∙◌, ap, subst, arith, Node, Action, Inherit, StepAnswer, hart_count, Name, Tree, put, hold_names, is_live, settle, resolve, parent, path_of, follows_path, makes_node, StepWith, holds_raised, row_of, Row, key_names, Hold, sum_below, IsWellFormed, PlaysStep, OwnMove, Mine, Entry, Desk, World, stage_of, Note, file_tables_of, Opens, own_names, IsReferredTo, IsAlone, reference_limit, HasType, Inv, key_in, Stands, new_id, type_of, is_at}
 use Rattle.inode_machine.proofs.Frame.{FilesStep, HartStep, Ours, stands_in, type_on}
 
@@ -58,10 +59,10 @@ sells_did h v F D S T H lt inv s =
     }
 
 -- A step of the call's own, made at once.
-pub own_takes : (h : ℕ) (v u : World) (s : Action) (a : StepAnswer) → follows_path s ≡ false → path_of s ≡ [] → (v.harts h).walk ≡ None → ((q : Option (ℕ × Name)) → makes_node (settle v.all) s q ≡ false) → ((g : ℕ) → s ≡ Inherit g → ⊥)
-    → StepWith (settle v.all) h s (resolve (settle v.all) h (path_of s)) (parent (settle v.all) h (path_of s)) a 0 (new_id v) (stage_of u).tree → (stage_of u).walk ≡ put (λ g. (v.harts g).walk) h None
-    → PlaysStep (stage_of v) h (record { move = OwnMove s 0; told = Some (record { act = record { step = s; answer = a }; new = 0 }) }) (stage_of u)
-own_takes h v u s a follows path walk makes inherits step walks = record {
+pub own_takes : (version : Version) (h : ℕ) (v u : World) (s : Action) (a : StepAnswer) → follows_path s ≡ false → path_of s ≡ [] → (v.harts h).walk ≡ None → ((q : Option (ℕ × Name)) → makes_node (settle v.all) s q ≡ false) → ((g : ℕ) → s ≡ Inherit g → ⊥)
+    → StepWith version (settle v.all) h s (resolve version (settle v.all) h (path_of s)) (parent version (settle v.all) h (path_of s)) a 0 (new_id v) (stage_of u).tree → (stage_of u).walk ≡ put (λ g. (v.harts g).walk) h None
+    → PlaysStep version (stage_of v) h (record { move = OwnMove s 0; told = Some (record { act = record { step = s; answer = a }; new = 0 }) }) (stage_of u)
+own_takes version h v u s a follows path walk makes inherits step walks = record {
   follows = follows;
   rests = walk;
   acts = record {
@@ -70,7 +71,7 @@ own_takes h v u s a follows path walk makes inherits step walks = record {
     deed = refl;
     step = step;
     walk = walks;
-    alone = λ ok q. absurd (let m = makes (parent (settle v.all) h (path_of s)) in cc (m, q));
+    alone = λ ok q. absurd (let m = makes (parent version (settle v.all) h (path_of s)) in cc (m, q));
     idle = λ g l q. absurd (inherits g q);
   };
 }

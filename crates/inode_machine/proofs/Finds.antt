@@ -1,18 +1,19 @@
 -- Link's first step: what its old path leads to is found and held; and what is taken back of that where the call finds no room.
+use Rattle.image_versions.specs.declared.version.Version.{Version}
 use Rattle.inode_machine.proofs.Vocabulary.{◌≡◌, ℕ, ◌<◌, true, false, not, Option, Some, None, List, refl, sym, ◌∙◌, ap, subst, IsDirectory, NoEntry, Hold, Find, Done, Failed, hart_count, Name, Tree, is_directory, settle, answer_by, effect_by, holds_raised, node_at, place_of, refusal_with, refusal_by, IsInPlace, StepWith, raised_at, put_same, not_raised, well_hold, World, acts, mended, unheld, unmoved, unopened, Own, own_names, own_of, Inv}
 use Rattle.inode_machine.proofs.Basics.{fair_then, below_is, MendingOf, mends, Mending, Finder, Rehold, held_tree, held_world, low, reholds}
 
-pub find_goes : (t : Tree) (h j : ℕ) (path : List ℕ) (par : Option (ℕ × Name)) → is_directory (node_at t j).kind ≡ false → refusal_with t h (Find path) (Some j) par ≡ None
+pub find_goes : (version : Version) (t : Tree) (h j : ℕ) (path : List ℕ) (par : Option (ℕ × Name)) → is_directory (node_at t j).kind ≡ false → refusal_with version t h (Find path) (Some j) par ≡ None
 unfolding refusal_by
-find_goes t h j path par e = rw e refl
+find_goes version t h j path par e = rw e refl
 
-pub find_refused : (t : Tree) (h j : ℕ) (path : List ℕ) (par : Option (ℕ × Name)) → is_directory (node_at t j).kind ≡ true → refusal_with t h (Find path) (Some j) par ≡ Some IsDirectory
+pub find_refused : (version : Version) (t : Tree) (h j : ℕ) (path : List ℕ) (par : Option (ℕ × Name)) → is_directory (node_at t j).kind ≡ true → refusal_with version t h (Find path) (Some j) par ≡ Some IsDirectory
 unfolding refusal_by
-find_refused t h j path par e = rw e refl
+find_refused version t h j path par e = rw e refl
 
-pub find_missing : (t : Tree) (h : ℕ) (path : List ℕ) (par : Option (ℕ × Name)) → refusal_with t h (Find path) None par ≡ Some NoEntry
+pub find_missing : (version : Version) (t : Tree) (h : ℕ) (path : List ℕ) (par : Option (ℕ × Name)) → refusal_with version t h (Find path) None par ≡ Some NoEntry
 unfolding refusal_by
-find_missing t h path par = refl
+find_missing version t h path par = refl
 
 pub find_finder : (path : List ℕ) → Finder (Find path)
 find_finder path = record { follows = refl; makes = λ t q. refl; inherits = λ g q. absurd cc }
@@ -21,17 +22,17 @@ pub find_place : (t : Tree) (h : ℕ) (path : List ℕ) → h < hart_count → t
 unfolding place_of
 find_place t h path lt none = rw (below_is h hart_count lt) (λ z. not (holds_raised true (none z)))
 
-pub find_made : (t : Tree) (h j id : ℕ) (path : List ℕ) (par : Option (ℕ × Name)) → is_directory (node_at t j).kind ≡ false
-    → acts t h (Find path) (Some j) par 0 id ≡ record { all = held_tree t t.nodes h (Some (low j)); walk = None; found = Some j; opened = None; entered = None; left = None; told = Some (record { act = record { step = Find path; answer = Done }; new = 0 }) }
+pub find_made : (version : Version) (t : Tree) (h j id : ℕ) (path : List ℕ) (par : Option (ℕ × Name)) → is_directory (node_at t j).kind ≡ false
+    → acts version t h (Find path) (Some j) par 0 id ≡ record { all = held_tree t t.nodes h (Some (low j)); walk = None; found = Some j; opened = None; entered = None; left = None; told = Some (record { act = record { step = Find path; answer = Done }; new = 0 }) }
 unfolding effect_by answer_by
-find_made t h j id path par e = rw (find_goes t h j path par e) refl
+find_made version t h j id path par e = rw (find_goes version t h j path par e) refl
 
-pub find_step : (t : Tree) (h j id : ℕ) (path : List ℕ) (par : Option (ℕ × Name)) → h < hart_count → t.holds h ≡ None → is_directory (node_at t j).kind ≡ false → StepWith t h (Find path) (Some j) par Done 0 id (settle (held_tree t t.nodes h (Some (low j))))
+pub find_step : (version : Version) (t : Tree) (h j id : ℕ) (path : List ℕ) (par : Option (ℕ × Name)) → h < hart_count → t.holds h ≡ None → is_directory (node_at t j).kind ≡ false → StepWith version t h (Find path) (Some j) par Done 0 id (settle (held_tree t t.nodes h (Some (low j))))
 unfolding effect_by answer_by
-find_step t h j id path par lt none e = (find_goes t h j path par e, refl, record { node = λ z. absurd cc; file = λ z. absurd cc }, refl, find_place t h path lt none)
+find_step version t h j id path par lt none e = (find_goes version t h j path par e, refl, record { node = λ z. absurd cc; file = λ z. absurd cc }, refl, find_place t h path lt none)
 
-pub find_refused_step : (t : Tree) (h j id : ℕ) (path : List ℕ) (par : Option (ℕ × Name)) → h < hart_count → t.holds h ≡ None → is_directory (node_at t j).kind ≡ true → StepWith t h (Find path) (Some j) par (Failed IsDirectory) 0 id t
-find_refused_step t h j id path par lt none e = (find_refused t h j path par e, refl, find_place t h path lt none)
+pub find_refused_step : (version : Version) (t : Tree) (h j id : ℕ) (path : List ℕ) (par : Option (ℕ × Name)) → h < hart_count → t.holds h ≡ None → is_directory (node_at t j).kind ≡ true → StepWith version t h (Find path) (Some j) par (Failed IsDirectory) 0 id t
+find_refused_step version t h j id path par lt none e = (find_refused version t h j path par e, refl, find_place t h path lt none)
 
 -- Where the call finds no room after that, the hart holds nothing.
 pub mends_held : (h j : ℕ) (v : World) (O : Own) → own_of h v ≡ O → O.desk.lender ≡ None → O.desk.joined ≡ true → h < hart_count → Inv v → O.desk.opening ≡ None → O.desk.left ≡ None → O.row.hold ≡ Some (low j) → ((i : ℕ) → own_names (record (O.row) { hold = None }) O.desk i ≡ true → 0 < O.mine.refs i)

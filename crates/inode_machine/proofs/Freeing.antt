@@ -1,5 +1,6 @@
 -- Inodes that one hart keeps alone: locked, freed, and anybody's again.
-use Rattle.inode_machine.proofs.Vocabulary.{◌≡◌, ◌≢◌, ◌⊎◌, inl, inr, ℕ, ◌+◌, ◌-◌, ◌<◌, Bool, true, false, ◌==◌, List, [], Option, Some, None, refl, sym, ◌∙◌, ap, subst, arith, Do, unmarked, P, Good, Fine, Safe, Wp, Node, hart_count, put, is_live, is_named, settle, row_of, settle_nodes, sum_below, either, same_or, put_same, put_other, none_any, look_live, Step, Walk, Mine, World, Entry, with_mark, lock_if, blank, counted_down, file_count, locked, unlocked, Frees, Take, UnlockInode, Free, Forget, file_tables_of, own_names, Held, view, is_hart, if_kept, own_of, IsReferredTo, IsReached, IsAlone, Inv, IsOut, machine, looking_cost, number_is, Sought, sum_part, one_yes, one_if, eq_self, Own, Query, Sight, seen_in, type_of}
+use Rattle.image_versions.specs.declared.version.Version.{Version}
+use Rattle.inode_machine.proofs.Vocabulary.{◌≡◌, ◌≢◌, ◌⊎◌, inl, inr, ℕ, ◌+◌, ◌-◌, ◌<◌, Bool, true, false, ◌==◌, List, [], Option, Some, None, refl, sym, ◌∙◌, ap, subst, arith, Do, unmarked, P, Good, Fine, Safe, Wp, Node, hart_count, put, is_live, is_named, settle, row_of, settle_nodes, sum_below, either, same_or, put_same, put_other, none_any, look_live, Step, Walk, Mine, World, Entry, with_mark, lock_if, blank, counted_down, file_count, locked, unlocked, Frees, Take, UnlockInode, Free, Forget, file_tables_of, own_names, Held, view, is_hart, if_kept, own_of, IsReferredTo, IsReached, IsAlone, Inv, IsOut, machine, looking_cost, number_is, Sought, sum_part, one_yes, one_if, eq_self, Own, Query, Sight, seen_in, type_of, emptying_cost}
 use Rattle.inode_machine.proofs.Frame.{child_directory, file_tables_same, put_elim, ours_none, ours_some, kept_here, HartStep, Fair, fair, fair_then, own_inodes, has_inode, found_more, one_refs, two_refs, stands_in, directory_named, refers_put, resting_names, type_on}
 use Rattle.inode_machine.proofs.Rules.{s-owned, quiet, each_refs, here_refs, walks_refs, total_same, total_changed, my_refs, is_me, has_disk, has_node, locks_it}
 use Rattle.inode_machine.proofs.Counting.{Writes, writes, spares, not_home}
@@ -12,8 +13,8 @@ pub record LockingKept (h i : ℕ) (x : Held) (v : World) (O : Own) : Type 0 whe
   pub fair : Fair h v (locked h i v)
   pub owned : own_of h (locked h i v) ≡ record O { inodes = put O.inodes i (Some (record x { locked = true })) }
 
-pub locking_kept : (h i : ℕ) (x : Held) (v : World) (O : Own) → own_of h v ≡ O → O.desk.lender ≡ None → h < hart_count → Inv v → O.inodes i ≡ Some x → x.locked ≡ false → LockingKept h i x v O
-locking_kept h i x v O ov free lt inv isi out = record { unlocked = none (v.lock i) refl; fair = fair inv did; owned = owned }
+pub locking_kept : Version → (h i : ℕ) (x : Held) (v : World) (O : Own) → own_of h v ≡ O → O.desk.lender ≡ None → h < hart_count → Inv v → O.inodes i ≡ Some x → x.locked ≡ false → LockingKept h i x v O
+locking_kept version h i x v O ov free lt inv isi out = record { unlocked = none (v.lock i) refl; fair = fair inv did; owned = owned }
   where
     none : (r : Option ℕ) → v.lock i ≡ r → r ≡ None
     none None e = refl
@@ -76,20 +77,20 @@ locking_kept h i x v O ov free lt inv isi out = record { unlocked = none (v.lock
       desk = ap (λ (o : Own). o.desk) ov z;
     }
 
-pub s-take-kept : {A : Type 0} {h i : ℕ} {x : Held} {looking : Query} {k : Sight → P machine A} {B : List Step → Type 0} {Q : A → List Step → World → Type 0} {n : ℕ} {es : List Step} {w : World} {O : Own}
-    → own_of h w ≡ O → O.desk.lender ≡ None → h < hart_count → looking_cost looking < n → O.inodes i ≡ Some x → x.locked ≡ false → x.disk ≢ None → Sought looking → 0 < O.mine.refs i
-    → ((l : ℕ) (u : World) → l + (looking_cost looking + 1) ≡ n → own_of h u ≡ record O { inodes = put O.inodes i (Some (record x { locked = true })) } → Safe machine h B Q (k (seen_in i looking x.disk)) l es u)
-    → Safe machine h B Q (Do (Take i looking) unmarked k) n es w
-s-take-kept {A} {h} {i} {x} {looking} {k} {B} {Q} {n} {es} {w} {O} owns free lt pos isi out there sought refers rest = s-owned owns free pos (λ v inv ov. (
-  ((let r = my_refs h v O i ov in omega (arith, r, refers), (λ e. let a = locking_kept h i x v O ov free lt inv isi out in let b = a.unlocked in cc (b, e))), (λ e z. there (sym (has_disk h i v O x ov isi) ∙ z)), sought),
+pub s-take-kept : (version : Version) {A : Type 0} {h i : ℕ} {x : Held} {looking : Query} {k : Sight → P (machine version) A} {B : List Step → Type 0} {Q : A → List Step → World → Type 0} {n : ℕ} {es : List Step} {w : World} {O : Own}
+    → own_of h w ≡ O → O.desk.lender ≡ None → h < hart_count → looking_cost looking < n → O.inodes i ≡ Some x → x.locked ≡ false → x.disk ≢ None → Sought version looking → 0 < O.mine.refs i
+    → ((l : ℕ) (u : World) → l + (looking_cost looking + 1) ≡ n → own_of h u ≡ record O { inodes = put O.inodes i (Some (record x { locked = true })) } → Safe (machine version) h B Q (k (seen_in version i looking x.disk)) l es u)
+    → Safe (machine version) h B Q (Do (Take i looking) unmarked k) n es w
+s-take-kept version {A} {h} {i} {x} {looking} {k} {B} {Q} {n} {es} {w} {O} owns free lt pos isi out there sought refers rest = s-owned version owns free pos (λ v inv ov. (
+  ((let r = my_refs h v O i ov in omega (arith, r, refers), (λ e. let a = locking_kept version h i x v O ov free lt inv isi out in let b = a.unlocked in cc (b, e))), (λ e z. there (sym (has_disk h i v O x ov isi) ∙ z)), sought),
   (λ _ _. at v inv ov (v.lock i) refl),
 ))
   where
-    at : (v : World) → Inv v → own_of h v ≡ O → (r : Option ℕ) → v.lock i ≡ r → Good machine Sight h (λ a. []) (looking_cost looking) n B es v (IsOut h (v.lock i)) (with_mark h unmarked (lock_if h i (seen_in i looking (v.disk i)) v (locked h i v) r)) (λ l a u. Wp machine h B Q (k a) l es u)
-    at v inv ov (Some g) e = absurd (let a = locking_kept h i x v O ov free lt inv isi out in let b = a.unlocked in cc (b, e))
+    at : (v : World) → Inv v → own_of h v ≡ O → (r : Option ℕ) → v.lock i ≡ r → Good (machine version) Sight h (λ a. []) (looking_cost looking) n B es v (IsOut h (v.lock i)) (with_mark version h unmarked (lock_if h i (seen_in version i looking (v.disk i)) v (locked h i v) r)) (λ l a u. Wp (machine version) h B Q (k a) l es u)
+    at v inv ov (Some g) e = absurd (let a = locking_kept version h i x v O ov free lt inv isi out in let b = a.unlocked in cc (b, e))
     at v inv ov None e =
-        let a = locking_kept h i x v O ov free lt inv isi out in
-        quiet a.fair refl pos (λ l q. subst (λ (z : Option Node). Wp machine h B Q (k (seen_in i looking z)) l es (locked h i v)) (sym (has_disk h i v O x ov isi)) (rest l (locked h i v) q a.owned).wp)
+        let a = locking_kept version h i x v O ov free lt inv isi out in
+        quiet version a.fair refl pos (λ l q. subst (λ (z : Option Node). Wp (machine version) h B Q (k (seen_in version i looking z)) l es (locked h i v)) (sym (has_disk h i v O x ov isi)) (rest l (locked h i v) q a.owned).wp)
 
 -- an open file isn't of an inode that one hart keeps alone
 pub lone_file : (h i k : ℕ) (e : Entry) (v : World) → Inv v → h < hart_count → v.alone i ≡ true → v.keeper i ≡ Some h → v.files k ≡ Some e → e.file.number ≢ i
@@ -147,17 +148,17 @@ unnamed h i v inv lt lone kept mine = none_any hart_count _ (λ g lg. hart_not g
         ]
 
 -- The type of a dead inode is cleared on the disk.
-pub s-free : {A : Type 0} {h i : ℕ} {x : Held} {k : Unit {0} → P machine A} {B : List Step → Type 0} {Q : A → List Step → World → Type 0} {n : ℕ} {es : List Step} {w : World} {O : Own}
-    → own_of h w ≡ O → O.desk.lender ≡ None → h < hart_count → 900 < n → O.desk.joined ≡ true → O.inodes i ≡ Some x → x.locked ≡ true → x.alone ≡ true → own_names O.row O.desk i ≡ false → O.mine.pending ≡ None
-    → ((l : ℕ) (u : World) → l + 901 ≡ n → own_of h u ≡ record O { inodes = put O.inodes i (Some (record x { disk = None; node = None })) } → Safe machine h B Q (k tt) l es u)
-    → Safe machine h B Q (Do (Free i) (λ a. Some (Frees i)) k) n es w
-s-free {A} {h} {i} {x} {k} {B} {Q} {n} {es} {w} {O} owns free lt pos joined isi has lone mine none rest = s-owned owns free pos (λ v inv ov. ((locks_it h i v O x ov isi has, ap (λ (o : Own). o.desk.joined) ov ∙ joined), (λ _ _. good v inv ov)))
+pub s-free : (version : Version) {A : Type 0} {h i : ℕ} {x : Held} {k : Unit {0} → P (machine version) A} {B : List Step → Type 0} {Q : A → List Step → World → Type 0} {n : ℕ} {es : List Step} {w : World} {O : Own}
+    → own_of h w ≡ O → O.desk.lender ≡ None → h < hart_count → emptying_cost < n → O.desk.joined ≡ true → O.inodes i ≡ Some x → x.locked ≡ true → x.alone ≡ true → own_names O.row O.desk i ≡ false → O.mine.pending ≡ None
+    → ((l : ℕ) (u : World) → l + 901 ≡ n → own_of h u ≡ record O { inodes = put O.inodes i (Some (record x { disk = None; node = None })) } → Safe (machine version) h B Q (k tt) l es u)
+    → Safe (machine version) h B Q (Do (Free i) (λ a. Some (Frees i)) k) n es w
+s-free version {A} {h} {i} {x} {k} {B} {Q} {n} {es} {w} {O} owns free lt pos joined isi has lone mine none rest = s-owned version owns free pos (λ v inv ov. ((locks_it h i v O x ov isi has, ap (λ (o : Own). o.desk.joined) ov ∙ joined), (λ _ _. good v inv ov)))
   where
-    good : (v : World) → Inv v → own_of h v ≡ O → Fine machine h [] 900 n B es v (record v { disk = put v.disk i None; all = record (v.all) { nodes = put v.all.nodes i None } }) (λ l. Wp machine h B Q (k tt) l es (record v { disk = put v.disk i None; all = record (v.all) { nodes = put v.all.nodes i None } }))
-    good v inv ov = quiet (fair_then wr.fair (fair wr.fair.inv did)) (λ z. record { tree = tree z; walk = λ g. (v.harts g).walk }) pos (λ l q. (rest l u q owned).wp)
+    good : (v : World) → Inv v → own_of h v ≡ O → Fine (machine version) h [] emptying_cost n B es v (record v { disk = put v.disk i None; all = record (v.all) { nodes = put v.all.nodes i None } }) (λ l. Wp (machine version) h B Q (k tt) l es (record v { disk = put v.disk i None; all = record (v.all) { nodes = put v.all.nodes i None } }))
+    good v inv ov = quiet version (fair_then wr.fair (fair wr.fair.inv did)) (λ z. record { tree = tree z; walk = λ g. (v.harts g).walk }) pos (λ l q. (rest l u q owned).wp)
       where
         wr : Writes h i None x O v
-        wr = writes h i None x O v free lt joined inv ov isi
+        wr = writes version h i None x O v free lt joined inv ov isi
 
         u1 : World
         u1 = record v { disk = put v.disk i None }
@@ -240,16 +241,16 @@ s-free {A} {h} {i} {x} {k} {B} {Q} {n} {es} {w} {O} owns free lt pos joined isi 
         }
 
 -- Its lock is given up, and the hart keeps it still.
-pub s-give-alone : {A : Type 0} {h i : ℕ} {x : Held} {k : Unit {0} → P machine A} {B : List Step → Type 0} {Q : A → List Step → World → Type 0} {n : ℕ} {es : List Step} {w : World} {O : Own}
+pub s-give-alone : (version : Version) {A : Type 0} {h i : ℕ} {x : Held} {k : Unit {0} → P (machine version) A} {B : List Step → Type 0} {Q : A → List Step → World → Type 0} {n : ℕ} {es : List Step} {w : World} {O : Own}
     → own_of h w ≡ O → O.desk.lender ≡ None → h < hart_count → 0 < n → O.inodes i ≡ Some x → x.locked ≡ true → x.alone ≡ true
-    → ((l : ℕ) (u : World) → l + 1 ≡ n → own_of h u ≡ record O { inodes = put O.inodes i (Some (record x { locked = false })) } → Safe machine h B Q (k tt) l es u)
-    → Safe machine h B Q (Do (UnlockInode i) unmarked k) n es w
-s-give-alone {A} {h} {i} {x} {k} {B} {Q} {n} {es} {w} {O} owns free lt pos isi has lone rest = s-owned owns free pos (λ v inv ov. (
+    → ((l : ℕ) (u : World) → l + 1 ≡ n → own_of h u ≡ record O { inodes = put O.inodes i (Some (record x { locked = false })) } → Safe (machine version) h B Q (k tt) l es u)
+    → Safe (machine version) h B Q (Do (UnlockInode i) unmarked k) n es w
+s-give-alone version {A} {h} {i} {x} {k} {B} {Q} {n} {es} {w} {O} owns free lt pos isi has lone rest = s-owned version owns free pos (λ v inv ov. (
   locks_it h i v O x ov isi has,
   (λ _ _.
       let a : v.alone i ≡ true = ap (λ (y : Held). y.alone) (has_inode h i v O x ov isi).1 ∙ lone in
-      subst (λ (b : Bool). Fine machine h [] 0 n B es v (unlocked i v b) (λ l. Wp machine h B Q (k tt) l es (unlocked i v b))) (sym a)
-      (quiet (fair inv (did v inv ov)) refl pos (λ l q. (rest l (after v) q (owned v ov)).wp))),
+      subst (λ (b : Bool). Fine (machine version) h [] 0 n B es v (unlocked i v b) (λ l. Wp (machine version) h B Q (k tt) l es (unlocked i v b))) (sym a)
+      (quiet version (fair inv (did v inv ov)) refl pos (λ l q. (rest l (after v) q (owned v ov)).wp))),
 ))
   where
     after : World → World
@@ -309,12 +310,12 @@ s-give-alone {A} {h} {i} {x} {k} {B} {Q} {n} {es} {w} {O} owns free lt pos isi h
     }
 
 -- The last reference to an inode that was freed is counted down: its number is anybody's.
-pub s-forget : {A : Type 0} {h i : ℕ} {x : Held} {k : Unit {0} → P machine A} {B : List Step → Type 0} {Q : A → List Step → World → Type 0} {n : ℕ} {es : List Step} {w : World} {O : Own}
+pub s-forget : (version : Version) {A : Type 0} {h i : ℕ} {x : Held} {k : Unit {0} → P (machine version) A} {B : List Step → Type 0} {Q : A → List Step → World → Type 0} {n : ℕ} {es : List Step} {w : World} {O : Own}
     → own_of h w ≡ O → O.desk.lender ≡ None → h < hart_count → 0 < n → O.inodes i ≡ Some x → x.alone ≡ true → x.locked ≡ false → x.disk ≡ None → x.node ≡ None → O.mine.refs i ≡ 1 → O.mine.pending ≡ None
     → own_names O.row O.desk i ≡ false → ((y : Walk) → O.mine.walk ≡ Some y → y.at ≢ i)
-    → ((l : ℕ) (u : World) → l + 1 ≡ n → own_of h u ≡ record O { inodes = put O.inodes i None; mine = record { refs = put O.mine.refs i (O.mine.refs i - 1); walk = O.mine.walk; pending = O.mine.pending } } → Safe machine h B Q (k tt) l es u)
-    → Safe machine h B Q (Do (Forget i) unmarked k) n es w
-s-forget {A} {h} {i} {x} {k} {B} {Q} {n} {es} {w} {O} owns free lt pos isi lone out blank gone one none unnamed unwalked rest = s-owned owns free pos (λ v inv ov. (
+    → ((l : ℕ) (u : World) → l + 1 ≡ n → own_of h u ≡ record O { inodes = put O.inodes i None; mine = record { refs = put O.mine.refs i (O.mine.refs i - 1); walk = O.mine.walk; pending = O.mine.pending } } → Safe (machine version) h B Q (k tt) l es u)
+    → Safe (machine version) h B Q (Do (Forget i) unmarked k) n es w
+s-forget version {A} {h} {i} {x} {k} {B} {Q} {n} {es} {w} {O} owns free lt pos isi lone out blank gone one none unnamed unwalked rest = s-owned version owns free pos (λ v inv ov. (
   (spares h i v O ov (omega (arith, one)) (inr (not_home h i v O O.desk.opening inv ov free lt unnamed)), not_out v ov, ((has_inode h i v O x ov isi).0, has_disk h i v O x ov isi ∙ blank)),
   (λ _ _. good v inv ov),
 ))
@@ -322,8 +323,8 @@ s-forget {A} {h} {i} {x} {k} {B} {Q} {n} {es} {w} {O} owns free lt pos isi lone 
     not_out : (v : World) → own_of h v ≡ O → v.lock i ≢ Some h
     not_out v ov e = let m = is_me h (v.lock i) e in let l : is_hart (v.lock i) h ≡ false = ap (λ (y : Held). y.locked) (has_inode h i v O x ov isi).1 ∙ out in cc (m, l)
 
-    good : (v : World) → Inv v → own_of h v ≡ O → Fine machine h [] 0 n B es v (counted_down h i v) (λ l. Wp machine h B Q (k tt) l es (counted_down h i v))
-    good v inv ov = quiet (fair inv did) (λ z. record { tree = settle v.all; walk = walks_refs v.harts h i ((v.harts h).refs i - 1) z }) pos (λ l q. (rest l u q owned).wp)
+    good : (v : World) → Inv v → own_of h v ≡ O → Fine (machine version) h [] 0 n B es v (counted_down h i v) (λ l. Wp (machine version) h B Q (k tt) l es (counted_down h i v))
+    good v inv ov = quiet version (fair inv did) (λ z. record { tree = settle v.all; walk = walks_refs v.harts h i ((v.harts h).refs i - 1) z }) pos (λ l q. (rest l u q owned).wp)
       where
         u : World
         u = counted_down h i v
@@ -448,11 +449,11 @@ s-forget {A} {h} {i} {x} {k} {B} {Q} {n} {es} {w} {O} owns free lt pos isi lone 
         }
 
 -- Free, from the down that found the last reference: emptied, its lock given up, counted down.
-pub s-free-all : {A : Type 0} {h i : ℕ} (s : Option Node) {k : P machine A} {B : List Step → Type 0} {Q : A → List Step → World → Type 0} {n : ℕ} {es : List Step} {w : World} {O : Own}
+pub s-free-all : (version : Version) {A : Type 0} {h i : ℕ} (s : Option Node) {k : P (machine version) A} {B : List Step → Type 0} {Q : A → List Step → World → Type 0} {n : ℕ} {es : List Step} {w : World} {O : Own}
     → own_of h w ≡ O → O.desk.lender ≡ None → h < hart_count → 902 < n → O.desk.joined ≡ true → O.inodes i ≡ Some (record { disk = s; node = s; alone = true; locked = true }) → O.mine.refs i ≡ 1 → O.mine.pending ≡ None → own_names O.row O.desk i ≡ false → O.mine.walk ≡ None
-    → ((l : ℕ) (u : World) → l + 903 ≡ n → own_of h u ≡ record O { inodes = put (put (put O.inodes i (Some (record { disk = None; node = None; alone = true; locked = true }))) i (Some (record { disk = None; node = None; alone = true; locked = false }))) i None; mine = record { refs = put O.mine.refs i (O.mine.refs i - 1); walk = O.mine.walk; pending = O.mine.pending } } → Safe machine h B Q k l es u)
-    → Safe machine h B Q (Do (Free i) (λ _. Some (Frees i)) (λ _. Do (UnlockInode i) unmarked (λ _. Do (Forget i) unmarked (λ _. k)))) n es w
-s-free-all {h = h} {i = i} s {O = O} owns free lt few joined isi one none unnamed still rest =
-    s-free owns free lt (omega arith) joined isi refl refl unnamed none (λ l2 u2 q2 own2.
-    s-give-alone own2 free lt (omega arith) (put_same _ i (Some (record { disk = None; node = None; alone = true; locked = true }))) refl refl (λ l3 u3 q3 own3.
-    s-forget own3 free lt (omega arith) (put_same _ i (Some (record { disk = None; node = None; alone = true; locked = false }))) refl refl refl refl one none unnamed (λ y is. absurd (cc (is, still))) (λ l4 u4 q4 own4. rest l4 u4 (omega arith) own4)))
+    → ((l : ℕ) (u : World) → l + 903 ≡ n → own_of h u ≡ record O { inodes = put (put (put O.inodes i (Some (record { disk = None; node = None; alone = true; locked = true }))) i (Some (record { disk = None; node = None; alone = true; locked = false }))) i None; mine = record { refs = put O.mine.refs i (O.mine.refs i - 1); walk = O.mine.walk; pending = O.mine.pending } } → Safe (machine version) h B Q k l es u)
+    → Safe (machine version) h B Q (Do (Free i) (λ _. Some (Frees i)) (λ _. Do (UnlockInode i) unmarked (λ _. Do (Forget i) unmarked (λ _. k)))) n es w
+s-free-all version {h = h} {i = i} s {O = O} owns free lt few joined isi one none unnamed still rest =
+    s-free version owns free lt (omega arith) joined isi refl refl unnamed none (λ l2 u2 q2 own2.
+    s-give-alone version own2 free lt (omega arith) (put_same _ i (Some (record { disk = None; node = None; alone = true; locked = true }))) refl refl (λ l3 u3 q3 own3.
+    s-forget version own3 free lt (omega arith) (put_same _ i (Some (record { disk = None; node = None; alone = true; locked = false }))) refl refl refl refl one none unnamed (λ y is. absurd (cc (is, still))) (λ l4 u4 q4 own4. rest l4 u4 (omega arith) own4)))

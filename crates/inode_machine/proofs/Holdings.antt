@@ -1,4 +1,5 @@
 -- What a call keeps once its walk is through: its list, and the inodes that it works on.
+use Rattle.image_versions.specs.declared.version.Version.{Version}
 use Rattle.inode_machine.proofs.Vocabulary.{◌≡◌, ◌≢◌, ◌⊎◌, inl, inr, ℕ, ◌+◌, ◌-◌, ◌*◌, ◌<◌, ◌≤◌, true, false, ◌==◌, List, length, Option, Some, None, refl, sym, ◌∙◌, ap, subst, arith, oldest_first, Safe, Begun, Ends, Reply, Call, hart_count, Row, Name, put, Action, one_if, either, same_or, put_same, put_other, Step, IsWholeCall, Desk, World, Held, Own, own_names, own_of, nothing, machine, ThisP as P, give_up, tail, covered_calls}
 use Rattle.inode_machine.proofs.Counting.{s-give}
 use Rattle.inode_machine.proofs.Claiming.{Mendable}
@@ -96,13 +97,13 @@ pub record IsWhole (x : Held) : Type 0 where
   pub same : x.disk ≡ x.node
 
 -- An inode is given up, and the reference to it dropped.
-pub s-give-up-in : {A : Type 0} {h : ℕ} (d : ℕ) {x : Held} {base : ℕ → ℕ} {ns : List ℕ} {O0 : Own} {E : ℕ → Option Held} {more : ℕ → ℕ} {k : P A} {B : List Step → Type 0} {Q : A → List Step → World → Type 0} {n : ℕ} {es : List Step} {w : World} {O : Own}
+pub s-give-up-in : (version : Version) {A : Type 0} {h : ℕ} (d : ℕ) {x : Held} {base : ℕ → ℕ} {ns : List ℕ} {O0 : Own} {E : ℕ → Option Held} {more : ℕ → ℕ} {k : P A} {B : List Step → Type 0} {Q : A → List Step → World → Type 0} {n : ℕ} {es : List Step} {w : World} {O : Own}
     → own_of h w ≡ O → h < hart_count → O0.desk.lender ≡ None → O0.desk.joined ≡ true → (own_names O0.row O0.desk d ≡ true → 0 < base d + more d) → 904 < n → Holding base ns O0 O E (λ i. more i + one_if (d == i)) → O.mine.walk ≡ None → O.mine.pending ≡ None → E d ≡ Some x → IsWhole x
-    → ((l : ℕ) (u : World) (R : Own) → n ≤ l + 905 → own_of h u ≡ R → R.desk ≡ O.desk → R.mine.walk ≡ None → R.mine.pending ≡ None → Holding base ns O0 R (put E d None) more → Safe machine h B Q k l es u)
-    → Safe machine h B Q (give_up d k) n es w
-s-give-up-in d {x} {base} {ns} {O0} {E} {more} {O = O} owns lt free joined spare few k walk none isd whole rest =
-    s-give owns (k.stays.lender ∙ free) lt (omega (arith, few)) (k.has d x isd) whole.locked whole.shared whole.same none (λ l1 u1 q1 own1.
-    s-drop d own1 (k.stays.lender ∙ free) lt (omega (arith, few, q1)) (k.stays.joined ∙ joined) (put_same O.inodes d None) (let r = k.refs d in let o = one_at d in omega (arith, r, o)) none walk may (λ l2 u2 q2 own2.
+    → ((l : ℕ) (u : World) (R : Own) → n ≤ l + 905 → own_of h u ≡ R → R.desk ≡ O.desk → R.mine.walk ≡ None → R.mine.pending ≡ None → Holding base ns O0 R (put E d None) more → Safe (machine version) h B Q k l es u)
+    → Safe (machine version) h B Q (give_up d k) n es w
+s-give-up-in version d {x} {base} {ns} {O0} {E} {more} {O = O} owns lt free joined spare few k walk none isd whole rest =
+    s-give version owns (k.stays.lender ∙ free) lt (omega (arith, few)) (k.has d x isd) whole.locked whole.shared whole.same none (λ l1 u1 q1 own1.
+    s-drop version d own1 (k.stays.lender ∙ free) lt (omega (arith, few, q1)) (k.stays.joined ∙ joined) (put_same O.inodes d None) (let r = k.refs d in let o = one_at d in omega (arith, r, o)) none walk may (λ l2 u2 q2 own2.
     rest l2 u2 _ (omega (arith, q1, q2)) own2 refl walk none
     (holding_set (record O { inodes = put O.inodes d None; mine = record { refs = put O.mine.refs d (O.mine.refs d - 1); walk = O.mine.walk; pending = O.mine.pending } }) d None more k
     (unlisted_refs k d (let o = one_at d in omega (arith, o))) refl (stays_same _ O O0 refl refl refl k.stays) (λ i ne. put_other O.mine.refs d (O.mine.refs d - 1) i ne) (λ i. fewer i))))
@@ -117,11 +118,11 @@ s-give-up-in d {x} {base} {ns} {O0} {E} {more} {O = O} owns lt free joined spare
     ]
 
 -- the same in a call that has just joined
-pub s-give-up : {A : Type 0} {h : ℕ} (d : ℕ) {x : Held} {base : ℕ → ℕ} {ns : List ℕ} {O0 : Own} {E : ℕ → Option Held} {more : ℕ → ℕ} {k : P A} {B : List Step → Type 0} {Q : A → List Step → World → Type 0} {n : ℕ} {es : List Step} {w : World} {O : Own}
+pub s-give-up : (version : Version) {A : Type 0} {h : ℕ} (d : ℕ) {x : Held} {base : ℕ → ℕ} {ns : List ℕ} {O0 : Own} {E : ℕ → Option Held} {more : ℕ → ℕ} {k : P A} {B : List Step → Type 0} {Q : A → List Step → World → Type 0} {n : ℕ} {es : List Step} {w : World} {O : Own}
     → own_of h w ≡ O → h < hart_count → Ready base O0 → 904 < n → Holding base ns O0 O E (λ i. more i + one_if (d == i)) → O.mine.walk ≡ None → O.mine.pending ≡ None → E d ≡ Some x → IsWhole x
-    → ((l : ℕ) (u : World) (R : Own) → n ≤ l + 905 → own_of h u ≡ R → R.desk ≡ O.desk → R.mine.walk ≡ None → R.mine.pending ≡ None → Holding base ns O0 R (put E d None) more → Safe machine h B Q k l es u)
-    → Safe machine h B Q (give_up d k) n es w
-s-give-up d owns lt ready few k walk none isd whole rest = s-give-up-in d owns lt ready.free ready.joined (λ q. let a = ready.spare d q in omega (arith, a)) few k walk none isd whole rest
+    → ((l : ℕ) (u : World) (R : Own) → n ≤ l + 905 → own_of h u ≡ R → R.desk ≡ O.desk → R.mine.walk ≡ None → R.mine.pending ≡ None → Holding base ns O0 R (put E d None) more → Safe (machine version) h B Q k l es u)
+    → Safe (machine version) h B Q (give_up d k) n es w
+s-give-up version d owns lt ready few k walk none isd whole rest = s-give-up-in version d owns lt ready.free ready.joined (λ q. let a = ready.spare d q in omega (arith, a)) few k walk none isd whole rest
 
 -- What a hart that rests has once it has joined.
 pub record HasJoined (base : ℕ → ℕ) (O0 : Own) : Type 0 where
@@ -133,16 +134,16 @@ abbrev pub IsAnswerable : Call → Reply → List Step → Own → Type 0
 IsAnswerable c r es O = (O.desk.full ≡ true) ⊎ IsWholeCall c (oldest_first es) r
 
 -- The call ends.
-pub s-end : (h : ℕ) (c : Call) (r : Reply) {base : ℕ → ℕ} {O0 : Own} (ns : List ℕ) (E : ℕ → Option Held) (more : ℕ → ℕ) (n : ℕ) (es : List Step) (w : World) (O : Own) → h < hart_count → HasJoined base O0 → own_of h w ≡ O → 971 * length ns + 63 < n → Holding base ns O0 O E more → ((i : ℕ) → E i ≡ None) → ((i : ℕ) → more i ≡ 0) → O.mine.walk ≡ None → O.mine.pending ≡ None → IsAnswerable c r es O
-    → Safe machine h (Begun covered_calls c) (Ends covered_calls h c) (tail ns r) n es w
-s-end h c r {base} {O0} ns E more n es w O lt joins owns few k empty no_more walk none told =
-    s-ends h c r base ns n es w O owns (k.stays.lender ∙ joins.ready.free) lt few (k.stays.joined ∙ joins.ready.joined)
+pub s-end : (version : Version) (h : ℕ) (c : Call) (r : Reply) {base : ℕ → ℕ} {O0 : Own} (ns : List ℕ) (E : ℕ → Option Held) (more : ℕ → ℕ) (n : ℕ) (es : List Step) (w : World) (O : Own) → h < hart_count → HasJoined base O0 → own_of h w ≡ O → 971 * length ns + 63 < n → Holding base ns O0 O E more → ((i : ℕ) → E i ≡ None) → ((i : ℕ) → more i ≡ 0) → O.mine.walk ≡ None → O.mine.pending ≡ None → IsAnswerable c r es O
+    → Safe (machine version) h (Begun (covered_calls version) c) (Ends (covered_calls version) h c) (tail ns r) n es w
+s-end version h c r {base} {O0} ns E more n es w O lt joins owns few k empty no_more walk none told =
+    s-ends version h c r base ns n es w O owns (k.stays.lender ∙ joins.ready.free) lt few (k.stays.joined ∙ joins.ready.joined)
     (record { all = k.all; only = λ i x q. elim (k.only i x q) [ inl t ↦ t | inr e ↦ absurd (let a = empty i in cc (a, e)) ]; once = k.once })
     (λ i. let a = k.refs i in let z = no_more i in omega (arith, a, z)) walk none (may_stay O O0 base k.stays joins.may) told
 
 -- Where a walk has come to its last name's directory, of which the hart has a reference and no lock.
-pub holding_on : (h : ℕ) (s : Action) (d : ℕ) (e : Name) (r : List Name) (base : ℕ → ℕ) (ns : List ℕ) (O0 O : Own) (w : World) → On h s d e r base ns O0 O w → Holding base ns O0 O nothing (λ i. 0 + one_if (d == i))
-holding_on h s d e r base ns O0 O w on = record {
+pub holding_on : (version : Version) (h : ℕ) (s : Action) (d : ℕ) (e : Name) (r : List Name) (base : ℕ → ℕ) (ns : List ℕ) (O0 O : Own) (w : World) → On version h s d e r base ns O0 O w → Holding base ns O0 O nothing (λ i. 0 + one_if (d == i))
+holding_on version h s d e r base ns O0 O w on = record {
   stays = on.stays;
   refs = λ i. let f = on.refs i in omega (arith, f);
   all = on.listed.all;
@@ -176,10 +177,10 @@ stays_mended R ready s row ninodes desk = record {
 }
 
 -- The directory alone is locked: it is given up, and the call ends.
-pub s-give-end : (h : ℕ) (c : Call) (r : Reply) {x : Held} {base : ℕ → ℕ} {O0 : Own} (ns : List ℕ) (E : ℕ → Option Held) (d n : ℕ) (es : List Step) (w : World) (O : Own) → h < hart_count → HasJoined base O0 → own_of h w ≡ O → 971 * length ns + 970 < n → Holding base ns O0 O E (λ i. 0 + one_if (d == i)) → E d ≡ Some x → IsWhole x → ((i : ℕ) → i ≢ d → E i ≡ None)
+pub s-give-end : (version : Version) (h : ℕ) (c : Call) (r : Reply) {x : Held} {base : ℕ → ℕ} {O0 : Own} (ns : List ℕ) (E : ℕ → Option Held) (d n : ℕ) (es : List Step) (w : World) (O : Own) → h < hart_count → HasJoined base O0 → own_of h w ≡ O → 971 * length ns + 970 < n → Holding base ns O0 O E (λ i. 0 + one_if (d == i)) → E d ≡ Some x → IsWhole x → ((i : ℕ) → i ≢ d → E i ≡ None)
     → O.mine.walk ≡ None → O.mine.pending ≡ None → IsAnswerable c r es O
-    → Safe machine h (Begun covered_calls c) (Ends covered_calls h c) (give_up d (tail ns r)) n es w
-s-give-end h c r {x} {base} {O0} ns E d n es w O lt joins owns few k isd whole else_ walk none told =
-    s-give-up d {more = λ i. 0} owns lt joins.ready (omega (arith, few)) k walk none isd whole (λ l u R q own2 desk walk2 none2 k2.
-    s-end h c r ns (put E d None) (λ i. 0) l es u R lt joins own2 (omega (arith, few, q)) k2 (λ i. elim (same_or i d) [ inl e ↦ ap (put E d None) e ∙ put_same E d None | inr ne ↦ put_other E d None i ne ∙ else_ i ne ]) (λ i. refl) walk2 none2
+    → Safe (machine version) h (Begun (covered_calls version) c) (Ends (covered_calls version) h c) (give_up d (tail ns r)) n es w
+s-give-end version h c r {x} {base} {O0} ns E d n es w O lt joins owns few k isd whole else_ walk none told =
+    s-give-up version d {more = λ i. 0} owns lt joins.ready (omega (arith, few)) k walk none isd whole (λ l u R q own2 desk walk2 none2 k2.
+    s-end version h c r ns (put E d None) (λ i. 0) l es u R lt joins own2 (omega (arith, few, q)) k2 (λ i. elim (same_or i d) [ inl e ↦ ap (put E d None) e ∙ put_same E d None | inr ne ↦ put_other E d None i ne ∙ else_ i ne ]) (λ i. refl) walk2 none2
     (elim told [ inl f ↦ inl (ap (λ (z : Desk). z.full) desk ∙ f) | inr a ↦ inr a ]))

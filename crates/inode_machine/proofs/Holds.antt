@@ -1,4 +1,5 @@
 -- A hart's hold changes in the tree, alone or with an inode that it keeps: what that leaves, and the steps of link that it makes.
+use Rattle.image_versions.specs.declared.version.Version.{Version}
 use Rattle.inode_machine.proofs.Vocabulary.{◌≡◌, ◌⊎◌, inl, inr, ℕ, ◌<◌, Bool, true, false, ◌==◌, ◌||◌, nat_lt, [], Option, Some, None, refl, sym, ◌∙◌, ap, subst, if◌then◌else◌, TooManyLinks, Node, Hold, Action, Bump, Unbump, StepAnswer, Done, Failed, AsksForWhatStays, count_limit, hart_count, Name, Tree, put, hold_names, is_live, settle, resolve, parent, answer_with, answer_by, at_hold, bump_refusal, drop_hold, effect_with, effect_by, holds_raised, lowered, makes_node, node_or, opens_one, place_of, raise_hold, raised, refusal_with, refusal_by, IsInPlace, StepWith, key_names, row_of, settle_again, settled_step, IsWellFormed, raised_at, either, put_same, put_other, not_raised, well_hold, effect_well, OwnMove, World, type_of, is_at, act_left, acts, found_by, made_by, new_id, own_made, Own, Held, key_in, own_of, file_tables_of, view, is_hart, Found, IsReached, Inv}
 use Rattle.inode_machine.proofs.Frame.{file_tables_same, put_elim, ours_some, kept_here, HartStep, Fair, fair, own_inodes, has_inode, stands_in, type_on}
 use Rattle.inode_machine.proofs.Rows.{below_is}
@@ -132,9 +133,9 @@ turned h i y o x v O ov free joined lt inv none isi shared inode_type names well
 -- The steps of the tree.
 
 -- a step of the hart's own that acts, as the machine makes it
-pub gone_made : (t : Tree) (h : ℕ) (s : Action) (res : Option ℕ) (par : Option (ℕ × Name)) (id : ℕ) (T : Tree) → refusal_with t h s res par ≡ None → effect_with t h s res par 0 id ≡ T → answer_with t h s res par id ≡ Done → found_by s res ≡ None → opens_one t h s ≡ false → makes_node t s par ≡ false → act_left None s (t.cwd h) ≡ None
-    → acts t h s res par 0 id ≡ record { all = T; walk = None; found = None; opened = None; entered = None; left = None; told = Some (record { act = record { step = s; answer = Done }; new = 0 }) }
-gone_made t h s res par id T goes effect answer found opens makes left = acts_gone t h s res par 0 id goes ∙ (λ z. record {
+pub gone_made : (version : Version) (t : Tree) (h : ℕ) (s : Action) (res : Option ℕ) (par : Option (ℕ × Name)) (id : ℕ) (T : Tree) → refusal_with version t h s res par ≡ None → effect_with version t h s res par 0 id ≡ T → answer_with version t h s res par id ≡ Done → found_by s res ≡ None → opens_one t h s ≡ false → makes_node t s par ≡ false → act_left None s (t.cwd h) ≡ None
+    → acts version t h s res par 0 id ≡ record { all = T; walk = None; found = None; opened = None; entered = None; left = None; told = Some (record { act = record { step = s; answer = Done }; new = 0 }) }
+gone_made version t h s res par id T goes effect answer found opens makes left = acts_gone version t h s res par 0 id goes ∙ (λ z. record {
   all = effect z;
   walk = None;
   found = found z;
@@ -152,98 +153,98 @@ in_place t h s lt placed = rw (below_is h hart_count lt) placed
 
 -- Bump.
 
-pub bump_cause : (t : Tree) (h j : ℕ) (b : Bool) (X : Node) (res : Option ℕ) (par : Option (ℕ × Name)) → t.holds h ≡ Some (low j) → t.nodes j ≡ Some X → nat_lt X.count count_limit ≡ b → refusal_with t h Bump res par ≡ (if b then None else Some TooManyLinks)
+pub bump_cause : (version : Version) (t : Tree) (h j : ℕ) (b : Bool) (X : Node) (res : Option ℕ) (par : Option (ℕ × Name)) → t.holds h ≡ Some (low j) → t.nodes j ≡ Some X → nat_lt X.count count_limit ≡ b → refusal_with version t h Bump res par ≡ (if b then None else Some TooManyLinks)
 unfolding refusal_by
-bump_cause t h j b X res par held there few = (λ z. bump_refusal t (held z)) ∙ (λ z. if nat_lt (node_or (there z)).count count_limit then None else Some TooManyLinks) ∙ (λ z. if few z then None else Some TooManyLinks)
+bump_cause version t h j b X res par held there few = (λ z. bump_refusal t (held z)) ∙ (λ z. if nat_lt (node_or (there z)).count count_limit then None else Some TooManyLinks) ∙ (λ z. if few z then None else Some TooManyLinks)
 
-bump_effect : (t : Tree) (h j id : ℕ) (X : Node) (res : Option ℕ) (par : Option (ℕ × Name)) → t.holds h ≡ Some (low j) → t.nodes j ≡ Some X → effect_with t h Bump res par 0 id ≡ held_tree t (put t.nodes j (Some (raised X))) h (Some (high j))
+bump_effect : (version : Version) (t : Tree) (h j id : ℕ) (X : Node) (res : Option ℕ) (par : Option (ℕ × Name)) → t.holds h ≡ Some (low j) → t.nodes j ≡ Some X → effect_with version t h Bump res par 0 id ≡ held_tree t (put t.nodes j (Some (raised X))) h (Some (high j))
 unfolding effect_by
-bump_effect t h j id X res par held there = (λ z. record (at_hold t (held z) raised) { holds = put t.holds h (raise_hold (held z)) }) ∙ (λ z. held_tree t (put t.nodes j (Some (raised (node_or (there z))))) h (Some (high j)))
+bump_effect version t h j id X res par held there = (λ z. record (at_hold t (held z) raised) { holds = put t.holds h (raise_hold (held z)) }) ∙ (λ z. held_tree t (put t.nodes j (Some (raised (node_or (there z))))) h (Some (high j)))
 
 bump_placed : (t : Tree) (h j : ℕ) → t.holds h ≡ Some (low j) → place_of t h Bump ≡ true
 unfolding place_of
 bump_placed t h j held = λ z. holds_raised false (held z)
 
-bump_made : (t : Tree) (h j id : ℕ) (X : Node) (res : Option ℕ) (par : Option (ℕ × Name)) → t.holds h ≡ Some (low j) → t.nodes j ≡ Some X → nat_lt X.count count_limit ≡ true
-    → own_made (refusal_with t h Bump res par) t h Bump (acts t h Bump res par 0 id) ≡ record { all = held_tree t (put t.nodes j (Some (raised X))) h (Some (high j)); walk = None; found = None; opened = None; entered = None; left = None; told = Some (record { act = record { step = Bump; answer = Done }; new = 0 }) }
+bump_made : (version : Version) (t : Tree) (h j id : ℕ) (X : Node) (res : Option ℕ) (par : Option (ℕ × Name)) → t.holds h ≡ Some (low j) → t.nodes j ≡ Some X → nat_lt X.count count_limit ≡ true
+    → own_made (refusal_with version t h Bump res par) t h Bump (acts version t h Bump res par 0 id) ≡ record { all = held_tree t (put t.nodes j (Some (raised X))) h (Some (high j)); walk = None; found = None; opened = None; entered = None; left = None; told = Some (record { act = record { step = Bump; answer = Done }; new = 0 }) }
 unfolding answer_by
-bump_made t h j id X res par held there few =
-    (λ z. own_made (bump_cause t h j true X res par held there few z) t h Bump (acts t h Bump res par 0 id))
-    ∙ gone_made t h Bump res par id (held_tree t (put t.nodes j (Some (raised X))) h (Some (high j))) (bump_cause t h j true X res par held there few) (bump_effect t h j id X res par held there) refl refl refl refl refl
+bump_made version t h j id X res par held there few =
+    (λ z. own_made (bump_cause version t h j true X res par held there few z) t h Bump (acts version t h Bump res par 0 id))
+    ∙ gone_made version t h Bump res par id (held_tree t (put t.nodes j (Some (raised X))) h (Some (high j))) (bump_cause version t h j true X res par held there few) (bump_effect version t h j id X res par held there) refl refl refl refl refl
 
 -- it asks for no path
-bump_settled : (t T : Tree) (h id : ℕ) (res : Option ℕ) (par : Option (ℕ × Name)) → refusal_with t h Bump None None ≡ None → settle T ≡ settle (effect_with t h Bump None None 0 id) → IsInPlace t h Bump → StepWith (settle t) h Bump res par Done 0 id (settle (settle T))
+bump_settled : (version : Version) (t T : Tree) (h id : ℕ) (res : Option ℕ) (par : Option (ℕ × Name)) → refusal_with version t h Bump None None ≡ None → settle T ≡ settle (effect_with version t h Bump None None 0 id) → IsInPlace t h Bump → StepWith version (settle t) h Bump res par Done 0 id (settle (settle T))
 unfolding refusal_by effect_by answer_by
-bump_settled t T h id res par goes same place =
-    let y = settled_step t h Bump None None Done 0 id (settle T) (asks_nothing t) (goes, refl, record { node = λ z. absurd cc; file = λ z. absurd cc }, same, place) in
+bump_settled version t T h id res par goes same place =
+    let y = settled_step version t h Bump None None Done 0 id (settle T) (asks_nothing t) (goes, refl, record { node = λ z. absurd cc; file = λ z. absurd cc }, same, place) in
     (y.0, y.1, record { node = λ z. absurd cc; file = λ z. absurd cc }, y.3, y.4)
 
-bump_stopped : (t : Tree) (h id : ℕ) (res : Option ℕ) (par : Option (ℕ × Name)) → refusal_with t h Bump None None ≡ Some TooManyLinks → IsInPlace t h Bump → StepWith (settle t) h Bump res par (Failed TooManyLinks) 0 id (settle (settle (drop_hold t h)))
+bump_stopped : (version : Version) (t : Tree) (h id : ℕ) (res : Option ℕ) (par : Option (ℕ × Name)) → refusal_with version t h Bump None None ≡ Some TooManyLinks → IsInPlace t h Bump → StepWith version (settle t) h Bump res par (Failed TooManyLinks) 0 id (settle (settle (drop_hold t h)))
 unfolding refusal_by
-bump_stopped t h id res par stops place = let y = settled_step t h Bump None None (Failed TooManyLinks) 0 id (settle (drop_hold t h)) (asks_nothing t) (stops, refl, place) in (y.0, y.1, y.2)
+bump_stopped version t h id res par stops place = let y = settled_step version t h Bump None None (Failed TooManyLinks) 0 id (settle (drop_hold t h)) (asks_nothing t) (stops, refl, place) in (y.0, y.1, y.2)
 
 -- Unbump.
 
-unbump_goes : (t : Tree) (h : ℕ) (res : Option ℕ) (par : Option (ℕ × Name)) → refusal_with t h Unbump res par ≡ None
+unbump_goes : (version : Version) (t : Tree) (h : ℕ) (res : Option ℕ) (par : Option (ℕ × Name)) → refusal_with version t h Unbump res par ≡ None
 unfolding refusal_by
-unbump_goes t h res par = refl
+unbump_goes version t h res par = refl
 
-unbump_effect : (t : Tree) (h j id : ℕ) (X : Node) (res : Option ℕ) (par : Option (ℕ × Name)) → t.holds h ≡ Some (high j) → t.nodes j ≡ Some X → effect_with t h Unbump res par 0 id ≡ held_tree t (put t.nodes j (Some (lowered X))) h None
+unbump_effect : (version : Version) (t : Tree) (h j id : ℕ) (X : Node) (res : Option ℕ) (par : Option (ℕ × Name)) → t.holds h ≡ Some (high j) → t.nodes j ≡ Some X → effect_with version t h Unbump res par 0 id ≡ held_tree t (put t.nodes j (Some (lowered X))) h None
 unfolding effect_by
-unbump_effect t h j id X res par held there = (λ z. drop_hold (at_hold t (held z) lowered) h) ∙ (λ z. held_tree t (put t.nodes j (Some (lowered (node_or (there z))))) h None)
+unbump_effect version t h j id X res par held there = (λ z. drop_hold (at_hold t (held z) lowered) h) ∙ (λ z. held_tree t (put t.nodes j (Some (lowered (node_or (there z))))) h None)
 
 unbump_placed : (t : Tree) (h j : ℕ) → t.holds h ≡ Some (high j) → place_of t h Unbump ≡ true
 unfolding place_of
 unbump_placed t h j held = λ z. holds_raised true (held z)
 
-unbump_made : (t : Tree) (h j id : ℕ) (X : Node) (res : Option ℕ) (par : Option (ℕ × Name)) → t.holds h ≡ Some (high j) → t.nodes j ≡ Some X
-    → own_made (refusal_with t h Unbump res par) t h Unbump (acts t h Unbump res par 0 id) ≡ record { all = held_tree t (put t.nodes j (Some (lowered X))) h None; walk = None; found = None; opened = None; entered = None; left = None; told = Some (record { act = record { step = Unbump; answer = Done }; new = 0 }) }
+unbump_made : (version : Version) (t : Tree) (h j id : ℕ) (X : Node) (res : Option ℕ) (par : Option (ℕ × Name)) → t.holds h ≡ Some (high j) → t.nodes j ≡ Some X
+    → own_made (refusal_with version t h Unbump res par) t h Unbump (acts version t h Unbump res par 0 id) ≡ record { all = held_tree t (put t.nodes j (Some (lowered X))) h None; walk = None; found = None; opened = None; entered = None; left = None; told = Some (record { act = record { step = Unbump; answer = Done }; new = 0 }) }
 unfolding refusal_by answer_by
-unbump_made t h j id X res par held there = gone_made t h Unbump res par id (held_tree t (put t.nodes j (Some (lowered X))) h None) (unbump_goes t h res par) (unbump_effect t h j id X res par held there) refl refl refl refl refl
+unbump_made version t h j id X res par held there = gone_made version t h Unbump res par id (held_tree t (put t.nodes j (Some (lowered X))) h None) (unbump_goes version t h res par) (unbump_effect version t h j id X res par held there) refl refl refl refl refl
 
-unbump_settled : (t T : Tree) (h id : ℕ) (res : Option ℕ) (par : Option (ℕ × Name)) → settle T ≡ settle (effect_with t h Unbump None None 0 id) → IsInPlace t h Unbump → StepWith (settle t) h Unbump res par Done 0 id (settle (settle T))
+unbump_settled : (version : Version) (t T : Tree) (h id : ℕ) (res : Option ℕ) (par : Option (ℕ × Name)) → settle T ≡ settle (effect_with version t h Unbump None None 0 id) → IsInPlace t h Unbump → StepWith version (settle t) h Unbump res par Done 0 id (settle (settle T))
 unfolding refusal_by effect_by answer_by
-unbump_settled t T h id res par same place =
-    let y = settled_step t h Unbump None None Done 0 id (settle T) (asks_nothing t) (refl, refl, record { node = λ z. absurd cc; file = λ z. absurd cc }, same, place) in
+unbump_settled version t T h id res par same place =
+    let y = settled_step version t h Unbump None None Done 0 id (settle T) (asks_nothing t) (refl, refl, record { node = λ z. absurd cc; file = λ z. absurd cc }, same, place) in
     (y.0, y.1, record { node = λ z. absurd cc; file = λ z. absurd cc }, y.3, y.4)
 
 -- What a move of the hart's own asks, which changes its hold and the nodes ns.
-pub record Moves (h : ℕ) (v : World) (s : Action) (a : StepAnswer) (ns : ℕ → Option Node) (o : Option Hold) : Type 0 where
-  pub made : made_by v.all h (new_id v) (v.harts h).walk (OwnMove s 0) ≡ record { all = held_tree v.all ns h o; walk = None; found = None; opened = None; entered = None; left = None; told = Some (record { act = record { step = s; answer = a }; new = 0 }) }
+pub record Moves (version : Version) (h : ℕ) (v : World) (s : Action) (a : StepAnswer) (ns : ℕ → Option Node) (o : Option Hold) : Type 0 where
+  pub made : made_by version v.all h (new_id v) (v.harts h).walk (OwnMove s 0) ≡ record { all = held_tree v.all ns h o; walk = None; found = None; opened = None; entered = None; left = None; told = Some (record { act = record { step = s; answer = a }; new = 0 }) }
   pub well : IsWellFormed (held_tree v.all ns h o)
-  pub steps : (res : Option ℕ) (par : Option (ℕ × Name)) → StepWith (settle v.all) h s res par a 0 (new_id v) (settle (held_tree v.all ns h o))
+  pub steps : (res : Option ℕ) (par : Option (ℕ × Name)) → StepWith version (settle v.all) h s res par a 0 (new_id v) (settle (held_tree v.all ns h o))
 
-pub bumps : (h j : ℕ) (X : Node) (v : World) → h < hart_count → Inv v → v.all.holds h ≡ Some (low j) → v.all.nodes j ≡ Some X → nat_lt X.count count_limit ≡ true → Moves h v Bump Done (put v.all.nodes j (Some (raised X))) (Some (high j))
-bumps h j X v lt inv held there few = record {
-  made = bump_made v.all h j (new_id v) X (resolve v.all h []) (parent v.all h []) held there few;
-  well = subst (λ (z : Tree). IsWellFormed z) (bump_effect v.all h j (new_id v) X None None held there) (effect_well v.all h Bump None None 0 (new_id v) inv.well lt (bump_placed v.all h j held) (λ m q. absurd cc) (λ q e. absurd cc) (bump_cause v.all h j true X None None held there few) (record { node = λ z. absurd cc; file = λ z. absurd cc }));
-  steps = λ res par. subst (λ (z : Tree). StepWith (settle v.all) h Bump res par Done 0 (new_id v) z) (sym (settle_again T)) (bump_settled v.all T h (new_id v) res par (bump_cause v.all h j true X None None held there few) (ap settle (sym (bump_effect v.all h j (new_id v) X None None held there))) (in_place v.all h Bump lt (bump_placed v.all h j held)));
+pub bumps : (version : Version) (h j : ℕ) (X : Node) (v : World) → h < hart_count → Inv v → v.all.holds h ≡ Some (low j) → v.all.nodes j ≡ Some X → nat_lt X.count count_limit ≡ true → Moves version h v Bump Done (put v.all.nodes j (Some (raised X))) (Some (high j))
+bumps version h j X v lt inv held there few = record {
+  made = bump_made version v.all h j (new_id v) X (resolve version v.all h []) (parent version v.all h []) held there few;
+  well = subst (λ (z : Tree). IsWellFormed z) (bump_effect version v.all h j (new_id v) X None None held there) (effect_well version v.all h Bump None None 0 (new_id v) inv.well lt (bump_placed v.all h j held) (λ m q. absurd cc) (λ q e. absurd cc) (bump_cause version v.all h j true X None None held there few) (record { node = λ z. absurd cc; file = λ z. absurd cc }));
+  steps = λ res par. subst (λ (z : Tree). StepWith version (settle v.all) h Bump res par Done 0 (new_id v) z) (sym (settle_again T)) (bump_settled version v.all T h (new_id v) res par (bump_cause version v.all h j true X None None held there few) (ap settle (sym (bump_effect version v.all h j (new_id v) X None None held there))) (in_place v.all h Bump lt (bump_placed v.all h j held)));
 }
   where
     T : Tree
     T = held_tree v.all (put v.all.nodes j (Some (raised X))) h (Some (high j))
 
-pub unbumps : (h j : ℕ) (X : Node) (v : World) → h < hart_count → Inv v → v.all.holds h ≡ Some (high j) → v.all.nodes j ≡ Some X → Moves h v Unbump Done (put v.all.nodes j (Some (lowered X))) None
-unbumps h j X v lt inv held there = record {
-  made = unbump_made v.all h j (new_id v) X (resolve v.all h []) (parent v.all h []) held there;
-  well = subst (λ (z : Tree). IsWellFormed z) (unbump_effect v.all h j (new_id v) X None None held there) (effect_well v.all h Unbump None None 0 (new_id v) inv.well lt (unbump_placed v.all h j held) (λ m q. absurd cc) (λ q e. absurd cc) (unbump_goes v.all h None None) (record { node = λ z. absurd cc; file = λ z. absurd cc }));
-  steps = λ res par. subst (λ (z : Tree). StepWith (settle v.all) h Unbump res par Done 0 (new_id v) z) (sym (settle_again T)) (unbump_settled v.all T h (new_id v) res par (ap settle (sym (unbump_effect v.all h j (new_id v) X None None held there))) (in_place v.all h Unbump lt (unbump_placed v.all h j held)));
+pub unbumps : (version : Version) (h j : ℕ) (X : Node) (v : World) → h < hart_count → Inv v → v.all.holds h ≡ Some (high j) → v.all.nodes j ≡ Some X → Moves version h v Unbump Done (put v.all.nodes j (Some (lowered X))) None
+unbumps version h j X v lt inv held there = record {
+  made = unbump_made version v.all h j (new_id v) X (resolve version v.all h []) (parent version v.all h []) held there;
+  well = subst (λ (z : Tree). IsWellFormed z) (unbump_effect version v.all h j (new_id v) X None None held there) (effect_well version v.all h Unbump None None 0 (new_id v) inv.well lt (unbump_placed v.all h j held) (λ m q. absurd cc) (λ q e. absurd cc) (unbump_goes version v.all h None None) (record { node = λ z. absurd cc; file = λ z. absurd cc }));
+  steps = λ res par. subst (λ (z : Tree). StepWith version (settle v.all) h Unbump res par Done 0 (new_id v) z) (sym (settle_again T)) (unbump_settled version v.all T h (new_id v) res par (ap settle (sym (unbump_effect version v.all h j (new_id v) X None None held there))) (in_place v.all h Unbump lt (unbump_placed v.all h j held)));
 }
   where
     T : Tree
     T = held_tree v.all (put v.all.nodes j (Some (lowered X))) h None
 
 -- a refused bump drops its hold
-pub bump_stops : (h j : ℕ) (X : Node) (v : World) → h < hart_count → Inv v → v.all.holds h ≡ Some (low j) → v.all.nodes j ≡ Some X → nat_lt X.count count_limit ≡ false → Moves h v Bump (Failed TooManyLinks) v.all.nodes None
-bump_stops h j X v lt inv held there full = record {
-  made = (λ z. own_made (stops (resolve v.all h []) (parent v.all h []) z) v.all h Bump (acts v.all h Bump (resolve v.all h []) (parent v.all h []) 0 (new_id v)))
-      ∙ (λ z. record (acts_stop (resolve v.all h []) (parent v.all h []) z) { all = drop_hold v.all h });
+pub bump_stops : (version : Version) (h j : ℕ) (X : Node) (v : World) → h < hart_count → Inv v → v.all.holds h ≡ Some (low j) → v.all.nodes j ≡ Some X → nat_lt X.count count_limit ≡ false → Moves version h v Bump (Failed TooManyLinks) v.all.nodes None
+bump_stops version h j X v lt inv held there full = record {
+  made = (λ z. own_made (stops (resolve version v.all h []) (parent version v.all h []) z) v.all h Bump (acts version v.all h Bump (resolve version v.all h []) (parent version v.all h []) 0 (new_id v)))
+      ∙ (λ z. record (acts_stop (resolve version v.all h []) (parent version v.all h []) z) { all = drop_hold v.all h });
   well = well_hold v.all h None inv.well lt (λ n. refl) (λ n. ap (λ (z : Option Hold). raised_at z n) held ∙ not_raised (low j) n refl) (λ q e. absurd cc);
-  steps = λ res par. subst (λ (z : Tree). StepWith (settle v.all) h Bump res par (Failed TooManyLinks) 0 (new_id v) z) (sym (settle_again (drop_hold v.all h))) (bump_stopped v.all h (new_id v) res par (stops None None) (in_place v.all h Bump lt (bump_placed v.all h j held)));
+  steps = λ res par. subst (λ (z : Tree). StepWith version (settle v.all) h Bump res par (Failed TooManyLinks) 0 (new_id v) z) (sym (settle_again (drop_hold v.all h))) (bump_stopped version v.all h (new_id v) res par (stops None None) (in_place v.all h Bump lt (bump_placed v.all h j held)));
 }
   where
-    stops : (res : Option ℕ) (par : Option (ℕ × Name)) → refusal_with v.all h Bump res par ≡ Some TooManyLinks
-    stops res par = bump_cause v.all h j false X res par held there full
+    stops : (res : Option ℕ) (par : Option (ℕ × Name)) → refusal_with version v.all h Bump res par ≡ Some TooManyLinks
+    stops res par = bump_cause version v.all h j false X res par held there full
 
-    acts_stop : (res : Option ℕ) (par : Option (ℕ × Name)) → acts v.all h Bump res par 0 (new_id v) ≡ record { all = v.all; walk = None; found = None; opened = None; entered = None; left = None; told = Some (record { act = record { step = Bump; answer = Failed TooManyLinks }; new = 0 }) }
+    acts_stop : (res : Option ℕ) (par : Option (ℕ × Name)) → acts version v.all h Bump res par 0 (new_id v) ≡ record { all = v.all; walk = None; found = None; opened = None; entered = None; left = None; told = Some (record { act = record { step = Bump; answer = Failed TooManyLinks }; new = 0 }) }
     acts_stop res par = rw (stops res par) refl

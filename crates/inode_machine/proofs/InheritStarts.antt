@@ -1,4 +1,5 @@
 -- The start of an inherit: the child is reserved, and what else holds does so still.
+use Rattle.image_versions.specs.declared.version.Version.{Version}
 use Rattle.inode_machine.proofs.Vocabulary.{◌≡◌, ◌≢◌, inl, inr, ℕ, ◌<◌, Bool, false, ◌==◌, [], Option, Some, None, refl, sym, ◌∙◌, ap, subst, Begins, Right, hart_count, descriptor_count, put, row_of, one_if, same_or, put_same, put_other, Desk, World, child_of, given_of, serving, type_of, Own, Idle, Rests, Others, file_tables_of, own_names, own_of, Has, Lends, Inv, left_or, begin_call, covered_calls, serving_world}
 use Rattle.plain_tree.specs.declared.call.Call.TheVariants as calls
 use Rattle.inode_machine.proofs.Basics.{Inherits, inherit_begins, SameTied, same_tied, tied_as}
@@ -160,16 +161,16 @@ module _ (h c : ℕ) (w : World) (lt : h < hart_count) (below : c < hart_count) 
   started_home inv = ap (λ (d : Desk). d.directory) (sym at_hart) ∙ (inv.directory h lt).at (ap (λ (d : Desk). d.lender) at_hart ∙ free) ∙ (λ z. left_or ((ap (λ (d : Desk). d.left) at_hart ∙ rests.left) z) (w.all.cwd h))
 
 -- The call, from its start on.
-pub inherit_right : (h c : ℕ) (busy : ℕ → Bool) (w u : World) → h < hart_count → (u.desks h).lender ≡ None → ((other : ℕ) → busy other ≡ false → Idle other w) → busy h ≡ false → begin_call h (calls.Inherit c) busy w ≡ Begins u → Right covered_calls h (calls.Inherit c) busy w u
-inherit_right h c busy w u lt out idle free e = subst (λ (z : World). Right covered_calls h (calls.Inherit c) busy w z) i.is (record {
+pub inherit_right : (version : Version) (h c : ℕ) (busy : ℕ → Bool) (w u : World) → h < hart_count → (u.desks h).lender ≡ None → ((other : ℕ) → busy other ≡ false → Idle other w) → busy h ≡ false → begin_call h (calls.Inherit c) busy w ≡ Begins u → Right (covered_calls version) h (calls.Inherit c) busy w u
+inherit_right version h c busy w u lt out idle free e = subst (λ (z : World). Right (covered_calls version) h (calls.Inherit c) busy w z) i.is (record {
   inv = λ inv. started_inv h c w lt i.below i.apart (idle h free) his unlent i.unlent inv i.empty;
   halted = λ inv. started_inv h c w lt i.below i.apart (idle h free) his unlent i.unlent inv i.empty;
   kept = λ g ne b. started_kept h c w lt i.below i.apart (idle h free) his unlent i.unlent g ne (λ q. let f : busy g ≡ false = ap busy q ∙ i.free in cc (b, f));
   rests = λ g ne b. started_rests h c w lt i.below i.apart (idle h free) his unlent i.unlent g ne (idle g b);
   tree = refl;
   clean = λ q. q;
-  none = λ q. inherit_begins_with c;
-  runs = λ inv. (inherit_ok h c (own_of h w) lt unlent (idle h free) (started_home h c w lt i.below i.apart (idle h free) his unlent i.unlent inv) (serving_world w h c) (started_own h c w lt i.below i.apart (idle h free) his unlent i.unlent)).wp;
+  none = λ q. inherit_begins_with version c;
+  runs = λ inv. (inherit_ok version h c (own_of h w) lt unlent (idle h free) (started_home h c w lt i.below i.apart (idle h free) his unlent i.unlent inv) (serving_world w h c) (started_own h c w lt i.below i.apart (idle h free) his unlent i.unlent)).wp;
 })
   where
     i : Inherits h c busy w u

@@ -1,4 +1,5 @@
 -- Inherit is right, whatever the other harts do.
+use Rattle.image_versions.specs.declared.version.Version.{Version}
 use Rattle.inode_machine.proofs.Vocabulary.{◌≡◌, ◌≢◌, ◌⊎◌, inl, inr, ℕ, zero, suc, ◌+◌, ◌-◌, ◌<◌, ◌≤◌, Bool, true, false, nat_lt, not, ◌==◌, List, [], ◌∷◌, Option, Some, None, refl, sym, ◌∙◌, ap, subst, arith, nat_tests, Do, Ran, unmarked, P, own, onto, Good, Safe, Wp, Begun, Ends, IsBeginning, Reply, Inherit, next_of, reply_of, had_room, hart_count, descriptor_count, put, Hold, holds_raised, either, same_or, put_same, put_other, one_yes, Step, IsWholeCall, OwnMove, Entry, World, LoanResult, Lent, Moved, Lend, LendDirectory, Release, is_nothing, next_used, with_lent, handed, moved_in, lend_last, lend_if, released, given_of, serving, with_mark, made_by, new_id, places, lends, lend_from, lent_directory, inherit_end, inherit_program, done, limit, rest_cost, Held, Own, Rests, own_names, own_of, Has, Inv, machine, nothing, covered_calls}
 use Rattle.plain_tree.specs.declared.call.Call.TheVariants as calls
 use Rattle.inode_machine.proofs.Basics.{moves_to, quiet_to, s-owned, quiet, one_most, less_is, s-join, s-leave, s-drop, idle_as, unlocks_nothing, names_plain, NextUsed, next_is, next_none, next_past}
@@ -32,20 +33,20 @@ abbrev pub all_own : ℕ → Own → Own
 all_own c O = record O { mine = record { refs = O.mine.refs; walk = None; pending = None }; desk = record (O.desk) { lent = serving c (Some 0) } }
 
 -- A descriptor is handed on; with the last one, or where there is none, the tree's step is made.
-pub s-lend : {A : Type 0} {h c from : ℕ} {k : LoanResult → P machine A} {B : List Step → Type 0} {Q : A → List Step → World → Type 0} {n : ℕ} {es : List Step} {w : World} {O : Own}
+pub s-lend : (version : Version) {A : Type 0} {h c from : ℕ} {k : LoanResult → P (machine version) A} {B : List Step → Type 0} {Q : A → List Step → World → Type 0} {n : ℕ} {es : List Step} {w : World} {O : Own}
     → own_of h w ≡ O → 0 < n → Server h c O → OnTheWay from O → from ≤ descriptor_count → (next_used from O.desk.fds ≡ None → from ≡ 0) → B (inherited c ∷ es)
-    → ((l old : ℕ) (u : World) → l + 1 ≡ n → own_of h u ≡ moved_own c old O → Safe machine h B Q (k (Moved old)) l (inherited c ∷ es) u)
-    → ((l i : ℕ) (u : World) → l + 1 ≡ n → own_of h u ≡ all_own c O → Safe machine h B Q (k (Lent i false)) l (inherited c ∷ es) u)
-    → ((l i j : ℕ) (u : World) (x : NextUsed from i O.desk.fds) → l + 1 ≡ n → next_used (i + 1) O.desk.fds ≡ Some j → own_of h u ≡ lent_own i x.slot O → Safe machine h B Q (k (Lent i true)) l es u)
-    → Safe machine h B Q (Do (Lend c from) (lends c) k) n es w
-s-lend {A} {h} {c} {from} {k} {B} {Q} {n} {es} {w} {O} owns pos srv way le first b none last more = s-owned owns srv.free pos (λ v inv ov.
+    → ((l old : ℕ) (u : World) → l + 1 ≡ n → own_of h u ≡ moved_own version c old O → Safe (machine version) h B Q (k (Moved old)) l (inherited c ∷ es) u)
+    → ((l i : ℕ) (u : World) → l + 1 ≡ n → own_of h u ≡ all_own c O → Safe (machine version) h B Q (k (Lent i false)) l (inherited c ∷ es) u)
+    → ((l i j : ℕ) (u : World) (x : NextUsed from i O.desk.fds) → l + 1 ≡ n → next_used (i + 1) O.desk.fds ≡ Some j → own_of h u ≡ lent_own i x.slot O → Safe (machine version) h B Q (k (Lent i true)) l es u)
+    → Safe (machine version) h B Q (Do (Lend c from) (lends c) k) n es w
+s-lend version {A} {h} {c} {from} {k} {B} {Q} {n} {es} {w} {O} owns pos srv way le first b none last more = s-owned version owns srv.free pos (λ v inv ov.
     let kd = kid h c v O inv ov srv in (
       ((kd.below, kd.lender), ap (λ (o : Own). given_of o.desk) ov ∙ way.given, (λ i a l. ap (λ (o : Own). o.desk.lent i) ov ∙ way.after i a l), (λ q. first (ap (λ (o : Own). next_used from o.desk.fds) (sym ov) ∙ q))),
       (λ _ _. by v inv ov (next_used from (v.desks h).fds) refl),
     ))
   where
     Goes : (v : World) (z : World) (i : ℕ) (o : Option ℕ) → Type 0
-    Goes v z i o = Good machine LoanResult h (λ a. places h (Lend c from) a (lends c a) v) 0 n B es v ⊥ (with_mark h (lends c) (Ran (Lent i (not (is_nothing o))) (lend_last z h c o))) (λ l a u. Wp machine h B Q (k a) l (onto (own h (places h (Lend c from) a (lends c a) v)) es) u)
+    Goes v z i o = Good (machine version) LoanResult h (λ a. places version h (Lend c from) a (lends c a) v) 0 n B es v ⊥ (with_mark version h (lends c) (Ran (Lent i (not (is_nothing o))) (lend_last z h c o))) (λ l a u. Wp (machine version) h B Q (k a) l (onto (own h (places version h (Lend c from) a (lends c a) v)) es) u)
 
     some : (v : World) → Inv v → own_of h v ≡ O → (i : ℕ) → NextUsed from i O.desk.fds → (o : Option ℕ) → next_used (i + 1) (v.desks h).fds ≡ o → Goes v (with_lent v h i) i o
     some v inv ov i x o q = subst (λ (z : World). Goes v z i o) (sym (lent_is v h i x.slot e.0 is e.1)) (at o q)
@@ -62,14 +63,14 @@ s-lend {A} {h} {c} {from} {k} {B} {Q} {n} {es} {w} {O} owns pos srv way le first
         at : (o : Option ℕ) → next_used (i + 1) (v.desks h).fds ≡ o → Goes v (lent_world v h i x.slot e.0) i o
         at (Some j) q =
             let y = lends_one h c i x.slot e.0 v O inv ov srv x.below is unlent e.1 in
-            quiet y.fair refl pos (λ l r. (more l i j (lent_world v h i x.slot e.0) x r (ap (λ (o : Own). next_used (i + 1) o.desk.fds) (sym ov) ∙ q) y.owned).wp)
+            quiet version y.fair refl pos (λ l r. (more l i j (lent_world v h i x.slot e.0) x r (ap (λ (o : Own). next_used (i + 1) o.desk.fds) (sym ov) ∙ q) y.owned).wp)
         at None q =
-            moves_to h 0 n B Q es v (handed (lent_world v h i x.slot e.0) h c) (OwnMove (Inherit c) 0) tt (k (Lent i false)) (made_by v.all h (new_id v) (v.harts h).walk (OwnMove (Inherit c) 0)) (inherited_made v.all h c)
-            (made_is v.all h c (new_id v) (v.harts h).walk)
-            (all_lent_fair h c i x.slot e.0 v O inv ov srv his x.below is unlent e.1 all)
-            (all_lent_takes h c i x.slot e.0 v O inv ov srv his x.below is unlent e.1 all)
+            moves_to version h 0 n B Q es v (handed (lent_world v h i x.slot e.0) h c) (OwnMove (Inherit c) 0) tt (k (Lent i false)) (made_by version v.all h (new_id v) (v.harts h).walk (OwnMove (Inherit c) 0)) (inherited_made v.all h c)
+            (made_is version v.all h c (new_id v) (v.harts h).walk)
+            (all_lent_fair version h c i x.slot e.0 v O inv ov srv his x.below is unlent e.1 all)
+            (all_lent_takes version h c i x.slot e.0 v O inv ov srv his x.below is unlent e.1 all)
             b pos
-            (λ l r. (last l i (all_lent h c i x.slot e.0 v O inv ov srv his x.below is unlent e.1 all) r (all_lent_own h c i x.slot e.0 v O inv ov srv his x.below is unlent e.1 all)).wp)
+            (λ l r. (last l i (all_lent version h c i x.slot e.0 v O inv ov srv his x.below is unlent e.1 all) r (all_lent_own version h c i x.slot e.0 v O inv ov srv his x.below is unlent e.1 all)).wp)
           where
             his : (j : ℕ) → j < descriptor_count → (v.desks c).fds j ≡ None
             his = empty_child h c v O inv ov srv way.given
@@ -90,15 +91,15 @@ s-lend {A} {h} {c} {from} {k} {B} {Q} {n} {es} {w} {O} owns pos srv way le first
                 ]
 
     by : (v : World) → Inv v → own_of h v ≡ O → (o : Option ℕ) → next_used from (v.desks h).fds ≡ o
-        → Good machine LoanResult h (λ a. places h (Lend c from) a (lends c a) v) 0 n B es v ⊥ (with_mark h (lends c) (lend_if h v c o)) (λ l a u. Wp machine h B Q (k a) l (onto (own h (places h (Lend c from) a (lends c a) v)) es) u)
+        → Good (machine version) LoanResult h (λ a. places version h (Lend c from) a (lends c a) v) 0 n B es v ⊥ (with_mark version h (lends c) (lend_if h v c o)) (λ l a u. Wp (machine version) h B Q (k a) l (onto (own h (places version h (Lend c from) a (lends c a) v)) es) u)
     by v inv ov (Some i) q = some v inv ov i (next_is from i O.desk.fds le (ap (λ (o : Own). next_used from o.desk.fds) (sym ov) ∙ q)) (next_used (i + 1) (v.desks h).fds) refl
     by v inv ov None q =
-        moves_to h 0 n B Q es v (moved_in v h c) (OwnMove (Inherit c) 0) tt (k (Moved (v.desks c).directory)) (made_by v.all h (new_id v) (v.harts h).walk (OwnMove (Inherit c) 0)) (inherited_made v.all h c)
-        (made_is v.all h c (new_id v) (v.harts h).walk)
-        (given_fair h c v O inv ov srv unlent unused his)
-        (given_takes h c v O inv ov srv unlent unused his)
+        moves_to version h 0 n B Q es v (moved_in v h c) (OwnMove (Inherit c) 0) tt (k (Moved (v.desks c).directory)) (made_by version v.all h (new_id v) (v.harts h).walk (OwnMove (Inherit c) 0)) (inherited_made v.all h c)
+        (made_is version v.all h c (new_id v) (v.harts h).walk)
+        (given_fair version h c v O inv ov srv unlent unused his)
+        (given_takes version h c v O inv ov srv unlent unused his)
         b pos
-        (λ l r. (none l (v.desks c).directory (given_world h c v O inv ov srv unlent unused his) r (given_owns h c v O inv ov srv unlent unused his)).wp)
+        (λ l r. (none l (v.desks c).directory (given_world version h c v O inv ov srv unlent unused his) r (given_owns version h c v O inv ov srv unlent unused his)).wp)
       where
         q0 : next_used from O.desk.fds ≡ None
         q0 = ap (λ (o : Own). next_used from o.desk.fds) (sym ov) ∙ q
@@ -113,23 +114,23 @@ s-lend {A} {h} {c} {from} {k} {B} {Q} {n} {es} {w} {O} owns pos srv way le first
         unlent j lj = ap (λ (o : Own). o.desk.lent j) ov ∙ way.after j (let z = first q0 in omega (arith, z)) lj
 
 -- The directory is, after the last descriptor.
-pub s-lend-directory : {A : Type 0} {h c : ℕ} {k : ℕ → P machine A} {B : List Step → Type 0} {Q : A → List Step → World → Type 0} {n : ℕ} {es : List Step} {w : World} {O : Own}
-    → own_of h w ≡ O → 0 < n → Server h c O → O.desk.lent ≡ serving c (Some 0) → ((l old : ℕ) (u : World) → l + 1 ≡ n → own_of h u ≡ moved_own c old O → Safe machine h B Q (k old) l es u)
-    → Safe machine h B Q (Do (LendDirectory c) unmarked k) n es w
-s-lend-directory {h = h} {c = c} {O = O} owns pos srv lent rest = s-owned owns srv.free pos (λ v inv ov.
+pub s-lend-directory : (version : Version) {A : Type 0} {h c : ℕ} {k : ℕ → P (machine version) A} {B : List Step → Type 0} {Q : A → List Step → World → Type 0} {n : ℕ} {es : List Step} {w : World} {O : Own}
+    → own_of h w ≡ O → 0 < n → Server h c O → O.desk.lent ≡ serving c (Some 0) → ((l old : ℕ) (u : World) → l + 1 ≡ n → own_of h u ≡ moved_own version c old O → Safe (machine version) h B Q (k old) l es u)
+    → Safe (machine version) h B Q (Do (LendDirectory c) unmarked k) n es w
+s-lend-directory version {h = h} {c = c} {O = O} owns pos srv lent rest = s-owned version owns srv.free pos (λ v inv ov.
     let kd = kid h c v O inv ov srv in
     let is : (v.desks h).lent ≡ serving c (Some 0) = ap (λ (o : Own). o.desk.lent) ov ∙ lent in
     let none : (j : ℕ) → j < descriptor_count → (v.desks h).lent j ≡ None = (λ j lj. ap (λ (f : ℕ → Option ℕ). f j) is ∙ serving_none c (Some 0) j lj) in
     let at : v.all.cwd c ≡ (v.desks h).directory = subst (λ (z : Option ℕ). Has z (v.desks c).fds (v.all.cwd c) (v.desks c).directory (v.desks h).directory) (ap (λ (f : ℕ → Option ℕ). f (descriptor_count + 1)) is ∙ serving_given c (Some 0)) kd.lends.has in
-    (((kd.below, kd.lender), none), (λ _ _. quiet_to (moved_fair h c v O inv ov srv none at) (moved_stage h c v O inv ov srv none at) pos (λ l q. (rest l (v.desks c).directory (moved_in v h c) q (moved_owns h c v O inv ov srv none at)).wp))))
+    (((kd.below, kd.lender), none), (λ _ _. quiet_to version (moved_fair version h c v O inv ov srv none at) (moved_stage version h c v O inv ov srv none at) pos (λ l q. (rest l (v.desks c).directory (moved_in v h c) q (moved_owns version h c v O inv ov srv none at)).wp))))
 
 -- The child may start again.
-pub s-release : {A : Type 0} {h c : ℕ} {k : Unit {0} → P machine A} {B : List Step → Type 0} {Q : A → List Step → World → Type 0} {n : ℕ} {es : List Step} {w : World} {O : Own}
-    → own_of h w ≡ O → 0 < n → Server h c O → O.desk.lent ≡ serving c (Some 1) → ((l : ℕ) (u : World) → l + 1 ≡ n → own_of h u ≡ record O { desk = record (O.desk) { lent = nothing } } → Safe machine h B Q (k tt) l es u)
-    → Safe machine h B Q (Do (Release c) unmarked k) n es w
-s-release {h = h} {c = c} {O = O} owns pos srv lent rest = s-owned owns srv.free pos (λ v inv ov.
+pub s-release : (version : Version) {A : Type 0} {h c : ℕ} {k : Unit {0} → P (machine version) A} {B : List Step → Type 0} {Q : A → List Step → World → Type 0} {n : ℕ} {es : List Step} {w : World} {O : Own}
+    → own_of h w ≡ O → 0 < n → Server h c O → O.desk.lent ≡ serving c (Some 1) → ((l : ℕ) (u : World) → l + 1 ≡ n → own_of h u ≡ record O { desk = record (O.desk) { lent = nothing } } → Safe (machine version) h B Q (k tt) l es u)
+    → Safe (machine version) h B Q (Do (Release c) unmarked k) n es w
+s-release version {h = h} {c = c} {O = O} owns pos srv lent rest = s-owned version owns srv.free pos (λ v inv ov.
     let kd = kid h c v O inv ov srv in
-    (((kd.below, kd.lender), (λ j lj. ap (λ (o : Own). o.desk.lent j) ov ∙ ap (λ (f : ℕ → Option ℕ). f j) lent ∙ serving_none c (Some 1) j lj)), (λ _ _. quiet_to (released_fair h c v O inv ov srv lent) refl pos (λ l q. (rest l (released v h c) q (released_owns h c v O inv ov srv lent)).wp))))
+    (((kd.below, kd.lender), (λ j lj. ap (λ (o : Own). o.desk.lent j) ov ∙ ap (λ (f : ℕ → Option ℕ). f j) lent ∙ serving_none c (Some 1) j lj)), (λ _ _. quiet_to version (released_fair h c v O inv ov srv lent) refl pos (λ l q. (rest l (released v h c) q (released_owns h c v O inv ov srv lent)).wp))))
 
 -- The call.
 
@@ -137,19 +138,19 @@ inherit_written : (c : ℕ) → IsWholeCall (calls.Inherit c) (inherited c ∷ [
 unfolding next_of reply_of had_room
 inherit_written c = (refl, record { through = refl; reply = refl; room = refl })
 
-pub inherit_begins_with : (c : ℕ) → IsBeginning covered_calls (calls.Inherit c) []
-inherit_begins_with c = (inherited c ∷ [], done (calls.Inherit c), inherit_written c)
+pub inherit_begins_with : (version : Version) (c : ℕ) → IsBeginning (covered_calls version) (calls.Inherit c) []
+inherit_begins_with version c = (inherited c ∷ [], done (calls.Inherit c), inherit_written c)
 
 -- What the hart has when its call begins: as one that rests, but that it serves the child. O0: what it had.
 abbrev pub begun_own : ℕ → Own → Own
 begun_own c O0 = record O0 { desk = record (O0.desk) { lent = serving c None } }
 
-module _ (h c : ℕ) (O0 : Own) (lt : h < hart_count) (free : O0.desk.lender ≡ None) (rests : Rests O0) (home : O0.desk.directory ≡ O0.row.cwd) where
+module _ (version : Version) (h c : ℕ) (O0 : Own) (lt : h < hart_count) (free : O0.desk.lender ≡ None) (rests : Rests O0) (home : O0.desk.directory ≡ O0.row.cwd) where
   abbrev B : List Step → Type 0
-  B = Begun covered_calls (calls.Inherit c)
+  B = Begun (covered_calls version) (calls.Inherit c)
 
   abbrev Q : Reply → List Step → World → Type 0
-  Q = Ends covered_calls h (calls.Inherit c)
+  Q = Ends (covered_calls version) h (calls.Inherit c)
 
   abbrev told : List Step
   told = inherited c ∷ []
@@ -193,12 +194,12 @@ module _ (h c : ℕ) (O0 : Own) (lt : h < hart_count) (free : O0.desk.lender ≡
   unlocks = unlocks_nothing O0.inodes rests.inodes
 
   -- its old directory is dropped, and the child released
-  ends : (o n : ℕ) (u : World) → 2000 ≤ n → own_of h u ≡ at (serving c (Some 1)) (put O0.mine.refs o (O0.mine.refs o + 1)) false → Safe machine h B Q (inherit_end c o) n told u
+  ends : (o n : ℕ) (u : World) → 2000 ≤ n → own_of h u ≡ at (serving c (Some 1)) (put O0.mine.refs o (O0.mine.refs o + 1)) false → Safe (machine version) h B Q (inherit_end c o) n told u
   ends o n u few own =
-      s-join own free lt (omega (arith, few)) unlocks refl (λ l1 u1 q1 own1.
-      s-drop o own1 free lt (omega (arith, few, q1)) refl (empty o) (let p = put_same O0.mine.refs o (O0.mine.refs o + 1) in omega (arith, p)) refl refl spare (λ l2 u2 q2 own2.
-      s-leave own2 free lt (omega (arith, few, q1, q2)) unlocks refl (ap (λ (o : Option Hold). holds_raised true o) rests.hold) (λ i x is. absurd (let a = empty i in cc (a, is))) (λ l3 u3 q3 own3.
-      s-release (own3 ∙ (λ z. at (serving c (Some 1)) (back o z) false)) (omega (arith, few, q1, q2, q3)) (server (serving c (Some 1)) O0.mine.refs false (serving_child c (Some 1)) few0) refl (λ l4 u4 q4 own4. record {
+      s-join version own free lt (omega (arith, few)) unlocks refl (λ l1 u1 q1 own1.
+      s-drop version o own1 free lt (omega (arith, few, q1)) refl (empty o) (let p = put_same O0.mine.refs o (O0.mine.refs o + 1) in omega (arith, p)) refl refl spare (λ l2 u2 q2 own2.
+      s-leave version own2 free lt (omega (arith, few, q1, q2)) unlocks refl (ap (λ (o : Option Hold). holds_raised true o) rests.hold) (λ i x is. absurd (let a = empty i in cc (a, is))) (λ l3 u3 q3 own3.
+      s-release version (own3 ∙ (λ z. at (serving c (Some 1)) (back o z) false)) (omega (arith, few, q1, q2, q3)) (server (serving c (Some 1)) O0.mine.refs false (serving_child c (Some 1)) few0) refl (λ l4 u4 q4 own4. record {
         wp = (
           (λ z. inherit_written c),
           idle_as h u4 (at nothing O0.mine.refs false) own4 (record {
@@ -223,15 +224,15 @@ module _ (h c : ℕ) (O0 : Own) (lt : h < hart_count) (free : O0.desk.lender ≡
         | inr y ↦ inr (names_plain O0.row (at (serving c (Some 1)) (put O0.mine.refs o (O0.mine.refs o + 1)) true).desk o rests.hold rests.opening ∙ rw (sym home, y, rests.left) refl)
       ]
 
-  directory : (n : ℕ) (u : World) → 2001 ≤ n → own_of h u ≡ at (serving c (Some 0)) O0.mine.refs false → Safe machine h B Q (lent_directory c) n told u
-  directory n u few own = s-lend-directory own (omega (arith, few)) (server (serving c (Some 0)) O0.mine.refs false (serving_child c (Some 0)) few0) refl (λ l o u1 q own1. ends o l u1 (omega (arith, few, q)) own1)
+  directory : (n : ℕ) (u : World) → 2001 ≤ n → own_of h u ≡ at (serving c (Some 0)) O0.mine.refs false → Safe (machine version) h B Q (lent_directory c) n told u
+  directory n u few own = s-lend-directory version own (omega (arith, few)) (server (serving c (Some 0)) O0.mine.refs false (serving_child c (Some 0)) few0) refl (λ l o u1 q own1. ends o l u1 (omega (arith, few, q)) own1)
 
   -- so many descriptors are left at most
   lends_all : (left from n : ℕ) (L : ℕ → Option ℕ) (u : World) → 2002 + left ≤ n → descriptor_count ≤ left + from → from ≤ descriptor_count → L descriptor_count ≡ Some c → OnTheWay from (at L O0.mine.refs false) → (next_used from O0.desk.fds ≡ None → from ≡ 0) → own_of h u ≡ at L O0.mine.refs false
-      → Safe machine h B Q (lend_from c left from) n [] u
+      → Safe (machine version) h B Q (lend_from c left from) n [] u
   lends_all zero from n L u few enough le child way first owns = absurd (let a = first (next_past from O0.desk.fds (omega (arith, enough))) in omega (arith, a, enough))
   lends_all (suc left) from n L u few enough le child way first owns =
-      s-lend owns (omega (arith, few)) (server L O0.mine.refs false child few0) way le first begun
+      s-lend version owns (omega (arith, few)) (server L O0.mine.refs false child few0) way le first begun
       (λ l o u1 q own1. ends o l u1 (omega (arith, few, q)) own1)
       (λ l i u1 q own1. directory l u1 (omega (arith, few, q)) own1)
       (λ l i j u1 x q more own1. lends_all left (i + 1) l (put L i (Some x.slot)) u1 (omega (arith, few, q)) (let a = x.above in omega (arith, a, enough)) (let a = x.below in omega (arith, a)) (put_other L i (Some x.slot) descriptor_count (λ e. absurd (let a = x.below in omega (arith, a, e))) ∙ child) (then_ i x) (λ e. absurd (cc (more, e))) own1)
@@ -249,6 +250,6 @@ module _ (h c : ℕ) (O0 : Own) (lt : h < hart_count) (free : O0.desk.lender ≡
         after = λ j a lj. put_other L i (Some x.slot) j (λ e. absurd (omega (arith, a, e))) ∙ way.after j (let y = x.above in omega (arith, a, y)) lj;
       }
 
-  pub inherit_ok : (u : World) → own_of h u ≡ begun_own c O0 → Safe machine h B Q (inherit_program c) (limit (calls.Inherit c)) [] u
+  pub inherit_ok : (u : World) → own_of h u ≡ begun_own c O0 → Safe (machine version) h B Q (inherit_program c) (limit version (calls.Inherit c)) [] u
   inherit_ok u own = lends_all descriptor_count 0 rest_cost (serving c None) u (omega arith) (omega arith) (omega arith) (serving_child c None)
       (record { given = serving_given c None; before = λ j l. absurd (omega (arith, l)); after = λ j a l. serving_none c None j l }) (λ e. refl) (own ∙ as_at (serving c None))

@@ -1,4 +1,5 @@
 -- The descriptor of an open: the slot in hand gets the open file, which the tree has had since the step, and the hart's reference.
+use Rattle.image_versions.specs.declared.version.Version.{Version}
 use Rattle.inode_machine.proofs.Vocabulary.{◌≡◌, ◌≢◌, ◌⊎◌, inl, inr, ℕ, ◌+◌, ◌-◌, ◌<◌, Bool, true, false, ◌==◌, nat_lt, List, Option, Some, None, refl, sym, ◌∙◌, ap, subst, arith, Do, ExecResult, Ran, P, own, onto, Good, Fine, Safe, Wp, Node, OpenFile, hart_count, descriptor_count, put, hold_names, settle, lowest, has_room, key_is, key_names, row_of, key_from, sum_below, one_if, eq_self, eq_not, either, same_or, put_same, put_other, sum_same, sum_changed, one_yes, one_no, Step, Mine, Entry, Desk, Mark, World, Install, InodeType, type_of, OfDirectory, file_count, install_if, installed, is_at, opening_id, or_zero, marked, places, with_mark, id_at, key_in, number_is, own_names, own_of, file_tables_of, uses, users, Held, IsOpening, Own, Inv, Opens, IsReached, FileTables, IsTied, machine, HasType}
 use Rattle.inode_machine.proofs.Basics.{bond_of, put_elim, stands_on, has_inode, one_refs, HartStep, Fair, fair, refers_put, s-owned, quiet, each_refs, has_node, here_refs, my_refs, total_changed, total_same, walks_refs, not_home, spares, is_at_some, less_not, users_put, users_some, with_fd, not_one}
 use Rattle.inode_machine.proofs.Tables.{less_is}
@@ -176,10 +177,10 @@ pub record Installing (h fd s : ℕ) (f : OpenFile) (inode_type : InodeType) (O 
   pub owned : own_of h (installed h v f inode_type s fd) ≡ own_installed O f.number fd s
 
 -- The descriptor is taken: the open file stands in the slot, and has the hart's reference.
-pub installing : (h fd s : ℕ) (f : OpenFile) (inode_type : InodeType) (x : Held) (v : World) (O : Own) → own_of h v ≡ O → O.desk.lender ≡ None → h < hart_count → Inv v → O.desk.opening ≡ Some fd → O.desk.hand ≡ Some s → O.row.keys fd ≡ Some (key_is f) → f.offset ≡ 0
+pub installing : Version → (h fd s : ℕ) (f : OpenFile) (inode_type : InodeType) (x : Held) (v : World) (O : Own) → own_of h v ≡ O → O.desk.lender ≡ None → h < hart_count → Inv v → O.desk.opening ≡ Some fd → O.desk.hand ≡ Some s → O.row.keys fd ≡ Some (key_is f) → f.offset ≡ 0
     → O.mine.walk ≡ None → O.mine.pending ≡ None → O.inodes f.number ≡ Some x → x.alone ≡ false → type_of x.node ≡ Some inode_type → (f.writable ≡ true → inode_type ≢ OfDirectory) → 0 < O.mine.refs f.number → ((1 < O.mine.refs f.number) ⊎ (own_names O.row (record (O.desk) { opening = None }) f.number ≡ false))
     → Installing h fd s f inode_type O v
-installing h fd s f inode_type x v O ov free lt inv opens hand keyed start walks none isi shared typed written refers may = record { lands = fair inv did; owned = owned }
+installing version h fd s f inode_type x v O ov free lt inv opens hand keyed start walks none isi shared typed written refers may = record { lands = fair inv did; owned = owned }
   where
     i0 : ℕ
     i0 = f.number
@@ -306,21 +307,21 @@ installing h fd s f inode_type x v O ov free lt inv opens hand keyed start walks
       desk = (put_same v.desks h desk ∙ ap (λ (p : Own). record (p.desk) { fds = put p.desk.fds fd (Some s); hand = None; opening = None }) ov) z;
     }
 
-pub s-install : {A : Type 0} {h : ℕ} {x : Held} (fd s : ℕ) (f : OpenFile) (inode_type : InodeType) {m : Option ℕ → Option Mark} {k : Option ℕ → P machine A} {B : List Step → Type 0} {Q : A → List Step → World → Type 0} {n : ℕ} {es : List Step} {w : World} {O : Own}
+pub s-install : (version : Version) {A : Type 0} {h : ℕ} {x : Held} (fd s : ℕ) (f : OpenFile) (inode_type : InodeType) {m : Option ℕ → Option Mark} {k : Option ℕ → P (machine version) A} {B : List Step → Type 0} {Q : A → List Step → World → Type 0} {n : ℕ} {es : List Step} {w : World} {O : Own}
     → own_of h w ≡ O → O.desk.lender ≡ None → h < hart_count → 0 < n → O.desk.opening ≡ Some fd → O.desk.hand ≡ Some s → has_room O.desk.fds ≡ true → lowest O.desk.fds ≡ fd → O.row.keys fd ≡ Some (key_is f) → f.offset ≡ 0 → m (Some fd) ≡ None
     → O.mine.walk ≡ None → O.mine.pending ≡ None → O.inodes f.number ≡ Some x → x.alone ≡ false → type_of x.node ≡ Some inode_type → (f.writable ≡ true → inode_type ≢ OfDirectory) → 0 < O.mine.refs f.number → ((1 < O.mine.refs f.number) ⊎ (own_names O.row (record (O.desk) { opening = None }) f.number ≡ false))
     → ((l : ℕ) (u : World) → l + 1 ≡ n
     → own_of h u ≡ own_installed O f.number fd s
-    → Safe machine h B Q (k (Some fd)) l es u)
-    → Safe machine h B Q (Do (Install f inode_type) m k) n es w
-s-install {A} {h} {x} fd s f inode_type {m} {k} {B} {Q} {n} {es} {w} {O} owns free lt pos opens hand room low keyed start unmarked walks none isi shared typed written refers may rest = s-owned owns free pos (λ v inv ov.
+    → Safe (machine version) h B Q (k (Some fd)) l es u)
+    → Safe (machine version) h B Q (Do (Install f inode_type) m k) n es w
+s-install version {A} {h} {x} fd s f inode_type {m} {k} {B} {Q} {n} {es} {w} {O} owns free lt pos opens hand room low keyed start unmarked walks none isi shared typed written refers may rest = s-owned version owns free pos (λ v inv ov.
     let a : (v.desks h).hand ≡ Some s = ap (λ (o : Own). o.desk.hand) ov ∙ hand in
     let b : has_room (v.desks h).fds ≡ true = ap (λ (o : Own). has_room o.desk.fds) ov ∙ room in
     let c : lowest (v.desks h).fds ≡ fd = ap (λ (o : Own). lowest o.desk.fds) ov ∙ low in (
       ((λ q. cc (a, q)), start, spares h f.number v O ov refers (elim may [ inl y ↦ inl y | inr y ↦ inr (not_home h f.number v O None inv ov free lt y) ])),
-      (λ _ _. subst (λ (z : ExecResult (Option ℕ) World). Good machine (Option ℕ) h (λ a. places h (Install f inode_type) a (m a) v) 0 n B es v ⊥ (with_mark h m z) (λ l a u. Wp machine h B Q (k a) l (onto (own h (places h (Install f inode_type) a (m a) v)) es) u))
+      (λ _ _. subst (λ (z : ExecResult (Option ℕ) World). Good (machine version) (Option ℕ) h (λ a. places version h (Install f inode_type) a (m a) v) 0 n B es v ⊥ (with_mark version h m z) (λ l a u. Wp (machine version) h B Q (k a) l (onto (own h (places version h (Install f inode_type) a (m a) v)) es) u))
           (sym ((λ i. install_if h v f inode_type (a i) (b i)) ∙ (λ i. Ran (Some (c i)) (installed h v f inode_type s (c i))))) (
-          let at = installing h fd s f inode_type x v O ov free lt inv opens hand keyed start walks none isi shared typed written refers may in
-          subst (λ (z : Option Mark). Fine machine h (places h (Install f inode_type) (Some fd) z v) 0 n B es v (marked h z (installed h v f inode_type s fd)) (λ l. Wp machine h B Q (k (Some fd)) l (onto (own h (places h (Install f inode_type) (Some fd) z v)) es) (marked h z (installed h v f inode_type s fd)))) (sym unmarked)
-          (quiet at.lands (λ z. record { tree = settle v.all; walk = walks_refs v.harts h f.number ((v.harts h).refs f.number - 1) z }) pos (λ l q. (rest l (installed h v f inode_type s fd) q at.owned).wp)))),
+          let at = installing version h fd s f inode_type x v O ov free lt inv opens hand keyed start walks none isi shared typed written refers may in
+          subst (λ (z : Option Mark). Fine (machine version) h (places version h (Install f inode_type) (Some fd) z v) 0 n B es v (marked version h z (installed h v f inode_type s fd)) (λ l. Wp (machine version) h B Q (k (Some fd)) l (onto (own h (places version h (Install f inode_type) (Some fd) z v)) es) (marked version h z (installed h v f inode_type s fd)))) (sym unmarked)
+          (quiet version at.lands (λ z. record { tree = settle v.all; walk = walks_refs v.harts h f.number ((v.harts h).refs f.number - 1) z }) pos (λ l q. (rest l (installed h v f inode_type s fd) q at.owned).wp)))),
     ))

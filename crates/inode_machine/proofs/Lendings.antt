@@ -1,4 +1,5 @@
 -- The rules of an inherit: each descriptor is handed on, then the directory, and then the child starts again.
+use Rattle.image_versions.specs.declared.version.Version.{Version}
 use Rattle.inode_machine.proofs.Vocabulary.{◌≡◌, ◌≢◌, inl, ℕ, ◌+◌, ◌<◌, not, ◌==◌, [], Option, Some, None, refl, sym, ◌∙◌, ap, subst, arith, Inherit, Done, AsksForWhatStays, hart_count, descriptor_count, Name, Tree, put, settle, resolve, parent, no_fd, refusal_with, refusal_by, effect_with, effect_by, answer_with, answer_by, place_of, IsInPlace, MayChoose, StepWith, settle_again, settled_step, one_if, eq_not, none_any, put_same, put_other, sum_same, well_inherit, Walk, Stage, Step, PlaysStep, OwnMove, Mine, Entry, Desk, World, stage_of, is_at, with_walk, slot_or, more_users, with_lent, serving, type_of, Made, made_by, new_id, Own, Rests, own_names, own_of, file_tables_of, id_at, Has, Inv, left_or}
 use Rattle.inode_machine.proofs.Basics.{FairTo, bond_of, stands_on, Fair, fair, has_none, below_is, refs_walk, stage_walk, sells_did, renewed_same, renewed_types, lent_desks, counted_more, tied_lent, HandsAll, tied_handed, both_world}
 use Rattle.inode_machine.proofs.Turnings.{Server, Kid, kid, Turns, turned_fair, turned_own, serving_child, serving_given, serving_none}
@@ -8,17 +9,17 @@ use Rattle.inode_machine.proofs.Turnings.{Server, Kid, kid, Turns, turned_fair, 
 abbrev pub inherited_tree : Tree → ℕ → ℕ → Tree
 inherited_tree t h c = record t { fds = put t.fds c (t.fds h); cwd = put t.cwd c (t.cwd h) }
 
-inherit_goes : (t : Tree) (h c : ℕ) (res : Option ℕ) (par : Option (ℕ × Name)) → refusal_with t h (Inherit c) res par ≡ None
+inherit_goes : (version : Version) (t : Tree) (h c : ℕ) (res : Option ℕ) (par : Option (ℕ × Name)) → refusal_with version t h (Inherit c) res par ≡ None
 unfolding refusal_by
-inherit_goes t h c res par = refl
+inherit_goes version t h c res par = refl
 
-inherit_effect : (t : Tree) (h c new id : ℕ) (res : Option ℕ) (par : Option (ℕ × Name)) → effect_with t h (Inherit c) res par new id ≡ inherited_tree t h c
+inherit_effect : (version : Version) (t : Tree) (h c new id : ℕ) (res : Option ℕ) (par : Option (ℕ × Name)) → effect_with version t h (Inherit c) res par new id ≡ inherited_tree t h c
 unfolding effect_by
-inherit_effect t h c new id res par = refl
+inherit_effect version t h c new id res par = refl
 
-inherit_answer : (t : Tree) (h c id : ℕ) (res : Option ℕ) (par : Option (ℕ × Name)) → answer_with t h (Inherit c) res par id ≡ Done
+inherit_answer : (version : Version) (t : Tree) (h c id : ℕ) (res : Option ℕ) (par : Option (ℕ × Name)) → answer_with version t h (Inherit c) res par id ≡ Done
 unfolding answer_by
-inherit_answer t h c id res par = refl
+inherit_answer version t h c id res par = refl
 
 settled_fds : (t : Tree) → (settle t).fds ≡ t.fds
 unfolding settle
@@ -33,23 +34,23 @@ inherit_place t h c lt lc ne none =
 asks_nothing : (t : Tree) → AsksForWhatStays t None None
 asks_nothing t = record { node = λ n q. absurd cc; directory = λ q r. absurd cc; child = λ q n r l. absurd cc }
 
-inherit_step : (t : Tree) (h c id : ℕ) (res : Option ℕ) (par : Option (ℕ × Name)) → h < hart_count → c < hart_count → c ≢ h → ((i : ℕ) → i < descriptor_count → t.fds c i ≡ None) → StepWith (settle t) h (Inherit c) res par Done 0 id (settle (inherited_tree t h c))
-inherit_step t h c id res par lt lc ne none = (
-  inherit_goes (settle t) h c res par,
-  sym (inherit_answer (settle t) h c id res par),
+inherit_step : (version : Version) (t : Tree) (h c id : ℕ) (res : Option ℕ) (par : Option (ℕ × Name)) → h < hart_count → c < hart_count → c ≢ h → ((i : ℕ) → i < descriptor_count → t.fds c i ≡ None) → StepWith version (settle t) h (Inherit c) res par Done 0 id (settle (inherited_tree t h c))
+inherit_step version t h c id res par lt lc ne none = (
+  inherit_goes version (settle t) h c res par,
+  sym (inherit_answer version (settle t) h c id res par),
   choice,
-  settle_again (inherited_tree t h c) ∙ x.3 ∙ ap settle (inherit_effect (settle t) h c 0 id None None ∙ sym (inherit_effect (settle t) h c 0 id res par)),
+  settle_again (inherited_tree t h c) ∙ x.3 ∙ ap settle (inherit_effect version (settle t) h c 0 id None None ∙ sym (inherit_effect version (settle t) h c 0 id res par)),
   inherit_place (settle t) h c lt lc ne (λ i li. ap (λ (f : ℕ → ℕ → Option ℕ). f c i) (settled_fds t) ∙ none i li),
 )
   where
     choice : MayChoose (settle t) h (Inherit c) par 0 id
     choice = record { node = λ z. absurd cc; file = λ z. absurd cc }
 
-    now : StepWith t h (Inherit c) None None Done 0 id (settle (inherited_tree t h c))
-    now = (inherit_goes t h c None None, sym (inherit_answer t h c id None None), record { node = λ z. absurd cc; file = λ z. absurd cc }, ap settle (sym (inherit_effect t h c 0 id None None)), inherit_place t h c lt lc ne none)
+    now : StepWith version t h (Inherit c) None None Done 0 id (settle (inherited_tree t h c))
+    now = (inherit_goes version t h c None None, sym (inherit_answer version t h c id None None), record { node = λ z. absurd cc; file = λ z. absurd cc }, ap settle (sym (inherit_effect version t h c 0 id None None)), inherit_place t h c lt lc ne none)
 
-    x : StepWith (settle t) h (Inherit c) None None Done 0 id (settle (settle (inherited_tree t h c)))
-    x = settled_step t h (Inherit c) None None Done 0 id (settle (inherited_tree t h c)) (asks_nothing t) now
+    x : StepWith version (settle t) h (Inherit c) None None Done 0 id (settle (settle (inherited_tree t h c)))
+    x = settled_step version t h (Inherit c) None None Done 0 id (settle (inherited_tree t h c)) (asks_nothing t) now
 
 abbrev pub inherited : ℕ → Step
 inherited c = record { move = OwnMove (Inherit c) 0; told = Some (record { act = record { step = Inherit c; answer = Done }; new = 0 }) }
@@ -57,19 +58,19 @@ inherited c = record { move = OwnMove (Inherit c) 0; told = Some (record { act =
 abbrev pub inherited_made : Tree → ℕ → ℕ → Made
 inherited_made t h c = record { all = inherited_tree t h c; walk = None; found = None; opened = None; entered = None; left = None; told = (inherited c).told }
 
-pub made_is : (t : Tree) (h c id : ℕ) (k : Option Walk) → made_by t h id k (OwnMove (Inherit c) 0) ≡ inherited_made t h c
-made_is t h c id k = rw (inherit_goes t h c (resolve t h []) (parent t h []))
-    (λ r. record { all = inherit_effect t h c 0 id (resolve t h []) (parent t h []) r; walk = None; found = None; opened = None; entered = None; left = None; told = Some (record { act = record { step = Inherit c; answer = inherit_answer t h c id (resolve t h []) (parent t h []) r }; new = 0 }) })
+pub made_is : (version : Version) (t : Tree) (h c id : ℕ) (k : Option Walk) → made_by version t h id k (OwnMove (Inherit c) 0) ≡ inherited_made t h c
+made_is version t h c id k = rw (inherit_goes version t h c (resolve version t h []) (parent version t h []))
+    (λ r. record { all = inherit_effect version t h c 0 id (resolve version t h []) (parent version t h []) r; walk = None; found = None; opened = None; entered = None; left = None; told = Some (record { act = record { step = Inherit c; answer = inherit_answer version t h c id (resolve version t h []) (parent version t h []) r }; new = 0 }) })
 
-pub inherit_takes : (h c : ℕ) (v u : World) → h < hart_count → Kid h c v → (v.harts h).walk ≡ None → ((i : ℕ) → i < descriptor_count → v.all.fds c i ≡ None) → (stage_of u).tree ≡ settle (inherited_tree v.all h c) → (stage_of u).walk ≡ put (λ g. (v.harts g).walk) h None → PlaysStep (stage_of v) h (inherited c) (stage_of u)
-inherit_takes h c v u lt k walk none tree walks = record {
+pub inherit_takes : (version : Version) (h c : ℕ) (v u : World) → h < hart_count → Kid h c v → (v.harts h).walk ≡ None → ((i : ℕ) → i < descriptor_count → v.all.fds c i ≡ None) → (stage_of u).tree ≡ settle (inherited_tree v.all h c) → (stage_of u).walk ≡ put (λ g. (v.harts g).walk) h None → PlaysStep version (stage_of v) h (inherited c) (stage_of u)
+inherit_takes version h c v u lt k walk none tree walks = record {
   follows = refl;
   rests = walk;
   acts = record {
     answer = Done;
     id = new_id v;
     deed = refl;
-    step = subst (λ (z : Tree). StepWith (settle v.all) h (Inherit c) (resolve (settle v.all) h []) (parent (settle v.all) h []) Done 0 (new_id v) z) (sym tree) (inherit_step v.all h c (new_id v) (resolve (settle v.all) h []) (parent (settle v.all) h []) lt k.below k.apart none);
+    step = subst (λ (z : Tree). StepWith version (settle v.all) h (Inherit c) (resolve version (settle v.all) h []) (parent version (settle v.all) h []) Done 0 (new_id v) z) (sym tree) (inherit_step version v.all h c (new_id v) (resolve version (settle v.all) h []) (parent version (settle v.all) h []) lt k.below k.apart none);
     walk = walks;
     alone = λ ok q. absurd cc;
     idle = λ g l q. let e : c ≡ g = cc in subst (λ (z : ℕ). (v.harts z).walk ≡ None) e k.lends.rests.walk;
@@ -166,7 +167,7 @@ at_home h c v O inv ov srv = sym ((inv.directory h srv.hart).at (ap (λ (o : Own
 abbrev pub ended_mine : Own → Mine
 ended_mine O = record { refs = O.mine.refs; walk = None; pending = None }
 
-module _ (h c i s : ℕ) (e : Entry) (v : World) (O : Own) (inv : Inv v) (ov : own_of h v ≡ O) (srv : Server h c O) (none : (j : ℕ) → j < descriptor_count → (v.desks c).fds j ≡ None) (li : i < descriptor_count) (is : (v.desks h).fds i ≡ Some s) (unlent : (v.desks h).lent i ≡ None) (at : v.files s ≡ Some e)
+module _ (version : Version) (h c i s : ℕ) (e : Entry) (v : World) (O : Own) (inv : Inv v) (ov : own_of h v ≡ O) (srv : Server h c O) (none : (j : ℕ) → j < descriptor_count → (v.desks c).fds j ≡ None) (li : i < descriptor_count) (is : (v.desks h).fds i ≡ Some s) (unlent : (v.desks h).lent i ≡ None) (at : v.files s ≡ Some e)
     (all : (j : ℕ) → j < descriptor_count → put (v.desks h).lent i (Some s) j ≡ (v.desks h).fds j) where
   k : Kid h c v
   k = kid h c v O inv ov srv
@@ -275,5 +276,5 @@ module _ (h c i s : ℕ) (e : Entry) (v : World) (O : Own) (inv : Inv v) (ov : o
   pub all_lent_own : own_of h all_lent ≡ record O { mine = ended_mine O; desk = record (O.desk) { lent = serving c (Some 0) } }
   all_lent_own = turned_own h c v O F D v.refs H X C (serving c (Some 0)) y inv ov srv turns ∙ (λ z. record O { mine = mine_is z; desk = record (O.desk) { lent = serving c (Some 0) } })
 
-  pub all_lent_takes : PlaysStep (stage_of v) h (inherited c) (stage_of all_lent)
-  all_lent_takes = inherit_takes h c v all_lent srv.hart k (ap (λ (o : Own). o.mine.walk) ov ∙ srv.walk) (tree_empty h c v inv k none) refl (ap (λ (m : Stage). m.walk) (stage_walk h None None v))
+  pub all_lent_takes : PlaysStep version (stage_of v) h (inherited c) (stage_of all_lent)
+  all_lent_takes = inherit_takes version h c v all_lent srv.hart k (ap (λ (o : Own). o.mine.walk) ov ∙ srv.walk) (tree_empty h c v inv k none) refl (ap (λ (m : Stage). m.walk) (stage_walk h None None v))

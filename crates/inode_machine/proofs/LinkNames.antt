@@ -1,4 +1,5 @@
 -- Link once its count is raised: the new name's directory is walked to, and the name entered; or the count is lowered again.
+use Rattle.image_versions.specs.declared.version.Version.{Version}
 use Rattle.inode_machine.proofs.Vocabulary.{◌≡◌, ◌≢◌, ◌⊎◌, inl, inr, ℕ, ◌+◌, ◌-◌, ◌*◌, ◌<◌, ◌≤◌, Bool, true, false, ◌==◌, ◌||◌, List, [], ◌∷◌, length, Option, Some, None, refl, sym, ◌∙◌, ap, subst, arith, if◌then◌else◌, Do, own, onto, oldest_first, Fine, Safe, Wp, Begun, Ends, Cause, NoEntry, Exists, Blocks, DirectoryFull as Directory, Reply, Node, Hold, Action, Done, Failed, Act, next_of, reply_of, had_room, first_cause, Row, key_names, lowered, path_of, Name, put, look, elements, hold_names, live_directory, hart_count, IsThere, one_if, either, same_or, put_same, put_other, one_yes, Step, MayEnd, IsWholeCall, Begin, Desk, Note, World, UnlockInode, Store, face_of, face_or, is_at, unlocked, with_entry, marked, places, Held, Own, key_in, own_names, own_of, nothing, Inv, machine, ThisP as P, WalkStop, NotThere, NoMemory, done, drop, failed, full, give_up, is_some, is_there, makes, own_step, start, stopped, tail, walk_parent, link_found, link_in, link_name, lower, covered_calls}
 use Rattle.atomic_programs.specs.Logic as logic
 use Rattle.plain_tree.specs.declared.call.Call.TheVariants as calls
@@ -60,22 +61,22 @@ names_fewer r d i q = fewer (r.cwd == i) (hold_names r.hold i) (key_names (key_i
     fewer false false c e = e
 
 -- The lock is given up, and a step that follows a path without elements refused at once.
-s-give-begin : {A : Type 0} {h i : ℕ} {x : Held} (s : Action) {k : Unit {0} → logic.P machine A} {B : List Step → Type 0} {Q : A → List Step → World → Type 0} {n : ℕ} {es : List Step} {w : World} {O : Own} (O0 : Own)
-    → own_of h w ≡ O → O.desk.lender ≡ None → h < hart_count → 0 < n → O.inodes i ≡ Some x → x.locked ≡ true → x.alone ≡ false → x.disk ≡ x.node → O.mine.walk ≡ None → O.mine.pending ≡ None → O.row ≡ O0.row → Leads h s O0 → elements (path_of s) ≡ [] → B (begin_refused s ∷ es)
-    → ((l : ℕ) (u : World) → l + 1 ≡ n → own_of h u ≡ record O { inodes = put O.inodes i None; mine = record { refs = O.mine.refs; walk = None; pending = None } } → Safe machine h B Q (k tt) l (begin_refused s ∷ es) u)
-    → Safe machine h B Q (Do (UnlockInode i) (λ _. makes (Begin s 0)) k) n es w
-s-give-begin {A} {h} {i} {x} s {k} {B} {Q} {n} {es} {w} {O} O0 owns free lt pos isi has shared whole walks pending row leads path b rest = s-owned owns free pos (λ v inv ov. (
+s-give-begin : (version : Version) {A : Type 0} {h i : ℕ} {x : Held} (s : Action) {k : Unit {0} → logic.P (machine version) A} {B : List Step → Type 0} {Q : A → List Step → World → Type 0} {n : ℕ} {es : List Step} {w : World} {O : Own} (O0 : Own)
+    → own_of h w ≡ O → O.desk.lender ≡ None → h < hart_count → 0 < n → O.inodes i ≡ Some x → x.locked ≡ true → x.alone ≡ false → x.disk ≡ x.node → O.mine.walk ≡ None → O.mine.pending ≡ None → O.row ≡ O0.row → Leads version h s O0 → elements version (path_of s) ≡ [] → B (begin_refused s ∷ es)
+    → ((l : ℕ) (u : World) → l + 1 ≡ n → own_of h u ≡ record O { inodes = put O.inodes i None; mine = record { refs = O.mine.refs; walk = None; pending = None } } → Safe (machine version) h B Q (k tt) l (begin_refused s ∷ es) u)
+    → Safe (machine version) h B Q (Do (UnlockInode i) (λ _. makes (Begin s 0)) k) n es w
+s-give-begin version {A} {h} {i} {x} s {k} {B} {Q} {n} {es} {w} {O} O0 owns free lt pos isi has shared whole walks pending row leads path b rest = s-owned version owns free pos (λ v inv ov. (
   locks_it h i v O x ov isi has,
   (λ _ _.
       let a : v.alone i ≡ false = ap (λ (y : Held). y.alone) (has_inode h i v O x ov isi).1 ∙ shared in
-      let g = gives h i x O v free lt inv ov isi shared whole pending in
-      subst (λ (c : Bool). Fine machine h (places h (UnlockInode i) tt (makes (Begin s 0)) v) 0 n B es v (marked h (makes (Begin s 0)) (unlocked i v c)) (λ l. Wp machine h B Q (k tt) l (onto (own h (places h (UnlockInode i) tt (makes (Begin s 0)) v)) es) (marked h (makes (Begin s 0)) (unlocked i v c)))) (sym a)
-      (fine_after g.fair refl (begin_good h 0 n B Q es (unlocked i v false) (record O { inodes = put O.inodes i None }) O0 s (k tt) g.owned free lt g.fair.inv walks pending row leads path b pos rest))),
+      let g = gives version h i x O v free lt inv ov isi shared whole pending in
+      subst (λ (c : Bool). Fine (machine version) h (places version h (UnlockInode i) tt (makes (Begin s 0)) v) 0 n B es v (marked version h (makes (Begin s 0)) (unlocked i v c)) (λ l. Wp (machine version) h B Q (k tt) l (onto (own h (places version h (UnlockInode i) tt (makes (Begin s 0)) v)) es) (marked version h (makes (Begin s 0)) (unlocked i v c)))) (sym a)
+      (fine_after version g.fair refl (begin_good version h 0 n B Q es (unlocked i v false) (record O { inodes = put O.inodes i None }) O0 s (k tt) g.owned free lt g.fair.inv walks pending row leads path b pos rest))),
 ))
 
 -- the rest of the call is right
-abbrev Goes : ℕ → List ℕ → List ℕ → P Reply → ℕ → List Step → World → Type 0
-Goes h old new p n es w = Safe machine h (Begun covered_calls (calls.Link old new)) (Ends covered_calls h (calls.Link old new)) p n es w
+abbrev Goes : Version → ℕ → List ℕ → List ℕ → P Reply → ℕ → List Step → World → Type 0
+Goes version h old new p n es w = Safe (machine version) h (Begun (covered_calls version) (calls.Link old new)) (Ends (covered_calls version) h (calls.Link old new)) p n es w
 
 -- the call found no room, or its name was refused
 abbrev Lowers : List ℕ → List ℕ → Reply → List Step → Own → Type 0
@@ -88,10 +89,10 @@ high_own j O = record O { row = record (O.row) { hold = Some (high j) } }
 abbrev pub more_base : (ℕ → ℕ) → ℕ → ℕ → ℕ
 more_base base j i = base i + one_if (j == i)
 
-plain_unbump : Plain steps.Unbump
-plain_unbump = record { follows = refl; path = refl; makes = λ t q. refl; inherits = λ g q. absurd cc }
+plain_unbump : Version → Plain steps.Unbump
+plain_unbump version = record { follows = refl; path = refl; makes = λ t q. refl; inherits = λ g q. absurd cc }
 
-module _ (h : ℕ) (old new : List ℕ) (lt : h < hart_count) {base : ℕ → ℕ} {O0 : Own} (joins : HasJoined base O0) (j : ℕ) where
+module _ (version : Version) (h : ℕ) (old new : List ℕ) (lt : h < hart_count) {base : ℕ → ℕ} {O0 : Own} (joins : HasJoined base O0) (j : ℕ) where
   -- with its hold raised a walk may begin again
   ready_high : Ready (more_base base j) (high_own j O0)
   ready_high = record {
@@ -145,9 +146,9 @@ module _ (h : ℕ) (old new : List ℕ) (lt : h < hart_count) {base : ℕ → �
 
   -- The count is lowered, its inode given up, and the call ends.
   lowers : (r : Reply) (ms : List ℕ) (n : ℕ) (es : List Step) (u : World) (R : Own) (E : ℕ → Option Held) → 971 * length ms + 2000 ≤ n → own_of h u ≡ R → Holding (more_base base j) ms (high_own j O0) R E (λ i. 0) → ((i : ℕ) → E i ≡ None) → R.mine.walk ≡ None → R.mine.pending ≡ None → Lowers old new r es R
-      → Goes h old new (lower old new j r ms) n es u
+      → Goes version h old new (lower old new j r ms) n es u
   lowers r ms n es u R E few held k empty walk none told =
-      s-take (λ o. (X : Node) × (o ≡ Some X)) (λ o f e. let a = f.1 in cc (a, e)) tt held free lt (omega (arith, few)) (out_of k (empty j)).1 (let a = k.refs j in let o = one_at j in omega (arith, a, o))
+      s-take version (λ o. (X : Node) × (o ≡ Some X)) (λ o f e. let a = f.1 in cc (a, e)) tt held free lt (omega (arith, few)) (out_of k (empty j)).1 (let a = k.refs j in let o = one_at j in omega (arith, a, o))
       (λ v inv ov. let t = held_there v inv ov in (t.node, t.is)) (λ l x u1 q f held1. by l x u1 q f held1)
     where
       free : R.desk.lender ≡ None
@@ -159,12 +160,12 @@ module _ (h : ℕ) (old new : List ℕ) (lt : h < hart_count) {base : ℕ → �
       held_there : (v : World) → Inv v → own_of h v ≡ R → IsThere v.all.nodes j false
       held_there v inv ov = inv.well.holds h (high j) lt (ap (λ (o : Own). o.row.hold) ov ∙ holds)
 
-      by : (l : ℕ) (x : Option Node) (u1 : World) → l + 4 ≡ n → ((X : Node) × (x ≡ Some X)) → own_of h u1 ≡ record R { inodes = put R.inodes j (Some (locked_held x)) } → Goes h old new (Do (Store j ((face_or (face_of x)).count - 1)) (λ _. own_step steps.Unbump) (λ _. give_up j (tail ms r))) l es u1
+      by : (l : ℕ) (x : Option Node) (u1 : World) → l + 4 ≡ n → ((X : Node) × (x ≡ Some X)) → own_of h u1 ≡ record R { inodes = put R.inodes j (Some (locked_held x)) } → Goes version h old new (Do (Store j ((face_or (face_of version x)).count - 1)) (λ _. own_step steps.Unbump) (λ _. give_up j (tail ms r))) l es u1
       by l None u1 q f held1 = absurd (let a = f.1 in cc)
       by l (Some X) u1 q f held1 =
-          s-store-move j (X.count - 1) steps.Unbump None X held1 free lt (omega (arith, q, few)) (k.stays.joined ∙ joins.ready.joined) walk none (put_same R.inodes j (Some (locked_held (Some X)))) refl refl refl refl (inr (omega arith)) plain_unbump
-          (λ v inv ov. unbumps h j X v lt inv (ap (λ (o : Own). o.row.hold) ov ∙ holds) (has_node h j v O1 (locked_held (Some X)) ov (put_same R.inodes j (Some (locked_held (Some X)))))) (λ i p. absurd cc) begun
-          (λ l2 u2 q2 held2. s-give-end h (calls.Link old new) r ms F j l2 (done_step steps.Unbump ∷ es) u2 M lt joins held2 (omega (arith, q, q2, few)) k3 (put_same (put E j (Some (locked_held (Some X)))) j (Some L)) (record { locked = refl; shared = refl; same = refl })
+          s-store-move version j (X.count - 1) steps.Unbump None X held1 free lt (omega (arith, q, few)) (k.stays.joined ∙ joins.ready.joined) walk none (put_same R.inodes j (Some (locked_held (Some X)))) refl refl refl refl (inr (omega arith)) (plain_unbump version)
+          (λ v inv ov. unbumps version h j X v lt inv (ap (λ (o : Own). o.row.hold) ov ∙ holds) (has_node h j v O1 (locked_held (Some X)) ov (put_same R.inodes j (Some (locked_held (Some X)))))) (λ i p. absurd cc) begun
+          (λ l2 u2 q2 held2. s-give-end version h (calls.Link old new) r ms F j l2 (done_step steps.Unbump ∷ es) u2 M lt joins held2 (omega (arith, q, q2, few)) k3 (put_same (put E j (Some (locked_held (Some X)))) j (Some L)) (record { locked = refl; shared = refl; same = refl })
           (λ i ne. put_other (put E j (Some (locked_held (Some X)))) j (Some L) i ne ∙ put_other E j (Some (locked_held (Some X))) i ne ∙ empty i) refl refl ends)
         where
           L : Held
@@ -194,10 +195,10 @@ module _ (h : ℕ) (old new : List ℕ) (lt : h < hart_count) {base : ℕ → �
           after : (c : Cause) → Walked (calls.Link old new) (found old ∷ bumped ∷ not_entered new c ∷ []) es → Walked (calls.Link old new) (found old ∷ bumped ∷ not_entered new c ∷ unbumped ∷ []) (done_step steps.Unbump ∷ es)
           after c w rest s p = w (done_step steps.Unbump ∷ rest) s (lowers_next old new c, p)
 
-          begun : (R.desk.full ≡ true) ⊎ Begun covered_calls (calls.Link old new) (done_step steps.Unbump ∷ es)
+          begun : (R.desk.full ≡ true) ⊎ Begun (covered_calls version) (calls.Link old new) (done_step steps.Unbump ∷ es)
           begun = elim told [
             | inl p ↦ inl p
-            | inr p ↦ inr (begun_by (calls.Link old new) (found old ∷ bumped ∷ not_entered new p.0 ∷ unbumped ∷ []) (done_step steps.Unbump ∷ es) [] (failed (calls.Link old new) p.0) (after p.0 p.2) (lowered_ends old new p.0))
+            | inr p ↦ inr (begun_by version (calls.Link old new) (found old ∷ bumped ∷ not_entered new p.0 ∷ unbumped ∷ []) (done_step steps.Unbump ∷ es) [] (failed (calls.Link old new) p.0) (after p.0 p.2) (lowered_ends old new p.0))
           ]
 
           ends : (R.desk.full ≡ true) ⊎ IsWholeCall (calls.Link old new) (oldest_first (done_step steps.Unbump ∷ es)) r
@@ -215,22 +216,22 @@ module _ (h : ℕ) (old new : List ℕ) (lt : h < hart_count) {base : ℕ → �
 
   -- It is given up, and the count lowered.
   backs : (r : Reply) (d : ℕ) (x : Option Node) (ms : List ℕ) (l : ℕ) (es : List Step) (u : World) (R : Own) → 971 * length ms + 3000 ≤ l → own_of h u ≡ R → Holding (more_base base j) ms (high_own j O0) R (at_one d x) (λ i. 0 + one_if (d == i)) → R.mine.walk ≡ None → R.mine.pending ≡ None → Lowers old new r es R
-      → Goes h old new (give_up d (lower old new j r ms)) l es u
+      → Goes version h old new (give_up d (lower old new j r ms)) l es u
   backs r d x ms l es u R few held k walk none told =
-      s-give-up d {more = λ i. 0} held lt ready_high (omega (arith, few)) k walk none (put_same nothing d (Some (locked_held x))) (record { locked = refl; shared = refl; same = refl })
+      s-give-up version d {more = λ i. 0} held lt ready_high (omega (arith, few)) k walk none (put_same nothing d (Some (locked_held x))) (record { locked = refl; shared = refl; same = refl })
       (λ l2 u2 M q held2 desk walk2 none2 k2. lowers r ms l2 es u2 M (put (at_one d x) d None) (omega (arith, few, q)) held2 k2 (empty_one d x) walk2 none2 (elim told [ inl p ↦ inl (ap (λ (z : Desk). z.full) desk ∙ p) | inr p ↦ inr p ]))
 
   -- The name is entered: its directory is given up, the inode's reference dropped, and the call ends.
   named : (d : ℕ) (x : Option Node) (ms : List ℕ) (l : ℕ) (es : List Step) (u : World) (R : Own) → 971 * length ms + 3000 ≤ l → own_of h u ≡ R → Holding base ms O0 R (at_one d x) (λ i. (0 + one_if (j == i)) + one_if (d == i)) → R.mine.walk ≡ None → R.mine.pending ≡ None → IsWholeCall (calls.Link old new) (oldest_first es) (done (calls.Link old new))
-      → Goes h old new (give_up d (drop j (tail ms (done (calls.Link old new))))) l es u
+      → Goes version h old new (give_up d (drop j (tail ms (done (calls.Link old new))))) l es u
   named d x ms l es u R few held k walk none told =
-      s-give-up d {more = λ i. 0 + one_if (j == i)} held lt joins.ready (omega (arith, few)) k walk none (put_same nothing d (Some (locked_held x))) (record { locked = refl; shared = refl; same = refl })
+      s-give-up version d {more = λ i. 0 + one_if (j == i)} held lt joins.ready (omega (arith, few)) k walk none (put_same nothing d (Some (locked_held x))) (record { locked = refl; shared = refl; same = refl })
       (λ l2 u2 M q held2 desk walk2 none2 k2. drops l2 u2 M (omega (arith, few, q)) held2 k2 walk2 none2)
     where
-      drops : (l2 : ℕ) (u2 : World) (M : Own) → 971 * length ms + 2000 ≤ l2 → own_of h u2 ≡ M → Holding base ms O0 M (put (at_one d x) d None) (λ i. 0 + one_if (j == i)) → M.mine.walk ≡ None → M.mine.pending ≡ None → Goes h old new (drop j (tail ms (done (calls.Link old new)))) l2 es u2
+      drops : (l2 : ℕ) (u2 : World) (M : Own) → 971 * length ms + 2000 ≤ l2 → own_of h u2 ≡ M → Holding base ms O0 M (put (at_one d x) d None) (λ i. 0 + one_if (j == i)) → M.mine.walk ≡ None → M.mine.pending ≡ None → Goes version h old new (drop j (tail ms (done (calls.Link old new)))) l2 es u2
       drops l2 u2 M few2 held2 k2 walk2 none2 =
-          s-drop j held2 (k2.stays.lender ∙ joins.ready.free) lt (omega (arith, few2)) (k2.stays.joined ∙ joins.ready.joined) (out (M.inodes j) refl) (let a = k2.refs j in let o = one_at j in omega (arith, a, o)) none2 walk2 may
-          (λ l3 u3 q3 held3. s-end h (calls.Link old new) (done (calls.Link old new)) ms (put (at_one d x) d None) (λ i. 0) l3 es u3 M2 lt joins held3 (omega (arith, few2, q3)) k4 (empty_one d x) (λ i. refl) walk2 none2 (inr told))
+          s-drop version j held2 (k2.stays.lender ∙ joins.ready.free) lt (omega (arith, few2)) (k2.stays.joined ∙ joins.ready.joined) (out (M.inodes j) refl) (let a = k2.refs j in let o = one_at j in omega (arith, a, o)) none2 walk2 may
+          (λ l3 u3 q3 held3. s-end version h (calls.Link old new) (done (calls.Link old new)) ms (put (at_one d x) d None) (λ i. 0) l3 es u3 M2 lt joins held3 (omega (arith, few2, q3)) k4 (empty_one d x) (λ i. refl) walk2 none2 (inr told))
         where
           zero : times j ms ≡ 0
           zero = unlisted_refs k2 j (let o = one_at j in omega (arith, o))
@@ -274,20 +275,20 @@ module _ (h : ℕ) (old new : List ℕ) (lt : h < hart_count) {base : ℕ → �
   by_face d e ms x b = if b then link_found old new j d e ms (look (λ i. x) d e) else give_up d (lower old new j (failed (calls.Link old new) NoEntry) ms)
 
   -- The new name's directory is seen.
-  sees : (d : ℕ) (e : Name) (ms : List ℕ) (n : ℕ) (fs : List Step) (w : World) (O : Own) → 1 ≤ j → j < O0.ninodes → 971 * length ms + 8000 ≤ n → On h (steps.Enter new) d e [] (more_base base j) ms (high_own j O0) O w → Walked (calls.Link old new) (found old ∷ bumped ∷ []) fs → Goes h old new (link_in old new j d e ms) n fs w
+  sees : (d : ℕ) (e : Name) (ms : List ℕ) (n : ℕ) (fs : List Step) (w : World) (O : Own) → 1 ≤ j → j < O0.ninodes → 971 * length ms + 8000 ≤ n → On version h (steps.Enter new) d e [] (more_base base j) ms (high_own j O0) O w → Walked (calls.Link old new) (found old ∷ bumped ∷ []) fs → Goes version h old new (link_in old new j d e ms) n fs w
   sees d e ms n fs w O from below few on walking =
-      s-see (calls.Link old new) (found old ∷ bumped ∷ []) (steps.Enter new) is_there d e lt ready_high on (omega (arith, few)) on.names.0 (enter_follows old new) walking (λ t q. enter_place t h j new lt (ap (λ (r : Row). r.hold) q ∙ ap (λ (r : Row). r.hold) on.stays.row)) (λ b. refl) (λ g q. absurd cc) (λ f. refl)
-      (λ x l u dead q held. subst (λ (b : Bool). Goes h old new (by_face d e ms x b) l (quit_step (steps.Enter new) ∷ fs) u) (sym (live_face x ∙ dead)) (refused NoEntry x l u q held (walking_quit (calls.Link old new) (found old ∷ bumped ∷ []) (steps.Enter new) fs walking)))
+      s-see version (calls.Link old new) (found old ∷ bumped ∷ []) (steps.Enter new) is_there d e lt ready_high on (omega (arith, few)) on.names.0 (enter_follows old new) walking (λ t q. enter_place t h j new lt (ap (λ (r : Row). r.hold) q ∙ ap (λ (r : Row). r.hold) on.stays.row)) (λ b. refl) (λ g q. absurd cc) (λ f. refl)
+      (λ x l u dead q held. subst (λ (b : Bool). Goes version h old new (by_face d e ms x b) l (quit_step (steps.Enter new) ∷ fs) u) (sym (live_face version x ∙ dead)) (refused NoEntry x l u q held (walking_quit (calls.Link old new) (found old ∷ bumped ∷ []) (steps.Enter new) fs walking)))
       (λ x live q. let z = some_found (look (λ i. x) d e) q in (
         Exists,
-        (λ b a. enter_taken b h d z.0 e new (look (λ i. x) d e) ((agrees_look b d e x O live a).1 ∙ z.1)),
+        (λ b a. enter_taken version b h d z.0 e new (look (λ i. x) d e) ((agrees_look b d e x O live a).1 ∙ z.1)),
         (λ l u p held.
-            subst (λ (b : Bool). Goes h old new (by_face d e ms x b) l (told_step 0 (steps.Enter new) (Failed Exists) ∷ fs) u) (sym (live_face x ∙ live))
-            (subst (λ (f : Option ℕ). Goes h old new (link_found old new j d e ms f) l (told_step 0 (steps.Enter new) (Failed Exists) ∷ fs) u) (sym z.1) (refused Exists x l u p held (walking_told (calls.Link old new) (found old ∷ bumped ∷ []) (steps.Enter new) (Failed Exists) 0 fs walking)))),
+            subst (λ (b : Bool). Goes version h old new (by_face d e ms x b) l (told_step 0 (steps.Enter new) (Failed Exists) ∷ fs) u) (sym (live_face version x ∙ live))
+            (subst (λ (f : Option ℕ). Goes version h old new (link_found old new j d e ms f) l (told_step 0 (steps.Enter new) (Failed Exists) ∷ fs) u) (sym z.1) (refused Exists x l u p held (walking_told (calls.Link old new) (found old ∷ bumped ∷ []) (steps.Enter new) (Failed Exists) 0 fs walking)))),
       ))
       (λ x l u inv live q p held.
-      subst (λ (b : Bool). Goes h old new (by_face d e ms x b) l fs u) (sym (live_face x ∙ live))
-      (subst (λ (f : Option ℕ). Goes h old new (link_found old new j d e ms f) l fs u) (sym (none_found (look (λ i. x) d e) q)) (free_name x l u live (none_found (look (λ i. x) d e) q) p held)))
+      subst (λ (b : Bool). Goes version h old new (by_face d e ms x b) l fs u) (sym (live_face version x ∙ live))
+      (subst (λ (f : Option ℕ). Goes version h old new (link_found old new j d e ms f) l fs u) (sym (none_found (look (λ i. x) d e) q)) (free_name x l u live (none_found (look (λ i. x) d e) q) p held)))
     where
       free : O.desk.lender ≡ None
       free = on.stays.lender ∙ joins.ready.free
@@ -297,19 +298,19 @@ module _ (h : ℕ) (old new : List ℕ) (lt : h < hart_count) {base : ℕ → �
 
       k1 : (x : Option Node) (R : Own) → R.inodes ≡ put O.inodes d (Some (locked_held x)) → R.row ≡ O.row → R.ninodes ≡ O.ninodes → R.desk ≡ O.desk → R.mine.refs ≡ O.mine.refs → Holding (more_base base j) ms (high_own j O0) R (at_one d x) (λ i. 0 + one_if (d == i))
       k1 x R inodes row size desk refs =
-          let k = holding_on h (steps.Enter new) d e [] (more_base base j) ms (high_own j O0) O w on in
+          let k = holding_on version h (steps.Enter new) d e [] (more_base base j) ms (high_own j O0) O w on in
           holding_set R d (Some (locked_held x)) (λ i. 0 + one_if (d == i)) k (unlisted k d on.out) inodes (stays_same R O (high_own j O0) row size desk on.stays) (λ i ne. ap (λ (f : ℕ → ℕ). f i) refs) (λ i. ap (λ (f : ℕ → ℕ). f i) refs ∙ k.refs i)
 
       refused : (c : Cause) (x : Option Node) (l : ℕ) (u : World) {gs : List Step} → l + 1612 ≡ n → own_of h u ≡ record (O1 x) { mine = record { refs = O.mine.refs; walk = None; pending = None } } → Walked (calls.Link old new) (found old ∷ bumped ∷ not_entered new c ∷ []) gs
-          → Goes h old new (give_up d (lower old new j (failed (calls.Link old new) c) ms)) l gs u
+          → Goes version h old new (give_up d (lower old new j (failed (calls.Link old new) c) ms)) l gs u
       refused c x l u {gs} p held told = backs (failed (calls.Link old new) c) d x ms l gs u _ (omega (arith, p, few)) held (k1 x _ refl refl refl refl refl) refl refl (inr (c, refl, told))
 
-      free_name : (x : Option Node) (l : ℕ) (u : World) → live_directory x ≡ true → look (λ i. x) d e ≡ None → l + 1612 ≡ n → own_of h u ≡ O1 x → Goes h old new (link_found old new j d e ms None) l fs u
+      free_name : (x : Option Node) (l : ℕ) (u : World) → live_directory x ≡ true → look (λ i. x) d e ≡ None → l + 1612 ≡ n → own_of h u ≡ O1 x → Goes version h old new (link_found old new j d e ms None) l fs u
       free_name None l u live none p held = absurd cc
       free_name (Some X) l u live none p held =
-          s-enter-name d j X e new held free lt (omega (arith, p, few)) (on.stays.joined ∙ joins.ready.joined) on.walk on.pending (mendable ready_high k) (ap (λ (r : Row). r.hold) on.stays.row)
+          s-enter-name version d j X e new held free lt (omega (arith, p, few)) (on.stays.joined ∙ joins.ready.joined) on.walk on.pending (mendable ready_high k) (ap (λ (r : Row). r.hold) on.stays.row)
           (put_same O.inodes d (Some (locked_held (Some X)))) refl refl refl refl live none on.names.0 from (let s = on.stays.ninodes in omega (arith, s, below))
-          (begun_by (calls.Link old new) (found old ∷ bumped ∷ act ∷ []) (told_step 0 (steps.Enter new) Done ∷ fs) [] (done (calls.Link old new)) told (entered_ends old new))
+          (begun_by version (calls.Link old new) (found old ∷ bumped ∷ act ∷ []) (told_step 0 (steps.Enter new) Done ∷ fs) [] (done (calls.Link old new)) told (entered_ends old new))
           (λ l2 u2 q2 held2. named d (Some E) ms l2 (told_step 0 (steps.Enter new) Done ∷ fs) u2 _ (omega (arith, p, q2, few)) held2 entered refl refl
           (written_by (calls.Link old new) (found old ∷ bumped ∷ act ∷ []) (told_step 0 (steps.Enter new) Done ∷ fs) (done (calls.Link old new)) told (entered_ends old new)))
           (λ l2 u2 q2 held2. no_room (full (calls.Link old new) Blocks) l2 u2 (omega (arith, p, q2, few)) held2)
@@ -327,7 +328,7 @@ module _ (h : ℕ) (old new : List ℕ) (lt : h < hart_count) {base : ℕ → �
           told : Walked (calls.Link old new) (found old ∷ bumped ∷ act ∷ []) (told_step 0 (steps.Enter new) Done ∷ fs)
           told = walking_told (calls.Link old new) (found old ∷ bumped ∷ []) (steps.Enter new) Done 0 fs walking
 
-          no_room : (r : Reply) (l2 : ℕ) (u2 : World) → 971 * length ms + 3000 ≤ l2 → own_of h u2 ≡ mended_own (O1 (Some X)) → Goes h old new (give_up d (lower old new j r ms)) l2 fs u2
+          no_room : (r : Reply) (l2 : ℕ) (u2 : World) → 971 * length ms + 3000 ≤ l2 → own_of h u2 ≡ mended_own (O1 (Some X)) → Goes version h old new (give_up d (lower old new j r ms)) l2 fs u2
           no_room r l2 u2 few2 held2 = backs r d (Some X) ms l2 fs u2 (mended_own (O1 (Some X))) few2 held2 (holding_same (mended_own (O1 (Some X))) k refl (stays_mended (mended_own (O1 (Some X))) ready_high k.stays refl refl refl) refl) refl refl (inl refl)
 
           -- with the entry, and its hold still
@@ -341,16 +342,16 @@ module _ (h : ℕ) (old new : List ℕ) (lt : h < hart_count) {base : ℕ → �
               again = put_twice O.inodes d (Some (locked_held (Some X))) (Some (locked_held (Some E)))
 
   -- The count is raised: the lock is given up, and the new path followed.
-  pub follows : (ns : List ℕ) (n : ℕ) (es : List Step) (w : World) (R : Own) {x : Held} → 1 ≤ j → j < O0.ninodes → AllNames (elements new) → 2600 * (length (elements new) + 1) + 971 * length ns + 10000 ≤ n → own_of h w ≡ R → R.inodes j ≡ Some x → x.locked ≡ true → x.alone ≡ false → x.disk ≡ x.node → R.mine.walk ≡ None → R.mine.pending ≡ None
+  pub follows : (ns : List ℕ) (n : ℕ) (es : List Step) (w : World) (R : Own) {x : Held} → 1 ≤ j → j < O0.ninodes → AllNames version (elements version new) → 2600 * (length (elements version new) + 1) + 971 * length ns + 10000 ≤ n → own_of h w ≡ R → R.inodes j ≡ Some x → x.locked ≡ true → x.alone ≡ false → x.disk ≡ x.node → R.mine.walk ≡ None → R.mine.pending ≡ None
       → Stays R (high_own j O0) → ((m : Note) → R.desk.noted ≡ Some m → 0 < R.mine.refs m.number) → ((i : ℕ) → R.mine.refs i ≡ more_base base j i + times i ns) → Listed (record R { inodes = put R.inodes j None }) (more_base base j) ns → Walked (calls.Link old new) (found old ∷ bumped ∷ []) es
-      → Goes h old new (link_name old new j ns (elements new)) n es w
-  follows ns n es w R {x} from below fresh few held isj locked shared whole walk none stays notes refs listed walking = by_path (elements new) refl few
+      → Goes version h old new (link_name old new j ns (elements version new)) n es w
+  follows ns n es w R {x} from below fresh few held isj locked shared whole walk none stays notes refs listed walking = by_path (elements version new) refl few
     where
       free : R.desk.lender ≡ None
       free = stays.lender ∙ joins.ready.free
 
-      leads : Leads h (steps.Enter new) (high_own j O0)
-      leads = enter_leads h j new (high_own j O0) lt refl
+      leads : Leads version h (steps.Enter new) (high_own j O0)
+      leads = enter_leads version h j new (high_own j O0) lt refl
 
       told : Walked (calls.Link old new) (found old ∷ bumped ∷ not_entered new NoEntry ∷ []) (begin_refused (steps.Enter new) ∷ es)
       told rest r p = walking (begin_refused (steps.Enter new) ∷ rest) r (enters_next old new, p)
@@ -360,10 +361,10 @@ module _ (h : ℕ) (old new : List ℕ) (lt : h < hart_count) {base : ℕ → �
       after NotThere fs M t = inr (NoEntry, refl, t)
       after NoMemory fs M t = inl t
 
-      by_path : (p : List Name) → elements new ≡ p → 2600 * (length p + 1) + 971 * length ns + 10000 ≤ n → Goes h old new (link_name old new j ns p) n es w
+      by_path : (p : List Name) → elements version new ≡ p → 2600 * (length p + 1) + 971 * length ns + 10000 ≤ n → Goes version h old new (link_name old new j ns p) n es w
       by_path [] q few2 =
-          s-give-begin (steps.Enter new) (high_own j O0) held free lt (omega (arith, few2)) isj locked shared whole walk none stays.row leads q
-          (begun_refused (calls.Link old new) (found old ∷ bumped ∷ []) (steps.Enter new) NoEntry (begin_refused (steps.Enter new) ∷ es) (enter_follows old new) told)
+          s-give-begin version (steps.Enter new) (high_own j O0) held free lt (omega (arith, few2)) isj locked shared whole walk none stays.row leads q
+          (begun_refused version (calls.Link old new) (found old ∷ bumped ∷ []) (steps.Enter new) NoEntry (begin_refused (steps.Enter new) ∷ es) (enter_follows old new) told)
           (λ l u q2 held2. lowers (failed (calls.Link old new) NoEntry) ns l (begin_refused (steps.Enter new) ∷ es) u _ nothing (omega (arith, few2, q2)) held2 (record {
             stays = stays_same _ R (high_own j O0) refl refl refl stays;
             refs = λ i. let r = refs i in omega (arith, r);
@@ -373,9 +374,9 @@ module _ (h : ℕ) (old new : List ℕ) (lt : h < hart_count) {base : ℕ → �
             only = λ i y e. inl (listed.only i y e);
           }) (λ i. refl) refl refl (inr (NoEntry, refl, told)))
       by_path (e ∷ r) q few2 =
-          s-give {k = λ _. start (steps.Enter new) new ns (λ d. walk_parent (steps.Enter new) d e r ns (link_in old new j) (λ why ms. lower old new j (stopped (calls.Link old new) why) ms)) (λ why ms. lower old new j (stopped (calls.Link old new) why) ms)}
+          s-give version {k = λ _. start (steps.Enter new) new ns (λ d. walk_parent (steps.Enter new) d e r ns (link_in old new j) (λ why ms. lower old new j (stopped (calls.Link old new) why) ms)) (λ why ms. lower old new j (stopped (calls.Link old new) why) ms)}
           held free lt (omega (arith, few2)) isj locked shared whole none (λ l u q2 held2.
-          s-follow (calls.Link old new) (found old ∷ bumped ∷ []) (steps.Enter new) 10000 e r ns (link_in old new j) (λ why ms. lower old new j (stopped (calls.Link old new) why) ms) lt ready_high leads (enter_follows old new) walking q fresh
+          s-follow version (calls.Link old new) (found old ∷ bumped ∷ []) (steps.Enter new) 10000 e r ns (link_in old new j) (λ why ms. lower old new j (stopped (calls.Link old new) why) ms) lt ready_high leads (enter_follows old new) walking q fresh
           (record { owns = held2; stays = stays_same (record R { inodes = put R.inodes j None }) R (high_own j O0) refl refl refl stays; walk = walk; pending = none; refs = refs; listed = listed }) notes (omega (arith, few2, q2))
           (λ d e2 ms l2 fs u2 M few3 on walking2. sees d e2 ms l2 fs u2 M from below (omega (arith, few3)) on walking2)
           (λ why ms l2 fs u2 M few3 gone lost. lowers (stopped (calls.Link old new) why) ms l2 fs u2 M nothing (omega (arith, few3)) gone.owns (record {

@@ -1,4 +1,5 @@
 -- The inodes that a call has still to free: its list, and the end of the call, which frees them.
+use Rattle.image_versions.specs.declared.version.Version.{Version}
 use Rattle.inode_machine.proofs.Vocabulary.{◌≡◌, ◌≢◌, ◌⊎◌, inl, inr, ℕ, ◌+◌, ◌-◌, ◌*◌, ◌<◌, ◌≤◌, true, false, ◌==◌, List, [], ◌∷◌, ◌++◌, length, Option, Some, None, refl, sym, ◌∙◌, ap, subst, arith, Do, Ret, unmarked, Safe, Reply, Node, hart_count, put, is_live, holds_raised, Row, one_if, eq_self, eq_not, same_or, put_same, put_other, one_no, one_yes, Step, Desk, World, Say, Own, Held, own_names, own_of, nothing, machine, ThisP as P, free_listed, free_all, tail}
 use Rattle.inode_machine.proofs.Rules.{UnlocksAll}
 use Rattle.inode_machine.proofs.Freeing.{s-take-kept, s-free-all}
@@ -103,15 +104,15 @@ other_four : {A : Type 0} (f : ℕ → A) (n i : ℕ) (a b c y : A) → i ≢ n 
 other_four f n i a b c y ne = put_other (put (put (put f n a) n b) n c) n y i ne ∙ put_other (put (put f n a) n b) n c i ne ∙ put_other (put f n a) n b i ne ∙ put_other f n a i ne
 
 -- An inode of the list is freed in a transaction of its own.
-pub s-free-listed : {A : Type 0} {h : ℕ} (n : ℕ) {k : P A} {B : List Step → Type 0} {Q : A → List Step → World → Type 0} {c : ℕ} {es : List Step} {w : World} {O : Own} (v : Option Node)
+pub s-free-listed : (version : Version) {A : Type 0} {h : ℕ} (n : ℕ) {k : P A} {B : List Step → Type 0} {Q : A → List Step → World → Type 0} {c : ℕ} {es : List Step} {w : World} {O : Own} (v : Option Node)
     → own_of h w ≡ O → O.desk.lender ≡ None → h < hart_count → 971 < c → UnlocksAll O → ((i : ℕ) (x : Held) → O.inodes i ≡ Some x → x.disk ≡ x.node) → O.desk.joined ≡ false → O.inodes n ≡ Some (listed_held v) → v ≢ None → O.mine.refs n ≡ 1 → own_names O.row O.desk n ≡ false → O.mine.walk ≡ None → O.mine.pending ≡ None → holds_raised true O.row.hold ≡ false
-    → ((l : ℕ) (P : Own) (u : World) → l + 971 ≡ c → FreedOne O P n → own_of h u ≡ P → Safe machine h B Q k l es u)
-    → Safe machine h B Q (free_listed n k) c es w
-s-free-listed {h = h} n {O = O} v owns free lt few locks whole out is there one unnamed walk pending low rest =
-    s-join owns free lt (omega arith) locks out (λ l1 u1 q1 own1.
-    s-take-kept own1 free lt (omega (arith, q1, few)) is refl there tt (omega (arith, one)) (λ l2 u2 q2 own2.
-    s-free-all v own2 free lt (omega (arith, q1, q2, few)) refl (put_same O.inodes n (Some (record { disk = v; node = v; alone = true; locked = true }))) one pending unnamed walk (λ l3 u3 q3 own3.
-    s-leave own3 free lt (omega (arith, q1, q2, q3, few)) left_free refl low left_whole (λ l4 u4 q4 own4.
+    → ((l : ℕ) (P : Own) (u : World) → l + 971 ≡ c → FreedOne O P n → own_of h u ≡ P → Safe (machine version) h B Q k l es u)
+    → Safe (machine version) h B Q (free_listed n k) c es w
+s-free-listed version {h = h} n {O = O} v owns free lt few locks whole out is there one unnamed walk pending low rest =
+    s-join version owns free lt (omega arith) locks out (λ l1 u1 q1 own1.
+    s-take-kept version own1 free lt (omega (arith, q1, few)) is refl there tt (omega (arith, one)) (λ l2 u2 q2 own2.
+    s-free-all version v own2 free lt (omega (arith, q1, q2, few)) refl (put_same O.inodes n (Some (record { disk = v; node = v; alone = true; locked = true }))) one pending unnamed walk (λ l3 u3 q3 own3.
+    s-leave version own3 free lt (omega (arith, q1, q2, q3, few)) left_free refl low left_whole (λ l4 u4 q4 own4.
     rest l4 _ u4 (omega (arith, q1, q2, q3, q4))
     (record {
       gone = put_same _ n None;
@@ -149,13 +150,13 @@ pub record Through (O P : Own) (base : ℕ → ℕ) : Type 0 where
   pub row : P.row ≡ O.row
   pub desk : P.desk ≡ record (O.desk) { joined = false; noted = None }
 
-module _ (h : ℕ) (B : List Step → Type 0) (Q : Reply → List Step → World → Type 0) (r : Reply) (lt : h < hart_count) where
+module _ (version : Version) (h : ℕ) (B : List Step → Type 0) (Q : Reply → List Step → World → Type 0) (r : Reply) (lt : h < hart_count) where
   frees : (base : ℕ → ℕ) (es : List Step) (O0 : Own) → holds_raised true O0.row.hold ≡ false → ((P : Own) (u : World) → Through O0 P base → (P.desk.full ≡ true → u.clean ≡ false) → own_of h u ≡ P → Q r es u)
       → (ns : List ℕ) (n : ℕ) (w : World) (O : Own) → own_of h w ≡ O → O.desk.lender ≡ None → O.row ≡ O0.row → O.desk ≡ record (O0.desk) { joined = false; noted = None } → 971 * length ns < n → Listed O base ns → ((i : ℕ) → O.mine.refs i ≡ base i + times i ns) → O.mine.walk ≡ None → O.mine.pending ≡ None
-      → Safe machine h B Q (free_all ns (Do Say unmarked (λ _. Ret r))) n es w
+      → Safe (machine version) h B Q (free_all ns (Do Say unmarked (λ _. Ret r))) n es w
   unfolding times
   frees base es O0 low ends [] n w O owns free row desk few l refs walk pending =
-      s-say owns free lt (omega (arith, few)) (listed_free O base [] l) (ap (λ (d : Desk). d.joined) desk) (λ l1 u1 q1 spoilt own1. record {
+      s-say version owns free lt (omega (arith, few)) (listed_free O base [] l) (ap (λ (d : Desk). d.joined) desk) (λ l1 u1 q1 spoilt own1. record {
         wp = ends O u1 (record {
           inodes = λ z i. none i z;
           refs = λ i. let e = refs i in omega (arith, e);
@@ -173,7 +174,7 @@ module _ (h : ℕ) (B : List Step → Type 0) (Q : Reply → List Step → World
           go None q = refl
           go (Some x) q = absurd (let t = l.only i x q in omega (arith, t))
   frees base es O0 low ends (m ∷ ns) n w O owns free row desk few l refs walk pending =
-      s-free-listed m here.node owns free lt (omega (arith, few)) (listed_free O base (m ∷ ns) l) (listed_whole O base (m ∷ ns) l) (ap (λ (d : Desk). d.joined) desk) here.is here.there here.one here.unnamed walk pending (ap (λ (r : Row). holds_raised true r.hold) row ∙ low) (λ l1 P u1 q1 f own1.
+      s-free-listed version m here.node owns free lt (omega (arith, few)) (listed_free O base (m ∷ ns) l) (listed_whole O base (m ∷ ns) l) (ap (λ (d : Desk). d.joined) desk) here.is here.there here.one here.unnamed walk pending (ap (λ (r : Row). holds_raised true r.hold) row ∙ low) (λ l1 P u1 q1 f own1.
       again l1 P u1 q1 f own1 (frees base es O0 low ends ns l1 u1 P own1))
     where
       once_m : times m ns ≡ 0
@@ -183,8 +184,8 @@ module _ (h : ℕ) (B : List Step → Type 0) (Q : Reply → List Step → World
       here = l.all m (let a = one_at m in omega (arith, a))
 
       again : (l1 : ℕ) (P : Own) (u1 : World) → l1 + 971 ≡ n → FreedOne O P m → own_of h u1 ≡ P
-          → (P.desk.lender ≡ None → P.row ≡ O0.row → P.desk ≡ record (O0.desk) { joined = false; noted = None } → 971 * length ns < l1 → Listed P base ns → ((i : ℕ) → P.mine.refs i ≡ base i + times i ns) → P.mine.walk ≡ None → P.mine.pending ≡ None → Safe machine h B Q (free_all ns (Do Say unmarked (λ _. Ret r))) l1 es u1)
-          → Safe machine h B Q (free_all ns (Do Say unmarked (λ _. Ret r))) l1 es u1
+          → (P.desk.lender ≡ None → P.row ≡ O0.row → P.desk ≡ record (O0.desk) { joined = false; noted = None } → 971 * length ns < l1 → Listed P base ns → ((i : ℕ) → P.mine.refs i ≡ base i + times i ns) → P.mine.walk ≡ None → P.mine.pending ≡ None → Safe (machine version) h B Q (free_all ns (Do Say unmarked (λ _. Ret r))) l1 es u1)
+          → Safe (machine version) h B Q (free_all ns (Do Say unmarked (λ _. Ret r))) l1 es u1
       again l1 P u1 q1 f own1 next = next (ap (λ (d : Desk). d.lender) f.desk ∙ free) (f.row ∙ row) (f.desk ∙ (λ z. record (desk z) { joined = false; noted = None })) (omega (arith, few, q1)) (record {
         all = λ i t. let ne : i ≢ m = (λ q. let e : times i ns ≡ 0 = ap (λ (k : ℕ). times k ns) q ∙ once_m in omega (arith, e, t)) in let a = l.all i (omega (arith, t)) in
             record { node = a.node; there = a.there; is = f.inodes i ne ∙ a.is; dead = a.dead; one = f.refs i ne ∙ a.one; unnamed = (λ z. own_names (f.row z) (f.desk z) i) ∙ a.unnamed };
@@ -201,8 +202,8 @@ module _ (h : ℕ) (B : List Step → Type 0) (Q : Reply → List Step → World
   -- The call's end: it leaves its transaction, frees what is listed, and replies.
   pub s-tail : (base : ℕ → ℕ) (ns : List ℕ) (n : ℕ) (es : List Step) (w : World) (O : Own) → own_of h w ≡ O → O.desk.lender ≡ None → 971 * length ns + 63 < n → O.desk.joined ≡ true → holds_raised true O.row.hold ≡ false → Listed O base ns → ((i : ℕ) → O.mine.refs i ≡ base i + times i ns) → O.mine.walk ≡ None → O.mine.pending ≡ None
       → ((P : Own) (u : World) → Through O P base → (P.desk.full ≡ true → u.clean ≡ false) → own_of h u ≡ P → Q r es u)
-      → Safe machine h B Q (tail ns r) n es w
+      → Safe (machine version) h B Q (tail ns r) n es w
   s-tail base ns n es w O owns free few joined low l refs walk pending ends =
-      s-leave owns free lt (omega (arith, few)) (listed_free O base ns l) joined low (listed_whole O base ns l) (λ l1 u1 q1 own1.
+      s-leave version owns free lt (omega (arith, few)) (listed_free O base ns l) joined low (listed_whole O base ns l) (λ l1 u1 q1 own1.
       frees base es O low ends ns l1 u1 (record O { desk = record (O.desk) { joined = false; noted = None } }) own1 free refl refl (omega (arith, few, q1))
       (listed_on O (record O { desk = record (O.desk) { joined = false; noted = None } }) base ns l (λ i. refl) (λ i t. refl) (λ i q. q)) refs walk pending)

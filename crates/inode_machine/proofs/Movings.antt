@@ -1,18 +1,19 @@
 -- The directory is handed on: the child refers to it, and the hart to what was the child's.
+use Rattle.image_versions.specs.declared.version.Version.{Version}
 use Rattle.inode_machine.proofs.Vocabulary.{◌≡◌, ◌≢◌, inl, ℕ, ◌+◌, ◌<◌, ◌≤◌, ◌==◌, Option, Some, None, refl, sym, ◌∙◌, ap, subst, arith, descriptor_count, put, settle, one_if, IsWellFormed, put_same, put_other, well_inherit, Stage, PlaysStep, Mine, Desk, World, stage_of, with_walk, moved_in, serving, Own, Rests, own_of, file_tables_of, IsTied, Has, Inv}
 use Rattle.inode_machine.proofs.Basics.{put_elim, has_none, FairTo, my_refs, refs_walk, stage_walk, one_most, SameTied, same_tied, tied_as, HandsAll, tied_handed, both_world}
 use Rattle.inode_machine.proofs.Turnings.{Server, Kid, kid, Turns, turned_fair, turned_own, moved_refs, moved_hart, moved_child, moved_child_walk, moved_child_pending, moved_mine, moved_others, moved_walks, moved_counts, moved_apart, serving_child, serving_given, serving_none}
 use Rattle.inode_machine.proofs.Lendings.{at_home, inherited, inherit_takes, tree_empty}
 
 -- what the hart has then, by what was the child's directory
-abbrev pub moved_mine_own : ℕ → Own → Mine
-moved_mine_own o O = record { refs = put O.mine.refs o (O.mine.refs o + 1); walk = None; pending = None }
+abbrev pub moved_mine_own : Version → ℕ → Own → Mine
+moved_mine_own version o O = record { refs = put O.mine.refs o (O.mine.refs o + 1); walk = None; pending = None }
 
-abbrev pub moved_own : ℕ → ℕ → Own → Own
-moved_own c o O = record O { mine = moved_mine_own o O; desk = record (O.desk) { lent = serving c (Some 1) } }
+abbrev pub moved_own : Version → ℕ → ℕ → Own → Own
+moved_own version c o O = record O { mine = moved_mine_own version o O; desk = record (O.desk) { lent = serving c (Some 1) } }
 
 -- Both ways to get there: after the descriptors, or with the tree's step where there are none. H, X, C: the walks and the tree then.
-module _ (h c : ℕ) (v : World) (O : Own) (inv : Inv v) (ov : own_of h v ≡ O) (srv : Server h c O) (unlent : (j : ℕ) → j < descriptor_count → (v.desks h).lent j ≡ None) where
+module _ (version : Version) (h c : ℕ) (v : World) (O : Own) (inv : Inv v) (ov : own_of h v ≡ O) (srv : Server h c O) (unlent : (j : ℕ) → j < descriptor_count → (v.desks h).lent j ≡ None) where
   k : Kid h c v
   k = kid h c v O inv ov srv
 
@@ -66,7 +67,7 @@ module _ (h c : ℕ) (v : World) (O : Own) (inv : Inv v) (ov : own_of h v ≡ O)
   few : (r : ℕ → ℕ) → ((i : ℕ) → r i ≡ (v.harts h).refs i + one_if (old == i)) → (i : ℕ) → r i ≤ 8
   few r is i = let a = is i in let b = one_most (old == i) in let e = my_refs h v O i ov in let f = srv.few i in omega (arith, a, b, e, f)
 
-  module _ (H : ℕ → Mine) (X : ℕ → ℕ → Option ℕ) (C : ℕ → ℕ) (refs : (g i : ℕ) → (H g).refs i ≡ (M g).refs i) (others : (g : ℕ) → g ≢ h → H g ≡ M g) (ended : (H h ≡ moved_mine_own old O)) (fds : (g : ℕ) → g ≢ c → X g ≡ v.all.fds g) (cwd : (g : ℕ) → g ≢ c → C g ≡ v.all.cwd g)
+  module _ (H : ℕ → Mine) (X : ℕ → ℕ → Option ℕ) (C : ℕ → ℕ) (refs : (g i : ℕ) → (H g).refs i ≡ (M g).refs i) (others : (g : ℕ) → g ≢ h → H g ≡ M g) (ended : (H h ≡ moved_mine_own version old O)) (fds : (g : ℕ) → g ≢ c → X g ≡ v.all.fds g) (cwd : (g : ℕ) → g ≢ c → C g ≡ v.all.cwd g)
       (tied : IsTied (record { files = v.files; desks = D; ids = v.ids; slots = v.slots; clean = v.clean; tree_fds = X; tree_files = v.all.files })) (well : IsWellFormed (record (v.all) { fds = X; cwd = C })) (at : C c ≡ home) where
     turns : Turns h c v v.files D R H X C (serving c (Some 1)) y
     turns = record {
@@ -111,10 +112,10 @@ module _ (h c : ℕ) (v : World) (O : Own) (inv : Inv v) (ov : own_of h v ≡ O)
     turns_fair : FairTo h v (both_world v v.files D R H X C)
     turns_fair = turned_fair h c v O v.files D R H X C (serving c (Some 1)) y inv ov srv turns
 
-    turns_own : own_of h (both_world v v.files D R H X C) ≡ moved_own c old O
+    turns_own : own_of h (both_world v v.files D R H X C) ≡ moved_own version c old O
     turns_own = turned_own h c v O v.files D R H X C (serving c (Some 1)) y inv ov srv turns ∙ (λ z. record O { mine = ended z; desk = record (O.desk) { lent = serving c (Some 1) } })
 
-  moved_hart_is : M h ≡ moved_mine_own old O
+  moved_hart_is : M h ≡ moved_mine_own version old O
   moved_hart_is = moved_hart v.harts h c home old k.apart ∙ (λ z. record { refs = put (ov z).mine.refs old ((ov z).mine.refs old + 1); walk = walk z; pending = pending z })
 
   -- after the descriptors
@@ -122,7 +123,7 @@ module _ (h c : ℕ) (v : World) (O : Own) (inv : Inv v) (ov : own_of h v ≡ O)
     pub moved_fair : FairTo h v (moved_in v h c)
     moved_fair = turns_fair M v.all.fds v.all.cwd (λ g i. refl) (λ g ne. refl) moved_hart_is (λ g ne. refl) (λ g ne. refl) (tied_as (file_tables_of v) D same inv.tied) inv.well at
 
-    pub moved_owns : own_of h (moved_in v h c) ≡ moved_own c old O
+    pub moved_owns : own_of h (moved_in v h c) ≡ moved_own version c old O
     moved_owns = turns_own M v.all.fds v.all.cwd (λ g i. refl) (λ g ne. refl) moved_hart_is (λ g ne. refl) (λ g ne. refl) (tied_as (file_tables_of v) D same inv.tied) inv.well at
 
     pub moved_stage : stage_of (moved_in v h c) ≡ stage_of v
@@ -161,7 +162,7 @@ module _ (h c : ℕ) (v : World) (O : Own) (inv : Inv v) (ov : own_of h v ≡ O)
       child_full = refl;
     }
 
-    ended : H h ≡ moved_mine_own old O
+    ended : H h ≡ moved_mine_own version old O
     ended = put_same M h (record { refs = (M h).refs; walk = None; pending = None }) ∙ ap (λ (m : Mine). record { refs = m.refs; walk = None; pending = None }) moved_hart_is
 
     others : (g : ℕ) → g ≢ h → H g ≡ M g
@@ -176,9 +177,9 @@ module _ (h c : ℕ) (v : World) (O : Own) (inv : Inv v) (ov : own_of h v ≡ O)
     pub given_fair : FairTo h v given_world
     given_fair = turns_fair H X C (refs_walk M h None None) others ended (λ g nc. put_other v.all.fds c (v.all.fds h) g nc) (λ g nc. put_other v.all.cwd c (v.all.cwd h) g nc) (tied_handed (file_tables_of v) h c x y inv.tied hands) (well_inherit v.all h c inv.well srv.hart) home_is
 
-    pub given_owns : own_of h given_world ≡ moved_own c old O
+    pub given_owns : own_of h given_world ≡ moved_own version c old O
     given_owns = turns_own H X C (refs_walk M h None None) others ended (λ g nc. put_other v.all.fds c (v.all.fds h) g nc) (λ g nc. put_other v.all.cwd c (v.all.cwd h) g nc) (tied_handed (file_tables_of v) h c x y inv.tied hands) (well_inherit v.all h c inv.well srv.hart) home_is
 
-    pub given_takes : PlaysStep (stage_of v) h (inherited c) (stage_of given_world)
-    given_takes = inherit_takes h c v given_world srv.hart k walk (tree_empty h c v inv k his) refl
+    pub given_takes : PlaysStep version (stage_of v) h (inherited c) (stage_of given_world)
+    given_takes = inherit_takes version h c v given_world srv.hart k walk (tree_empty h c v inv k his) refl
         (ap (λ (m : Stage). m.walk) (stage_walk h None None (record v { harts = M })) ∙ (λ z. put (moved_walks v.harts h c home old k.apart z) h None))

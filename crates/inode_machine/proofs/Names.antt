@@ -1,10 +1,12 @@
 -- The names of a path that a call may have are such as entries can have.
-use Rattle.inode_machine.proofs.Vocabulary.{◌≡◌, ◌≢◌, inl, inr, ℕ, zero, suc, ◌<◌, Bool, true, false, ◌==◌, not, nat_lt, List, [], ◌∷◌, ◌++◌, Option, Some, None, filter, length, map, take, refl, arith, if◌then◌else◌, length-take, Name, elements, is_empty, pieces, name_len, and_true, either, eq_isnt, or_none, is_nothing, IsName, IsText, Refusal, PathTooLong, ZeroInPath, NotCovered, are_bytes, first_wrong, has_zero, path_limit, path_wrong}
+use Rattle.image_versions.specs.declared.version.Version.{Version}
+use Rattle.image_versions.proofs.Places.{in_range}
+use Rattle.inode_machine.proofs.Vocabulary.{◌≡◌, ◌≢◌, inl, inr, ℕ, zero, suc, ◌<◌, Bool, true, false, ◌==◌, not, nat_lt, List, [], ◌∷◌, ◌++◌, Option, Some, None, filter, length, map, take, refl, arith, if◌then◌else◌, length-take, Name, elements, is_empty, pieces, name_len_of, and_true, either, eq_isnt, or_none, is_nothing, IsName, IsText, Refusal, PathTooLong, ZeroInPath, NotCovered, are_bytes, first_wrong, has_zero, path_limit, path_wrong}
 use Rattle.inode_machine.proofs.Dups.{less_is}
 
-abbrev pub AllNames : List Name → Type 0
-AllNames [] = Unit {0}
-AllNames (e ∷ es) = IsName e × AllNames es
+abbrev pub AllNames : Version → List Name → Type 0
+AllNames version [] = Unit {0}
+AllNames version (e ∷ es) = IsName version e × AllNames version es
 
 abbrev AllTexts : List (List ℕ) → Type 0
 AllTexts [] = Unit {0}
@@ -42,16 +44,16 @@ pieces_text f (b ∷ bs) tf tp = elim (either (b == 47)) [
   | inr y ↦ rw y (pieces_text (f ++ b ∷ []) bs (text_more f b tf tp.0 (eq_isnt b 47 y) tp.1) tp.2)
 ]
 
-name_of : (b : ℕ) (bs : List ℕ) → IsText (b ∷ bs) → IsName (take name_len (b ∷ bs))
-name_of b bs t = record { some = omega arith; fits = (let a = length-take name_len (b ∷ bs) in omega (arith, a)); text = text_take name_len (b ∷ bs) t }
+name_of : (version : Version) (b : ℕ) (bs : List ℕ) → IsText (b ∷ bs) → IsName version (take (name_len_of version) (b ∷ bs))
+name_of version b bs t = record { some = (let a = length-take (name_len_of version) (b ∷ bs) in let least = (in_range version).0 in omega (arith, a, least)); fits = (let a = length-take (name_len_of version) (b ∷ bs) in omega (arith, a)); text = text_take (name_len_of version) (b ∷ bs) t }
 
-pub names_of : (es : List (List ℕ)) → AllTexts es → AllNames (map (λ e. take name_len e) (filter (λ e. not (is_empty e)) es))
-names_of [] t = tt
-names_of ([] ∷ es) t = names_of es t.1
-names_of ((b ∷ bs) ∷ es) t = (name_of b bs t.0, names_of es t.1)
+pub names_of : (version : Version) (es : List (List ℕ)) → AllTexts es → AllNames version (map (λ e. take (name_len_of version) e) (filter (λ e. not (is_empty e)) es))
+names_of version [] t = tt
+names_of version ([] ∷ es) t = names_of version es t.1
+names_of version ((b ∷ bs) ∷ es) t = (name_of version b bs t.0, names_of version es t.1)
 
-pub path_names : (p : List ℕ) → is_nothing (path_wrong p) ≡ true → AllNames (elements p)
-path_names p e = let r = by (nat_lt path_limit (length p)) (has_zero p) refl (are_bytes p) refl e in names_of (pieces [] p) (pieces_text [] p tt (path_of p r.0 r.1))
+pub path_names : (version : Version) (p : List ℕ) → is_nothing (path_wrong p) ≡ true → AllNames version (elements version p)
+path_names version p e = let r = by (nat_lt path_limit (length p)) (has_zero p) refl (are_bytes p) refl e in names_of version (pieces [] p) (pieces_text [] p tt (path_of p r.0 r.1))
   where
     by : (a b : Bool) → has_zero p ≡ b → (c : Bool) → are_bytes p ≡ c → is_nothing (if a then Some PathTooLong else (if b then Some ZeroInPath else (if c then None else Some NotCovered))) ≡ true → (has_zero p ≡ false) × (are_bytes p ≡ true)
     by true b q c r e = absurd cc

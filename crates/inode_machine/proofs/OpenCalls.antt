@@ -1,5 +1,6 @@
 -- An open without CREATE is right, whatever the other harts do.
-use Rattle.inode_machine.proofs.Vocabulary.{◌≡◌, ◌⊎◌, inl, inr, ℕ, ◌+◌, ◌*◌, ◌<◌, ◌≤◌, Bool, true, false, ◌==◌, ◌||◌, nat_lt, List, [], ◌∷◌, length, Option, Some, None, refl, sym, ◌∙◌, ap, subst, arith, if◌then◌else◌, own, onto, Fine, Safe, Wp, Begun, Ends, Cause, Descriptors, Reply, Call, Node, Action, StepAnswer, Failed, Opened, NoRoom, hart_count, descriptor_count, root, Name, Tree, put, elements, hold_names, is_absolute, is_live, live_directory, look, settle, start_of, creates, has_room, is_file, lowest, node_at, node_or, open_kind, IsInPlace, Key, Row, key_is, key_names, row_of, settle_again, look_live, either, eq_is, put_same, put_other, live_some, look_same, Deed, Walk, Move, Stage, Step, IsNext, begins, Begin, Look, Desk, Note, World, stage_of, UpStart, InodeType, OfDirectory, open_refusal, type_of, type_of_kind, counted_up, is_at, with_walk, Made, acts, begun, made_by, marked, new_id, places, Held, Own, key_in, own_names, own_of, Idle, Inv, machine, ThisP as P, WalkStop, NoMemory, failed, makes, start, stopped, tail, walk, walk_step, file_for, open_at, open_new, open_old, open_program, limit, covered_calls}
+use Rattle.image_versions.specs.declared.version.Version.{Version}
+use Rattle.inode_machine.proofs.Vocabulary.{◌≡◌, ◌⊎◌, inl, inr, ℕ, ◌+◌, ◌*◌, ◌<◌, ◌≤◌, Bool, true, false, ◌==◌, ◌||◌, nat_lt, List, [], ◌∷◌, length, Option, Some, None, refl, sym, ◌∙◌, ap, subst, arith, if◌then◌else◌, own, onto, Fine, Safe, Wp, Begun, Ends, Cause, Descriptors, Reply, Call, Node, Action, StepAnswer, Failed, Opened, NoRoom, hart_count, descriptor_count, root, Name, Tree, put, elements, hold_names, is_absolute, is_live, live_directory, look, settle, start_of, creates, has_room, is_file, lowest, node_at, node_or, open_kind, IsInPlace, Key, Row, key_is, key_names, row_of, settle_again, look_live, either, eq_is, put_same, put_other, live_some, look_same, Deed, Walk, Move, Stage, Step, IsNext, begins, Begin, Look, Desk, Note, World, stage_of, UpStart, InodeType, OfDirectory, open_refusal, type_of, type_of_kind, counted_up, is_at, with_walk, Made, acts, begun, made_by, marked, new_id, places, Held, Own, key_in, own_names, own_of, Idle, Inv, machine, ThisP as P, WalkStop, NoMemory, failed, makes, start, stopped, tail, walk, walk_step, file_for, open_at, open_new, open_old, open_program, limit, covered_calls, look_cost}
 use Rattle.plain_tree.specs.declared.call.Call.TheVariants as calls
 use Rattle.plain_tree.specs.declared.step.Action.TheVariants as steps
 use Rattle.inode_machine.proofs.Basics.{AllNames, Fair, fair, fair_then, has_inode, has_node, locked_held, my_refs, noted_type, moves_good, own_walk, stage_walk, walk_did, lowest_same, Flagging, not_at, s-join, KeepsHold, MoveFine, mends, note_of, noting, one_at, listed_among, type_of_directory, At, Gone, Lost, On, Ready, Stays, names_stay, stays_same, s-arrive, s-walk, Finding, finding, found_world, last_made, last_takes, refused_made, start_made, start_takes, MayRest, Walked, follows_begin, follows_look, follows_lost, follows_quit, gone_at, home, joined_own, looks, may_rest, missed, ready_at, s-lost, tells, times_none, walked_begun, walked_tells, Opening, fresh_id, opened_row, opened_tree, opened_world, opening, row_back, unopened_row}
@@ -16,7 +17,7 @@ names_opened r d fd id key i none q = elim (either (key.number == i)) [
       ∙ sym ((λ z. (r.cwd == i) || (hold_names r.hold i || (key_names (put_same r.keys fd (Some key) z) i || is_at d.left i))) ∙ (λ z. (r.cwd == i) || (hold_names r.hold i || (y z || is_at d.left i)))) ∙ q)
 ]
 
-module _ (h : ℕ) (path : List ℕ) (flags : ℕ) (w : World) (free : (w.desks h).lender ≡ None) (lt : h < hart_count) (holds : Inv w) (idle : Idle h w) (plain : creates flags ≡ false) (spelled : AllNames (elements path)) where
+module _ (version : Version) (h : ℕ) (path : List ℕ) (flags : ℕ) (w : World) (free : (w.desks h).lender ≡ None) (lt : h < hart_count) (holds : Inv w) (idle : Idle h w) (plain : creates flags ≡ false) (spelled : AllNames version (elements version path)) where
   abbrev c : Call
   c = calls.Open path flags
 
@@ -24,10 +25,10 @@ module _ (h : ℕ) (path : List ℕ) (flags : ℕ) (w : World) (free : (w.desks 
   s = steps.Open path flags
 
   abbrev B : List Step → Type 0
-  B = Begun covered_calls c
+  B = Begun (covered_calls version) c
 
   abbrev Q : Reply → List Step → World → Type 0
-  Q = Ends covered_calls h c
+  Q = Ends (covered_calls version) h c
 
   abbrev O0 : Own
   O0 = joined_own (own_of h w)
@@ -45,16 +46,16 @@ module _ (h : ℕ) (path : List ℕ) (flags : ℕ) (w : World) (free : (w.desks 
   deed_of a = record { act = record { step = s; answer = a }; new = 0 }
 
   begun_refused : (v : Move) (k : Cause) (es : List Step) → IsNext c [] (begins v) → Walked c [] es → Walked c (record { step = s; answer = Failed k } ∷ []) (tells v (deed_of (Failed k)) ∷ es) × B (tells v (deed_of (Failed k)) ∷ es)
-  begun_refused v k es next told = let a = walked_tells c [] v (deed_of (Failed k)) es next told in (a, walked_begun c (record { step = s; answer = Failed k } ∷ []) (tells v (deed_of (Failed k)) ∷ es) [] (failed c k) a (open_refused path flags k))
+  begun_refused v k es next told = let a = walked_tells c [] v (deed_of (Failed k)) es next told in (a, walked_begun version c (record { step = s; answer = Failed k } ∷ []) (tells v (deed_of (Failed k)) ∷ es) [] (failed c k) a (open_refused path flags k))
 
   begun_opened : (v : Move) (fd id : ℕ) (b : Bool) (es : List Step) → IsNext c [] (begins v) → Walked c [] es → Walked c (opened_act path flags fd id b ∷ []) (tells v (deed_of (Opened fd id b)) ∷ es) × B (tells v (deed_of (Opened fd id b)) ∷ es)
-  begun_opened v fd id b es next told = let a = walked_tells c [] v (deed_of (Opened fd id b)) es next told in (a, opened_begins path flags fd id b (tells v (deed_of (Opened fd id b)) ∷ es) a)
+  begun_opened v fd id b es next told = let a = walked_tells c [] v (deed_of (Opened fd id b)) es next told in (a, opened_begins version path flags fd id b (tells v (deed_of (Opened fd id b)) ∷ es) a)
 
   abbrev lost : WalkStop → List ℕ → P Reply
   lost why ns = tail ns (stopped c why)
 
-  loses : (why : WalkStop) (ms : List ℕ) (l : ℕ) (es : List Step) (u : World) (R : Own) → 971 * length ms + 2000 ≤ l → Gone h base ms O0 R u → Lost (Walked c (missed s ∷ [])) why es R → Safe machine h B Q (lost why ms) l es u
-  loses why ms l es u R few gone told = s-lost h c s 2000 base O0 lt ready may (open_follows path flags) (omega arith) why ms l es u R few gone told
+  loses : (why : WalkStop) (ms : List ℕ) (l : ℕ) (es : List Step) (u : World) (R : Own) → 971 * length ms + 2000 ≤ l → Gone h base ms O0 R u → Lost (Walked c (missed s ∷ [])) why es R → Safe (machine version) h B Q (lost why ms) l es u
+  loses why ms l es u R few gone told = s-lost version h c s 2000 base O0 lt ready may (open_follows path flags) (omega arith) why ms l es u R few gone told
 
   place : (t : Tree) → row_of t h ≡ O0.row → IsInPlace t h s
   place t e = open_place t h path flags lt
@@ -67,8 +68,8 @@ module _ (h : ℕ) (path : List ℕ) (flags : ℕ) (w : World) (free : (w.desks 
   low_is v O inv ov none = lowest_same (v.desks h).fds (v.all.fds h) v.ids (λ i l. inv.tied.fds h i lt l (not_at v h i (ap (λ (o : Own). o.desk.opening) ov ∙ none))) ∙ ap (λ (o : Own). lowest o.desk.fds) ov
 
   -- The last element is found.
-  act : (d : ℕ) (e : Name) (ns : List ℕ) (n : ℕ) (es : List Step) (w0 : World) (O : Own) → 2600 + 971 * length ns + 2000 ≤ n → On h s d e [] base ns O0 O w0 → Walked c [] es
-      → (u : World) (x : Option Node) (j : ℕ) → Inv u → own_of h u ≡ record O { inodes = put O.inodes d (Some (locked_held x)) } → live_directory x ≡ true → look (λ i. x) d e ≡ Some j → MoveFine h 1611 n B Q es u (Look 0) (walk_step d ns (open_at path flags) lost (Some j))
+  act : (d : ℕ) (e : Name) (ns : List ℕ) (n : ℕ) (es : List Step) (w0 : World) (O : Own) → 2600 + 971 * length ns + 2000 ≤ n → On version h s d e [] base ns O0 O w0 → Walked c [] es
+      → (u : World) (x : Option Node) (j : ℕ) → Inv u → own_of h u ≡ record O { inodes = put O.inodes d (Some (locked_held x)) } → live_directory x ≡ true → look (λ i. x) d e ≡ Some j → MoveFine version h look_cost n B Q es u (Look 0) (walk_step d ns (open_at path flags) lost (Some j))
   act d e ns n es w0 O few on told u x j inv own1 live finds = at (open_kind flags (node_at u.all j).kind) refl (has_room (u.all.fds h)) refl
     where
       free_o : O.desk.lender ≡ None
@@ -110,8 +111,8 @@ module _ (h : ℕ) (path : List ℕ) (flags : ℕ) (w : World) (free : (w.desks 
       O2 : Own
       O2 = record O1 { mine = record { refs = O.mine.refs; walk = None; pending = Some j }; desk = record (O.desk) { noted = Some (note_of u.all j) } }
 
-      made : (m : Made) → acts u.all h s (Some j) (Some (d, e)) 0 (new_id u) ≡ m → made_by u.all h (new_id u) (u.harts h).walk (Look 0) ≡ m
-      made m q = last_made u.all h (u.harts h).walk y 0 (new_id u) j (ap (λ (o : Own). o.mine.walk) own1 ∙ on.walk) refl found ∙ q
+      made : (m : Made) → acts version u.all h s (Some j) (Some (d, e)) 0 (new_id u) ≡ m → made_by version u.all h (new_id u) (u.harts h).walk (Look 0) ≡ m
+      made m q = last_made version u.all h (u.harts h).walk y 0 (new_id u) j (ap (λ (o : Own). o.mine.walk) own1 ∙ on.walk) refl found ∙ q
 
       walks_are : (stage_of (record u { harts = with_walk u.harts h None (Some j) })).walk ≡ put (λ g. (u.harts g).walk) h None
       walks_are = ap (λ (m : Stage). m.walk) (stage_walk h None (Some j) u)
@@ -134,10 +135,10 @@ module _ (h : ℕ) (path : List ℕ) (flags : ℕ) (w : World) (free : (w.desks 
       M = record O2 { desk = record (O2.desk) { opening = None; left = None; full = true }; mine = record { refs = O.mine.refs; walk = None; pending = None } }
 
       arrives_same : (l : ℕ) (fs : List Step) (v : World) → 980 + 971 * length ns + 2000 ≤ l → own_of h v ≡ O2
-          → ((ms : List ℕ) (l2 : ℕ) (u2 : World) (R : Own) → 971 * length ms + 2000 ≤ l2 → At h j base ms None (Some (note_of u.all j)) O0 R u2 → Safe machine h B Q (open_at path flags j ms) l2 fs u2)
-          → Safe machine h B Q (walk_step d ns (open_at path flags) lost (Some j)) l fs v
+          → ((ms : List ℕ) (l2 : ℕ) (u2 : World) (R : Own) → 971 * length ms + 2000 ≤ l2 → At h j base ms None (Some (note_of u.all j)) O0 R u2 → Safe (machine version) h B Q (open_at path flags j ms) l2 fs u2)
+          → Safe (machine version) h B Q (walk_step d ns (open_at path flags) lost (Some j)) l fs v
       arrives_same l fs v few2 ov goes =
-          s-arrive h s B Q (Walked c []) (Walked c (missed s ∷ [])) base O0 2000 lt ready lost loses (follows_look c s (open_follows path flags)) (follows_lost c s (open_follows path flags)) (follows_quit c s (open_follows path flags)) (λ t. open_missing t h path flags None plain) (λ t. refl) place other refl
+          s-arrive version h s B Q (Walked c []) (Walked c (missed s ∷ [])) base O0 2000 lt ready lost loses (follows_look version c s (open_follows path flags)) (follows_lost version c s (open_follows path flags)) (follows_quit version c s (open_follows path flags)) (λ t. open_missing version t h path flags None plain) (λ t. refl) place other refl
           0 d j x None ns l fs v O O2 O0 M (open_at path flags) ov (omega (arith, few2)) on.stays on.listed on.out on.refs
           (record { inodes = refl; refs = refl; walk = refl; lands = λ z p. absurd cc; pending = refl; lives = lives; names = λ i p. inr p })
           (noted_stays O2 refl refl refl) free
@@ -145,41 +146,41 @@ module _ (h : ℕ) (path : List ℕ) (flags : ℕ) (w : World) (free : (w.desks 
           (record { stays = record { row = on.stays.row; ninodes = on.stays.ninodes; fds = on.stays.fds; hand = on.stays.hand; joined = on.stays.joined; directory = on.stays.directory; lent = on.stays.lent; lender = on.stays.lender; opening = sym ready.opening; left = sym ready.left }; inodes = refl; refs = refl; walk = refl; pending = refl; full = refl })
           (λ ms l2 u2 R few3 at2. goes ms l2 u2 R (omega (arith, few3)) at2)
 
-      refused_at : (k : Cause) → open_kind flags (node_at u.all j).kind ≡ Some k → MoveFine h 1611 n B Q es u (Look 0) (walk_step d ns (open_at path flags) lost (Some j))
+      refused_at : (k : Cause) → open_kind flags (node_at u.all j).kind ≡ Some k → MoveFine version h look_cost n B Q es u (Look 0) (walk_step d ns (open_at path flags) lost (Some j))
       refused_at k why =
           let b = begun_refused (Look 0) k es tt told in
-          moves_good h 1611 n B Q es u u (Look 0) tt (walk_step d ns (open_at path flags) lost (Some j)) (made_by u.all h (new_id u) (u.harts h).walk (Look 0)) (record { all = u.all; walk = None; found = Some j; opened = None; entered = None; left = None; told = Some (deed_of (Failed k)) })
-          (made _ (refused_made u.all h s (Some j) (Some (d, e)) 0 (new_id u) k (open_kind_is u.all h j path flags (Some (d, e)) plain ∙ why)))
+          moves_good version h look_cost n B Q es u u (Look 0) tt (walk_step d ns (open_at path flags) lost (Some j)) (made_by version u.all h (new_id u) (u.harts h).walk (Look 0)) (record { all = u.all; walk = None; found = Some j; opened = None; entered = None; left = None; told = Some (deed_of (Failed k)) })
+          (made _ (refused_made version u.all h s (Some j) (Some (d, e)) 0 (new_id u) k (open_kind_is version u.all h j path flags (Some (d, e)) plain ∙ why)))
           f.fair
-          (last_takes h d u (found_world h j u) O1 (locked_held x) y j (Failed k) (new_id u) u.all (open_finder path flags plain) own1 inv on.walk refl isd live refl found (open_refused_step u.all h j (new_id u) path flags (Some (d, e)) k lt plain why) refl walks_are)
+          (last_takes version h d u (found_world h j u) O1 (locked_held x) y j (Failed k) (new_id u) u.all (open_finder path flags plain) own1 inv on.walk refl isd live refl found (open_refused_step version u.all h j (new_id u) path flags (Some (d, e)) k lt plain why) refl walks_are)
           b.1 (omega (arith, few))
           (λ l q. (arrives_same l (tells (Look 0) (deed_of (Failed k)) ∷ es) (found_world h j u) (omega (arith, q, few)) f.owned (λ ms l2 u2 R few2 at2.
-          s-open-refused h path flags w free lt holds idle j ms (Some (note_of u.all j)) inode_type k l2 (tells (Look 0) (deed_of (Failed k)) ∷ es) u2 R (omega (arith, few2)) at2 (typed O0 R ms u2 at2) (refusal ∙ why) b.0)).wp)
+          s-open-refused version h path flags w free lt holds idle j ms (Some (note_of u.all j)) inode_type k l2 (tells (Look 0) (deed_of (Failed k)) ∷ es) u2 R (omega (arith, few2)) at2 (typed O0 R ms u2 at2) (refusal ∙ why) b.0)).wp)
 
-      full_at : open_kind flags (node_at u.all j).kind ≡ None → has_room (u.all.fds h) ≡ false → MoveFine h 1611 n B Q es u (Look 0) (walk_step d ns (open_at path flags) lost (Some j))
+      full_at : open_kind flags (node_at u.all j).kind ≡ None → has_room (u.all.fds h) ≡ false → MoveFine version h look_cost n B Q es u (Look 0) (walk_step d ns (open_at path flags) lost (Some j))
       full_at goes room =
           let dirty = dirties h (found_world h j u) (ap (λ (o : Own). o.desk.lender) f.owned ∙ free_o) lt f.fair.inv in
-          moves_full h 1611 n B Q es u u (Look 0) (walk_step d ns (open_at path flags) lost (Some j)) (made_by u.all h (new_id u) (u.harts h).walk (Look 0)) (record { all = u.all; walk = None; found = Some j; opened = None; entered = None; left = None; told = Some (deed_of (NoRoom Descriptors)) })
-          (made _ (open_full u.all h j 0 (new_id u) path flags (Some (d, e)) plain goes room))
+          moves_full version h look_cost n B Q es u u (Look 0) (walk_step d ns (open_at path flags) lost (Some j)) (made_by version u.all h (new_id u) (u.harts h).walk (Look 0)) (record { all = u.all; walk = None; found = Some j; opened = None; entered = None; left = None; told = Some (deed_of (NoRoom Descriptors)) })
+          (made _ (open_full version u.all h j 0 (new_id u) path flags (Some (d, e)) plain goes room))
           (fair_then f.fair dirty) refl (omega (arith, few))
           (λ l q. (arrives_same l (tells (Look 0) (deed_of (NoRoom Descriptors)) ∷ es) (record (found_world h j u) { clean = false }) (omega (arith, q, few)) f.owned (λ ms l2 u2 R few2 at2.
-          s-open-full h path flags w free lt holds idle j ms (Some (note_of u.all j)) inode_type l2 (tells (Look 0) (deed_of (NoRoom Descriptors)) ∷ es) u2 R (omega (arith, few2)) at2 (typed O0 R ms u2 at2) (refusal ∙ goes)
+          s-open-full version h path flags w free lt holds idle j ms (Some (note_of u.all j)) inode_type l2 (tells (Look 0) (deed_of (NoRoom Descriptors)) ∷ es) u2 R (omega (arith, few2)) at2 (typed O0 R ms u2 at2) (refusal ∙ goes)
           ((λ z. has_room (at2.stays.fds z)) ∙ sym (λ z. has_room (on.stays.fds z)) ∙ ap (λ (z : ℕ). nat_lt z descriptor_count) (sym (low_is u O1 inv own1 (on.stays.opening ∙ ready.opening))) ∙ room))).wp)
 
-      goes_at : open_kind flags (node_at u.all j).kind ≡ None → has_room (u.all.fds h) ≡ true → MoveFine h 1611 n B Q es u (Look 0) (walk_step d ns (open_at path flags) lost (Some j))
+      goes_at : open_kind flags (node_at u.all j).kind ≡ None → has_room (u.all.fds h) ≡ true → MoveFine version h look_cost n B Q es u (Look 0) (walk_step d ns (open_at path flags) lost (Some j))
       goes_at goes room =
-          moves_good h 1611 n B Q es u u (Look 0) tt (walk_step d ns (open_at path flags) lost (Some j)) (made_by u.all h (new_id u) (u.harts h).walk (Look 0)) (record { all = T; walk = None; found = Some j; opened = Some (new_id u); entered = None; left = None; told = Some (deed_of (Opened fd (new_id u) isf)) })
-          (made _ (open_made u.all h j 0 (new_id u) path flags (Some (d, e)) plain goes room))
+          moves_good version h look_cost n B Q es u u (Look 0) tt (walk_step d ns (open_at path flags) lost (Some j)) (made_by version u.all h (new_id u) (u.harts h).walk (Look 0)) (record { all = T; walk = None; found = Some j; opened = Some (new_id u); entered = None; left = None; told = Some (deed_of (Opened fd (new_id u) isf)) })
+          (made _ (open_made version u.all h j 0 (new_id u) path flags (Some (d, e)) plain goes room))
           (fair_then fair_a (fair_then fair_b note.fair))
-          (last_takes h d u uc O1 (locked_held x) y j (Opened fd (new_id u) isf) (new_id u) (settle T) (open_finder path flags plain) own1 inv on.walk refl isd live refl found (open_step u.all h j (new_id u) path flags (Some (d, e)) lt plain goes room (fresh_id u inv).least) (sym (settle_again T)) walks_are)
+          (last_takes version h d u uc O1 (locked_held x) y j (Opened fd (new_id u) isf) (new_id u) (settle T) (open_finder path flags plain) own1 inv on.walk refl isd live refl found (open_step version u.all h j (new_id u) path flags (Some (d, e)) lt plain goes room (fresh_id u inv).least) (sym (settle_again T)) walks_are)
           b.1 (omega (arith, few))
-          (λ l q. (s-arrive h s B Q (Walked c []) (Walked c (missed s ∷ [])) base O0 2000 lt ready lost loses (follows_look c s (open_follows path flags)) (follows_lost c s (open_follows path flags)) (follows_quit c s (open_follows path flags)) (λ t. open_missing t h path flags None plain) (λ t. refl) place other refl
+          (λ l q. (s-arrive version h s B Q (Walked c []) (Walked c (missed s ∷ [])) base O0 2000 lt ready lost loses (follows_look version c s (open_follows path flags)) (follows_lost version c s (open_follows path flags)) (follows_quit version c s (open_follows path flags)) (λ t. open_missing version t h path flags None plain) (λ t. refl) place other refl
           0 d j x None ns l (tells (Look 0) (deed_of (Opened fd (new_id u) isf)) ∷ es) uc O O3 P0 M3 (open_at path flags) note.owned (omega (arith, q, few)) on.stays on.listed on.out on.refs
           (record { inodes = refl; refs = refl; walk = refl; lands = λ z p. absurd cc; pending = refl; lives = lives; names = λ i p. names_opened O.row O.desk fd (new_id u) key i (on.stays.opening ∙ ready.opening) p })
           (record { row = ap (λ (r : Row). opened_row r fd (new_id u) key) on.stays.row; ninodes = on.stays.ninodes; fds = on.stays.fds; hand = on.stays.hand; joined = on.stays.joined; directory = on.stays.directory; lent = on.stays.lent; lender = on.stays.lender; opening = refl; left = on.stays.left }) free
           (λ v inv2 ov. mends_opened h fd v O3 ov free_o lt inv2 refl (on.stays.left ∙ ready.left) keeps_hold (λ i p. names0 i (bare i p)))
           (record { stays = record { row = row_back O.row fd (new_id u) key none_fd none_key ∙ on.stays.row; ninodes = on.stays.ninodes; fds = on.stays.fds; hand = on.stays.hand; joined = on.stays.joined; directory = on.stays.directory; lent = on.stays.lent; lender = on.stays.lender; opening = sym ready.opening; left = sym ready.left }; inodes = refl; refs = refl; walk = refl; pending = refl; full = refl })
-          (λ ms l2 u2 R few2 at2. s-opened h path flags w free lt holds idle j fd (new_id u) isf ms (Some (note_of u.all j)) inode_type l2 (tells (Look 0) (deed_of (Opened fd (new_id u) isf)) ∷ es) u2 R (omega (arith, few2)) at2 (typed P0 R ms u2 at2) (refusal ∙ goes)
+          (λ ms l2 u2 R few2 at2. s-opened version h path flags w free lt holds idle j fd (new_id u) isf ms (Some (note_of u.all j)) inode_type l2 (tells (Look 0) (deed_of (Opened fd (new_id u) isf)) ∷ es) u2 R (omega (arith, few2)) at2 (typed P0 R ms u2 at2) (refusal ∙ goes)
           ((λ z. has_room (at2.stays.fds z)) ∙ sym (λ z. has_room (on.stays.fds z)) ∙ ap (λ (z : ℕ). nat_lt z descriptor_count) (sym low) ∙ room)
           ((λ z. lowest (at2.stays.fds z)) ∙ sym (λ z. lowest (on.stays.fds z)) ∙ sym low) (file_by_type (u.all.nodes j) inode_type type_is) b.0)).wp)
         where
@@ -258,14 +259,14 @@ module _ (h : ℕ) (path : List ℕ) (flags : ℕ) (w : World) (free : (w.desks 
           bare : (i : ℕ) → own_names O3.row (record (O3.desk) { opening = None }) i ≡ true → own_names O.row O.desk i ≡ true
           bare i p = (λ z. own_names O.row (record (O.desk) { opening = (on.stays.opening ∙ ready.opening) z }) i) ∙ p
 
-      at : (o : Option Cause) → open_kind flags (node_at u.all j).kind ≡ o → (r : Bool) → has_room (u.all.fds h) ≡ r → MoveFine h 1611 n B Q es u (Look 0) (walk_step d ns (open_at path flags) lost (Some j))
+      at : (o : Option Cause) → open_kind flags (node_at u.all j).kind ≡ o → (r : Bool) → has_room (u.all.fds h) ≡ r → MoveFine version h look_cost n B Q es u (Look 0) (walk_step d ns (open_at path flags) lost (Some j))
       at (Some k) q r p = refused_at k q
       at None q true p = goes_at q p
       at None q false p = full_at q p
 
   -- A path without elements leads to its start, which is a directory.
-  starts : (i n : ℕ) (v : World) (O : Own) (w1 : World) → 3000 ≤ n → elements path ≡ [] → Gone h base [] O0 O w1 → Inv v → own_of h v ≡ O → StartsAt h i s base [] O v
-      → Fine machine h (places h (UpStart (is_absolute path)) (Some i) (makes (Begin s 0)) v) 0 n B [] v (marked h (makes (Begin s 0)) (counted_up h i v)) (λ l. Wp machine h B Q (open_at path flags i []) l (onto (own h (places h (UpStart (is_absolute path)) (Some i) (makes (Begin s 0)) v)) []) (marked h (makes (Begin s 0)) (counted_up h i v)))
+  starts : (i n : ℕ) (v : World) (O : Own) (w1 : World) → 3000 ≤ n → elements version path ≡ [] → Gone h base [] O0 O w1 → Inv v → own_of h v ≡ O → StartsAt h i s base [] O v
+      → Fine (machine version) h (places version h (UpStart (is_absolute path)) (Some i) (makes (Begin s 0)) v) 0 n B [] v (marked version h (makes (Begin s 0)) (counted_up h i v)) (λ l. Wp (machine version) h B Q (open_at path flags i []) l (onto (own h (places version h (UpStart (is_absolute path)) (Some i) (makes (Begin s 0)) v)) []) (marked version h (makes (Begin s 0)) (counted_up h i v)))
   starts i n v O w1 few none gone inv ov at = by (open_kind flags (node_at v.all p0).kind) refl (has_room (v.all.fds h)) refl
     where
       p0 : ℕ
@@ -295,8 +296,8 @@ module _ (h : ℕ) (path : List ℕ) (flags : ℕ) (w : World) (free : (w.desks 
       walks_are : (stage_of u2).walk ≡ put (λ g. (v.harts g).walk) h None
       walks_are = ap (λ (m : Stage). m.walk) (stage_walk h None None u1) ∙ ap (λ (m : Stage). put m.walk h None) at.up.stage
 
-      made : (m : Made) → acts v.all h s (Some p0) None 0 (new_id v) ≡ m → begun v.all h s (elements path) 0 (new_id v) ≡ record m { found = None }
-      made m q = start_made v.all h s 0 (new_id v) none ∙ ap (λ (z : Made). record z { found = None }) q
+      made : (m : Made) → acts version v.all h s (Some p0) None 0 (new_id v) ≡ m → begun version v.all h s (elements version path) 0 (new_id v) ≡ record m { found = None }
+      made m q = start_made version v.all h s 0 (new_id v) none ∙ ap (λ (z : Made). record z { found = None }) q
 
       -- the start is a directory still
       typed : (P0 R : Own) (v2 : World) → P0.row.cwd ≡ O0.row.cwd → R.row ≡ P0.row → Inv v2 → own_of h v2 ≡ R → type_of (v2.all.nodes i) ≡ Some OfDirectory
@@ -324,36 +325,36 @@ module _ (h : ℕ) (path : List ℕ) (flags : ℕ) (w : World) (free : (w.desks 
       }
 
       refused_at : (k : Cause) → open_kind flags (node_at v.all p0).kind ≡ Some k
-          → Fine machine h (places h (UpStart (is_absolute path)) (Some i) (makes (Begin s 0)) v) 0 n B [] v (marked h (makes (Begin s 0)) (counted_up h i v)) (λ l. Wp machine h B Q (open_at path flags i []) l (onto (own h (places h (UpStart (is_absolute path)) (Some i) (makes (Begin s 0)) v)) []) (marked h (makes (Begin s 0)) (counted_up h i v)))
+          → Fine (machine version) h (places version h (UpStart (is_absolute path)) (Some i) (makes (Begin s 0)) v) 0 n B [] v (marked version h (makes (Begin s 0)) (counted_up h i v)) (λ l. Wp (machine version) h B Q (open_at path flags i []) l (onto (own h (places version h (UpStart (is_absolute path)) (Some i) (makes (Begin s 0)) v)) []) (marked version h (makes (Begin s 0)) (counted_up h i v)))
       refused_at k why =
           let b = begun_refused (Begin s 0) k [] (open_follows path flags).first (λ xs r p. p) in
-          moves_good h 0 n B Q [] v u1 (Begin s 0) tt (open_at path flags i []) (begun v.all h s (elements path) 0 (new_id v)) (record { all = v.all; walk = None; found = None; opened = None; entered = None; left = None; told = Some (deed_of (Failed k)) })
-          (made _ (refused_made v.all h s (Some p0) None 0 (new_id v) k (open_kind_is v.all h p0 path flags None plain ∙ why)))
+          moves_good version h 0 n B Q [] v u1 (Begin s 0) tt (open_at path flags i []) (begun version v.all h s (elements version path) 0 (new_id v)) (record { all = v.all; walk = None; found = None; opened = None; entered = None; left = None; told = Some (deed_of (Failed k)) })
+          (made _ (refused_made version v.all h s (Some p0) None 0 (new_id v) k (open_kind_is version v.all h p0 path flags None plain ∙ why)))
           (fair_then at.up.fair stills)
-          (start_takes h v u2 s (Failed k) (new_id v) v.all (open_finder path flags plain) lt inv (ap (λ (o : Own). o.mine.walk) ov ∙ gone.walk) none (open_place (settle v.all) h path flags lt) (open_refused_step v.all h p0 (new_id v) path flags None k lt plain why) refl walks_are)
+          (start_takes version h v u2 s (Failed k) (new_id v) v.all (open_finder path flags plain) lt inv (ap (λ (o : Own). o.mine.walk) ov ∙ gone.walk) none (open_place (settle v.all) h path flags lt) (open_refused_step version v.all h p0 (new_id v) path flags None k lt plain why) refl walks_are)
           b.1 (omega (arith, few))
-          (λ l q. (s-open-refused h path flags w free lt holds idle i [] O.desk.noted OfDirectory k l (tells (Begin s 0) (deed_of (Failed k)) ∷ []) u2 O2 (omega (arith, q, few)) (same_at u2 own2) (λ v2 inv2 ov2. typed O0 O2 v2 refl gone.stays.row inv2 ov2) (refusal ∙ why) b.0).wp)
+          (λ l q. (s-open-refused version h path flags w free lt holds idle i [] O.desk.noted OfDirectory k l (tells (Begin s 0) (deed_of (Failed k)) ∷ []) u2 O2 (omega (arith, q, few)) (same_at u2 own2) (λ v2 inv2 ov2. typed O0 O2 v2 refl gone.stays.row inv2 ov2) (refusal ∙ why) b.0).wp)
 
       full_at : open_kind flags (node_at v.all p0).kind ≡ None → has_room (v.all.fds h) ≡ false
-          → Fine machine h (places h (UpStart (is_absolute path)) (Some i) (makes (Begin s 0)) v) 0 n B [] v (marked h (makes (Begin s 0)) (counted_up h i v)) (λ l. Wp machine h B Q (open_at path flags i []) l (onto (own h (places h (UpStart (is_absolute path)) (Some i) (makes (Begin s 0)) v)) []) (marked h (makes (Begin s 0)) (counted_up h i v)))
+          → Fine (machine version) h (places version h (UpStart (is_absolute path)) (Some i) (makes (Begin s 0)) v) 0 n B [] v (marked version h (makes (Begin s 0)) (counted_up h i v)) (λ l. Wp (machine version) h B Q (open_at path flags i []) l (onto (own h (places version h (UpStart (is_absolute path)) (Some i) (makes (Begin s 0)) v)) []) (marked version h (makes (Begin s 0)) (counted_up h i v)))
       full_at goes room =
           let dirty = dirties h u2 (ap (λ (o : Own). o.desk.lender) own2 ∙ gone.stays.lender ∙ free) lt stills.inv in
-          moves_full h 0 n B Q [] v u1 (Begin s 0) (open_at path flags i []) (begun v.all h s (elements path) 0 (new_id v)) (record { all = v.all; walk = None; found = None; opened = None; entered = None; left = None; told = Some (deed_of (NoRoom Descriptors)) })
-          (made _ (open_full v.all h p0 0 (new_id v) path flags None plain goes room))
+          moves_full version h 0 n B Q [] v u1 (Begin s 0) (open_at path flags i []) (begun version v.all h s (elements version path) 0 (new_id v)) (record { all = v.all; walk = None; found = None; opened = None; entered = None; left = None; told = Some (deed_of (NoRoom Descriptors)) })
+          (made _ (open_full version v.all h p0 0 (new_id v) path flags None plain goes room))
           (fair_then at.up.fair (fair_then stills dirty)) refl (omega (arith, few))
-          (λ l q. (s-open-full h path flags w free lt holds idle i [] O.desk.noted OfDirectory l (tells (Begin s 0) (deed_of (NoRoom Descriptors)) ∷ []) (record u2 { clean = false }) O2 (omega (arith, q, few)) (same_at (record u2 { clean = false }) own2) (λ v2 inv2 ov2. typed O0 O2 v2 refl gone.stays.row inv2 ov2) (refusal ∙ goes)
+          (λ l q. (s-open-full version h path flags w free lt holds idle i [] O.desk.noted OfDirectory l (tells (Begin s 0) (deed_of (NoRoom Descriptors)) ∷ []) (record u2 { clean = false }) O2 (omega (arith, q, few)) (same_at (record u2 { clean = false }) own2) (λ v2 inv2 ov2. typed O0 O2 v2 refl gone.stays.row inv2 ov2) (refusal ∙ goes)
           (ap (λ (z : ℕ). nat_lt z descriptor_count) (sym low) ∙ room)).wp)
 
       goes_at : open_kind flags (node_at v.all p0).kind ≡ None → has_room (v.all.fds h) ≡ true
-          → Fine machine h (places h (UpStart (is_absolute path)) (Some i) (makes (Begin s 0)) v) 0 n B [] v (marked h (makes (Begin s 0)) (counted_up h i v)) (λ l. Wp machine h B Q (open_at path flags i []) l (onto (own h (places h (UpStart (is_absolute path)) (Some i) (makes (Begin s 0)) v)) []) (marked h (makes (Begin s 0)) (counted_up h i v)))
+          → Fine (machine version) h (places version h (UpStart (is_absolute path)) (Some i) (makes (Begin s 0)) v) 0 n B [] v (marked version h (makes (Begin s 0)) (counted_up h i v)) (λ l. Wp (machine version) h B Q (open_at path flags i []) l (onto (own h (places version h (UpStart (is_absolute path)) (Some i) (makes (Begin s 0)) v)) []) (marked version h (makes (Begin s 0)) (counted_up h i v)))
       goes_at goes room =
-          moves_good h 0 n B Q [] v u1 (Begin s 0) tt (open_at path flags i []) (begun v.all h s (elements path) 0 (new_id v)) (record { all = opened_tree v.all h fd (new_id v) i flags; walk = None; found = None; opened = Some (new_id v); entered = None; left = None; told = Some (deed_of (Opened fd (new_id v) isf)) })
-          (made _ (open_made v.all h p0 0 (new_id v) path flags None plain goes room) ∙ (λ z. record { all = opened_tree v.all h fd (new_id v) (sym at.start z) flags; walk = None; found = None; opened = Some (new_id v); entered = None; left = None; told = Some (deed_of (Opened fd (new_id v) isf)) }))
+          moves_good version h 0 n B Q [] v u1 (Begin s 0) tt (open_at path flags i []) (begun version v.all h s (elements version path) 0 (new_id v)) (record { all = opened_tree v.all h fd (new_id v) i flags; walk = None; found = None; opened = Some (new_id v); entered = None; left = None; told = Some (deed_of (Opened fd (new_id v) isf)) })
+          (made _ (open_made version v.all h p0 0 (new_id v) path flags None plain goes room) ∙ (λ z. record { all = opened_tree v.all h fd (new_id v) (sym at.start z) flags; walk = None; found = None; opened = Some (new_id v); entered = None; left = None; told = Some (deed_of (Opened fd (new_id v) isf)) }))
           (fair_then at.up.fair (fair_then stills (fair stills.inv o.did)))
-          (start_takes h v u3 s (Opened fd (new_id v) isf) (new_id v) (settle (opened_tree v.all h fd (new_id v) p0 flags)) (open_finder path flags plain) lt inv (ap (λ (z : Own). z.mine.walk) ov ∙ gone.walk) none (open_place (settle v.all) h path flags lt) (open_step v.all h p0 (new_id v) path flags None lt plain goes room (fresh_id v inv).least)
+          (start_takes version h v u3 s (Opened fd (new_id v) isf) (new_id v) (settle (opened_tree v.all h fd (new_id v) p0 flags)) (open_finder path flags plain) lt inv (ap (λ (z : Own). z.mine.walk) ov ∙ gone.walk) none (open_place (settle v.all) h path flags lt) (open_step version v.all h p0 (new_id v) path flags None lt plain goes room (fresh_id v inv).least)
           (sym (settle_again (opened_tree v.all h fd (new_id v) p0 flags)) ∙ (λ z. settle (opened_tree v.all h fd (new_id v) (sym at.start z) flags))) walks_are)
           b.1 (omega (arith, few))
-          (λ l q. (s-opened h path flags w free lt holds idle i fd (new_id v) isf [] O.desk.noted OfDirectory l (tells (Begin s 0) (deed_of (Opened fd (new_id v) isf)) ∷ []) u3 O3 (omega (arith, q, few)) (record {
+          (λ l q. (s-opened version h path flags w free lt holds idle i fd (new_id v) isf [] O.desk.noted OfDirectory l (tells (Begin s 0) (deed_of (Opened fd (new_id v) isf)) ∷ []) u3 O3 (omega (arith, q, few)) (record {
             owns = o.owned;
             stays = record { row = ap (λ (r : Row). opened_row r fd (new_id v) key) gone.stays.row; ninodes = gone.stays.ninodes; fds = gone.stays.fds; hand = gone.stays.hand; joined = gone.stays.joined; directory = gone.stays.directory; lent = gone.stays.lent; lender = gone.stays.lender; opening = refl; left = gone.stays.left };
             noted = refl;
@@ -397,7 +398,7 @@ module _ (h : ℕ) (path : List ℕ) (flags : ℕ) (w : World) (free : (w.desks 
           O3 = record O2 { row = opened_row O.row fd (new_id v) key; desk = record (O.desk) { opening = Some fd } }
 
       by : (o : Option Cause) → open_kind flags (node_at v.all p0).kind ≡ o → (r : Bool) → has_room (v.all.fds h) ≡ r
-          → Fine machine h (places h (UpStart (is_absolute path)) (Some i) (makes (Begin s 0)) v) 0 n B [] v (marked h (makes (Begin s 0)) (counted_up h i v)) (λ l. Wp machine h B Q (open_at path flags i []) l (onto (own h (places h (UpStart (is_absolute path)) (Some i) (makes (Begin s 0)) v)) []) (marked h (makes (Begin s 0)) (counted_up h i v)))
+          → Fine (machine version) h (places version h (UpStart (is_absolute path)) (Some i) (makes (Begin s 0)) v) 0 n B [] v (marked version h (makes (Begin s 0)) (counted_up h i v)) (λ l. Wp (machine version) h B Q (open_at path flags i []) l (onto (own h (places version h (UpStart (is_absolute path)) (Some i) (makes (Begin s 0)) v)) []) (marked version h (makes (Begin s 0)) (counted_up h i v)))
       by (Some k) q r p = refused_at k q
       by None q true p = goes_at q p
       by None q false p = full_at q p
@@ -405,17 +406,17 @@ module _ (h : ℕ) (path : List ℕ) (flags : ℕ) (w : World) (free : (w.desks 
   notes : (m : Note) → O0.desk.noted ≡ Some m → 0 < O0.mine.refs m.number
   notes m q = absurd (let a = idle.noted in cc (a, q))
 
-  walks : (es : List Name) → elements path ≡ es → (n : ℕ) → 2600 * length es + 20000 ≤ n → (u : World) → own_of h u ≡ O0 → Safe machine h B Q (start s path [] (λ d. walk s d es [] (open_at path flags) lost) lost) n [] u
-  walks [] none n few u own = s-begin h s B Q base O0 [] n [] u O0 (λ d. open_at path flags d []) lost lt ready (gone_at h w u idle own) (omega (arith, few)) notes (λ i v inv ov at. starts i n v O0 u (omega (arith, few)) none (gone_at h w u idle own) inv ov at)
+  walks : (es : List Name) → elements version path ≡ es → (n : ℕ) → 2600 * length es + 20000 ≤ n → (u : World) → own_of h u ≡ O0 → Safe (machine version) h B Q (start s path [] (λ d. walk s d es [] (open_at path flags) lost) lost) n [] u
+  walks [] none n few u own = s-begin version h s B Q base O0 [] n [] u O0 (λ d. open_at path flags d []) lost lt ready (gone_at h w u idle own) (omega (arith, few)) notes (λ i v inv ov at. starts i n v O0 u (omega (arith, few)) none (gone_at h w u idle own) inv ov at)
       (λ l u2 R q g full. loses NoMemory [] l [] u2 R (omega (arith, q, few)) g full)
-  walks (e ∷ r) path_is n few u own = s-start h s B Q base O0 e r [] n [] u O0 (λ d. walk s d (e ∷ r) [] (open_at path flags) lost) lost lt ready (gone_at h w u idle own) (omega (arith, few)) refl path_is spelled place notes (follows_begin c s (open_follows path flags)).1
-      (λ d l u2 R q on. s-walk h s B Q (Walked c []) (Walked c (missed s ∷ [])) base O0 2000 lt ready lost loses (follows_look c s (open_follows path flags)) (follows_lost c s (open_follows path flags)) (follows_quit c s (open_follows path flags)) (λ t. open_missing t h path flags None plain) (λ t. refl) place other refl
-      r d e [] l (looks (Begin s 0) ∷ []) u2 R (open_at path flags) (omega (arith, q, few)) on (follows_begin c s (open_follows path flags)).0 (λ t q. open_missing t h path flags (Some q) plain) act)
+  walks (e ∷ r) path_is n few u own = s-start version h s B Q base O0 e r [] n [] u O0 (λ d. walk s d (e ∷ r) [] (open_at path flags) lost) lost lt ready (gone_at h w u idle own) (omega (arith, few)) refl path_is spelled place notes (follows_begin version c s (open_follows path flags)).1
+      (λ d l u2 R q on. s-walk version h s B Q (Walked c []) (Walked c (missed s ∷ [])) base O0 2000 lt ready lost loses (follows_look version c s (open_follows path flags)) (follows_lost version c s (open_follows path flags)) (follows_quit version c s (open_follows path flags)) (λ t. open_missing version t h path flags None plain) (λ t. refl) place other refl
+      r d e [] l (looks (Begin s 0) ∷ []) u2 R (open_at path flags) (omega (arith, q, few)) on (follows_begin version c s (open_follows path flags)).0 (λ t q. open_missing version t h path flags (Some q) plain) act)
       (λ l u2 R q g full. loses NoMemory [] l [] u2 R (omega (arith, q, few)) g full)
 
-  pub open_ok : Safe machine h B Q (open_program path flags) (limit c) [] w
-  open_ok = subst (λ (b : Bool). Safe machine h B Q (if b then open_new path flags (elements path) else open_old path flags) (limit c) [] w) (sym plain)
-      (s-join refl free lt (omega arith) (λ i x q. absurd (let a = ap (λ (f : ℕ → Option Held). f i) idle.inodes in cc (a, q))) idle.joined (λ l u q own. walks (elements path) refl l (enough l (length (elements path)) q) u own))
+  pub open_ok : Safe (machine version) h B Q (open_program version path flags) (limit version c) [] w
+  open_ok = subst (λ (b : Bool). Safe (machine version) h B Q (if b then open_new path flags (elements version path) else open_old version path flags) (limit version c) [] w) (sym plain)
+      (s-join version refl free lt (omega arith) (λ i x q. absurd (let a = ap (λ (f : ℕ → Option Held). f i) idle.inodes in cc (a, q))) idle.joined (λ l u q own. walks (elements version path) refl l (enough l (length (elements version path)) q) u own))
     where
       enough : (l k : ℕ) → l + 1 ≡ 2600 * (k + 1) + 24000 → 2600 * k + 20000 ≤ l
       enough l k q = omega (arith, q)

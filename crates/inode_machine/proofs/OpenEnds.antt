@@ -1,4 +1,5 @@
 -- An open without CREATE, from what was found to its reply.
+use Rattle.image_versions.specs.declared.version.Version.{Version}
 use Rattle.inode_machine.proofs.Vocabulary.{◌≡◌, ◌≢◌, ◌⊎◌, inl, inr, ℕ, ◌+◌, ◌-◌, ◌*◌, ◌<◌, ◌≤◌, Bool, true, false, ◌&&◌, ◌==◌, ◌||◌, List, [], ◌∷◌, length, Option, Some, None, refl, sym, ◌∙◌, ap, subst, arith, if◌then◌else◌, Do, oldest_first, Safe, Begun, Ends, IsBeginning, Cause, NoEntry, Descriptors, OpenFiles, Reply, Call, Node, Done, Failed, Opened, Act, next_of, reply_of, had_room, hart_count, put, hold_names, empty_it, has, has_room, lowest, node_or, Key, Row, key_is, key_names, one_if, and_true, either, eq_is, or_none, same_or, put_same, put_other, Step, MayEnd, IsWholeCall, Begin, OwnMove, Desk, Note, World, Empty, is_file_type, OfDirectory, InodeType, open_refusal, type_of, is_at, Own, key_in, own_names, own_of, Idle, Inv, machine, failed, full, own_step, empties, file_for, open_at, open_end, open_face, opened_reply, covered_calls}
 use Rattle.plain_tree.specs.declared.call.Call.TheVariants as calls
 use Rattle.plain_tree.specs.declared.step.Action.TheVariants as steps
@@ -25,8 +26,8 @@ pub open_follows : (path : List ℕ) (flags : ℕ) → Follows (calls.Open path 
 unfolding next_of reply_of had_room
 open_follows path flags = record { first = refl; missing = record { through = refl; reply = refl; room = refl } }
 
-pub open_begins : (path : List ℕ) (flags : ℕ) → IsBeginning covered_calls (calls.Open path flags) []
-open_begins path flags = let f = open_follows path flags in walked_begun (calls.Open path flags) [] [] (tells (Begin (steps.Open path flags) 0) (record { act = missed (steps.Open path flags); new = 0 }) ∷ []) (failed (calls.Open path flags) NoEntry) (λ xs r p. p) (f.first, f.missing)
+pub open_begins : (version : Version) (path : List ℕ) (flags : ℕ) → IsBeginning (covered_calls version) (calls.Open path flags) []
+open_begins version path flags = let f = open_follows path flags in walked_begun version (calls.Open path flags) [] [] (tells (Begin (steps.Open path flags) 0) (record { act = missed (steps.Open path flags); new = 0 }) ∷ []) (failed (calls.Open path flags) NoEntry) (λ xs r p. p) (f.first, f.missing)
 
 pub open_refused : (path : List ℕ) (flags : ℕ) (k : Cause) → MayEnd (calls.Open path flags) (record { step = steps.Open path flags; answer = Failed k } ∷ []) (failed (calls.Open path flags) k)
 unfolding next_of reply_of had_room
@@ -48,12 +49,12 @@ pub trunc_done : (path : List ℕ) (flags fd id : ℕ) (is_file : Bool) → MayE
 unfolding next_of reply_of had_room
 trunc_done path flags fd id is_file = record { through = refl; reply = refl; room = refl }
 
-pub opened_begins : (path : List ℕ) (flags fd id : ℕ) (is_file : Bool) (es : List Step) → Walked (calls.Open path flags) (opened_act path flags fd id is_file ∷ []) es → Begun covered_calls (calls.Open path flags) es
-opened_begins path flags fd id is_file es told = by (has flags empty_it && is_file) refl
+pub opened_begins : (version : Version) (path : List ℕ) (flags fd id : ℕ) (is_file : Bool) (es : List Step) → Walked (calls.Open path flags) (opened_act path flags fd id is_file ∷ []) es → Begun (covered_calls version) (calls.Open path flags) es
+opened_begins version path flags fd id is_file es told = by (has flags empty_it && is_file) refl
   where
-    by : (b : Bool) → (has flags empty_it && is_file) ≡ b → Begun covered_calls (calls.Open path flags) es
-    by false e = walked_begun (calls.Open path flags) (opened_act path flags fd id is_file ∷ []) es [] (opened_reply path flags fd) told (open_done path flags fd id is_file e)
-    by true e = walked_begun (calls.Open path flags) (opened_act path flags fd id is_file ∷ []) es (empty_step fd ∷ []) (opened_reply path flags fd) told (trunc_next path flags fd id is_file e, trunc_done path flags fd id is_file)
+    by : (b : Bool) → (has flags empty_it && is_file) ≡ b → Begun (covered_calls version) (calls.Open path flags) es
+    by false e = walked_begun version (calls.Open path flags) (opened_act path flags fd id is_file ∷ []) es [] (opened_reply path flags fd) told (open_done path flags fd id is_file e)
+    by true e = walked_begun version (calls.Open path flags) (opened_act path flags fd id is_file ∷ []) es (empty_step fd ∷ []) (opened_reply path flags fd) told (trunc_next path flags fd id is_file e, trunc_done path flags fd id is_file)
 
 -- What a hart names by its directory alone.
 names_home : (r : Row) (d : Desk) (i : ℕ) → r.hold ≡ None → d.opening ≡ None → d.left ≡ None → own_names r d i ≡ ((r.cwd == i) || false)
@@ -64,15 +65,15 @@ names_fewer : (r r2 : Row) (d d2 : Desk) (i : ℕ) → r2.cwd ≡ r.cwd → r2.h
 names_fewer r r2 d d2 i cwd hold opening left q =
     names_home r2 d2 i hold opening left ∙ (λ z. (cwd z == i) || false) ∙ (λ z. (or_none (r.cwd == i) (hold_names r.hold i || (key_names (key_in r.keys d.opening) i || is_at d.left i)) q).0 z || false)
 
-module _ (h : ℕ) (path : List ℕ) (flags : ℕ) (w : World) (free : (w.desks h).lender ≡ None) (lt : h < hart_count) (holds : Inv w) (idle : Idle h w) where
+module _ (version : Version) (h : ℕ) (path : List ℕ) (flags : ℕ) (w : World) (free : (w.desks h).lender ≡ None) (lt : h < hart_count) (holds : Inv w) (idle : Idle h w) where
   abbrev c : Call
   c = calls.Open path flags
 
   abbrev B : List Step → Type 0
-  B = Begun covered_calls c
+  B = Begun (covered_calls version) c
 
   abbrev Q : Reply → List Step → World → Type 0
-  Q = Ends covered_calls h c
+  Q = Ends (covered_calls version) h c
 
   abbrev O0 : Own
   O0 = joined_own (own_of h w)
@@ -89,13 +90,13 @@ module _ (h : ℕ) (path : List ℕ) (flags : ℕ) (w : World) (free : (w.desks 
 
   -- What was found is of another type than is asked for, and is given up.
   pub s-open-refused : (j : ℕ) (ns : List ℕ) (t : Option Note) (inode_type : InodeType) (k : Cause) (n : ℕ) (es : List Step) (u : World) (R : Own) → 2000 + 971 * length ns ≤ n → At h j base ns None t O0 R u → ((v : World) → Inv v → own_of h v ≡ R → type_of (v.all.nodes j) ≡ Some inode_type) → open_refusal (flags == 0) inode_type ≡ Some k
-      → Walked c (record { step = steps.Open path flags; answer = Failed k } ∷ []) es → Safe machine h B Q (open_at path flags j ns) n es u
+      → Walked c (record { step = steps.Open path flags; answer = Failed k } ∷ []) es → Safe (machine version) h B Q (open_at path flags j ns) n es u
   s-open-refused j ns t inode_type k n es u R few at typed refusal told =
-      s-take (λ o. type_of o ≡ Some inode_type) (λ o q. type_there o inode_type q) tt at.owns (at.stays.lender ∙ free) lt (omega (arith, few)) at.out (let r = at.refs j in let o = one_at j in omega (arith, r, o)) typed
+      s-take version (λ o. type_of o ≡ Some inode_type) (λ o q. type_there o inode_type q) tt at.owns (at.stays.lender ∙ free) lt (omega (arith, few)) at.out (let r = at.refs j in let o = one_at j in omega (arith, r, o)) typed
       (λ l1 x u1 q1 is own1.
-      subst (λ (z : InodeType). Safe machine h B Q (open_face path flags j ns z (open_refusal (flags == 0) z)) l1 es u1) (sym (face_or_type x inode_type is))
-      (subst (λ (z : Option Cause). Safe machine h B Q (open_face path flags j ns inode_type z) l1 es u1) (sym refusal)
-      (s-refuse h c (failed c k) j x base ns l1 es u1 R own1 (at.stays.lender ∙ free) lt (omega (arith, q1, few)) at.stays.joined at.listed at.out at.refs at.walk at.pending (λ q. spare j (names q)) may (inr (told [] (failed c k) (open_refused path flags k))))))
+      subst (λ (z : InodeType). Safe (machine version) h B Q (open_face path flags j ns z (open_refusal (flags == 0) z)) l1 es u1) (sym (face_or_type version x inode_type is))
+      (subst (λ (z : Option Cause). Safe (machine version) h B Q (open_face path flags j ns inode_type z) l1 es u1) (sym refusal)
+      (s-refuse version h c (failed c k) j x base ns l1 es u1 R own1 (at.stays.lender ∙ free) lt (omega (arith, q1, few)) at.stays.joined at.listed at.out at.refs at.walk at.pending (λ q. spare j (names q)) may (inr (told [] (failed c k) (open_refused path flags k))))))
     where
       hold : R.row.hold ≡ None
       hold = ap (λ (r : Row). r.hold) at.stays.row ∙ idle.hold
@@ -108,19 +109,19 @@ module _ (h : ℕ) (path : List ℕ) (flags : ℕ) (w : World) (free : (w.desks 
 
   -- No descriptor is free, as the step found.
   pub s-open-full : (j : ℕ) (ns : List ℕ) (t : Option Note) (inode_type : InodeType) (n : ℕ) (es : List Step) (u : World) (R : Own) → 2000 + 971 * length ns ≤ n → At h j base ns None t O0 R u → ((v : World) → Inv v → own_of h v ≡ R → type_of (v.all.nodes j) ≡ Some inode_type) → open_refusal (flags == 0) inode_type ≡ None
-      → has_room R.desk.fds ≡ false → Safe machine h B Q (open_at path flags j ns) n es u
+      → has_room R.desk.fds ≡ false → Safe (machine version) h B Q (open_at path flags j ns) n es u
   s-open-full j ns t inode_type n es u R few at typed refusal room =
-      s-take (λ o. type_of o ≡ Some inode_type) (λ o q. type_there o inode_type q) tt at.owns (at.stays.lender ∙ free) lt (omega (arith, few)) at.out (let r = at.refs j in let o = one_at j in omega (arith, r, o)) typed
+      s-take version (λ o. type_of o ≡ Some inode_type) (λ o q. type_there o inode_type q) tt at.owns (at.stays.lender ∙ free) lt (omega (arith, few)) at.out (let r = at.refs j in let o = one_at j in omega (arith, r, o)) typed
       (λ l1 x u1 q1 is own1.
-      subst (λ (z : InodeType). Safe machine h B Q (open_face path flags j ns z (open_refusal (flags == 0) z)) l1 es u1) (sym (face_or_type x inode_type is))
-      (subst (λ (z : Option Cause). Safe machine h B Q (open_face path flags j ns inode_type z) l1 es u1) (sym refusal)
-      (s-slot (record (M hand0) { inodes = put R.inodes j (Some (locked_held x)) }) own1 (at.stays.lender ∙ free) lt (omega (arith, q1, few)) (at.stays.hand ∙ idle.hand) refl refl
+      subst (λ (z : InodeType). Safe (machine version) h B Q (open_face path flags j ns z (open_refusal (flags == 0) z)) l1 es u1) (sym (face_or_type version x inode_type is))
+      (subst (λ (z : Option Cause). Safe (machine version) h B Q (open_face path flags j ns inode_type z) l1 es u1) (sym refusal)
+      (s-slot version (record (M hand0) { inodes = put R.inodes j (Some (locked_held x)) }) own1 (at.stays.lender ∙ free) lt (omega (arith, q1, few)) (at.stays.hand ∙ idle.hand) refl refl
       (λ v inv ov. let m = mends h v (record R { inodes = put R.inodes j (Some (locked_held x)) }) ov (at.stays.lender ∙ free) lt inv opening left keeps (λ i q. refers i q) in record { fair = m.fair; bad = m.bad; owned = m.owned })
-      (λ l2 u2 q2 own2. s-refuse h c (full c OpenFiles) j x base ns l2 es u2 (M hand0) own2 (at.stays.lender ∙ free) lt (omega (arith, q1, q2, few)) at.stays.joined (listed hand0) at.out at.refs refl refl (λ q. spare j (names hand0 q)) (may hand0 (at.stays.hand ∙ idle.hand)) (inl refl))
+      (λ l2 u2 q2 own2. s-refuse version h c (full c OpenFiles) j x base ns l2 es u2 (M hand0) own2 (at.stays.lender ∙ free) lt (omega (arith, q1, q2, few)) at.stays.joined (listed hand0) at.out at.refs refl refl (λ q. spare j (names hand0 q)) (may hand0 (at.stays.hand ∙ idle.hand)) (inl refl))
       (λ l2 s u2 q2 own2.
-      s-install-full s (file_for j flags) inode_type (record (M None) { inodes = put R.inodes j (Some (locked_held x)) }) own2 (at.stays.lender ∙ free) lt (omega (arith, q1, q2, few)) refl room refl in_hand refl
+      s-install-full version s (file_for j flags) inode_type (record (M None) { inodes = put R.inodes j (Some (locked_held x)) }) own2 (at.stays.lender ∙ free) lt (omega (arith, q1, q2, few)) refl room refl in_hand refl
       (λ v inv ov. let m = mends h v (record R { inodes = put R.inodes j (Some (locked_held x)); desk = record (R.desk) { hand = None } }) ov (at.stays.lender ∙ free) lt inv opening left keeps (λ i q. refers i q) in record { fair = m.fair; bad = m.bad; owned = m.owned })
-      (λ l3 u3 q3 own3. s-refuse h c (full c Descriptors) j x base ns l3 es u3 (M None) own3 (at.stays.lender ∙ free) lt (omega (arith, q1, q2, q3, few)) at.stays.joined (listed None) at.out at.refs refl refl (λ q. spare j (names None q)) (may None refl) (inl refl))))))
+      (λ l3 u3 q3 own3. s-refuse version h c (full c Descriptors) j x base ns l3 es u3 (M None) own3 (at.stays.lender ∙ free) lt (omega (arith, q1, q2, q3, few)) at.stays.joined (listed None) at.out at.refs refl refl (λ q. spare j (names None q)) (may None refl) (inl refl))))))
     where
       hand0 : Option ℕ
       hand0 = R.desk.hand
@@ -160,10 +161,10 @@ module _ (h : ℕ) (path : List ℕ) (flags : ℕ) (w : World) (free : (w.desks 
 
   -- The inode's lock is given up, and the call ends.
   s-open-end : (j fd s id : ℕ) (key : Key) (ns : List ℕ) (t : Option Note) (x : Option Node) (n : ℕ) (es : List Step) (u u0 : World) (R : Own) → 1000 + 971 * length ns ≤ n → At h j base ns None t (went fd id key) R u0 → own_of h u ≡ record (own_installed R j fd s) { inodes = put R.inodes j (Some (locked_held x)) }
-      → IsWholeCall c (oldest_first es) (opened_reply path flags fd) → Safe machine h B Q (open_end path flags j ns fd) n es u
+      → IsWholeCall c (oldest_first es) (opened_reply path flags fd) → Safe (machine version) h B Q (open_end path flags j ns fd) n es u
   s-open-end j fd s id key ns t x n es u u0 R few at own told =
-      s-give own (at.stays.lender ∙ free) lt (omega (arith, few)) (put_same R.inodes j (Some (locked_held x))) refl refl refl at.pending (λ l u2 q own2.
-      s-ends h c (opened_reply path flags fd) base ns l es u2 _ own2 (at.stays.lender ∙ free) lt (omega (arith, few, q)) at.stays.joined
+      s-give version own (at.stays.lender ∙ free) lt (omega (arith, few)) (put_same R.inodes j (Some (locked_held x))) refl refl refl at.pending (λ l u2 q own2.
+      s-ends version h c (opened_reply path flags fd) base ns l es u2 _ own2 (at.stays.lender ∙ free) lt (omega (arith, few, q)) at.stays.joined
       (listed_among R (record (own_installed R j fd s) { inodes = put (put R.inodes j (Some (locked_held x))) j None }) base ns at.listed (λ i. back_at R.inodes j (Some (locked_held x)) at.out i) (λ i p. put_other R.mine.refs j (R.mine.refs j - 1) i (not_j i p)) (λ i p q. names_fewer R.row R.row R.desk (own_installed R j fd s).desk i refl hold refl left q))
       (λ i. fewer i) at.walk at.pending (record { hold = hold; hand = refl; lent = at.stays.lent ∙ idle.lent; opening = refl; left = left; counts = λ i. λ z. one_if (sym at.stays.directory z == i) }) (inr told))
     where
@@ -185,7 +186,7 @@ module _ (h : ℕ) (path : List ℕ) (flags : ℕ) (w : World) (free : (w.desks 
   -- A file is emptied, where that is asked for.
   s-open-then : (j fd s id : ℕ) (is_file : Bool) (ns : List ℕ) (t : Option Note) (inode_type : InodeType) (x : Option Node) (n : ℕ) (es : List Step) (u u0 : World) (R : Own) → 1950 + 971 * length ns ≤ n → At h j base ns None t (went fd id (key_is (file_for j flags))) R u0 → type_of x ≡ Some inode_type
       → own_of h u ≡ record (own_installed R j fd s) { inodes = put R.inodes j (Some (locked_held x)) } → is_file ≡ is_file_type inode_type → Walked c (opened_act path flags fd id is_file ∷ []) es
-      → Safe machine h B Q (if empties flags inode_type then Do (Empty j) (λ _. own_step (steps.Truncate fd)) (λ _. open_end path flags j ns fd) else open_end path flags j ns fd) n es u
+      → Safe (machine version) h B Q (if empties flags inode_type then Do (Empty j) (λ _. own_step (steps.Truncate fd)) (λ _. open_end path flags j ns fd) else open_end path flags j ns fd) n es u
   s-open-then j fd s id is_file ns t inode_type x n es u u0 R few at typed own kind told = by (empties flags inode_type) refl
     where
       key : Key
@@ -207,12 +208,12 @@ module _ (h : ℕ) (path : List ℕ) (flags : ℕ) (w : World) (free : (w.desks 
       y : Node
       y = emptied_node (node_or x)
 
-      by : (b : Bool) → empties flags inode_type ≡ b → Safe machine h B Q (if empties flags inode_type then Do (Empty j) (λ _. own_step (steps.Truncate fd)) (λ _. open_end path flags j ns fd) else open_end path flags j ns fd) n es u
-      by false e = subst (λ (b : Bool). Safe machine h B Q (if b then Do (Empty j) (λ _. own_step (steps.Truncate fd)) (λ _. open_end path flags j ns fd) else open_end path flags j ns fd) n es u) (sym e)
+      by : (b : Bool) → empties flags inode_type ≡ b → Safe (machine version) h B Q (if empties flags inode_type then Do (Empty j) (λ _. own_step (steps.Truncate fd)) (λ _. open_end path flags j ns fd) else open_end path flags j ns fd) n es u
+      by false e = subst (λ (b : Bool). Safe (machine version) h B Q (if b then Do (Empty j) (λ _. own_step (steps.Truncate fd)) (λ _. open_end path flags j ns fd) else open_end path flags j ns fd) n es u) (sym e)
           (s-open-end j fd s id key ns t x n es u u0 R (omega (arith, few)) at own (told [] (opened_reply path flags fd) (open_done path flags fd id is_file (asked false e))))
-      by true e = subst (λ (b : Bool). Safe machine h B Q (if b then Do (Empty j) (λ _. own_step (steps.Truncate fd)) (λ _. open_end path flags j ns fd) else open_end path flags j ns fd) n es u) (sym e)
-          (s-empty j fd key (node_or x) own (at.stays.lender ∙ free) lt (omega (arith, few)) at.stays.joined (put_same R.inodes j (Some (locked_held x)) ∙ (λ z. Some (locked_held (some x typed z)))) (file_by_type x inode_type typed ∙ file e) keyed refl at.walk at.pending
-          (walked_begun c (opened_act path flags fd id is_file ∷ record { step = steps.Truncate fd; answer = Done } ∷ []) (empty_step fd ∷ es) [] (opened_reply path flags fd) (emptied_told e) (trunc_done path flags fd id is_file))
+      by true e = subst (λ (b : Bool). Safe (machine version) h B Q (if b then Do (Empty j) (λ _. own_step (steps.Truncate fd)) (λ _. open_end path flags j ns fd) else open_end path flags j ns fd) n es u) (sym e)
+          (s-empty version j fd key (node_or x) own (at.stays.lender ∙ free) lt (omega (arith, few)) at.stays.joined (put_same R.inodes j (Some (locked_held x)) ∙ (λ z. Some (locked_held (some x typed z)))) (file_by_type x inode_type typed ∙ file e) keyed refl at.walk at.pending
+          (walked_begun version c (opened_act path flags fd id is_file ∷ record { step = steps.Truncate fd; answer = Done } ∷ []) (empty_step fd ∷ es) [] (opened_reply path flags fd) (emptied_told e) (trunc_done path flags fd id is_file))
           (λ l2 u2 q2 own2. s-open-end j fd s id key ns t (Some y) l2 (empty_step fd ∷ es) u2 u0 R (omega (arith, q2, few)) at (own2 ∙ (λ z. record (own_installed R j fd s) {
             inodes = put_twice R.inodes j (Some (locked_held x)) (Some (locked_held (Some y))) z;
             mine = record { refs = put R.mine.refs j (R.mine.refs j - 1); walk = sym at.walk z; pending = sym at.pending z };
@@ -223,17 +224,17 @@ module _ (h : ℕ) (path : List ℕ) (flags : ℕ) (w : World) (free : (w.desks 
 
   -- What was found is opened: a slot, a descriptor.
   pub s-opened : (j fd id : ℕ) (is_file : Bool) (ns : List ℕ) (t : Option Note) (inode_type : InodeType) (n : ℕ) (es : List Step) (u : World) (R : Own) → 2000 + 971 * length ns ≤ n → At h j base ns None t (went fd id (key_is (file_for j flags))) R u → ((v : World) → Inv v → own_of h v ≡ R → type_of (v.all.nodes j) ≡ Some inode_type) → open_refusal (flags == 0) inode_type ≡ None
-      → has_room R.desk.fds ≡ true → lowest R.desk.fds ≡ fd → is_file ≡ is_file_type inode_type → Walked c (opened_act path flags fd id is_file ∷ []) es → Safe machine h B Q (open_at path flags j ns) n es u
+      → has_room R.desk.fds ≡ true → lowest R.desk.fds ≡ fd → is_file ≡ is_file_type inode_type → Walked c (opened_act path flags fd id is_file ∷ []) es → Safe (machine version) h B Q (open_at path flags j ns) n es u
   s-opened j fd id is_file ns t inode_type n es u R few at typed refusal room low kind told =
-      s-take (λ o. type_of o ≡ Some inode_type) (λ o q. type_there o inode_type q) tt at.owns (at.stays.lender ∙ free) lt (omega (arith, few)) at.out here typed
+      s-take version (λ o. type_of o ≡ Some inode_type) (λ o q. type_there o inode_type q) tt at.owns (at.stays.lender ∙ free) lt (omega (arith, few)) at.out here typed
       (λ l1 x u1 q1 is own1.
-      subst (λ (z : InodeType). Safe machine h B Q (open_face path flags j ns z (open_refusal (flags == 0) z)) l1 es u1) (sym (face_or_type x inode_type is))
-      (subst (λ (z : Option Cause). Safe machine h B Q (open_face path flags j ns inode_type z) l1 es u1) (sym refusal)
-      (s-slot (record (M R.desk.hand) { inodes = put R.inodes j (Some (locked_held x)) }) own1 (at.stays.lender ∙ free) lt (omega (arith, q1, few)) (at.stays.hand ∙ idle.hand) refl refl
+      subst (λ (z : InodeType). Safe (machine version) h B Q (open_face path flags j ns z (open_refusal (flags == 0) z)) l1 es u1) (sym (face_or_type version x inode_type is))
+      (subst (λ (z : Option Cause). Safe (machine version) h B Q (open_face path flags j ns inode_type z) l1 es u1) (sym refusal)
+      (s-slot version (record (M R.desk.hand) { inodes = put R.inodes j (Some (locked_held x)) }) own1 (at.stays.lender ∙ free) lt (omega (arith, q1, few)) (at.stays.hand ∙ idle.hand) refl refl
       (λ v inv ov. mends_opened h fd v (record R { inodes = put R.inodes j (Some (locked_held x)) }) ov (at.stays.lender ∙ free) lt inv at.stays.opening left (subst KeepsHold (sym hold) tt) (λ i q. refers i q))
-      (λ l2 u2 q2 own2. s-refuse h c (full c OpenFiles) j x base ns l2 es u2 (M R.desk.hand) own2 (at.stays.lender ∙ free) lt (omega (arith, q1, q2, few)) at.stays.joined listed at.out at.refs refl refl (λ q. spare j ((λ z. (sym (ap (λ (r : Row). r.cwd) at.stays.row) z == j) || false) ∙ sym (names_home (M R.desk.hand).row (M R.desk.hand).desk j hold refl refl) ∙ q)) may (inl refl))
+      (λ l2 u2 q2 own2. s-refuse version h c (full c OpenFiles) j x base ns l2 es u2 (M R.desk.hand) own2 (at.stays.lender ∙ free) lt (omega (arith, q1, q2, few)) at.stays.joined listed at.out at.refs refl refl (λ q. spare j ((λ z. (sym (ap (λ (r : Row). r.cwd) at.stays.row) z == j) || false) ∙ sym (names_home (M R.desk.hand).row (M R.desk.hand).desk j hold refl refl) ∙ q)) may (inl refl))
       (λ l2 s u2 q2 own2.
-      s-install fd s (file_for j flags) inode_type own2 (at.stays.lender ∙ free) lt (omega (arith, q1, q2, few)) at.stays.opening refl room low keyed refl refl at.walk at.pending (put_same R.inodes j (Some (locked_held x))) refl is (writes_no_directory flags j inode_type refusal) here twice (λ l3 u3 q3 own3. s-open-then j fd s id is_file ns t inode_type x l3 es u3 u R (omega (arith, q1, q2, q3, few)) at is own3 kind told)))))
+      s-install version fd s (file_for j flags) inode_type own2 (at.stays.lender ∙ free) lt (omega (arith, q1, q2, few)) at.stays.opening refl room low keyed refl refl at.walk at.pending (put_same R.inodes j (Some (locked_held x))) refl is (writes_no_directory flags j inode_type refusal) here twice (λ l3 u3 q3 own3. s-open-then j fd s id is_file ns t inode_type x l3 es u3 u R (omega (arith, q1, q2, q3, few)) at is own3 kind told)))))
     where
       here : 0 < R.mine.refs j
       here = let r = at.refs j in let o = one_at j in omega (arith, r, o)

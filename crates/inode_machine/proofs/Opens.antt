@@ -1,4 +1,5 @@
 -- The tree's step of an open without CREATE, and what it leaves where it acts.
+use Rattle.image_versions.specs.declared.version.Version.{Version}
 use Rattle.inode_machine.proofs.Vocabulary.{◌≡◌, inl, ℕ, ◌+◌, ◌-◌, ◌<◌, true, false, ◌==◌, List, [], ◌∷◌, Option, Some, None, refl, sym, ◌∙◌, ap, subst, arith, P, own, onto, Fine, Wp, Cause, NoEntry, Descriptors, Node, NodeKind, Directory, File, Device, Open, Failed, Opened, NoRoom, hart_count, Name, Tree, settle, IsLeastUnused, answer_by, creates, effect_by, has_room, is_file, lowest, makes_node, node_at, node_or, open_kind, place_of, refusal_with, refusal_by, IsInPlace, StepWith, eq_not, eq_self, Step, Move, World, InodeType, face_of, face_or, is_file_type, open_refusal, type_of, type_of_kind, Made, acts, with_made, Inv, Others, IsTied, file_tables_of, machine}
 use Rattle.inode_machine.proofs.Basics.{Fair, fair, others, below_is, Finder, opened_tree}
 
@@ -9,21 +10,21 @@ pub open_place : (t : Tree) (h : ℕ) (path : List ℕ) (flags : ℕ) → h < ha
 unfolding place_of
 open_place t h path flags lt = rw (below_is h hart_count lt) refl
 
-pub open_missing : (t : Tree) (h : ℕ) (path : List ℕ) (flags : ℕ) (par : Option (ℕ × Name)) → creates flags ≡ false → refusal_with t h (Open path flags) None par ≡ Some NoEntry
+pub open_missing : (version : Version) (t : Tree) (h : ℕ) (path : List ℕ) (flags : ℕ) (par : Option (ℕ × Name)) → creates flags ≡ false → refusal_with version t h (Open path flags) None par ≡ Some NoEntry
 unfolding refusal_by
-open_missing t h path flags par plain = rw plain refl
+open_missing version t h path flags par plain = rw plain refl
 
-pub open_kind_is : (t : Tree) (h j : ℕ) (path : List ℕ) (flags : ℕ) (par : Option (ℕ × Name)) → creates flags ≡ false → refusal_with t h (Open path flags) (Some j) par ≡ open_kind flags (node_at t j).kind
+pub open_kind_is : (version : Version) (t : Tree) (h j : ℕ) (path : List ℕ) (flags : ℕ) (par : Option (ℕ × Name)) → creates flags ≡ false → refusal_with version t h (Open path flags) (Some j) par ≡ open_kind flags (node_at t j).kind
 unfolding refusal_by
-open_kind_is t h j path flags par plain = rw plain refl
+open_kind_is version t h j path flags par plain = rw plain refl
 
-pub open_refused_step : (t : Tree) (h j id : ℕ) (path : List ℕ) (flags : ℕ) (par : Option (ℕ × Name)) (k : Cause) → h < hart_count → creates flags ≡ false → open_kind flags (node_at t j).kind ≡ Some k → StepWith t h (Open path flags) (Some j) par (Failed k) 0 id t
-open_refused_step t h j id path flags par k lt plain e = (open_kind_is t h j path flags par plain ∙ e, refl, open_place t h path flags lt)
+pub open_refused_step : (version : Version) (t : Tree) (h j id : ℕ) (path : List ℕ) (flags : ℕ) (par : Option (ℕ × Name)) (k : Cause) → h < hart_count → creates flags ≡ false → open_kind flags (node_at t j).kind ≡ Some k → StepWith version t h (Open path flags) (Some j) par (Failed k) 0 id t
+open_refused_step version t h j id path flags par k lt plain e = (open_kind_is version t h j path flags par plain ∙ e, refl, open_place t h path flags lt)
 
 -- With a descriptor free.
 
-pub open_made : (t : Tree) (h j new id : ℕ) (path : List ℕ) (flags : ℕ) (par : Option (ℕ × Name)) → creates flags ≡ false → open_kind flags (node_at t j).kind ≡ None → has_room (t.fds h) ≡ true
-    → acts t h (Open path flags) (Some j) par new id ≡ record {
+pub open_made : (version : Version) (t : Tree) (h j new id : ℕ) (path : List ℕ) (flags : ℕ) (par : Option (ℕ × Name)) → creates flags ≡ false → open_kind flags (node_at t j).kind ≡ None → has_room (t.fds h) ≡ true
+    → acts version t h (Open path flags) (Some j) par new id ≡ record {
       all = opened_tree t h (lowest (t.fds h)) id j flags;
       walk = None;
       found = Some j;
@@ -33,13 +34,13 @@ pub open_made : (t : Tree) (h j new id : ℕ) (path : List ℕ) (flags : ℕ) (p
       told = Some (record { act = record { step = Open path flags; answer = Opened (lowest (t.fds h)) id (is_file (node_at t j).kind) }; new = new });
     }
 unfolding effect_by answer_by
-open_made t h j new id path flags par plain goes room = rw (open_kind_is t h j path flags par plain ∙ goes) (rw (plain, room) refl)
+open_made version t h j new id path flags par plain goes room = rw (open_kind_is version t h j path flags par plain ∙ goes) (rw (plain, room) refl)
 
-pub open_step : (t : Tree) (h j id : ℕ) (path : List ℕ) (flags : ℕ) (par : Option (ℕ × Name)) → h < hart_count → creates flags ≡ false → open_kind flags (node_at t j).kind ≡ None → has_room (t.fds h) ≡ true → IsLeastUnused t id
-    → StepWith t h (Open path flags) (Some j) par (Opened (lowest (t.fds h)) id (is_file (node_at t j).kind)) 0 id (settle (opened_tree t h (lowest (t.fds h)) id j flags))
+pub open_step : (version : Version) (t : Tree) (h j id : ℕ) (path : List ℕ) (flags : ℕ) (par : Option (ℕ × Name)) → h < hart_count → creates flags ≡ false → open_kind flags (node_at t j).kind ≡ None → has_room (t.fds h) ≡ true → IsLeastUnused t id
+    → StepWith version t h (Open path flags) (Some j) par (Opened (lowest (t.fds h)) id (is_file (node_at t j).kind)) 0 id (settle (opened_tree t h (lowest (t.fds h)) id j flags))
 unfolding effect_by answer_by
-open_step t h j id path flags par lt plain goes room least = (
-  open_kind_is t h j path flags par plain ∙ goes,
+open_step version t h j id path flags par lt plain goes room least = (
+  open_kind_is version t h j path flags par plain ∙ goes,
   rw (plain, room) refl,
   record { node = λ z. absurd (let a : makes_node t (Open path flags) par ≡ false = rw plain refl in cc (a, z)); file = λ _. least },
   rw (plain, room) refl,
@@ -47,10 +48,10 @@ open_step t h j id path flags par lt plain goes room least = (
 )
 
 -- With none it finds no room, and nothing changes.
-pub open_full : (t : Tree) (h j new id : ℕ) (path : List ℕ) (flags : ℕ) (par : Option (ℕ × Name)) → creates flags ≡ false → open_kind flags (node_at t j).kind ≡ None → has_room (t.fds h) ≡ false
-    → acts t h (Open path flags) (Some j) par new id ≡ record { all = t; walk = None; found = Some j; opened = None; entered = None; left = None; told = Some (record { act = record { step = Open path flags; answer = NoRoom Descriptors }; new = new }) }
+pub open_full : (version : Version) (t : Tree) (h j new id : ℕ) (path : List ℕ) (flags : ℕ) (par : Option (ℕ × Name)) → creates flags ≡ false → open_kind flags (node_at t j).kind ≡ None → has_room (t.fds h) ≡ false
+    → acts version t h (Open path flags) (Some j) par new id ≡ record { all = t; walk = None; found = Some j; opened = None; entered = None; left = None; told = Some (record { act = record { step = Open path flags; answer = NoRoom Descriptors }; new = new }) }
 unfolding effect_by answer_by
-open_full t h j new id path flags par plain goes room = rw (open_kind_is t h j path flags par plain ∙ goes) (rw (plain, room) refl)
+open_full version t h j new id path flags par plain goes room = rw (open_kind_is version t h j path flags par plain ∙ goes) (rw (plain, room) refl)
 
 -- The type tells the cause.
 
@@ -78,9 +79,9 @@ file_by_type (Some v) inode_type e = at v.kind ∙ ap (λ (z : InodeType). is_fi
     at (File bytes) = refl
     at (Device major minor size) = refl
 
-pub face_or_type : (o : Option Node) (inode_type : InodeType) → type_of o ≡ Some inode_type → (face_or (face_of o)).inode_type ≡ inode_type
-face_or_type None inode_type e = absurd cc
-face_or_type (Some v) inode_type e = cc
+pub face_or_type : (version : Version) (o : Option Node) (inode_type : InodeType) → type_of o ≡ Some inode_type → (face_or (face_of version o)).inode_type ≡ inode_type
+face_or_type version None inode_type e = absurd cc
+face_or_type version (Some v) inode_type e = cc
 
 pub type_there : (o : Option Node) → o ≡ Some (node_or o) → type_of o ≡ Some (type_of_kind (node_or o).kind)
 type_there o e = ap (λ (z : Option Node). type_of z) e
@@ -117,11 +118,11 @@ dirties h v free lt inv = fair inv (record {
     t : IsTied (file_tables_of v)
     t = inv.tied
 
-pub moves_full : {A : Type 0} (h more n : ℕ) (B : List Step → Type 0) (Q : A → List Step → World → Type 0) (es : List Step) (v u : World) (mv : Move) (p : P machine A) (made x : Made)
-    → made ≡ x → Fair h v (with_made h x u) → (with_made h x u).clean ≡ false → more < n → ((l : ℕ) → l + (more + 1) ≡ n → Wp machine h B Q p l (record { move = mv; told = x.told } ∷ es) (with_made h x u))
-    → Fine machine h ((h, record { move = mv; told = made.told }) ∷ []) more n B es v (with_made h made u) (λ l. Wp machine h B Q p l (onto (own h ((h, record { move = mv; told = made.told }) ∷ [])) es) (with_made h made u))
-moves_full {A} h more n B Q es v u mv p made x is f bad pos next =
-    subst (λ (z : Made). Fine machine h ((h, record { move = mv; told = z.told }) ∷ []) more n B es v (with_made h z u) (λ l. Wp machine h B Q p l (onto (own h ((h, record { move = mv; told = z.told }) ∷ [])) es) (with_made h z u))) (sym is)
+pub moves_full : (version : Version) {A : Type 0} (h more n : ℕ) (B : List Step → Type 0) (Q : A → List Step → World → Type 0) (es : List Step) (v u : World) (mv : Move) (p : P (machine version) A) (made x : Made)
+    → made ≡ x → Fair h v (with_made h x u) → (with_made h x u).clean ≡ false → more < n → ((l : ℕ) → l + (more + 1) ≡ n → Wp (machine version) h B Q p l (record { move = mv; told = x.told } ∷ es) (with_made h x u))
+    → Fine (machine version) h ((h, record { move = mv; told = made.told }) ∷ []) more n B es v (with_made h made u) (λ l. Wp (machine version) h B Q p l (onto (own h ((h, record { move = mv; told = made.told }) ∷ [])) es) (with_made h made u))
+moves_full version {A} h more n B Q es v u mv p made x is f bad pos next =
+    subst (λ (z : Made). Fine (machine version) h ((h, record { move = mv; told = z.told }) ∷ []) more n B es v (with_made h z u) (λ l. Wp (machine version) h B Q p l (onto (own h ((h, record { move = mv; told = z.told }) ∷ [])) es) (with_made h z u))) (sym is)
     (record {
       inv = f.inv;
       kept = λ g ne. subst (λ (zs : List Step). Others g v zs (with_made h x u)) (sym (rw (eq_not h g (λ q. ne (sym q))) refl)) (others f g ne);

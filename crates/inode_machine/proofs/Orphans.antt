@@ -1,4 +1,5 @@
 -- A new inode that gets no name: from then on it is a dead node of the tree before that settles, as any other.
+use Rattle.image_versions.specs.declared.version.Version.{Version}
 use Rattle.inode_machine.proofs.Vocabulary.{◌≡◌, ◌≢◌, inl, inr, ℕ, ◌+◌, ◌<◌, ◌≤◌, true, false, List, [], Option, Some, None, refl, sym, ◌∙◌, ap, subst, arith, Do, P, Fine, Safe, Wp, Node, hart_count, Tree, put, is_live, is_named, settle, row_of, node_or, settle_nodes, links_of, folders_of, links_in, raises, Folders, IsForest, IsWellFormed, same_or, put_same, put_other, folder_dead, dead_links, no_node, cwd_named, hold_named, file_named, folders_put, put_self, map_put, Step, with_count, type_of, Note, World, Orphans, Store, Own, file_tables_of, own_names, Held, view, is_hart, own_of, Inv, machine}
 use Rattle.inode_machine.proofs.Basics.{file_tables_same, ours_some, kept_here, HartStep, fair, fair_then, own_inodes, has_inode, stands_in, directory_named, type_on, s-owned, quiet, has_disk, has_node, locks_it, locked_held, Writes, writes, lone_file, unnamed}
 
@@ -33,12 +34,12 @@ well_orphan t i v k none dead low below unnamed = record {
     named n q is = let a = subst (λ (z : ℕ). is_named t z ≡ true) q is in absurd (cc (a, unnamed))
 
 -- The last store of its record, without links.
-pub s-orphan : {A : Type 0} {h i : ℕ} {x : Held} (y : Node) {k : Unit {0} → P machine A} {B : List Step → Type 0} {Q : A → List Step → World → Type 0} {n : ℕ} {es : List Step} {w : World} {O : Own}
+pub s-orphan : (version : Version) {A : Type 0} {h i : ℕ} {x : Held} (y : Node) {k : Unit {0} → P (machine version) A} {B : List Step → Type 0} {Q : A → List Step → World → Type 0} {n : ℕ} {es : List Step} {w : World} {O : Own}
     → own_of h w ≡ O → O.desk.lender ≡ None → h < hart_count → 2 < n → O.desk.joined ≡ true → O.inodes i ≡ Some x → x.locked ≡ true → x.alone ≡ true → x.disk ≡ Some y → x.node ≡ None → own_names O.row O.desk i ≡ false → O.mine.pending ≡ None
     → ((t : Note) → O.desk.noted ≡ Some t → t.number ≢ i) → 1 ≤ i → i < O.ninodes
-    → ((l : ℕ) (u : World) → l + 3 ≡ n → own_of h u ≡ record O { inodes = put O.inodes i (Some (locked_held (Some (with_count 0 y)))) } → Safe machine h B Q (k tt) l es u)
-    → Safe machine h B Q (Do (Store i 0) (λ _. Some (Orphans i)) k) n es w
-s-orphan {A} {h} {i} {x} y {k} {B} {Q} {n} {es} {w} {O} owns free lt pos joined isi has lone disk node mine none notes low below rest = s-owned owns free pos (λ v inv ov. (
+    → ((l : ℕ) (u : World) → l + 3 ≡ n → own_of h u ≡ record O { inodes = put O.inodes i (Some (locked_held (Some (with_count 0 y)))) } → Safe (machine version) h B Q (k tt) l es u)
+    → Safe (machine version) h B Q (Do (Store i 0) (λ _. Some (Orphans i)) k) n es w
+s-orphan version {A} {h} {i} {x} y {k} {B} {Q} {n} {es} {w} {O} owns free lt pos joined isi has lone disk node mine none notes low below rest = s-owned version owns free pos (λ v inv ov. (
   ((locks_it h i v O x ov isi has, ap (λ (o : Own). o.desk.joined) ov ∙ joined), record { node = y; is = has_disk h i v O x ov isi ∙ disk; fits = inl (omega arith) }),
   (λ _ _. good v inv ov),
 ))
@@ -47,16 +48,16 @@ s-orphan {A} {h} {i} {x} y {k} {B} {Q} {n} {es} {w} {O} owns free lt pos joined 
     y1 = with_count 0 y
 
     good : (v : World) → Inv v → own_of h v ≡ O
-        → Fine machine h [] 2 n B es v (record v { disk = put v.disk i (Some (with_count 0 (node_or (v.disk i)))); all = record (v.all) { nodes = put v.all.nodes i (put v.disk i (Some (with_count 0 (node_or (v.disk i)))) i) }; alone = put v.alone i false })
-        (λ l. Wp machine h B Q (k tt) l es (record v { disk = put v.disk i (Some (with_count 0 (node_or (v.disk i)))); all = record (v.all) { nodes = put v.all.nodes i (put v.disk i (Some (with_count 0 (node_or (v.disk i)))) i) }; alone = put v.alone i false }))
-    good v inv ov = subst (λ (z : World). Fine machine h [] 2 n B es v z (λ l. Wp machine h B Q (k tt) l es z)) (sym same)
-        (quiet (fair_then wr.fair (fair wr.fair.inv did)) (λ z. record { tree = tree z; walk = λ g. (v.harts g).walk }) pos (λ l q. (rest l u q owned).wp))
+        → Fine (machine version) h [] 2 n B es v (record v { disk = put v.disk i (Some (with_count 0 (node_or (v.disk i)))); all = record (v.all) { nodes = put v.all.nodes i (put v.disk i (Some (with_count 0 (node_or (v.disk i)))) i) }; alone = put v.alone i false })
+        (λ l. Wp (machine version) h B Q (k tt) l es (record v { disk = put v.disk i (Some (with_count 0 (node_or (v.disk i)))); all = record (v.all) { nodes = put v.all.nodes i (put v.disk i (Some (with_count 0 (node_or (v.disk i)))) i) }; alone = put v.alone i false }))
+    good v inv ov = subst (λ (z : World). Fine (machine version) h [] 2 n B es v z (λ l. Wp (machine version) h B Q (k tt) l es z)) (sym same)
+        (quiet version (fair_then wr.fair (fair wr.fair.inv did)) (λ z. record { tree = tree z; walk = λ g. (v.harts g).walk }) pos (λ l q. (rest l u q owned).wp))
       where
         is_y : v.disk i ≡ Some y
         is_y = has_disk h i v O x ov isi ∙ disk
 
         wr : Writes h i (Some y1) x O v
-        wr = writes h i (Some y1) x O v free lt joined inv ov isi
+        wr = writes version h i (Some y1) x O v free lt joined inv ov isi
 
         u1 : World
         u1 = record v { disk = put v.disk i (Some y1) }

@@ -1,4 +1,5 @@
 -- A call that works on a directory and one inode more: they change, and are given up; what is new and gets no name is freed.
+use Rattle.image_versions.specs.declared.version.Version.{Version}
 use Rattle.inode_machine.proofs.Vocabulary.{◌≡◌, ◌≢◌, inl, inr, ℕ, ◌+◌, ◌*◌, ◌<◌, ◌≤◌, true, false, ◌==◌, List, length, Option, Some, None, refl, sym, ◌∙◌, ap, arith, Safe, Begun, Ends, Reply, Call, Node, hart_count, put, one_if, either, same_or, put_same, put_other, Step, Desk, Note, World, with_count, Held, Own, own_names, own_of, machine, give_up, tail, unmake, covered_calls}
 use Rattle.inode_machine.proofs.Basics.{locked_held, times, one_at, one_else, Stays, names_stay, stays_same, Holding, IsWhole, HasJoined, IsAnswerable, holding_same, holding_set, unlisted, unlisted_refs, s-give-end, s-give-up}
 use Rattle.inode_machine.proofs.Orphans.{s-orphan}
@@ -64,28 +65,28 @@ pair_same R p inodes refs stays = record { extra = p.extra; hold = holding_same 
 full_on : (c : Call) (r : Reply) (es : List Step) (O R : Own) → R.desk ≡ O.desk → IsAnswerable c r es O → IsAnswerable c r es R
 full_on c r es O R desk told = elim told [ inl f ↦ inl (ap (λ (z : Desk). z.full) desk ∙ f) | inr a ↦ inr a ]
 
-pub s-end-pair : (h : ℕ) (c : Call) (r : Reply) {base : ℕ → ℕ} {ns : List ℕ} {O0 : Own} {d i : ℕ} {x z : Held} (n : ℕ) (es : List Step) (w : World) (O : Own) → h < hart_count → HasJoined base O0 → own_of h w ≡ O → 971 * length ns + 1875 < n → Pair base ns O0 O d i x z → IsWhole x → IsWhole z → O.mine.walk ≡ None → O.mine.pending ≡ None → IsAnswerable c r es O
-    → Safe machine h (Begun covered_calls c) (Ends covered_calls h c) (give_up d (give_up i (tail ns r))) n es w
-s-end-pair h c r {base} {ns} {O0} {d} {i} {x} {z} n es w O lt joins owns few p whole whole2 walk none told =
-    s-give-up d {more = λ j. 0 + one_if (i == j)} owns lt joins.ready (omega (arith, few))
+pub s-end-pair : (version : Version) (h : ℕ) (c : Call) (r : Reply) {base : ℕ → ℕ} {ns : List ℕ} {O0 : Own} {d i : ℕ} {x z : Held} (n : ℕ) (es : List Step) (w : World) (O : Own) → h < hart_count → HasJoined base O0 → own_of h w ≡ O → 971 * length ns + 1875 < n → Pair base ns O0 O d i x z → IsWhole x → IsWhole z → O.mine.walk ≡ None → O.mine.pending ≡ None → IsAnswerable c r es O
+    → Safe (machine version) h (Begun (covered_calls version) c) (Ends (covered_calls version) h c) (give_up d (give_up i (tail ns r))) n es w
+s-end-pair version h c r {base} {ns} {O0} {d} {i} {x} {z} n es w O lt joins owns few p whole whole2 walk none told =
+    s-give-up version d {more = λ j. 0 + one_if (i == j)} owns lt joins.ready (omega (arith, few))
     (record { stays = p.hold.stays; refs = λ j. (let a = p.hold.refs j in omega (arith, a)); all = p.hold.all; once = p.hold.once; has = p.hold.has; only = p.hold.only }) walk none p.at_d whole (λ l u R q own2 desk walk2 none2 k2.
-    s-give-end h c r ns (put p.extra d None) i l es u R lt joins own2 (omega (arith, few, q)) k2 (put_other p.extra d None i p.apart ∙ p.at_i) whole2
+    s-give-end version h c r ns (put p.extra d None) i l es u R lt joins own2 (omega (arith, few, q)) k2 (put_other p.extra d None i p.apart ∙ p.at_i) whole2
     (λ j ni. elim (same_or j d) [ inl e ↦ ap (put p.extra d None) e ∙ put_same p.extra d None | inr nd ↦ put_other p.extra d None j nd ∙ p.others j nd ni ]) walk2 none2 (full_on c r es O R desk told))
 
-pub s-end-pair-back : (h : ℕ) (c : Call) (r : Reply) {base : ℕ → ℕ} {ns : List ℕ} {O0 : Own} {d i : ℕ} {x z : Held} (n : ℕ) (es : List Step) (w : World) (O : Own) → h < hart_count → HasJoined base O0 → own_of h w ≡ O → 971 * length ns + 1875 < n → Pair base ns O0 O d i x z → IsWhole x → IsWhole z → O.mine.walk ≡ None → O.mine.pending ≡ None → IsAnswerable c r es O
-    → Safe machine h (Begun covered_calls c) (Ends covered_calls h c) (give_up i (give_up d (tail ns r))) n es w
-s-end-pair-back h c r {base} {ns} {O0} {d} {i} {x} {z} n es w O lt joins owns few p whole whole2 walk none told =
-    s-give-up i {more = λ j. 0 + one_if (d == j)} owns lt joins.ready (omega (arith, few)) p.hold walk none p.at_i whole2 (λ l u R q own2 desk walk2 none2 k2.
-    s-give-end h c r ns (put p.extra i None) d l es u R lt joins own2 (omega (arith, few, q)) k2 (put_other p.extra i None d (λ e. p.apart (sym e)) ∙ p.at_d) whole
+pub s-end-pair-back : (version : Version) (h : ℕ) (c : Call) (r : Reply) {base : ℕ → ℕ} {ns : List ℕ} {O0 : Own} {d i : ℕ} {x z : Held} (n : ℕ) (es : List Step) (w : World) (O : Own) → h < hart_count → HasJoined base O0 → own_of h w ≡ O → 971 * length ns + 1875 < n → Pair base ns O0 O d i x z → IsWhole x → IsWhole z → O.mine.walk ≡ None → O.mine.pending ≡ None → IsAnswerable c r es O
+    → Safe (machine version) h (Begun (covered_calls version) c) (Ends (covered_calls version) h c) (give_up i (give_up d (tail ns r))) n es w
+s-end-pair-back version h c r {base} {ns} {O0} {d} {i} {x} {z} n es w O lt joins owns few p whole whole2 walk none told =
+    s-give-up version i {more = λ j. 0 + one_if (d == j)} owns lt joins.ready (omega (arith, few)) p.hold walk none p.at_i whole2 (λ l u R q own2 desk walk2 none2 k2.
+    s-give-end version h c r ns (put p.extra i None) d l es u R lt joins own2 (omega (arith, few, q)) k2 (put_other p.extra i None d (λ e. p.apart (sym e)) ∙ p.at_d) whole
     (λ j nd. elim (same_or j i) [ inl e ↦ ap (put p.extra i None) e ∙ put_same p.extra i None | inr ni ↦ put_other p.extra i None j ni ∙ p.others j nd ni ]) walk2 none2 (full_on c r es O R desk told))
 
 -- A new inode that gets no name: its count is cleared, and with the last reference it is freed.
-pub s-unmake : (h : ℕ) (c : Call) (r : Reply) {base : ℕ → ℕ} {ns : List ℕ} {O0 : Own} {d i : ℕ} {x z : Held} (y : Node) (n : ℕ) (es : List Step) (w : World) (O : Own) → h < hart_count → HasJoined base O0 → own_of h w ≡ O → 971 * length ns + 1890 < n → Pair base ns O0 O d i x z → IsWhole x → z.disk ≡ Some y → z.node ≡ None → z.alone ≡ true → z.locked ≡ true → base i ≡ 0
+pub s-unmake : (version : Version) (h : ℕ) (c : Call) (r : Reply) {base : ℕ → ℕ} {ns : List ℕ} {O0 : Own} {d i : ℕ} {x z : Held} (y : Node) (n : ℕ) (es : List Step) (w : World) (O : Own) → h < hart_count → HasJoined base O0 → own_of h w ≡ O → 971 * length ns + 1890 < n → Pair base ns O0 O d i x z → IsWhole x → z.disk ≡ Some y → z.node ≡ None → z.alone ≡ true → z.locked ≡ true → base i ≡ 0
     → ((t : Note) → O.desk.noted ≡ Some t → t.number ≢ i) → 1 ≤ i → i < O.ninodes → O.mine.walk ≡ None → O.mine.pending ≡ None → IsAnswerable c r es O
-    → Safe machine h (Begun covered_calls c) (Ends covered_calls h c) (unmake i d ns r) n es w
-s-unmake h c r {base} {ns} {O0} {d} {i} {x} {z} y n es w O lt joins owns few p whole disk node lone has zero notes low below walk none told =
-    s-orphan y owns free lt (omega (arith, few)) joined (p.hold.has i z p.at_i) has lone disk node unnamed none notes low below (λ l u q own.
-    s-end-pair-back h c r l es u R lt joins own (omega (arith, few, q)) (pair_set R (locked_held (Some (with_count 0 y))) p refl refl refl refl refl) whole (record { locked = refl; shared = refl; same = refl }) walk none told)
+    → Safe (machine version) h (Begun (covered_calls version) c) (Ends (covered_calls version) h c) (unmake i d ns r) n es w
+s-unmake version h c r {base} {ns} {O0} {d} {i} {x} {z} y n es w O lt joins owns few p whole disk node lone has zero notes low below walk none told =
+    s-orphan version y owns free lt (omega (arith, few)) joined (p.hold.has i z p.at_i) has lone disk node unnamed none notes low below (λ l u q own.
+    s-end-pair-back version h c r l es u R lt joins own (omega (arith, few, q)) (pair_set R (locked_held (Some (with_count 0 y))) p refl refl refl refl refl) whole (record { locked = refl; shared = refl; same = refl }) walk none told)
   where
     R : Own
     R = record O { inodes = put O.inodes i (Some (locked_held (Some (with_count 0 y)))) }

@@ -1,4 +1,5 @@
 -- Calls that follow a path to its last name: what their walks write, and what is seen at the name's directory.
+use Rattle.image_versions.specs.declared.version.Version.{Version}
 use Rattle.inode_machine.proofs.Vocabulary.{◌≡◌, ℕ, ◌+◌, ◌<◌, Bool, true, false, List, [], ◌∷◌, ◌++◌, Option, Some, None, refl, sym, ◌∙◌, subst, if◌then◌else◌, Do, P, own, onto, oldest_first, Fine, Safe, Wp, Begun, onto_is, Cause, NoEntry, Reply, Call, Node, Action, Inherit, StepAnswer, Failed, hart_count, Name, Tree, put, look, live_directory, refusal_with, refused, IsInPlace, Act, next_of, row_of, put_same, live_is, look_same, Walk, Step, MayEnd, IsPlayed, IsWholeCall, fail, Begin, Look, GiveUpWalk, World, Mark, Take, Query, Sight, seen_in, found_by, marked, places, Own, own_of, Inv, looking_cost, machine, Sought, looks_if, looks_where, makes, covered_calls}
 use Rattle.inode_machine.proofs.Frame.{fair_same}
 use Rattle.inode_machine.proofs.Rules.{quiet, locked_held}
@@ -7,8 +8,8 @@ use Rattle.inode_machine.proofs.Walks.{On, Ready, known_there, on_refers}
 use Rattle.inode_machine.proofs.Acting.{told_step}
 use Rattle.inode_machine.proofs.Endings.{Walked}
 
-pub begun_by : (c : Call) (acts : List Act) (es rest : List Step) (r : Reply) → Walked c acts es → IsPlayed c acts rest r → Begun covered_calls c es
-begun_by c acts es rest r w p = (rest, r, subst (λ (z : List Step). IsPlayed c [] z r) (onto_is es rest) (w rest r p))
+pub begun_by : (version : Version) (c : Call) (acts : List Act) (es rest : List Step) (r : Reply) → Walked c acts es → IsPlayed c acts rest r → Begun (covered_calls version) c es
+begun_by version c acts es rest r w p = (rest, r, subst (λ (z : List Step). IsPlayed c [] z r) (onto_is es rest) (w rest r p))
 
 pub written_by : (c : Call) (acts : List Act) (es : List Step) (r : Reply) → Walked c acts es → MayEnd c acts r → IsWholeCall c (oldest_first es) r
 written_by c acts es r w m = w [] r m
@@ -38,30 +39,30 @@ pub walking_quit : (c : Call) (acts : List Act) (s : Action) (es : List Step) �
 walking_quit c acts s es w rest r p = w (quit_step s ∷ rest) r (tt, p)
 
 -- the steps so far begin the call
-pub begun_refused : (c : Call) (acts : List Act) (s : Action) (k : Cause) (es : List Step) → Follows c acts s → Walked c (acts ++ record { step = s; answer = Failed k } ∷ []) es → Begun covered_calls c es
-begun_refused c acts s k es f w = begun_by c (acts ++ record { step = s; answer = Failed k } ∷ []) es (f.rest k) (f.reply k) w (f.fails k)
+pub begun_refused : (version : Version) (c : Call) (acts : List Act) (s : Action) (k : Cause) (es : List Step) → Follows c acts s → Walked c (acts ++ record { step = s; answer = Failed k } ∷ []) es → Begun (covered_calls version) c es
+begun_refused version c acts s k es f w = begun_by version c (acts ++ record { step = s; answer = Failed k } ∷ []) es (f.rest k) (f.reply k) w (f.fails k)
 
-pub begun_walking : (c : Call) (acts : List Act) (s : Action) (es : List Step) → Follows c acts s → Walked c acts es → Begun covered_calls c es
-begun_walking c acts s es f w = begun_by c acts es (told_step 0 s (Failed NoEntry) ∷ f.rest NoEntry) (f.reply NoEntry) w (tt, f.fails NoEntry)
+pub begun_walking : (version : Version) (c : Call) (acts : List Act) (s : Action) (es : List Step) → Follows c acts s → Walked c acts es → Begun (covered_calls version) c es
+begun_walking version c acts s es f w = begun_by version c acts es (told_step 0 s (Failed NoEntry) ∷ f.rest NoEntry) (f.reply NoEntry) w (tt, f.fails NoEntry)
 
 -- what a tree that agrees with the hart finds in a directory that the hart keeps
 pub agrees_look : (b : Tree) (d : ℕ) (e : Name) (x : Option Node) (O : Own) → live_directory x ≡ true → Agrees (record O { inodes = put O.inodes d (Some (locked_held x)) }) b → (b.nodes d ≡ x) × (look b.nodes d e ≡ look (λ j. x) d e)
 agrees_look b d e x O live agrees = let q = agrees d (locked_held x) (put_same O.inodes d (Some (locked_held x))) (live_is x live) in (q, look_same (λ j. x) b.nodes d e q)
 
 -- The lock of the last name's directory is taken, and what is seen decides: its walk is lost where it has no links, its step is refused, or nothing is told yet.
-pub s-see : {h : ℕ} (c : Call) (acts : List Act) (s : Action) {looking : Query} (refuses : Sight → Bool) {k : Sight → P machine Reply} {Q : Reply → List Step → World → Type 0} {base : ℕ → ℕ} {O0 : Own} (d : ℕ) (e : Name) {ns : List ℕ} {n : ℕ} {es : List Step} {w : World} {O : Own}
-    → h < hart_count → Ready base O0 → On h s d e [] base ns O0 O w → looking_cost looking < n → Sought looking → Follows c acts s → Walked c acts es
+pub s-see : (version : Version) {h : ℕ} (c : Call) (acts : List Act) (s : Action) {looking : Query} (refuses : Sight → Bool) {k : Sight → P (machine version) Reply} {Q : Reply → List Step → World → Type 0} {base : ℕ → ℕ} {O0 : Own} (d : ℕ) (e : Name) {ns : List ℕ} {n : ℕ} {es : List Step} {w : World} {O : Own}
+    → h < hart_count → Ready base O0 → On version h s d e [] base ns O0 O w → looking_cost looking < n → Sought version looking → Follows c acts s → Walked c acts es
     → ((t : Tree) → row_of t h ≡ O.row → IsInPlace t h s) → ((b : Tree) → refused b h s ≡ b) → ((g : ℕ) → s ≡ Inherit g → ⊥) → ((f : Option ℕ) → found_by s f ≡ None)
     → ((x : Option Node) (l : ℕ) (u : World) → live_directory x ≡ false → l + (looking_cost looking + 1) ≡ n → own_of h u ≡ record O { inodes = put O.inodes d (Some (locked_held x)); mine = record { refs = O.mine.refs; walk = None; pending = None } }
-    → Safe machine h (Begun covered_calls c) Q (k (seen_in d looking x)) l (quit_step s ∷ es) u)
-    → ((x : Option Node) → live_directory x ≡ true → refuses (seen_in d looking x) ≡ true → (why : Cause) × ((b : Tree) → Agrees (record O { inodes = put O.inodes d (Some (locked_held x)) }) b → refusal_with b h s (look (λ j. x) d e) (Some (d, e)) ≡ Some why)
+    → Safe (machine version) h (Begun (covered_calls version) c) Q (k (seen_in version d looking x)) l (quit_step s ∷ es) u)
+    → ((x : Option Node) → live_directory x ≡ true → refuses (seen_in version d looking x) ≡ true → (why : Cause) × ((b : Tree) → Agrees (record O { inodes = put O.inodes d (Some (locked_held x)) }) b → refusal_with version b h s (look (λ j. x) d e) (Some (d, e)) ≡ Some why)
     × ((l : ℕ) (u : World) → l + (looking_cost looking + 1) ≡ n → own_of h u ≡ record O { inodes = put O.inodes d (Some (locked_held x)); mine = record { refs = O.mine.refs; walk = None; pending = None } }
-    → Safe machine h (Begun covered_calls c) Q (k (seen_in d looking x)) l (told_step 0 s (Failed why) ∷ es) u))
-    → ((x : Option Node) (l : ℕ) (u : World) → Inv u → live_directory x ≡ true → refuses (seen_in d looking x) ≡ false → l + (looking_cost looking + 1) ≡ n → own_of h u ≡ record O { inodes = put O.inodes d (Some (locked_held x)) }
-    → Safe machine h (Begun covered_calls c) Q (k (seen_in d looking x)) l es u)
-    → Safe machine h (Begun covered_calls c) Q (Do (Take d looking) (looks_where s refuses) k) n es w
-s-see {h} c acts s {looking} refuses {k} {Q} {base} {O0} d e {ns} {n} {es} {w} {O} lt ready on pos sought follows walking place still other found dead refd goes =
-    s-take-then on.owns free lt pos on.out (on_refers on) (λ v inv ov. known_there h d v O inv ov lt on.out (on_refers on) on.known) sought (λ u x inv own1. seen u x inv own1 (live_directory x) refl (refuses (seen_in d looking x)) refl)
+    → Safe (machine version) h (Begun (covered_calls version) c) Q (k (seen_in version d looking x)) l (told_step 0 s (Failed why) ∷ es) u))
+    → ((x : Option Node) (l : ℕ) (u : World) → Inv u → live_directory x ≡ true → refuses (seen_in version d looking x) ≡ false → l + (looking_cost looking + 1) ≡ n → own_of h u ≡ record O { inodes = put O.inodes d (Some (locked_held x)) }
+    → Safe (machine version) h (Begun (covered_calls version) c) Q (k (seen_in version d looking x)) l es u)
+    → Safe (machine version) h (Begun (covered_calls version) c) Q (Do (Take d looking) (looks_where s refuses) k) n es w
+s-see version {h} c acts s {looking} refuses {k} {Q} {base} {O0} d e {ns} {n} {es} {w} {O} lt ready on pos sought follows walking place still other found dead refd goes =
+    s-take-then version on.owns free lt pos on.out (on_refers version on) (λ v inv ov. known_there h d v O inv ov lt on.out (on_refers version on) on.known) sought (λ u x inv own1. seen u x inv own1 (live_directory x) refl (refuses (seen_in version d looking x)) refl)
   where
     free : O.desk.lender ≡ None
     free = on.stays.lender ∙ ready.free
@@ -70,18 +71,18 @@ s-see {h} c acts s {looking} refuses {k} {Q} {base} {O0} d e {ns} {n} {es} {w} {
     y = record { step = s; at = d; next = e; rest = [] }
 
     Goal : World → Option Node → Option Mark → Type 0
-    Goal u x m = Fine machine h (places h (Take d looking) (seen_in d looking x) m u) (looking_cost looking) n (Begun covered_calls c) es u (marked h m u) (λ l. Wp machine h (Begun covered_calls c) Q (k (seen_in d looking x)) l (onto (own h (places h (Take d looking) (seen_in d looking x) m u)) es) (marked h m u))
+    Goal u x m = Fine (machine version) h (places version h (Take d looking) (seen_in version d looking x) m u) (looking_cost looking) n (Begun (covered_calls version) c) es u (marked version h m u) (λ l. Wp (machine version) h (Begun (covered_calls version) c) Q (k (seen_in version d looking x)) l (onto (own h (places version h (Take d looking) (seen_in version d looking x) m u)) es) (marked version h m u))
 
-    mark_is : (x : Option Node) (a b : Bool) → live_directory x ≡ a → refuses (seen_in d looking x) ≡ b → looks_where s refuses (seen_in d looking x) ≡ (if a then looks_if b else makes (GiveUpWalk s))
-    mark_is x a b q r = λ z. if (live_face x ∙ q) z then looks_if (r z) else makes (GiveUpWalk s)
+    mark_is : (x : Option Node) (a b : Bool) → live_directory x ≡ a → refuses (seen_in version d looking x) ≡ b → looks_where s refuses (seen_in version d looking x) ≡ (if a then looks_if b else makes (GiveUpWalk s))
+    mark_is x a b q r = λ z. if (live_face version x ∙ q) z then looks_if (r z) else makes (GiveUpWalk s)
 
-    seen : (u : World) (x : Option Node) → Inv u → own_of h u ≡ record O { inodes = put O.inodes d (Some (locked_held x)) } → (a : Bool) → live_directory x ≡ a → (b : Bool) → refuses (seen_in d looking x) ≡ b → Goal u x (looks_where s refuses (seen_in d looking x))
+    seen : (u : World) (x : Option Node) → Inv u → own_of h u ≡ record O { inodes = put O.inodes d (Some (locked_held x)) } → (a : Bool) → live_directory x ≡ a → (b : Bool) → refuses (seen_in version d looking x) ≡ b → Goal u x (looks_where s refuses (seen_in version d looking x))
     seen u x inv own1 false q b r = subst (λ (m : Option Mark). Goal u x m) (sym (mark_is x false b q r))
-        (quit_good h (looking_cost looking) n d (Begun covered_calls c) Q es u (record O { inodes = put O.inodes d (Some (locked_held x)) }) (locked_held x) y (k (seen_in d looking x)) own1 free lt inv on.walk on.pending refl (put_same O.inodes d (Some (locked_held x))) q
-        (begun_refused c acts s NoEntry (quit_step s ∷ es) follows (walking_quit c acts s es walking)) pos (λ l u2 p own2. dead x l u2 q p own2))
+        (quit_good version h (looking_cost looking) n d (Begun (covered_calls version) c) Q es u (record O { inodes = put O.inodes d (Some (locked_held x)) }) (locked_held x) y (k (seen_in version d looking x)) own1 free lt inv on.walk on.pending refl (put_same O.inodes d (Some (locked_held x))) q
+        (begun_refused version c acts s NoEntry (quit_step s ∷ es) follows (walking_quit c acts s es walking)) pos (λ l u2 p own2. dead x l u2 q p own2))
     seen u x inv own1 true q true r = subst (λ (m : Option Mark). Goal u x m) (sym (mark_is x true true q r)) (
         let z = refd x q r in
-        look_refused_good h (looking_cost looking) n d (Begun covered_calls c) Q es u (record O { inodes = put O.inodes d (Some (locked_held x)) }) (locked_held x) y (look (λ j. x) d e) z.0 (look (λ j. x) d e) (Some (d, e)) (k (seen_in d looking x)) own1 free lt inv on.walk on.pending refl (put_same O.inodes d (Some (locked_held x))) q refl
+        look_refused_good version h (looking_cost looking) n d (Begun (covered_calls version) c) Q es u (record O { inodes = put O.inodes d (Some (locked_held x)) }) (locked_held x) y (look (λ j. x) d e) z.0 (look (λ j. x) d e) (Some (d, e)) (k (seen_in version d looking x)) own1 free lt inv on.walk on.pending refl (put_same O.inodes d (Some (locked_held x))) q refl
         (λ b i. refl) (λ m m' t p. p) z.1 still (λ t p. place t p) other (found (look (λ j. x) d e))
-        (begun_refused c acts s z.0 (told_step 0 s (Failed z.0) ∷ es) follows (walking_told c acts s (Failed z.0) 0 es walking)) pos z.2)
-    seen u x inv own1 true q false r = subst (λ (m : Option Mark). Goal u x m) (sym (mark_is x true false q r)) (quiet (fair_same inv) refl pos (λ l p. (goes x l u inv q r p own1).wp))
+        (begun_refused version c acts s z.0 (told_step 0 s (Failed z.0) ∷ es) follows (walking_told c acts s (Failed z.0) 0 es walking)) pos z.2)
+    seen u x inv own1 true q false r = subst (λ (m : Option Mark). Goal u x m) (sym (mark_is x true false q r)) (quiet version (fair_same inv) refl pos (λ l p. (goes x l u inv q r p own1).wp))

@@ -1,30 +1,31 @@
 -- Write: what a piece does to a tree, and how a descriptor's offset and its inode change.
 use Rattle.inode_machine.proofs.Vocabulary.{◌≡◌, inl, inr, ℕ, ◌+◌, ◌<◌, ◌≤◌, true, false, nat_lt, List, [], ◌∷◌, ◌++◌, take, length, Option, Some, None, refl, sym, ◌∙◌, ap, subst, arith, if◌then◌else◌, Bool, nat_tests, append-nil, take-append-drop, length-take, Cause, BadDescriptor, BadMode, BadOffset, TooBig, Node, NodeKind, Directory, File, Device, OpenFile, WritePart, Done, hart_count, largest_size, Name, Tree, put, and_then, is_directory, is_live, settle, node_or, node_at, file_at, refusal_with, refusal_by, effect_with, effect_by, answer_with, answer_by, place_of, IsInPlace, with_nodes, written, written_kind, wrote, write_kind, part_refusal, IsWellFormed, either, same_or, put_same, put_other, put_self, well_content, well_same, type_written, written_dir, InodeType, no_driver_for, type_of, type_of_kind, mode_refusal, with_bytes, write_refused, Entry, World, with_open, NamesLess, named_less, settle_nodes, settle_or, file_settled}
 use Rattle.std.proofs.Common.{drop}
+use Rattle.image_versions.specs.declared.version.Version.{Version}
 use Rattle.plain_tree.specs.Steps.{moved}
 use Rattle.inode_machine.proofs.Basics.{below_is, Refused}
 use Rattle.inode_machine.proofs.Readings.{offset_on}
 
 -- Refusals.
 
-write_none : (t : Tree) (h fd : ℕ) (b : List ℕ) (res : Option ℕ) (par : Option (ℕ × Name)) → file_at t h fd ≡ None → refusal_with t h (WritePart fd b) res par ≡ Some BadDescriptor
+write_none : (version : Version) (t : Tree) (h fd : ℕ) (b : List ℕ) (res : Option ℕ) (par : Option (ℕ × Name)) → file_at t h fd ≡ None → refusal_with version t h (WritePart fd b) res par ≡ Some BadDescriptor
 unfolding refusal_by
-write_none t h fd b res par e = rw e refl
+write_none version t h fd b res par e = rw e refl
 
-write_mode : (t : Tree) (h fd : ℕ) (b : List ℕ) (f : OpenFile) (res : Option ℕ) (par : Option (ℕ × Name)) → file_at t h fd ≡ Some f → f.writable ≡ false → refusal_with t h (WritePart fd b) res par ≡ Some BadMode
+write_mode : (version : Version) (t : Tree) (h fd : ℕ) (b : List ℕ) (f : OpenFile) (res : Option ℕ) (par : Option (ℕ × Name)) → file_at t h fd ≡ Some f → f.writable ≡ false → refusal_with version t h (WritePart fd b) res par ≡ Some BadMode
 unfolding refusal_by
-write_mode t h fd b f res par e r = rw (e, r) refl
+write_mode version t h fd b f res par e r = rw (e, r) refl
 
-pub write_by_kind : (t : Tree) (h fd : ℕ) (b : List ℕ) (f : OpenFile) (k : Option Cause) (res : Option ℕ) (par : Option (ℕ × Name)) → file_at t h fd ≡ Some f → f.writable ≡ true → write_kind (node_at t f.number).kind f.offset b ≡ k → refusal_with t h (WritePart fd b) res par ≡ k
+pub write_by_kind : (version : Version) (t : Tree) (h fd : ℕ) (b : List ℕ) (f : OpenFile) (k : Option Cause) (res : Option ℕ) (par : Option (ℕ × Name)) → file_at t h fd ≡ Some f → f.writable ≡ true → write_kind version (node_at t f.number).kind f.offset b ≡ k → refusal_with version t h (WritePart fd b) res par ≡ k
 unfolding refusal_by
-write_by_kind t h fd b f k res par e r q = rw (e, r) q
+write_by_kind version t h fd b f k res par e r q = rw (e, r) q
 
 pub write_place : (t : Tree) (h fd : ℕ) (b : List ℕ) → h < hart_count → IsInPlace t h (WritePart fd b)
 unfolding place_of
 write_place t h fd b lt = rw (below_is h hart_count lt) refl
 
-pub write_refused_at : (h fd : ℕ) (b : List ℕ) (c : Cause) (v : World) → h < hart_count → ((res : Option ℕ) (par : Option (ℕ × Name)) → refusal_with v.all h (WritePart fd b) res par ≡ Some c) → ((res : Option ℕ) (par : Option (ℕ × Name)) → refusal_with (settle v.all) h (WritePart fd b) res par ≡ Some c) → Refused h (WritePart fd b) c v
-write_refused_at h fd b c v lt now then_ = record {
+pub write_refused_at : (version : Version) (h fd : ℕ) (b : List ℕ) (c : Cause) (v : World) → h < hart_count → ((res : Option ℕ) (par : Option (ℕ × Name)) → refusal_with version v.all h (WritePart fd b) res par ≡ Some c) → ((res : Option ℕ) (par : Option (ℕ × Name)) → refusal_with version (settle v.all) h (WritePart fd b) res par ≡ Some c) → Refused version h (WritePart fd b) c v
+write_refused_at version h fd b c v lt now then_ = record {
   follows = refl;
   path = refl;
   now = now;
@@ -37,42 +38,42 @@ write_refused_at h fd b c v lt now then_ = record {
   inherits = λ g q. absurd cc;
 }
 
-pub write_refused_none : (h fd : ℕ) (b : List ℕ) (v : World) → h < hart_count → file_at v.all h fd ≡ None → Refused h (WritePart fd b) BadDescriptor v
-write_refused_none h fd b v lt e = write_refused_at h fd b BadDescriptor v lt (λ res par. write_none v.all h fd b res par e) (λ res par. write_none (settle v.all) h fd b res par (file_settled v.all h fd ∙ e))
+pub write_refused_none : (version : Version) (h fd : ℕ) (b : List ℕ) (v : World) → h < hart_count → file_at v.all h fd ≡ None → Refused version h (WritePart fd b) BadDescriptor v
+write_refused_none version h fd b v lt e = write_refused_at version h fd b BadDescriptor v lt (λ res par. write_none version v.all h fd b res par e) (λ res par. write_none version (settle v.all) h fd b res par (file_settled v.all h fd ∙ e))
 
 -- a device takes no piece, and anything else an empty one
-device_stops : (x : Option Node) (s : InodeType) (offset : ℕ) (b : List ℕ) (c : Cause) → type_of x ≡ Some s → no_driver_for s ≡ Some c → write_kind (node_or x).kind offset b ≡ Some c
-device_stops None s offset b c e q = absurd cc
-device_stops (Some v) s offset b c e q = let a : type_of_kind v.kind ≡ s = cc in by_kind v.kind s a q
+device_stops : (version : Version) (x : Option Node) (s : InodeType) (offset : ℕ) (b : List ℕ) (c : Cause) → type_of x ≡ Some s → no_driver_for s ≡ Some c → write_kind version (node_or x).kind offset b ≡ Some c
+device_stops version None s offset b c e q = absurd cc
+device_stops version (Some v) s offset b c e q = let a : type_of_kind v.kind ≡ s = cc in by_kind v.kind s a q
   where
-    by_kind : (k : NodeKind) (s : InodeType) → type_of_kind k ≡ s → no_driver_for s ≡ Some c → write_kind k offset b ≡ Some c
+    by_kind : (k : NodeKind) (s : InodeType) → type_of_kind k ≡ s → no_driver_for s ≡ Some c → write_kind version k offset b ≡ Some c
     by_kind (Directory slots) s e q = absurd (let a : None ≡ Some c = ap (λ (z : InodeType). no_driver_for z) e ∙ q in cc)
     by_kind (File bytes) s e q = absurd (let a : None ≡ Some c = ap (λ (z : InodeType). no_driver_for z) e ∙ q in cc)
     by_kind (Device major minor size) s e q = ap (λ (z : InodeType). no_driver_for z) e ∙ q
 
-empty_goes : (x : Option Node) (s : InodeType) (offset : ℕ) → type_of x ≡ Some s → no_driver_for s ≡ None → write_kind (node_or x).kind offset [] ≡ None
-empty_goes None s offset e q = absurd cc
-empty_goes (Some v) s offset e q = let a : type_of_kind v.kind ≡ s = cc in by_kind v.kind s a q
+empty_goes : (version : Version) (x : Option Node) (s : InodeType) (offset : ℕ) → type_of x ≡ Some s → no_driver_for s ≡ None → write_kind version (node_or x).kind offset [] ≡ None
+empty_goes version None s offset e q = absurd cc
+empty_goes version (Some v) s offset e q = let a : type_of_kind v.kind ≡ s = cc in by_kind v.kind s a q
   where
-    by_kind : (k : NodeKind) (s : InodeType) → type_of_kind k ≡ s → no_driver_for s ≡ None → write_kind k offset [] ≡ None
+    by_kind : (k : NodeKind) (s : InodeType) → type_of_kind k ≡ s → no_driver_for s ≡ None → write_kind version k offset [] ≡ None
     by_kind (Directory slots) s e q = refl
     by_kind (File bytes) s e q = refl
     by_kind (Device major minor size) s e q = ap (λ (z : InodeType). no_driver_for z) e ∙ q
 
 -- what the table refuses the tree does, whatever the piece
-pub write_stops : (t : Tree) (h fd : ℕ) (b : List ℕ) (e : Entry) (c : Cause) (res : Option ℕ) (par : Option (ℕ × Name)) → file_at t h fd ≡ Some e.file → type_of (t.nodes e.file.number) ≡ Some e.inode_type → write_refused (Some e) ≡ Some c → refusal_with t h (WritePart fd b) res par ≡ Some c
-write_stops t h fd b e c res par file inode_type stops = go e.file.writable refl
+pub write_stops : (version : Version) (t : Tree) (h fd : ℕ) (b : List ℕ) (e : Entry) (c : Cause) (res : Option ℕ) (par : Option (ℕ × Name)) → file_at t h fd ≡ Some e.file → type_of (t.nodes e.file.number) ≡ Some e.inode_type → write_refused (Some e) ≡ Some c → refusal_with version t h (WritePart fd b) res par ≡ Some c
+write_stops version t h fd b e c res par file inode_type stops = go e.file.writable refl
   where
-    go : (w : Bool) → e.file.writable ≡ w → refusal_with t h (WritePart fd b) res par ≡ Some c
-    go false q = write_mode t h fd b e.file res par file q ∙ (λ i. mode_refusal (sym q i) e.inode_type) ∙ stops
-    go true q = write_by_kind t h fd b e.file (Some c) res par file q (device_stops (t.nodes e.file.number) e.inode_type e.file.offset b c inode_type ((λ i. mode_refusal (sym q i) e.inode_type) ∙ stops))
+    go : (w : Bool) → e.file.writable ≡ w → refusal_with version t h (WritePart fd b) res par ≡ Some c
+    go false q = write_mode version t h fd b e.file res par file q ∙ (λ i. mode_refusal (sym q i) e.inode_type) ∙ stops
+    go true q = write_by_kind version t h fd b e.file (Some c) res par file q (device_stops version (t.nodes e.file.number) e.inode_type e.file.offset b c inode_type ((λ i. mode_refusal (sym q i) e.inode_type) ∙ stops))
 
-pub empty_piece_goes : (t : Tree) (h fd : ℕ) (e : Entry) (res : Option ℕ) (par : Option (ℕ × Name)) → file_at t h fd ≡ Some e.file → type_of (t.nodes e.file.number) ≡ Some e.inode_type → write_refused (Some e) ≡ None → refusal_with t h (WritePart fd []) res par ≡ None
-empty_piece_goes t h fd e res par file inode_type goes = go e.file.writable refl
+pub empty_piece_goes : (version : Version) (t : Tree) (h fd : ℕ) (e : Entry) (res : Option ℕ) (par : Option (ℕ × Name)) → file_at t h fd ≡ Some e.file → type_of (t.nodes e.file.number) ≡ Some e.inode_type → write_refused (Some e) ≡ None → refusal_with version t h (WritePart fd []) res par ≡ None
+empty_piece_goes version t h fd e res par file inode_type goes = go e.file.writable refl
   where
-    go : (w : Bool) → e.file.writable ≡ w → refusal_with t h (WritePart fd []) res par ≡ None
+    go : (w : Bool) → e.file.writable ≡ w → refusal_with version t h (WritePart fd []) res par ≡ None
     go false q = absurd (let a : Some BadMode ≡ None = (λ i. mode_refusal (sym q i) e.inode_type) ∙ goes in cc)
-    go true q = write_by_kind t h fd [] e.file None res par file q (empty_goes (t.nodes e.file.number) e.inode_type e.file.offset inode_type ((λ i. mode_refusal (sym q i) e.inode_type) ∙ goes))
+    go true q = write_by_kind version t h fd [] e.file None res par file q (empty_goes version (t.nodes e.file.number) e.inode_type e.file.offset inode_type ((λ i. mode_refusal (sym q i) e.inode_type) ∙ goes))
 
 -- who may write so many bytes may write fewer
 
@@ -96,10 +97,10 @@ part_less offset size (x ∷ xs) (y ∷ ys) le q = by_offset (nat_lt size offset
         by_end true e true g q = q
         by_end true e false g q = absurd (reaches largest_size offset (length (x ∷ xs)) (length (y ∷ ys)) le e g)
 
-pub fewer_go : (k : NodeKind) (offset n : ℕ) (b : List ℕ) → write_kind k offset b ≡ None → write_kind k offset (take n b) ≡ None
-fewer_go (Directory slots) offset n b q = part_less offset _ b (take n b) (take_less n b) q
-fewer_go (File bytes) offset n b q = part_less offset (length bytes) b (take n b) (take_less n b) q
-fewer_go (Device major minor size) offset n b q = absurd cc
+pub fewer_go : (version : Version) (k : NodeKind) (offset n : ℕ) (b : List ℕ) → write_kind version k offset b ≡ None → write_kind version k offset (take n b) ≡ None
+fewer_go version (Directory slots) offset n b q = part_less offset _ b (take n b) (take_less n b) q
+fewer_go version (File bytes) offset n b q = part_less offset (length bytes) b (take n b) (take_less n b) q
+fewer_go version (Device major minor size) offset n b q = absurd cc
 
 -- The act.
 
@@ -134,13 +135,13 @@ wrote_settled : (t : Tree) (h fd id n : ℕ) (b : List ℕ) (f : OpenFile) (x : 
 unfolding settle
 wrote_settled t h fd id n b f x is at file number node = wrote_is (settle t) h fd id n b f x is at file number node
 
-pub write_effect : (t : Tree) (h fd new id : ℕ) (b : List ℕ) (res : Option ℕ) (par : Option (ℕ × Name)) → effect_with t h (WritePart fd b) res par new id ≡ wrote t h fd b
+pub write_effect : (version : Version) (t : Tree) (h fd new id : ℕ) (b : List ℕ) (res : Option ℕ) (par : Option (ℕ × Name)) → effect_with version t h (WritePart fd b) res par new id ≡ wrote t h fd b
 unfolding effect_by
-write_effect t h fd new id b res par = refl
+write_effect version t h fd new id b res par = refl
 
-pub write_answer : (t : Tree) (h fd id : ℕ) (b : List ℕ) (res : Option ℕ) (par : Option (ℕ × Name)) → answer_with t h (WritePart fd b) res par id ≡ Done
+pub write_answer : (version : Version) (t : Tree) (h fd id : ℕ) (b : List ℕ) (res : Option ℕ) (par : Option (ℕ × Name)) → answer_with version t h (WritePart fd b) res par id ≡ Done
 unfolding answer_by
-write_answer t h fd id b res par = refl
+write_answer version t h fd id b res par = refl
 
 as_written : (t : Tree) (N : ℕ → Option Node) (F : ℕ → Option OpenFile) → with_written (settle t) N F ≡ with_nodes (with_open t t.fds F) N
 unfolding settle

@@ -1,29 +1,30 @@
 -- The rules of the operations that place nothing.
+use Rattle.image_versions.specs.declared.version.Version.{Version}
 use Rattle.inode_machine.proofs.Vocabulary.{◌≡◌, ◌≢◌, ◌⊎◌, inl, inr, ℕ, ◌+◌, ◌<◌, true, false, ◌==◌, List, [], ◌∷◌, Option, Some, None, refl, sym, ◌∙◌, ap, subst, arith, ◌-◌, Bool, Do, unmarked, P, own, onto, Good, Fine, Safe, Wp, Goes, Node, hart_count, root, Tree, put, look, is_live, settle, sum_below, one_if, folders_of, links_in, raises, IsWellFormed, eq_self, eq_is, eq_not, either, same_or, put_same, put_other, one_yes, sum_same, sum_changed, sum_part, look_live, folder_linked, linked_live, look_same, Walk, Step, TakesMove, Stage, Mine, Entry, World, Op, Answer, Mark, stage_of, Note, Outside, file_count, with_refs, lock_if, counted_up, locked, up_if, has_place, marked, go, places, with_mark, Up, Own, file_tables_of, Opens, number_is, Held, view, is_hart, own_of, Found, IsReferredTo, IsReached, IsAlone, reference_limit, Inv, IsOut, MayWait, machine, more, Others, LocksNone, Asks, Rests, looking_cost, Honest, KeepsFiles, Sought, Query, Sight, InodeType, seen_in, type_of}
 use Rattle.inode_machine.specs.World.{Take}
 use Rattle.inode_machine.proofs.Frame.{file_tables_same, put_elim, ours_none, ours_some, kept_here, HartStep, Fair, fair, files_then, own_inodes, has_inode, has_none, found_more, two_refs, refers_put}
 
 -- an operation: what the hart owns stays until it runs, and what it has open of an inode that it keeps
-pub s-owned-from : {A : Type 0} {h : ℕ} {op : Op} {m : Answer op → Option Mark} {k : Answer op → P machine A} {B : List Step → Type 0} {Q : A → List Step → World → Type 0} {n : ℕ} {es : List Step} {w : World} {O : Own}
+pub s-owned-from : (version : Version) {A : Type 0} {h : ℕ} {op : Op} {m : Answer op → Option Mark} {k : Answer op → P (machine version) A} {B : List Step → Type 0} {Q : A → List Step → World → Type 0} {n : ℕ} {es : List Step} {w : World} {O : Own}
     → own_of h w ≡ O → O.desk.lender ≡ None → more op < n
-    → ((v : World) → Inv v → own_of h v ≡ O → KeepsFiles h w v → Asks h op v × ((x : Outside) → Honest h op v x
-    → Good machine (Answer op) h (λ a. places h op a (m a) v) (more op) n B es v (MayWait h op v) (go h x op m v) (λ l a u. Wp machine h B Q (k a) l (onto (own h (places h op a (m a) v)) es) u)))
-    → Safe machine h B Q (Do op m k) n es w
-s-owned-from {A} {h} {op} {m} {k} {B} {Q} {n} {es} {w} {O} owns free pos rule =
+    → ((v : World) → Inv v → own_of h v ≡ O → KeepsFiles h w v → Asks version h op v × ((x : Outside) → Honest h op v x
+    → Good (machine version) (Answer op) h (λ a. places version h op a (m a) v) (more op) n B es v (MayWait h op v) (go version h x op m v) (λ l a u. Wp (machine version) h B Q (k a) l (onto (own h (places version h op a (m a) v)) es) u)))
+    → Safe (machine version) h B Q (Do op m k) n es w
+s-owned-from version {A} {h} {op} {m} {k} {B} {Q} {n} {es} {w} {O} owns free pos rule =
     record { wp = λ v xs o inv. let unlent = ap (λ (z : Own). z.desk.lender) owns ∙ free in let ov = o.same unlent ∙ owns in let r = rule v inv ov (o.opens unlent) in ((λ y. inl o.none), (ap (λ (z : Own). z.desk.lender) ov ∙ free, r.0), (λ x honest. at v xs x o.none (r.1 x honest)), pos) }
   where
     at : (v : World) (xs : List Step) (x : Outside) → xs ≡ []
-        → Good machine (Answer op) h (λ a. places h op a (m a) v) (more op) n B es v (MayWait h op v) (go h x op m v) (λ l a u. Wp machine h B Q (k a) l (onto (own h (places h op a (m a) v)) es) u)
-        → Good machine (Answer op) h (λ a. places h op a (m a) v) (more op) n B (onto xs es) v (MayWait h op v) (go h x op m v) (λ l a u. Wp machine h B Q (k a) l (onto (own h (places h op a (m a) v)) (onto xs es)) u)
-    at v xs x e g = subst (λ (zs : List Step). Good machine (Answer op) h (λ a. places h op a (m a) v) (more op) n B (onto zs es) v (MayWait h op v) (go h x op m v) (λ l a u. Wp machine h B Q (k a) l (onto (own h (places h op a (m a) v)) (onto zs es)) u)) (sym e) g
+        → Good (machine version) (Answer op) h (λ a. places version h op a (m a) v) (more op) n B es v (MayWait h op v) (go version h x op m v) (λ l a u. Wp (machine version) h B Q (k a) l (onto (own h (places version h op a (m a) v)) es) u)
+        → Good (machine version) (Answer op) h (λ a. places version h op a (m a) v) (more op) n B (onto xs es) v (MayWait h op v) (go version h x op m v) (λ l a u. Wp (machine version) h B Q (k a) l (onto (own h (places version h op a (m a) v)) (onto xs es)) u)
+    at v xs x e g = subst (λ (zs : List Step). Good (machine version) (Answer op) h (λ a. places version h op a (m a) v) (more op) n B (onto zs es) v (MayWait h op v) (go version h x op m v) (λ l a u. Wp (machine version) h B Q (k a) l (onto (own h (places version h op a (m a) v)) (onto zs es)) u)) (sym e) g
 
 -- what the hart owns alone
-pub s-owned : {A : Type 0} {h : ℕ} {op : Op} {m : Answer op → Option Mark} {k : Answer op → P machine A} {B : List Step → Type 0} {Q : A → List Step → World → Type 0} {n : ℕ} {es : List Step} {w : World} {O : Own}
+pub s-owned : (version : Version) {A : Type 0} {h : ℕ} {op : Op} {m : Answer op → Option Mark} {k : Answer op → P (machine version) A} {B : List Step → Type 0} {Q : A → List Step → World → Type 0} {n : ℕ} {es : List Step} {w : World} {O : Own}
     → own_of h w ≡ O → O.desk.lender ≡ None → more op < n
-    → ((v : World) → Inv v → own_of h v ≡ O → Asks h op v × ((x : Outside) → Honest h op v x
-    → Good machine (Answer op) h (λ a. places h op a (m a) v) (more op) n B es v (MayWait h op v) (go h x op m v) (λ l a u. Wp machine h B Q (k a) l (onto (own h (places h op a (m a) v)) es) u)))
-    → Safe machine h B Q (Do op m k) n es w
-s-owned owns free pos rule = s-owned-from owns free pos (λ v inv ov keeps. rule v inv ov)
+    → ((v : World) → Inv v → own_of h v ≡ O → Asks version h op v × ((x : Outside) → Honest h op v x
+    → Good (machine version) (Answer op) h (λ a. places version h op a (m a) v) (more op) n B es v (MayWait h op v) (go version h x op m v) (λ l a u. Wp (machine version) h B Q (k a) l (onto (own h (places version h op a (m a) v)) es) u)))
+    → Safe (machine version) h B Q (Do op m k) n es w
+s-owned version owns free pos rule = s-owned-from version owns free pos (λ v inv ov keeps. rule v inv ov)
 
 -- what a step leaves to another hart
 pub others : {h : ℕ} {v u : World} → Fair h v u → (g : ℕ) → g ≢ h → Others g v [] u
@@ -39,17 +40,17 @@ pub fair_to : {h : ℕ} {v u : World} → Fair h v u → FairTo h v u
 fair_to f = record { inv = f.inv; kept = others f; clean = f.clean }
 
 -- it placed nothing
-pub quiet_to : {h more n : ℕ} {B : List Step → Type 0} {es : List Step} {v u : World} {Next : ℕ → Type 0} → FairTo h v u → stage_of u ≡ stage_of v → more < n → ((l : ℕ) → l + (more + 1) ≡ n → Next l) → Fine machine h [] more n B es v u Next
-quiet_to {h} {more} {n} f same pos next =
+pub quiet_to : (version : Version) {h more n : ℕ} {B : List Step → Type 0} {es : List Step} {v u : World} {Next : ℕ → Type 0} → FairTo h v u → stage_of u ≡ stage_of v → more < n → ((l : ℕ) → l + (more + 1) ≡ n → Next l) → Fine (machine version) h [] more n B es v u Next
+quiet_to version {h} {more} {n} f same pos next =
     record { inv = f.inv; kept = f.kept; goes = λ c. same; clean = f.clean; begun = λ c. inl refl; left = n - (more + 1); falls = omega (arith, pos); next = next (n - (more + 1)) (omega (arith, pos)) }
 
-pub quiet : {h more n : ℕ} {B : List Step → Type 0} {es : List Step} {v u : World} {Next : ℕ → Type 0} → Fair h v u → stage_of u ≡ stage_of v → more < n → ((l : ℕ) → l + (more + 1) ≡ n → Next l) → Fine machine h [] more n B es v u Next
-quiet f same pos next = quiet_to (fair_to f) same pos next
+pub quiet : (version : Version) {h more n : ℕ} {B : List Step → Type 0} {es : List Step} {v u : World} {Next : ℕ → Type 0} → Fair h v u → stage_of u ≡ stage_of v → more < n → ((l : ℕ) → l + (more + 1) ≡ n → Next l) → Fine (machine version) h [] more n B es v u Next
+quiet version f same pos next = quiet_to version (fair_to f) same pos next
 
 -- it made a move
-pub acted_to : {h more n : ℕ} {B : List Step → Type 0} {es : List Step} {v u : World} {e : Step} {Next : ℕ → Type 0} → FairTo h v u → TakesMove (stage_of v) h e (stage_of u) → B (e ∷ es) → more < n
-    → ((l : ℕ) → l + (more + 1) ≡ n → Next l) → Fine machine h ((h, e) ∷ []) more n B es v u Next
-acted_to {h} {more} {n} {B} {es} {v} {u} {e} f takes b pos next =
+pub acted_to : (version : Version) {h more n : ℕ} {B : List Step → Type 0} {es : List Step} {v u : World} {e : Step} {Next : ℕ → Type 0} → FairTo h v u → TakesMove version (stage_of v) h e (stage_of u) → B (e ∷ es) → more < n
+    → ((l : ℕ) → l + (more + 1) ≡ n → Next l) → Fine (machine version) h ((h, e) ∷ []) more n B es v u Next
+acted_to version {h} {more} {n} {B} {es} {v} {u} {e} f takes b pos next =
     record {
       inv = f.inv;
       kept = λ g ne. subst (λ (zs : List Step). Others g v zs u) (sym (rw (eq_not h g (λ q. ne (sym q))) refl)) (f.kept g ne);
@@ -61,17 +62,17 @@ acted_to {h} {more} {n} {B} {es} {v} {u} {e} f takes b pos next =
       next = next (n - (more + 1)) (omega (arith, pos));
     }
 
-pub acted : {h more n : ℕ} {B : List Step → Type 0} {es : List Step} {v u : World} {e : Step} {Next : ℕ → Type 0} → Fair h v u → TakesMove (stage_of v) h e (stage_of u) → B (e ∷ es) → more < n
-    → ((l : ℕ) → l + (more + 1) ≡ n → Next l) → Fine machine h ((h, e) ∷ []) more n B es v u Next
-acted f takes b pos next = acted_to (fair_to f) takes b pos next
+pub acted : (version : Version) {h more n : ℕ} {B : List Step → Type 0} {es : List Step} {v u : World} {e : Step} {Next : ℕ → Type 0} → Fair h v u → TakesMove version (stage_of v) h e (stage_of u) → B (e ∷ es) → more < n
+    → ((l : ℕ) → l + (more + 1) ≡ n → Next l) → Fine (machine version) h ((h, e) ∷ []) more n B es v u Next
+acted version f takes b pos next = acted_to version (fair_to f) takes b pos next
 
 -- after a change that no other hart sees
-pub fine_after : {h more n : ℕ} {B : List Step → Type 0} {es : List Step} {ps : List (ℕ × Step)} {v w u : World} {Next : ℕ → Type 0} → Fair h v w → stage_of w ≡ stage_of v → Fine machine h ps more n B es w u Next → Fine machine h ps more n B es v u Next
-fine_after {h} {ps = ps} {v = v} {w = w} {u = u} f same g =
+pub fine_after : (version : Version) {h more n : ℕ} {B : List Step → Type 0} {es : List Step} {ps : List (ℕ × Step)} {v w u : World} {Next : ℕ → Type 0} → Fair h v w → stage_of w ≡ stage_of v → Fine (machine version) h ps more n B es w u Next → Fine (machine version) h ps more n B es v u Next
+fine_after version {h} {ps = ps} {v = v} {w = w} {u = u} f same g =
     record {
       inv = g.inv;
       kept = λ j ne. let a = others f j ne in let b = g.kept j ne in record { none = b.none; same = λ free. b.same (ap (λ (o : Own). o.desk.lender) (f.others j ne) ∙ free) ∙ a.same free; opens = λ free. files_then j v w u (f.others j ne) (f.opens j ne) (b.opens (ap (λ (o : Own). o.desk.lender) (f.others j ne) ∙ free)); rests = λ i. b.rests (a.rests i); clean = λ c. a.clean (b.clean c) };
-      goes = λ c. subst (λ (z : Stage). Goes machine z ps (stage_of u)) same (g.goes c);
+      goes = λ c. subst (λ (z : Stage). Goes (machine version) z ps (stage_of u)) same (g.goes c);
       clean = λ c. f.clean (g.clean c);
       begun = g.begun;
       left = g.left;
@@ -192,8 +193,8 @@ pub record Locking (h i : ℕ) (v : World) (O : Own) : Type 0 where
   pub whole : v.disk i ≡ v.all.nodes i
   pub owned : own_of h (locked h i v) ≡ record O { inodes = put O.inodes i (Some (locked_held (v.all.nodes i))) }
 
-pub locking : (h i : ℕ) (v : World) (O : Own) → own_of h v ≡ O → O.desk.lender ≡ None → h < hart_count → Inv v → O.inodes i ≡ None → IsReferredTo v.desks v.files v.harts h i → v.lock i ≡ None → Locking h i v O
-locking h i v O ov free lt inv out mine e = record { fair = fair inv did; whole = inv.whole i nobody; owned = owned }
+pub locking : Version → (h i : ℕ) (v : World) (O : Own) → own_of h v ≡ O → O.desk.lender ≡ None → h < hart_count → Inv v → O.inodes i ≡ None → IsReferredTo v.desks v.files v.harts h i → v.lock i ≡ None → Locking h i v O
+locking version h i v O ov free lt inv out mine e = record { fair = fair inv did; whole = inv.whole i nobody; owned = owned }
   where
     nobody : v.keeper i ≡ None
     nobody = none (v.keeper i) refl
@@ -273,21 +274,21 @@ pub is_out : (h i g : ℕ) (v : World) (O : Own) → Inv v → own_of h v ≡ O 
 is_out h i g v O inv ov out e = (g, (λ q. has_none h i v O ov out (inv.keeps i h (e ∙ ap (λ (z : ℕ). Some z) q))), e)
 
 -- The lock is taken and the inode seen; F: what the invariant says of it, and that it has a type.
-pub s-take : {A : Type 0} {h i : ℕ} {looking : Query} {k : Sight → P machine A} {B : List Step → Type 0} {Q : A → List Step → World → Type 0} {n : ℕ} {es : List Step} {w : World} {O : Own} (F : Option Node → Type 0) (there : (o : Option Node) → F o → o ≢ None) (sought : Sought looking)
+pub s-take : (version : Version) {A : Type 0} {h i : ℕ} {looking : Query} {k : Sight → P (machine version) A} {B : List Step → Type 0} {Q : A → List Step → World → Type 0} {n : ℕ} {es : List Step} {w : World} {O : Own} (F : Option Node → Type 0) (there : (o : Option Node) → F o → o ≢ None) (sought : Sought version looking)
     → own_of h w ≡ O → O.desk.lender ≡ None → h < hart_count → looking_cost looking < n → O.inodes i ≡ None → 0 < O.mine.refs i → ((v : World) → Inv v → own_of h v ≡ O → F (v.all.nodes i))
-    → ((l : ℕ) (s : Option Node) (u : World) → l + (looking_cost looking + 1) ≡ n → F s → own_of h u ≡ record O { inodes = put O.inodes i (Some (locked_held s)) } → Safe machine h B Q (k (seen_in i looking s)) l es u)
-    → Safe machine h B Q (Do (Take i looking) unmarked k) n es w
-s-take {A} {h} {i} {looking} {k} {B} {Q} {n} {es} {w} {O} F there sought owns free lt pos out refers fact rest = s-owned owns free pos (λ v inv ov. (
-  ((let r = my_refs h v O i ov in omega (arith, r, refers), locks_not h i v O inv ov out), (λ e z. there (v.all.nodes i) (fact v inv ov) (sym (locking h i v O ov free lt inv out (inr (let r = my_refs h v O i ov in omega (arith, r, refers))) e).whole ∙ z)), sought),
+    → ((l : ℕ) (s : Option Node) (u : World) → l + (looking_cost looking + 1) ≡ n → F s → own_of h u ≡ record O { inodes = put O.inodes i (Some (locked_held s)) } → Safe (machine version) h B Q (k (seen_in version i looking s)) l es u)
+    → Safe (machine version) h B Q (Do (Take i looking) unmarked k) n es w
+s-take version {A} {h} {i} {looking} {k} {B} {Q} {n} {es} {w} {O} F there sought owns free lt pos out refers fact rest = s-owned version owns free pos (λ v inv ov. (
+  ((let r = my_refs h v O i ov in omega (arith, r, refers), locks_not h i v O inv ov out), (λ e z. there (v.all.nodes i) (fact v inv ov) (sym (locking version h i v O ov free lt inv out (inr (let r = my_refs h v O i ov in omega (arith, r, refers))) e).whole ∙ z)), sought),
   (λ x honest. at v inv ov (v.lock i) refl),
 ))
   where
     at : (v : World) → Inv v → own_of h v ≡ O → (r : Option ℕ) → v.lock i ≡ r
-        → Good machine Sight h (λ a. []) (looking_cost looking) n B es v (IsOut h (v.lock i)) (with_mark h unmarked (lock_if h i (seen_in i looking (v.disk i)) v (locked h i v) r)) (λ l a u. Wp machine h B Q (k a) l es u)
+        → Good (machine version) Sight h (λ a. []) (looking_cost looking) n B es v (IsOut h (v.lock i)) (with_mark version h unmarked (lock_if h i (seen_in version i looking (v.disk i)) v (locked h i v) r)) (λ l a u. Wp (machine version) h B Q (k a) l es u)
     at v inv ov (Some g) e = is_out h i g v O inv ov out e
     at v inv ov None e =
-        let a = locking h i v O ov free lt inv out (inr (let r = my_refs h v O i ov in omega (arith, r, refers))) e in
-        quiet a.fair refl pos (λ l q. subst (λ (z : Option Node). Wp machine h B Q (k (seen_in i looking z)) l es (locked h i v)) (sym a.whole) (rest l (v.all.nodes i) (locked h i v) q (fact v inv ov) a.owned).wp)
+        let a = locking version h i v O ov free lt inv out (inr (let r = my_refs h v O i ov in omega (arith, r, refers))) e in
+        quiet version a.fair refl pos (λ l q. subst (λ (z : Option Node). Wp (machine version) h B Q (k (seen_in version i looking z)) l es (locked h i v)) (sym a.whole) (rest l (v.all.nodes i) (locked h i v) q (fact v inv ov) a.owned).wp)
 
 pub has_disk : (h i : ℕ) (v : World) (O : Own) (x : Held) → own_of h v ≡ O → O.inodes i ≡ Some x → v.disk i ≡ x.disk
 has_disk h i v O x ov is = ap (λ (y : Held). y.disk) (has_inode h i v O x ov is).1
@@ -322,8 +323,8 @@ pub record Ups (h i : ℕ) (O : Own) (v : World) : Type 0 where
   pub stage : stage_of (counted_up h i v) ≡ stage_of v
   pub owned : own_of h (counted_up h i v) ≡ record O { mine = record { refs = put O.mine.refs i (O.mine.refs i + 1); walk = O.mine.walk; pending = None } }
 
-pub ups : (h i : ℕ) (O : Own) (v : World) → Inv v → own_of h v ≡ O → O.desk.lender ≡ None → h < hart_count → MayRefer O i → ((O.mine.pending ≡ None) ⊎ (O.mine.pending ≡ Some i)) → NotesOwn O i → O.mine.refs i < reference_limit → Ups h i O v
-ups h i O v0 inv0 ov0 free0 lt may only notes room = record { fair = fair inv0 (did v0 inv0 ov0); stage = stage v0; owned = owned v0 ov0 }
+pub ups : Version → (h i : ℕ) (O : Own) (v : World) → Inv v → own_of h v ≡ O → O.desk.lender ≡ None → h < hart_count → MayRefer O i → ((O.mine.pending ≡ None) ⊎ (O.mine.pending ≡ Some i)) → NotesOwn O i → O.mine.refs i < reference_limit → Ups h i O v
+ups version h i O v0 inv0 ov0 free0 lt may only notes room = record { fair = fair inv0 (did v0 inv0 ov0); stage = stage v0; owned = owned v0 ov0 }
   where
     after : World → World
     after v = counted_up h i v
@@ -450,16 +451,16 @@ ups h i O v0 inv0 ov0 free0 lt may only notes room = record { fair = fair inv0 (
     }
 
 -- a reference more, where there is a place in memory
-pub s-up : {A : Type 0} {h i : ℕ} {m : Bool → Option Mark} {k : Bool → P machine A} {B : List Step → Type 0} {Q : A → List Step → World → Type 0} {n : ℕ} {es : List Step} {w : World} {O : Own}
+pub s-up : (version : Version) {A : Type 0} {h i : ℕ} {m : Bool → Option Mark} {k : Bool → P (machine version) A} {B : List Step → Type 0} {Q : A → List Step → World → Type 0} {n : ℕ} {es : List Step} {w : World} {O : Own}
     → own_of h w ≡ O → O.desk.lender ≡ None → h < hart_count → 0 < n → m true ≡ None → HasFound O i → ((O.mine.pending ≡ None) ⊎ (O.mine.pending ≡ Some i)) → NotesOwn O i → O.mine.refs i < reference_limit
-    → ((l : ℕ) (u : World) → l + 1 ≡ n → own_of h u ≡ record O { mine = record { refs = put O.mine.refs i (O.mine.refs i + 1); walk = O.mine.walk; pending = None } } → Safe machine h B Q (k true) l es u)
-    → ((v : World) → Inv v → own_of h v ≡ O → Fine machine h (places h (Up i) false (m false) v) 0 n B es v (marked h (m false) v) (λ l. Wp machine h B Q (k false) l (onto (own h (places h (Up i) false (m false) v)) es) (marked h (m false) v)))
-    → Safe machine h B Q (Do (Up i) m k) n es w
-s-up {A} {h} {i} {m} {k} {B} {Q} {n} {es} {w} {O} owns free lt pos quietly found only notes room rest full = s-owned owns free pos (λ v inv ov. (found_at h i v O inv ov lt found, (λ x honest. at v inv ov (has_place v i))))
+    → ((l : ℕ) (u : World) → l + 1 ≡ n → own_of h u ≡ record O { mine = record { refs = put O.mine.refs i (O.mine.refs i + 1); walk = O.mine.walk; pending = None } } → Safe (machine version) h B Q (k true) l es u)
+    → ((v : World) → Inv v → own_of h v ≡ O → Fine (machine version) h (places version h (Up i) false (m false) v) 0 n B es v (marked version h (m false) v) (λ l. Wp (machine version) h B Q (k false) l (onto (own h (places version h (Up i) false (m false) v)) es) (marked version h (m false) v)))
+    → Safe (machine version) h B Q (Do (Up i) m k) n es w
+s-up version {A} {h} {i} {m} {k} {B} {Q} {n} {es} {w} {O} owns free lt pos quietly found only notes room rest full = s-owned version owns free pos (λ v inv ov. (found_at h i v O inv ov lt found, (λ x honest. at v inv ov (has_place v i))))
   where
-    at : (v : World) → Inv v → own_of h v ≡ O → (b : Bool) → Good machine Bool h (λ a. places h (Up i) a (m a) v) 0 n B es v ⊥ (with_mark h m (up_if h i v b)) (λ l a u. Wp machine h B Q (k a) l (onto (own h (places h (Up i) a (m a) v)) es) u)
+    at : (v : World) → Inv v → own_of h v ≡ O → (b : Bool) → Good (machine version) Bool h (λ a. places version h (Up i) a (m a) v) 0 n B es v ⊥ (with_mark version h m (up_if h i v b)) (λ l a u. Wp (machine version) h B Q (k a) l (onto (own h (places version h (Up i) a (m a) v)) es) u)
     at v inv ov false = full v inv ov
     at v inv ov true =
-        let x = ups h i O v inv ov free lt (inr (inr found)) only notes room in
-        subst (λ (z : Option Mark). Fine machine h (places h (Up i) true z v) 0 n B es v (marked h z (counted_up h i v)) (λ l. Wp machine h B Q (k true) l (onto (own h (places h (Up i) true z v)) es) (marked h z (counted_up h i v)))) (sym quietly)
-        (quiet x.fair x.stage pos (λ l q. (rest l (counted_up h i v) q x.owned).wp))
+        let x = ups version h i O v inv ov free lt (inr (inr found)) only notes room in
+        subst (λ (z : Option Mark). Fine (machine version) h (places version h (Up i) true z v) 0 n B es v (marked version h z (counted_up h i v)) (λ l. Wp (machine version) h B Q (k true) l (onto (own h (places version h (Up i) true z v)) es) (marked version h z (counted_up h i v)))) (sym quietly)
+        (quiet version x.fair x.stage pos (λ l q. (rest l (counted_up h i v) q x.owned).wp))

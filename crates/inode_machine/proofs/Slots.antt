@@ -1,4 +1,5 @@
 -- A slot of the open-file table is taken in hand, and given back.
+use Rattle.image_versions.specs.declared.version.Version.{Version}
 use Rattle.inode_machine.proofs.Vocabulary.{◌≡◌, ◌≢◌, ◌⊎◌, inl, inr, ℕ, ◌+◌, ◌<◌, Bool, true, false, ◌==◌, not, List, Option, Some, None, refl, sym, ◌∙◌, ap, subst, arith, Do, ExecResult, P, own, onto, Good, Fine, Safe, Wp, OpenFile, hart_count, descriptor_count, put, any_below, has_room, row_of, sum_below, one_if, and_true, any_none, eq_self, same_or, put_same, put_other, sum_same, Step, Desk, Mark, World, Slot, Install, Mends, InodeType, file_count, first_from, install_if, is_at, is_empty_slot, is_nothing, slot_if, marked, mended, places, with_mark, id_at, own_names, own_of, file_tables_of, users, Own, Inv, IsTied, machine}
 use Rattle.inode_machine.proofs.Basics.{bond_of, put_elim, stands_on, Fair, fair, refers_on, s-owned, fine_after, quiet, with_new, spoilt, Mending, FirstOf, first_is}
 
@@ -15,9 +16,9 @@ record Handing (h : ℕ) (o : Option ℕ) (v : World) (O : Own) : Type 0 where
   pub fair : Fair h v (with_new v h (record (v.desks h) { hand = o }) v.clean)
   pub owned : own_of h (with_new v h (record (v.desks h) { hand = o }) v.clean) ≡ record O { desk = record (O.desk) { hand = o } }
 
-handing : (h : ℕ) (o : Option ℕ) (v : World) (O : Own) → own_of h v ≡ O → O.desk.lender ≡ None → h < hart_count → Inv v
+handing : Version → (h : ℕ) (o : Option ℕ) (v : World) (O : Own) → own_of h v ≡ O → O.desk.lender ≡ None → h < hart_count → Inv v
     → ((s : ℕ) → o ≡ Some s → (s < file_count) × (v.files s ≡ None) × ((g : ℕ) → g < hart_count → g ≢ h → (v.desks g).hand ≢ Some s)) → Handing h o v O
-handing h o v O ov free lt inv empty = record {
+handing version h o v O ov free lt inv empty = record {
   fair = fair inv (record {
     hart = lt;
     inodes = λ j. inl (record { lock = refl; keeper = refl; disk = refl; node = refl; alone = refl });
@@ -106,23 +107,23 @@ handing h o v O ov free lt inv empty = record {
     }
 
 -- A slot is taken, or there is none. M: what the hart has once its step is taken back.
-pub s-slot : {A : Type 0} {h : ℕ} {m : Bool → Option Mark} {k : Bool → P machine A} {B : List Step → Type 0} {Q : A → List Step → World → Type 0} {n : ℕ} {es : List Step} {w : World} {O : Own} (M : Own)
+pub s-slot : (version : Version) {A : Type 0} {h : ℕ} {m : Bool → Option Mark} {k : Bool → P (machine version) A} {B : List Step → Type 0} {Q : A → List Step → World → Type 0} {n : ℕ} {es : List Step} {w : World} {O : Own} (M : Own)
     → own_of h w ≡ O → O.desk.lender ≡ None → h < hart_count → 0 < n → O.desk.hand ≡ None → m true ≡ None → m false ≡ Some Mends
-    → ((v : World) → Inv v → own_of h v ≡ O → Mending h v (mended h v) M) → ((l : ℕ) (u : World) → l + 1 ≡ n → own_of h u ≡ M → Safe machine h B Q (k false) l es u)
-    → ((l s : ℕ) (u : World) → l + 1 ≡ n → own_of h u ≡ record O { desk = record (O.desk) { hand = Some s } } → Safe machine h B Q (k true) l es u)
-    → Safe machine h B Q (Do Slot m k) n es w
-s-slot {A} {h} {m} {k} {B} {Q} {n} {es} {w} {O} M owns free lt pos none unmarked mark mends full rest = s-owned owns free pos (λ v inv ov. (ap (λ (o : Own). o.desk.hand) ov ∙ none, (λ _ _. at v inv ov (first_from file_count 0 (is_empty_slot v)) refl)))
+    → ((v : World) → Inv v → own_of h v ≡ O → Mending h v (mended h v) M) → ((l : ℕ) (u : World) → l + 1 ≡ n → own_of h u ≡ M → Safe (machine version) h B Q (k false) l es u)
+    → ((l s : ℕ) (u : World) → l + 1 ≡ n → own_of h u ≡ record O { desk = record (O.desk) { hand = Some s } } → Safe (machine version) h B Q (k true) l es u)
+    → Safe (machine version) h B Q (Do Slot m k) n es w
+s-slot version {A} {h} {m} {k} {B} {Q} {n} {es} {w} {O} M owns free lt pos none unmarked mark mends full rest = s-owned version owns free pos (λ v inv ov. (ap (λ (o : Own). o.desk.hand) ov ∙ none, (λ _ _. at v inv ov (first_from file_count 0 (is_empty_slot v)) refl)))
   where
     at : (v : World) → Inv v → own_of h v ≡ O → (r : Option ℕ) → first_from file_count 0 (is_empty_slot v) ≡ r
-        → Good machine Bool h (λ a. places h Slot a (m a) v) 0 n B es v ⊥ (with_mark h m (slot_if h v r)) (λ l a u. Wp machine h B Q (k a) l (onto (own h (places h Slot a (m a) v)) es) u)
+        → Good (machine version) Bool h (λ a. places version h Slot a (m a) v) 0 n B es v ⊥ (with_mark version h m (slot_if h v r)) (λ l a u. Wp (machine version) h B Q (k a) l (onto (own h (places version h Slot a (m a) v)) es) u)
     at v inv ov None q =
         let x = mends v inv ov in
-        subst (λ (z : Option Mark). Fine machine h (places h Slot false z v) 0 n B es v (marked h z v) (λ l. Wp machine h B Q (k false) l (onto (own h (places h Slot false z v)) es) (marked h z v))) (sym mark)
-        (spoilt x.fair x.bad pos (λ l r. (full l (mended h v) r x.owned).wp))
+        subst (λ (z : Option Mark). Fine (machine version) h (places version h Slot false z v) 0 n B es v (marked version h z v) (λ l. Wp (machine version) h B Q (k false) l (onto (own h (places version h Slot false z v)) es) (marked version h z v))) (sym mark)
+        (spoilt version x.fair x.bad pos (λ l r. (full l (mended h v) r x.owned).wp))
     at v inv ov (Some s) q =
-        let x = handing h (Some s) v O ov free lt inv (λ j e. let c : s ≡ j = cc in subst (λ (z : ℕ). (z < file_count) × (v.files z ≡ None) × ((g : ℕ) → g < hart_count → g ≢ h → (v.desks g).hand ≢ Some z)) c (below, nothing_is (v.files s) two.0, λ g lg ne. nobody g lg)) in
-        subst (λ (z : Option Mark). Fine machine h (places h Slot true z v) 0 n B es v (marked h z (with_new v h (record (v.desks h) { hand = Some s }) v.clean)) (λ l. Wp machine h B Q (k true) l (onto (own h (places h Slot true z v)) es) (marked h z (with_new v h (record (v.desks h) { hand = Some s }) v.clean)))) (sym unmarked)
-        (quiet x.fair refl pos (λ l r. (rest l s (with_new v h (record (v.desks h) { hand = Some s }) v.clean) r x.owned).wp))
+        let x = handing version h (Some s) v O ov free lt inv (λ j e. let c : s ≡ j = cc in subst (λ (z : ℕ). (z < file_count) × (v.files z ≡ None) × ((g : ℕ) → g < hart_count → g ≢ h → (v.desks g).hand ≢ Some z)) c (below, nothing_is (v.files s) two.0, λ g lg ne. nobody g lg)) in
+        subst (λ (z : Option Mark). Fine (machine version) h (places version h Slot true z v) 0 n B es v (marked version h z (with_new v h (record (v.desks h) { hand = Some s }) v.clean)) (λ l. Wp (machine version) h B Q (k true) l (onto (own h (places version h Slot true z v)) es) (marked version h z (with_new v h (record (v.desks h) { hand = Some s }) v.clean)))) (sym unmarked)
+        (quiet version x.fair refl pos (λ l r. (rest l s (with_new v h (record (v.desks h) { hand = Some s }) v.clean) r x.owned).wp))
       where
         f : FirstOf s 0 file_count (is_empty_slot v)
         f = first_is file_count 0 (is_empty_slot v) s q
@@ -137,23 +138,23 @@ s-slot {A} {h} {m} {k} {B} {Q} {n} {es} {w} {O} M owns free lt pos none unmarked
         nobody g lg e = let a = any_none hart_count (λ g. is_at (v.desks g).hand s) (not_false (any_below hart_count (λ g. is_at (v.desks g).hand s)) two.1) g lg in let b : is_at (v.desks g).hand s ≡ true = ap (λ (z : Option ℕ). is_at z s) e ∙ eq_self s in absurd (cc (a, b))
 
 -- No descriptor is free: the slot is given back.
-pub s-install-full : {A : Type 0} {h : ℕ} (s : ℕ) (f : OpenFile) (inode_type : InodeType) {m : Option ℕ → Option Mark} {k : Option ℕ → P machine A} {B : List Step → Type 0} {Q : A → List Step → World → Type 0} {n : ℕ} {es : List Step} {w : World} {O : Own} (M : Own)
+pub s-install-full : (version : Version) {A : Type 0} {h : ℕ} (s : ℕ) (f : OpenFile) (inode_type : InodeType) {m : Option ℕ → Option Mark} {k : Option ℕ → P (machine version) A} {B : List Step → Type 0} {Q : A → List Step → World → Type 0} {n : ℕ} {es : List Step} {w : World} {O : Own} (M : Own)
     → own_of h w ≡ O → O.desk.lender ≡ None → h < hart_count → 0 < n → O.desk.hand ≡ Some s → has_room O.desk.fds ≡ false → f.offset ≡ 0 → one_if (O.desk.directory == f.number) < O.mine.refs f.number → m None ≡ Some Mends
     → ((v : World) → Inv v → own_of h v ≡ record O { desk = record (O.desk) { hand = None } } → Mending h v (mended h v) M)
-    → ((l : ℕ) (u : World) → l + 1 ≡ n → own_of h u ≡ M → Safe machine h B Q (k None) l es u)
-    → Safe machine h B Q (Do (Install f inode_type) m k) n es w
-s-install-full {A} {h} s f inode_type {m} {k} {B} {Q} {n} {es} {w} {O} M owns free lt pos hand room start spare mark mends rest = s-owned owns free pos (λ v inv ov.
+    → ((l : ℕ) (u : World) → l + 1 ≡ n → own_of h u ≡ M → Safe (machine version) h B Q (k None) l es u)
+    → Safe (machine version) h B Q (Do (Install f inode_type) m k) n es w
+s-install-full version {A} {h} s f inode_type {m} {k} {B} {Q} {n} {es} {w} {O} M owns free lt pos hand room start spare mark mends rest = s-owned version owns free pos (λ v inv ov.
     let a : (v.desks h).hand ≡ Some s = ap (λ (o : Own). o.desk.hand) ov ∙ hand in
     let b : has_room (v.desks h).fds ≡ false = ap (λ (o : Own). has_room o.desk.fds) ov ∙ room in (
       ((λ q. cc (a, q)), start, subst (λ (o : Own). one_if (o.desk.directory == f.number) < o.mine.refs f.number) (sym ov) spare),
-      (λ _ _. subst (λ (z : ExecResult (Option ℕ) World). Good machine (Option ℕ) h (λ a. places h (Install f inode_type) a (m a) v) 0 n B es v ⊥ (with_mark h m z) (λ l a u. Wp machine h B Q (k a) l (onto (own h (places h (Install f inode_type) a (m a) v)) es) u))
+      (λ _ _. subst (λ (z : ExecResult (Option ℕ) World). Good (machine version) (Option ℕ) h (λ a. places version h (Install f inode_type) a (m a) v) 0 n B es v ⊥ (with_mark version h m z) (λ l a u. Wp (machine version) h B Q (k a) l (onto (own h (places version h (Install f inode_type) a (m a) v)) es) u))
           (sym (λ i. install_if h v f inode_type (a i) (b i))) (good v inv ov)),
     ))
   where
     good : (v : World) → Inv v → own_of h v ≡ O
-        → Fine machine h (places h (Install f inode_type) None (m None) v) 0 n B es v (marked h (m None) (with_new v h (record (v.desks h) { hand = None }) v.clean)) (λ l. Wp machine h B Q (k None) l (onto (own h (places h (Install f inode_type) None (m None) v)) es) (marked h (m None) (with_new v h (record (v.desks h) { hand = None }) v.clean)))
+        → Fine (machine version) h (places version h (Install f inode_type) None (m None) v) 0 n B es v (marked version h (m None) (with_new v h (record (v.desks h) { hand = None }) v.clean)) (λ l. Wp (machine version) h B Q (k None) l (onto (own h (places version h (Install f inode_type) None (m None) v)) es) (marked version h (m None) (with_new v h (record (v.desks h) { hand = None }) v.clean)))
     good v inv ov =
-        let x = handing h None v O ov free lt inv (λ j e. absurd cc) in
+        let x = handing version h None v O ov free lt inv (λ j e. absurd cc) in
         let y = mends (with_new v h (record (v.desks h) { hand = None }) v.clean) x.fair.inv x.owned in
-        subst (λ (z : Option Mark). Fine machine h (places h (Install f inode_type) None z v) 0 n B es v (marked h z (with_new v h (record (v.desks h) { hand = None }) v.clean)) (λ l. Wp machine h B Q (k None) l (onto (own h (places h (Install f inode_type) None z v)) es) (marked h z (with_new v h (record (v.desks h) { hand = None }) v.clean)))) (sym mark)
-        (fine_after x.fair refl (spoilt y.fair y.bad pos (λ l r. (rest l (mended h (with_new v h (record (v.desks h) { hand = None }) v.clean)) r y.owned).wp)))
+        subst (λ (z : Option Mark). Fine (machine version) h (places version h (Install f inode_type) None z v) 0 n B es v (marked version h z (with_new v h (record (v.desks h) { hand = None }) v.clean)) (λ l. Wp (machine version) h B Q (k None) l (onto (own h (places version h (Install f inode_type) None z v)) es) (marked version h z (with_new v h (record (v.desks h) { hand = None }) v.clean)))) (sym mark)
+        (fine_after version x.fair refl (spoilt version y.fair y.bad pos (λ l r. (rest l (mended h (with_new v h (record (v.desks h) { hand = None }) v.clean)) r y.owned).wp)))

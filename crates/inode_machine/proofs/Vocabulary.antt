@@ -26,7 +26,7 @@ pub use Rattle.tree_laws.proofs.Kept.{absent_slot, effect_well, written_dir, typ
 pub use Rattle.inode_machine.specs.MoveCalls.{Alone, HasOneHistory, IsMoving, IsOfRange, MoveMachine, NoneClimbs, RunsFrom, StartsBy, TakesMove, climbs_at, machine_of, shown_by, shows, theory_of}
 pub use Rattle.tree_laws.proofs.Nodes.{cwd_named, dead_links, file_named, folder_dead, folders_put, hold_named, linked_live, live_is, live_some, map_put, no_node, put_self, settle_at, settled_well}
 pub use Rattle.atomic_programs.proofs.Beginnings.{append_nil, oldest_first_more, onto_is}
-pub use Rattle.inode_machine.specs.Examples.{ChdirFinishes, CloseFinishes, CreateFinishes, DupFinishes, InheritFinishes, InheritFrees, InheritMoves, LinkBelowNothing, LinkFinishes, LinkOfDirectory, LinkOfMany, LinkOfNothing, LinkToNoName, LinkToTaken, MkdirFinishes, NoBlockForDirectory, NoBlockForFile, NoBlockForName, NoBlockForPart, NoBlockLeft, NoDescriptorToDouble, NoDescriptorToOpen, NoInodeForFile, NoInodeLeft, NoSlotForDirectory, NoSlotForFile, NoSlotForName, OpenFinishes, ReadFinishes, StartsRefused, StatFinishes, UnlinkFinishes, WalkerFails, WriteFinishes, replies}
+pub use Rattle.inode_machine.specs.Examples.{ChdirFinishes, CloseFinishes, CreateFinishes, DupFinishes, InheritFinishes, InheritFrees, InheritMoves, LinkBelowNothing, LinkFinishes, LinkOfDirectory, LinkOfMany, LinkOfNothing, LinkToNoName, LinkToTaken, LongNamesAreTold, MkdirFinishes, NoBlockForDirectory, NoBlockForFile, NoBlockForName, NoBlockForPart, NoBlockLeft, NoDescriptorToDouble, NoDescriptorToOpen, NoInodeForFile, NoInodeLeft, NoSlotForDirectory, NoSlotForFile, NoSlotForName, OpenFinishes, ReadFinishes, StartsRefused, StatFinishes, UnlinkFinishes, WalkerFails, WriteFinishes, replies}
 unfoldable pub use Rattle.inode_machine.specs.Examples.{doubled_to, doubles, steps}
 pub use Rattle.inode_machine.specs.Naming.{always, bump_refused, bumps_if, clear_name, enters, in_parent, is_missing, is_refused, link_at, link_found, link_in, link_name, link_program, link_raise, lower, lower_parent, mkdir_in, mkdir_on, mkdir_other, mkdir_program, mkdir_refused, mkdir_with, name_directory, named_on, or_missing, unlink_child, unlink_dots, unlink_found, unlink_in, unlink_named, unlink_other, unlink_program}
 pub use Rattle.plain_tree.proofs.RowLemmas.{Behind, behind, key_from}
@@ -72,5 +72,7 @@ pub use Rattle.plain_tree.specs.declared.step.StepAnswer.TheVariants.{Bytes, Don
 pub use Rattle.plain_tree.specs.declared.trace.Placed.{Placed}
 pub use Rattle.plain_tree.specs.declared.tree.Hold.{Hold}
 pub use Rattle.plain_tree.specs.declared.tree.OpenFile.{OpenFile}
-pub use Rattle.plain_tree.specs.VersionOne.{content, name_len, part, stat_of, write_kind}
-pub use Rattle.plain_tree.proofs.VersionOne.{settled_step}
+pub use Rattle.plain_tree.specs.Steps.{content, part, stat_of, write_kind}
+pub use Rattle.image_versions.specs.Versions.{name_len_of}
+pub use Rattle.plain_tree.proofs.SettledSteps.{settled_step}
+pub use Rattle.inode_machine.specs.Rules.{clear_cost, emptying_cost, enter_cost, look_cost, search_cost}

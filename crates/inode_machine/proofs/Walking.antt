@@ -1,4 +1,5 @@
 -- A move: what it leaves of the world, and its step of the tree.
+use Rattle.image_versions.specs.declared.version.Version.{Version}
 use Rattle.inode_machine.proofs.Vocabulary.{◌≡◌, ◌⊎◌, inl, inr, ℕ, zero, suc, ◌+◌, ◌<◌, List, [], ◌∷◌, Option, Some, None, refl, sym, ◌∙◌, ap, subst, arith, true, P, own, onto, Fine, Wp, hart_count, put, settle, row_of, eq_self, put_same, put_other, sum_same, Walk, Step, Move, Look, PlaysStep, IsOfRange, Mine, World, stage_of, Note, Made, with_made, with_walk, Own, file_tables_of, own_of, Found, IsReferredTo, Inv, machine, own_names, type_of}
 use Rattle.inode_machine.proofs.Frame.{file_tables_same, put_elim, is_put, HartStep, Fair, refers_on}
 use Rattle.inode_machine.proofs.Rules.{FairTo, acted_to, fair_to}
@@ -88,16 +89,16 @@ of_range v zero below = tt
 of_range v (suc n) below = below
 
 -- The move as the machine makes it is this one.
-pub moves_to : {A : Type 0} (h more n : ℕ) (B : List Step → Type 0) (Q : A → List Step → World → Type 0) (es : List Step) (v u : World) (mv : Move) (range : IsOfRange (stage_of v) mv) (p : P machine A) (made x : Made)
-    → made ≡ x → FairTo h v (with_made h x u) → PlaysStep (stage_of v) h (record { move = mv; told = x.told }) (stage_of (with_made h x u)) → B (record { move = mv; told = x.told } ∷ es) → more < n
-    → ((l : ℕ) → l + (more + 1) ≡ n → Wp machine h B Q p l (record { move = mv; told = x.told } ∷ es) (with_made h x u))
-    → Fine machine h ((h, record { move = mv; told = made.told }) ∷ []) more n B es v (with_made h made u) (λ l. Wp machine h B Q p l (onto (own h ((h, record { move = mv; told = made.told }) ∷ [])) es) (with_made h made u))
-moves_to {A} h more n B Q es v u mv range p made x is f takes b pos next =
-    subst (λ (z : Made). Fine machine h ((h, record { move = mv; told = z.told }) ∷ []) more n B es v (with_made h z u) (λ l. Wp machine h B Q p l (onto (own h ((h, record { move = mv; told = z.told }) ∷ [])) es) (with_made h z u))) (sym is)
-    (acted_to f (takes, range) b pos (λ l q. rw (eq_self h) (next l q)))
+pub moves_to : (version : Version) {A : Type 0} (h more n : ℕ) (B : List Step → Type 0) (Q : A → List Step → World → Type 0) (es : List Step) (v u : World) (mv : Move) (range : IsOfRange (stage_of v) mv) (p : P (machine version) A) (made x : Made)
+    → made ≡ x → FairTo h v (with_made h x u) → PlaysStep version (stage_of v) h (record { move = mv; told = x.told }) (stage_of (with_made h x u)) → B (record { move = mv; told = x.told } ∷ es) → more < n
+    → ((l : ℕ) → l + (more + 1) ≡ n → Wp (machine version) h B Q p l (record { move = mv; told = x.told } ∷ es) (with_made h x u))
+    → Fine (machine version) h ((h, record { move = mv; told = made.told }) ∷ []) more n B es v (with_made h made u) (λ l. Wp (machine version) h B Q p l (onto (own h ((h, record { move = mv; told = made.told }) ∷ [])) es) (with_made h made u))
+moves_to version {A} h more n B Q es v u mv range p made x is f takes b pos next =
+    subst (λ (z : Made). Fine (machine version) h ((h, record { move = mv; told = z.told }) ∷ []) more n B es v (with_made h z u) (λ l. Wp (machine version) h B Q p l (onto (own h ((h, record { move = mv; told = z.told }) ∷ [])) es) (with_made h z u))) (sym is)
+    (acted_to version f (takes, range) b pos (λ l q. rw (eq_self h) (next l q)))
 
-pub moves_good : {A : Type 0} (h more n : ℕ) (B : List Step → Type 0) (Q : A → List Step → World → Type 0) (es : List Step) (v u : World) (mv : Move) (range : IsOfRange (stage_of v) mv) (p : P machine A) (made x : Made)
-    → made ≡ x → Fair h v (with_made h x u) → PlaysStep (stage_of v) h (record { move = mv; told = x.told }) (stage_of (with_made h x u)) → B (record { move = mv; told = x.told } ∷ es) → more < n
-    → ((l : ℕ) → l + (more + 1) ≡ n → Wp machine h B Q p l (record { move = mv; told = x.told } ∷ es) (with_made h x u))
-    → Fine machine h ((h, record { move = mv; told = made.told }) ∷ []) more n B es v (with_made h made u) (λ l. Wp machine h B Q p l (onto (own h ((h, record { move = mv; told = made.told }) ∷ [])) es) (with_made h made u))
-moves_good h more n B Q es v u mv range p made x is f takes b pos next = moves_to h more n B Q es v u mv range p made x is (fair_to f) takes b pos next
+pub moves_good : (version : Version) {A : Type 0} (h more n : ℕ) (B : List Step → Type 0) (Q : A → List Step → World → Type 0) (es : List Step) (v u : World) (mv : Move) (range : IsOfRange (stage_of v) mv) (p : P (machine version) A) (made x : Made)
+    → made ≡ x → Fair h v (with_made h x u) → PlaysStep version (stage_of v) h (record { move = mv; told = x.told }) (stage_of (with_made h x u)) → B (record { move = mv; told = x.told } ∷ es) → more < n
+    → ((l : ℕ) → l + (more + 1) ≡ n → Wp (machine version) h B Q p l (record { move = mv; told = x.told } ∷ es) (with_made h x u))
+    → Fine (machine version) h ((h, record { move = mv; told = made.told }) ∷ []) more n B es v (with_made h made u) (λ l. Wp (machine version) h B Q p l (onto (own h ((h, record { move = mv; told = made.told }) ∷ [])) es) (with_made h made u))
+moves_good version h more n B Q es v u mv range p made x is f takes b pos next = moves_to version h more n B Q es v u mv range p made x is (fair_to f) takes b pos next

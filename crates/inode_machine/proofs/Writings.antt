@@ -1,4 +1,5 @@
 -- Write: a descriptor is looked up, its inode locked, a piece written at the offset, and the offset moves, with the lock given up.
+use Rattle.image_versions.specs.declared.version.Version.{Version}
 use Rattle.inode_machine.proofs.Vocabulary.{◌≡◌, ◌≢◌, inl, inr, ℕ, ◌+◌, ◌-◌, ◌<◌, ◌≤◌, Bool, true, false, List, [], ◌∷◌, take, length, Option, Some, None, refl, sym, ◌∙◌, ap, subst, arith, Do, Ran, unmarked, ExecResult, P, own, onto, Good, Fine, Safe, Wp, Cause, BadDescriptor, Node, NodeKind, Directory, File, Device, WritePart, Done, hart_count, descriptor_count, piece_len, Name, Tree, put, is_live, settle, resolve, parent, is_file, node_or, refusal_with, with_nodes, write_kind, IsWellFormed, same_or, put_same, put_other, Stage, Step, PlaysStep, OwnMove, Entry, Desk, World, stage_of, Outside, Room, RoomFor, Picks, JoinResult, NotJoined, Joined, Wrote, Whole, Refused as Stopped, Short, CheckFile, JoinFile, LockOpen, WriteFile, InodeType, OfDirectory, OfFile, OfDevice, no_driver_for, type_of, type_of_kind, Made, places, with_mark, made_by, new_id, with_made, spoiled, slot_at, entry_moved, entry_at, entry_of, offset_of, lock_if, locked, join_at, unlocked, with_joined, with_bytes, with_offset, with_walk, mode_refusal, write_at, write_if, write_refused, Key, file_settled, settle_again, Own, Held, view, is_hart, own_of, file_tables_of, Inv, KeepsFiles, machine, IsOut, HonestPiece, own_step, refused_to, writes}
 use Rattle.inode_machine.specs.Exec.{with_record}
 use Rattle.inode_machine.proofs.Basics.{put_elim, is_put, file_tables_same, ours_none, ours_some, kept_here, HartStep, Fair, fair, fair_then, own_inodes, has_inode, stands_in, type_on, s-owned, s-owned-from, quiet, fine_after, has_disk, has_node, others, locking, locked_held, is_out, locks_it, locks_none, UnlocksAll, Gives, after_unlock, gives, stage_walk, moves_good, own_walk, walk_did, own_takes, Behind, behind, behind_none, Flagging, flagging, filling, fails, refused_good, Refused as RefusedStep}
@@ -18,9 +19,9 @@ pub record Changing (h i : ℕ) (y : Node) (x : Held) (v : World) (O : Own) : Ty
   pub fair : Fair h v (changed_world i y v)
   pub owned : own_of h (changed_world i y v) ≡ record O { inodes = put O.inodes i (Some (record x { disk = Some y; node = Some y })) }
 
-pub changing : (h i : ℕ) (y : Node) (x : Held) (v : World) (O : Own) → own_of h v ≡ O → O.desk.lender ≡ None → h < hart_count → Inv v → O.mine.pending ≡ None → O.inodes i ≡ Some x
+pub changing : Version → (h i : ℕ) (y : Node) (x : Held) (v : World) (O : Own) → own_of h v ≡ O → O.desk.lender ≡ None → h < hart_count → Inv v → O.mine.pending ≡ None → O.inodes i ≡ Some x
     → type_of (Some y) ≡ type_of (v.all.nodes i) → is_live (Some y) ≡ is_live (v.all.nodes i) → IsWellFormed (with_nodes v.all (put v.all.nodes i (Some y))) → Changing h i y x v O
-changing h i y x v O ov free lt inv none isi inode_type live well = record { fair = fair inv did; owned = owned }
+changing version h i y x v O ov free lt inv none isi inode_type live well = record { fair = fair inv did; owned = owned }
   where
     u : World
     u = changed_world i y v
@@ -94,25 +95,25 @@ put_twice f i x y = is_put f (put (put f i x) i y) i y (put_same (put f i x) i y
 abbrev pub after_piece : ℕ → ℕ → ℕ → Entry → Node → List ℕ → World → World
 after_piece h i s e y b v = moved_world h s (length b) e (after_unlock i (changed_world i y v))
 
-pub record Writing (h fd i s : ℕ) (e : Entry) (x : Node) (b : List ℕ) (v : World) (O : Own) : Type 0 where
+pub record Writing (version : Version) (h fd i s : ℕ) (e : Entry) (x : Node) (b : List ℕ) (v : World) (O : Own) : Type 0 where
   pub fair : Fair h v (after_piece h i s e (with_bytes e.file.offset b x) b v)
   pub owned : own_of h (after_piece h i s e (with_bytes e.file.offset b x) b v) ≡ record O { inodes = put O.inodes i None; mine = record { refs = O.mine.refs; walk = None; pending = None } }
-  pub made : made_by v.all h (new_id v) (v.harts h).walk (OwnMove (WritePart fd b) 0) ≡ record { all = (after_piece h i s e (with_bytes e.file.offset b x) b v).all; walk = None; found = None; opened = None; entered = None; left = None; told = (wrote_step fd b).told }
-  pub takes : PlaysStep (stage_of v) h (wrote_step fd b) (stage_of (after_piece h i s e (with_bytes e.file.offset b x) b v))
+  pub made : made_by version v.all h (new_id v) (v.harts h).walk (OwnMove (WritePart fd b) 0) ≡ record { all = (after_piece h i s e (with_bytes e.file.offset b x) b v).all; walk = None; found = None; opened = None; entered = None; left = None; told = (wrote_step fd b).told }
+  pub takes : PlaysStep version (stage_of v) h (wrote_step fd b) (stage_of (after_piece h i s e (with_bytes e.file.offset b x) b v))
 
-pub writing : (h fd i s : ℕ) (e : Entry) (x : Node) (b : List ℕ) (v : World) (O : Own) → own_of h v ≡ O → O.desk.lender ≡ None → h < hart_count → Inv v → O.mine.walk ≡ None → O.mine.pending ≡ None → Behind h fd s e v
-    → e.file.number ≡ i → O.inodes i ≡ Some (locked_held (Some x)) → e.file.writable ≡ true → write_kind x.kind e.file.offset b ≡ None → Writing h fd i s e x b v O
-writing h fd i s e x b v O ov free lt inv walks none hit num isi writable goes =
+pub writing : (version : Version) (h fd i s : ℕ) (e : Entry) (x : Node) (b : List ℕ) (v : World) (O : Own) → own_of h v ≡ O → O.desk.lender ≡ None → h < hart_count → Inv v → O.mine.walk ≡ None → O.mine.pending ≡ None → Behind h fd s e v
+    → e.file.number ≡ i → O.inodes i ≡ Some (locked_held (Some x)) → e.file.writable ≡ true → write_kind version x.kind e.file.offset b ≡ None → Writing version h fd i s e x b v O
+writing version h fd i s e x b v O ov free lt inv walks none hit num isi writable goes =
     record {
       fair = fair_then c.fair (fair_then g.fair m.fair);
       owned = m.owned ∙ (λ z. record O { inodes = put_twice O.inodes i (Some (locked_held (Some y))) None z; mine = record { refs = O.mine.refs; walk = None; pending = None } });
-      made = rw (now (resolve v.all h []) (parent v.all h []))
-          (λ r. record { all = (write_effect v.all h fd 0 (new_id v) b (resolve v.all h []) (parent v.all h []) ∙ wrote_is v.all h fd (v.ids s) i b e.file x hit.tree opened hit.file num node) r; walk = None; found = None; opened = None; entered = None; left = None; told = Some (record { act = record { step = WritePart fd b; answer = write_answer v.all h fd (new_id v) b (resolve v.all h []) (parent v.all h []) r }; new = 0 }) });
-      takes = own_takes h v (after_piece h i s e y b v) (WritePart fd b) Done refl refl (ap (λ (o : Own). o.mine.walk) ov ∙ walks) (λ z. refl) (λ g z. absurd cc) (
-        then_ (resolve (settle v.all) h []) (parent (settle v.all) h []),
-        sym (write_answer (settle v.all) h fd (new_id v) b (resolve (settle v.all) h []) (parent (settle v.all) h [])),
+      made = rw (now (resolve version v.all h []) (parent version v.all h []))
+          (λ r. record { all = (write_effect version v.all h fd 0 (new_id v) b (resolve version v.all h []) (parent version v.all h []) ∙ wrote_is v.all h fd (v.ids s) i b e.file x hit.tree opened hit.file num node) r; walk = None; found = None; opened = None; entered = None; left = None; told = Some (record { act = record { step = WritePart fd b; answer = write_answer version v.all h fd (new_id v) b (resolve version v.all h []) (parent version v.all h []) r }; new = 0 }) });
+      takes = own_takes version h v (after_piece h i s e y b v) (WritePart fd b) Done refl refl (ap (λ (o : Own). o.mine.walk) ov ∙ walks) (λ z. refl) (λ g z. absurd cc) (
+        then_ (resolve version (settle v.all) h []) (parent version (settle v.all) h []),
+        sym (write_answer version (settle v.all) h fd (new_id v) b (resolve version (settle v.all) h []) (parent version (settle v.all) h [])),
         record { node = λ z. absurd cc; file = λ z. absurd cc },
-        settle_wrote v.all h fd (v.ids s) i b e.file x hit.tree opened hit.file num settled (moved_names v.all (v.ids s) e.file (offset_on e.file (length b)) opened refl) ∙ ap (λ (z : Tree). settle z) (sym (write_effect (settle v.all) h fd 0 (new_id v) b (resolve (settle v.all) h []) (parent (settle v.all) h []))),
+        settle_wrote v.all h fd (v.ids s) i b e.file x hit.tree opened hit.file num settled (moved_names v.all (v.ids s) e.file (offset_on e.file (length b)) opened refl) ∙ ap (λ (z : Tree). settle z) (sym (write_effect version (settle v.all) h fd 0 (new_id v) b (resolve version (settle v.all) h []) (parent version (settle v.all) h []))),
         write_place (settle v.all) h fd b lt,
       )
           (ap (λ (z : Stage). z.walk) (stage_walk h None None v));
@@ -130,29 +131,29 @@ writing h fd i s e x b v O ov free lt inv walks none hit num isi writable goes =
     settled : (settle v.all).nodes i ≡ Some x
     settled = subst (λ (z : ℕ). (settle v.all).nodes z ≡ v.all.nodes z) num (node_settled h fd v e s inv lt hit) ∙ node
 
-    now : (res : Option ℕ) (par : Option (ℕ × Name)) → refusal_with v.all h (WritePart fd b) res par ≡ None
-    now res par = write_by_kind v.all h fd b e.file None res par hit.file writable ((λ r. write_kind (node_or (v.all.nodes (num r))).kind e.file.offset b) ∙ (λ r. write_kind (node_or (node r)).kind e.file.offset b) ∙ goes)
+    now : (res : Option ℕ) (par : Option (ℕ × Name)) → refusal_with version v.all h (WritePart fd b) res par ≡ None
+    now res par = write_by_kind version v.all h fd b e.file None res par hit.file writable ((λ r. write_kind version (node_or (v.all.nodes (num r))).kind e.file.offset b) ∙ (λ r. write_kind version (node_or (node r)).kind e.file.offset b) ∙ goes)
 
-    then_ : (res : Option ℕ) (par : Option (ℕ × Name)) → refusal_with (settle v.all) h (WritePart fd b) res par ≡ None
-    then_ res par = write_by_kind (settle v.all) h fd b e.file None res par (file_settled v.all h fd ∙ hit.file) writable ((λ r. write_kind (node_or ((settle v.all).nodes (num r))).kind e.file.offset b) ∙ (λ r. write_kind (node_or (settled r)).kind e.file.offset b) ∙ goes)
+    then_ : (res : Option ℕ) (par : Option (ℕ × Name)) → refusal_with version (settle v.all) h (WritePart fd b) res par ≡ None
+    then_ res par = write_by_kind version (settle v.all) h fd b e.file None res par (file_settled v.all h fd ∙ hit.file) writable ((λ r. write_kind version (node_or ((settle v.all).nodes (num r))).kind e.file.offset b) ∙ (λ r. write_kind version (node_or (settled r)).kind e.file.offset b) ∙ goes)
 
     c : Changing h i y (locked_held (Some x)) v O
-    c = changing h i y (locked_held (Some x)) v O ov free lt inv none isi
+    c = changing version h i y (locked_held (Some x)) v O ov free lt inv none isi
         (ap (λ (z : InodeType). Some z) (written_type x.kind e.file.offset b) ∙ ap (λ (z : Option Node). type_of z) (sym node)) (ap (λ (z : Option Node). is_live z) (sym node)) (well_wrote v.all i e.file.offset b x inv.well node)
 
     O1 : Own
     O1 = record O { inodes = put O.inodes i (Some (locked_held (Some y))) }
 
     g : Gives h i O1 (changed_world i y v)
-    g = gives h i (locked_held (Some y)) O1 (changed_world i y v) free lt c.fair.inv c.owned (put_same O.inodes i (Some (locked_held (Some y)))) refl refl none
+    g = gives version h i (locked_held (Some y)) O1 (changed_world i y v) free lt c.fair.inv c.owned (put_same O.inodes i (Some (locked_held (Some y)))) refl refl none
 
     m : Moving h s (length b) e (after_unlock i (changed_world i y v)) (record O1 { inodes = put O1.inodes i None })
     m = moving h fd s (length b) e (after_unlock i (changed_world i y v)) (record O1 { inodes = put O1.inodes i None }) g.owned free lt g.fair.inv none (record { below = hit.below; is = hit.is; at = hit.at; tree = hit.tree; file = hit.file })
         (ours_none h (put v.keeper i None e.file.number) (ap (put v.keeper i None) num ∙ put_same v.keeper i None))
 
 -- A step that finds no room, whatever it did to the tree.
-pub spoils_fine : {h more n : ℕ} {B : List Step → Type 0} {es : List Step} {v u : World} {Next : ℕ → Type 0} → Fair h v u → u.clean ≡ false → more < n → ((l : ℕ) → l + (more + 1) ≡ n → Next l) → Fine machine h [] more n B es v u Next
-spoils_fine {h} {more} {n} f dirty pos next =
+pub spoils_fine : (version : Version) {h more n : ℕ} {B : List Step → Type 0} {es : List Step} {v u : World} {Next : ℕ → Type 0} → Fair h v u → u.clean ≡ false → more < n → ((l : ℕ) → l + (more + 1) ≡ n → Next l) → Fine (machine version) h [] more n B es v u Next
+spoils_fine version {h} {more} {n} f dirty pos next =
     record { inv = f.inv; kept = λ g ne. others f g ne; goes = λ c. absurd (cc (dirty, c)); clean = f.clean; begun = λ c. inl refl; left = n - (more + 1); falls = omega (arith, pos); next = next (n - (more + 1)) (omega (arith, pos)) }
 
 -- A descriptor of the hart's own that is open for writing, with its inode.
@@ -210,22 +211,22 @@ file_node s i e y v inv at num node f = is_file_kind y.kind (
     )
 
 -- what the table refuses is refused in the tree
-pub table_refuses : (h fd s : ℕ) (e : Entry) (b : List ℕ) (c : Cause) (v : World) → Inv v → h < hart_count → Behind h fd s e v → write_refused (Some e) ≡ Some c → RefusedStep h (WritePart fd b) c v
-table_refuses h fd s e b c v inv lt hit stops = write_refused_at h fd b c v lt
-    (λ res par. write_stops v.all h fd b e c res par hit.file (inv.inode_types s e hit.at).inode_type stops)
-    (λ res par. write_stops (settle v.all) h fd b e c res par (file_settled v.all h fd ∙ hit.file) (ap (λ (z : Option Node). type_of z) (node_settled h fd v e s inv lt hit) ∙ (inv.inode_types s e hit.at).inode_type) stops)
+pub table_refuses : (version : Version) (h fd s : ℕ) (e : Entry) (b : List ℕ) (c : Cause) (v : World) → Inv v → h < hart_count → Behind h fd s e v → write_refused (Some e) ≡ Some c → RefusedStep version h (WritePart fd b) c v
+table_refuses version h fd s e b c v inv lt hit stops = write_refused_at version h fd b c v lt
+    (λ res par. write_stops version v.all h fd b e c res par hit.file (inv.inode_types s e hit.at).inode_type stops)
+    (λ res par. write_stops version (settle v.all) h fd b e c res par (file_settled v.all h fd ∙ hit.file) (ap (λ (z : Option Node). type_of z) (node_settled h fd v e s inv lt hit) ∙ (inv.inode_types s e hit.at).inode_type) stops)
 
 -- The transaction is joined for a descriptor to write to; or the first piece is refused.
-pub s-join-file : {A : Type 0} {h : ℕ} (fd : ℕ) (b : List ℕ) {k : JoinResult → P machine A} {B : List Step → Type 0} {Q : A → List Step → World → Type 0} {n : ℕ} {es : List Step} {w : World} {O : Own}
+pub s-join-file : (version : Version) {A : Type 0} {h : ℕ} (fd : ℕ) (b : List ℕ) {k : JoinResult → P (machine version) A} {B : List Step → Type 0} {Q : A → List Step → World → Type 0} {n : ℕ} {es : List Step} {w : World} {O : Own}
     → own_of h w ≡ O → O.desk.lender ≡ None → h < hart_count → 0 < n → O.mine.walk ≡ None → O.mine.pending ≡ None → O.desk.opening ≡ None → UnlocksAll O → O.desk.joined ≡ false
     → ((c : Cause) → B (fails (WritePart fd b) c ∷ es))
-    → ((l : ℕ) (c : Cause) (u : World) → l + 1 ≡ n → own_of h u ≡ record O { mine = record { refs = O.mine.refs; walk = None; pending = None } } → Safe machine h B Q (k (NotJoined c)) l (fails (WritePart fd b) c ∷ es) u)
-    → ((l i : ℕ) (u : World) → l + 1 ≡ n → (key : IsWritable O fd i) → OpensFile u key.opened.slot → own_of h u ≡ record O { desk = record (O.desk) { joined = true } } → Safe machine h B Q (k (Joined i)) l es u)
-    → Safe machine h B Q (Do (JoinFile fd) (refused_to fd b) k) n es w
-s-join-file {A} {h} fd b {k} {B} {Q} {n} {es} {w} {O} owns free lt pos walks none idle unlocks out bf bad then_ = s-owned owns free pos (λ v inv ov. ((locks_none h v O inv ov unlocks, ap (λ (o : Own). o.desk.joined) ov ∙ out), (λ _ _. at v inv ov (slot_at v h fd) refl)))
+    → ((l : ℕ) (c : Cause) (u : World) → l + 1 ≡ n → own_of h u ≡ record O { mine = record { refs = O.mine.refs; walk = None; pending = None } } → Safe (machine version) h B Q (k (NotJoined c)) l (fails (WritePart fd b) c ∷ es) u)
+    → ((l i : ℕ) (u : World) → l + 1 ≡ n → (key : IsWritable O fd i) → OpensFile u key.opened.slot → own_of h u ≡ record O { desk = record (O.desk) { joined = true } } → Safe (machine version) h B Q (k (Joined i)) l es u)
+    → Safe (machine version) h B Q (Do (JoinFile fd) (refused_to fd b) k) n es w
+s-join-file version {A} {h} fd b {k} {B} {Q} {n} {es} {w} {O} owns free lt pos walks none idle unlocks out bf bad then_ = s-owned version owns free pos (λ v inv ov. ((locks_none h v O inv ov unlocks, ap (λ (o : Own). o.desk.joined) ov ∙ out), (λ _ _. at v inv ov (slot_at v h fd) refl)))
   where
     Goal : World → ExecResult JoinResult World → Type 0
-    Goal v z = Good machine JoinResult h (λ a. places h (JoinFile fd) a (refused_to fd b a) v) 0 n B es v ⊥ (with_mark h (refused_to fd b) z) (λ l a u. Wp machine h B Q (k a) l (onto (own h (places h (JoinFile fd) a (refused_to fd b a) v)) es) u)
+    Goal v z = Good (machine version) JoinResult h (λ a. places version h (JoinFile fd) a (refused_to fd b a) v) 0 n B es v ⊥ (with_mark version h (refused_to fd b) z) (λ l a u. Wp (machine version) h B Q (k a) l (onto (own h (places version h (JoinFile fd) a (refused_to fd b a) v)) es) u)
 
     opening_none : (v : World) → own_of h v ≡ O → (v.desks h).opening ≡ None
     opening_none v ov = ap (λ (o : Own). o.desk.opening) ov ∙ idle
@@ -235,44 +236,44 @@ s-join-file {A} {h} fd b {k} {B} {Q} {n} {es} {w} {O} owns free lt pos walks non
         let new : Desk = record (v.desks h) { joined = true } in
         let f = flagging h v O new (record (O.desk) { joined = true }) v.clean ov free lt inv (ap (λ (o : Own). record (o.desk) { joined = true }) ov)
         (record { fds = refl; hand = refl; lent = refl; opening = refl; left = refl; directory = refl }) (ap (λ (o : Own). o.desk.lender) ov ∙ free) (λ f j is. absurd cc) (λ q. refl) (λ m q r s. inv.noted h m lt q r s) (λ q. inv.tied.spoiled h q) (λ q. q) (λ q. q) in
-        quiet f.fair refl pos (λ l q. (then_ l e.file.number (with_joined v h true) q (writable_from h fd s e v O inv ov lt hit goes) (file_same s v (with_joined v h true) refl (file_from s e v inv hit.at goes)) f.owned).wp)
+        quiet version f.fair refl pos (λ l q. (then_ l e.file.number (with_joined v h true) q (writable_from h fd s e v O inv ov lt hit goes) (file_same s v (with_joined v h true) refl (file_from s e v inv hit.at goes)) f.owned).wp)
     by_cause v inv ov s e hit (Some c) stops =
-        refused_good h 0 n B Q es v O (WritePart fd b) c (k (NotJoined c)) ov free lt inv walks none (table_refuses h fd s e b c v inv lt hit stops) (bf c) pos (λ l u p own2. bad l c u p own2)
+        refused_good version h 0 n B Q es v O (WritePart fd b) c (k (NotJoined c)) ov free lt inv walks none (table_refuses version h fd s e b c v inv lt hit stops) (bf c) pos (λ l u p own2. bad l c u p own2)
 
     at : (v : World) → Inv v → own_of h v ≡ O → (o : Option ℕ) → slot_at v h fd ≡ o → Goal v (join_at h v (entry_at v.files o) (write_refused (entry_at v.files o)))
-    at v inv ov None q = refused_good h 0 n B Q es v O (WritePart fd b) BadDescriptor (k (NotJoined BadDescriptor)) ov free lt inv walks none (write_refused_none h fd b v lt (behind_none h fd v inv lt (opening_none v ov) q)) (bf BadDescriptor) pos (λ l u p own2. bad l BadDescriptor u p own2)
+    at v inv ov None q = refused_good version h 0 n B Q es v O (WritePart fd b) BadDescriptor (k (NotJoined BadDescriptor)) ov free lt inv walks none (write_refused_none version h fd b v lt (behind_none h fd v inv lt (opening_none v ov) q)) (bf BadDescriptor) pos (λ l u p own2. bad l BadDescriptor u p own2)
     at v inv ov (Some s) q =
         let z = behind h fd s v inv lt (opening_none v ov) q in
         subst (λ (o : Option Entry). Goal v (join_at h v o (write_refused o))) (sym z.1.at) (by_cause v inv ov s z.0 z.1 (write_refused (Some z.0)) refl)
 
 -- No bytes: the step is refused, or changes nothing.
-pub s-check-file : {A : Type 0} {h : ℕ} (fd : ℕ) {k : Option Cause → P machine A} {B : List Step → Type 0} {Q : A → List Step → World → Type 0} {n : ℕ} {es : List Step} {w : World} {O : Own}
+pub s-check-file : (version : Version) {A : Type 0} {h : ℕ} (fd : ℕ) {k : Option Cause → P (machine version) A} {B : List Step → Type 0} {Q : A → List Step → World → Type 0} {n : ℕ} {es : List Step} {w : World} {O : Own}
     → own_of h w ≡ O → O.desk.lender ≡ None → h < hart_count → 0 < n → O.mine.walk ≡ None → O.mine.pending ≡ None → O.desk.opening ≡ None
     → ((c : Cause) → B (fails (WritePart fd []) c ∷ es)) → B (wrote_step fd [] ∷ es)
-    → ((l : ℕ) (c : Cause) (u : World) → l + 1 ≡ n → own_of h u ≡ record O { mine = record { refs = O.mine.refs; walk = None; pending = None } } → Safe machine h B Q (k (Some c)) l (fails (WritePart fd []) c ∷ es) u)
-    → ((l : ℕ) (u : World) → l + 1 ≡ n → own_of h u ≡ record O { mine = record { refs = O.mine.refs; walk = None; pending = None } } → Safe machine h B Q (k None) l (wrote_step fd [] ∷ es) u)
-    → Safe machine h B Q (Do (CheckFile fd) (λ o. own_step (WritePart fd [])) k) n es w
-s-check-file {A} {h} fd {k} {B} {Q} {n} {es} {w} {O} owns free lt pos walks none idle bf bd bad then_ = s-owned owns free pos (λ v inv ov. (tt, (λ _ _. at v inv ov (slot_at v h fd) refl)))
+    → ((l : ℕ) (c : Cause) (u : World) → l + 1 ≡ n → own_of h u ≡ record O { mine = record { refs = O.mine.refs; walk = None; pending = None } } → Safe (machine version) h B Q (k (Some c)) l (fails (WritePart fd []) c ∷ es) u)
+    → ((l : ℕ) (u : World) → l + 1 ≡ n → own_of h u ≡ record O { mine = record { refs = O.mine.refs; walk = None; pending = None } } → Safe (machine version) h B Q (k None) l (wrote_step fd [] ∷ es) u)
+    → Safe (machine version) h B Q (Do (CheckFile fd) (λ o. own_step (WritePart fd [])) k) n es w
+s-check-file version {A} {h} fd {k} {B} {Q} {n} {es} {w} {O} owns free lt pos walks none idle bf bd bad then_ = s-owned version owns free pos (λ v inv ov. (tt, (λ _ _. at v inv ov (slot_at v h fd) refl)))
   where
     Goal : World → Option Cause → Type 0
-    Goal v o = Good machine (Option Cause) h (λ a. places h (CheckFile fd) a (own_step (WritePart fd [])) v) 0 n B es v ⊥ (with_mark h (λ (_ : Option Cause). own_step (WritePart fd [])) (Ran o v)) (λ l a u. Wp machine h B Q (k a) l (onto (own h (places h (CheckFile fd) a (own_step (WritePart fd [])) v)) es) u)
+    Goal v o = Good (machine version) (Option Cause) h (λ a. places version h (CheckFile fd) a (own_step (WritePart fd [])) v) 0 n B es v ⊥ (with_mark version h (λ (_ : Option Cause). own_step (WritePart fd [])) (Ran o v)) (λ l a u. Wp (machine version) h B Q (k a) l (onto (own h (places version h (CheckFile fd) a (own_step (WritePart fd [])) v)) es) u)
 
     opening_none : (v : World) → own_of h v ≡ O → (v.desks h).opening ≡ None
     opening_none v ov = ap (λ (o : Own). o.desk.opening) ov ∙ idle
 
     by_cause : (v : World) → Inv v → own_of h v ≡ O → (s : ℕ) (e : Entry) → Behind h fd s e v → (o : Option Cause) → write_refused (Some e) ≡ o → Goal v o
     by_cause v inv ov s e hit (Some c) stops =
-        refused_good h 0 n B Q es v O (WritePart fd []) c (k (Some c)) ov free lt inv walks none (table_refuses h fd s e [] c v inv lt hit stops) (bf c) pos (λ l u p own2. bad l c u p own2)
+        refused_good version h 0 n B Q es v O (WritePart fd []) c (k (Some c)) ov free lt inv walks none (table_refuses version h fd s e [] c v inv lt hit stops) (bf c) pos (λ l u p own2. bad l c u p own2)
     by_cause v inv ov s e hit None goes =
-        moves_good h 0 n B Q es v v (OwnMove (WritePart fd []) 0) tt (k None) (made_by v.all h (new_id v) (v.harts h).walk (OwnMove (WritePart fd []) 0)) (record { all = v.all; walk = None; found = None; opened = None; entered = None; left = None; told = (wrote_step fd []).told })
-        (rw (empty_piece_goes v.all h fd e (resolve v.all h []) (parent v.all h []) hit.file (inv.inode_types s e hit.at).inode_type goes)
-        (λ r. record { all = write_effect v.all h fd 0 (new_id v) [] (resolve v.all h []) (parent v.all h []) r; walk = None; found = None; opened = None; entered = None; left = None; told = Some (record { act = record { step = WritePart fd []; answer = write_answer v.all h fd (new_id v) [] (resolve v.all h []) (parent v.all h []) r }; new = 0 }) }))
+        moves_good version h 0 n B Q es v v (OwnMove (WritePart fd []) 0) tt (k None) (made_by version v.all h (new_id v) (v.harts h).walk (OwnMove (WritePart fd []) 0)) (record { all = v.all; walk = None; found = None; opened = None; entered = None; left = None; told = (wrote_step fd []).told })
+        (rw (empty_piece_goes version v.all h fd e (resolve version v.all h []) (parent version v.all h []) hit.file (inv.inode_types s e hit.at).inode_type goes)
+        (λ r. record { all = write_effect version v.all h fd 0 (new_id v) [] (resolve version v.all h []) (parent version v.all h []) r; walk = None; found = None; opened = None; entered = None; left = None; told = Some (record { act = record { step = WritePart fd []; answer = write_answer version v.all h fd (new_id v) [] (resolve version v.all h []) (parent version v.all h []) r }; new = 0 }) }))
         (fair inv (walk_did h None None v (ap (λ (o : Own). o.desk.lender) ov ∙ free) lt inv (ap (λ (o : Own). o.mine.pending) ov ∙ none) (λ m q p. absurd cc) (λ z p. absurd cc) (λ j p. absurd cc)))
-        (own_takes h v (record v { harts = with_walk v.harts h None None }) (WritePart fd []) Done refl refl (ap (λ (o : Own). o.mine.walk) ov ∙ walks) (λ z. refl) (λ g z. absurd cc) (
-          empty_piece_goes (settle v.all) h fd e (resolve (settle v.all) h []) (parent (settle v.all) h []) (file_settled v.all h fd ∙ hit.file) (ap (λ (z : Option Node). type_of z) (node_settled h fd v e s inv lt hit) ∙ (inv.inode_types s e hit.at).inode_type) goes,
-          sym (write_answer (settle v.all) h fd (new_id v) [] (resolve (settle v.all) h []) (parent (settle v.all) h [])),
+        (own_takes version h v (record v { harts = with_walk v.harts h None None }) (WritePart fd []) Done refl refl (ap (λ (o : Own). o.mine.walk) ov ∙ walks) (λ z. refl) (λ g z. absurd cc) (
+          empty_piece_goes version (settle v.all) h fd e (resolve version (settle v.all) h []) (parent version (settle v.all) h []) (file_settled v.all h fd ∙ hit.file) (ap (λ (z : Option Node). type_of z) (node_settled h fd v e s inv lt hit) ∙ (inv.inode_types s e hit.at).inode_type) goes,
+          sym (write_answer version (settle v.all) h fd (new_id v) [] (resolve version (settle v.all) h []) (parent version (settle v.all) h [])),
           record { node = λ z. absurd cc; file = λ z. absurd cc },
-          settle_again v.all ∙ ap (λ (z : Tree). settle z) (sym (write_effect (settle v.all) h fd 0 (new_id v) [] (resolve (settle v.all) h []) (parent (settle v.all) h []))),
+          settle_again v.all ∙ ap (λ (z : Tree). settle z) (sym (write_effect version (settle v.all) h fd 0 (new_id v) [] (resolve version (settle v.all) h []) (parent version (settle v.all) h []))),
           write_place (settle v.all) h fd [] lt,
         )
         (ap (λ (z : Stage). z.walk) (stage_walk h None None v)))
@@ -280,38 +281,38 @@ s-check-file {A} {h} fd {k} {B} {Q} {n} {es} {w} {O} owns free lt pos walks none
         (λ l q. (then_ l (record v { harts = with_walk v.harts h None None }) q (own_walk h None None v O ov)).wp)
 
     at : (v : World) → Inv v → own_of h v ≡ O → (o : Option ℕ) → slot_at v h fd ≡ o → Goal v (write_refused (entry_at v.files o))
-    at v inv ov None q = refused_good h 0 n B Q es v O (WritePart fd []) BadDescriptor (k (Some BadDescriptor)) ov free lt inv walks none (write_refused_none h fd [] v lt (behind_none h fd v inv lt (opening_none v ov) q)) (bf BadDescriptor) pos (λ l u p own2. bad l BadDescriptor u p own2)
+    at v inv ov None q = refused_good version h 0 n B Q es v O (WritePart fd []) BadDescriptor (k (Some BadDescriptor)) ov free lt inv walks none (write_refused_none version h fd [] v lt (behind_none h fd v inv lt (opening_none v ov) q)) (bf BadDescriptor) pos (λ l u p own2. bad l BadDescriptor u p own2)
     at v inv ov (Some s) q =
         let z = behind h fd s v inv lt (opening_none v ov) q in
         subst (λ (o : Option Entry). Goal v (write_refused o)) (sym z.1.at) (by_cause v inv ov s z.0 z.1 (write_refused (Some z.0)) refl)
 
 -- The lock of what a descriptor to write to names is taken.
-pub s-lock-open : {A : Type 0} {h : ℕ} (fd i : ℕ) {k : ℕ × ℕ → P machine A} {B : List Step → Type 0} {Q : A → List Step → World → Type 0} {n : ℕ} {es : List Step} {w : World} {O : Own}
+pub s-lock-open : (version : Version) {A : Type 0} {h : ℕ} (fd i : ℕ) {k : ℕ × ℕ → P (machine version) A} {B : List Step → Type 0} {Q : A → List Step → World → Type 0} {n : ℕ} {es : List Step} {w : World} {O : Own}
     → own_of h w ≡ O → O.desk.lender ≡ None → h < hart_count → 3 < n → O.desk.opening ≡ None → ((j : ℕ) → O.inodes j ≡ None) → (key : IsWritable O fd i) → OpensFile w key.opened.slot
-    → ((l offset : ℕ) (x : Node) (u : World) → l + 4 ≡ n → StandsBy u key.opened.slot i offset → OpensFile u key.opened.slot → own_of h u ≡ record O { inodes = put O.inodes i (Some (locked_held (Some x))) } → Safe machine h B Q (k (i, offset)) l es u)
-    → Safe machine h B Q (Do (LockOpen fd i) unmarked k) n es w
-s-lock-open {A} {h} fd i {k} {B} {Q} {n} {es} {w} {O} owns free lt pos idle empty key file then_ = s-owned-from owns free pos (λ v inv ov keeps.
+    → ((l offset : ℕ) (x : Node) (u : World) → l + 4 ≡ n → StandsBy u key.opened.slot i offset → OpensFile u key.opened.slot → own_of h u ≡ record O { inodes = put O.inodes i (Some (locked_held (Some x))) } → Safe (machine version) h B Q (k (i, offset)) l es u)
+    → Safe (machine version) h B Q (Do (LockOpen fd i) unmarked k) n es w
+s-lock-open version {A} {h} fd i {k} {B} {Q} {n} {es} {w} {O} owns free lt pos idle empty key file then_ = s-owned-from version owns free pos (λ v inv ov keeps.
     let z = writable_here h fd i v O key inv ov lt idle in
     ((locks_none h v O inv ov (λ j x q. absurd (let a = empty j in cc (a, q))), record { entry = z.0; at = entry_is h fd key.opened.slot z.0 v (slot_is h fd i v O key.opened ov) z.1; number = z.2; writable = z.3 }), (λ _ _. at v inv ov (file_stays h fd key.opened.slot w v lt key.opened.below (ap (λ (o : Own). o.desk.fds fd) owns ∙ key.opened.is) keeps file) z.0 z.1 z.2 (offset_of (entry_of v h fd)) (ap offset_of (entry_is h fd key.opened.slot z.0 v (slot_is h fd i v O key.opened ov) z.1)) (v.lock i) refl)))
   where
     at : (v : World) → Inv v → own_of h v ≡ O → OpensFile v key.opened.slot → (e : Entry) → Behind h fd key.opened.slot e v → e.file.number ≡ i → (offset : ℕ) → offset ≡ e.file.offset → (r : Option ℕ) → v.lock i ≡ r
-        → Good machine (ℕ × ℕ) h (λ a. []) 3 n B es v (IsOut h (v.lock i)) (with_mark h unmarked (lock_if h i (i, offset) v (locked h i v) r)) (λ l a u. Wp machine h B Q (k a) l es u)
+        → Good (machine version) (ℕ × ℕ) h (λ a. []) 3 n B es v (IsOut h (v.lock i)) (with_mark version h unmarked (lock_if h i (i, offset) v (locked h i v) r)) (λ l a u. Wp (machine version) h B Q (k a) l es u)
     at v inv ov held e hit num offset is (Some g) q = is_out h i g v O inv ov (empty i) q
     at v inv ov held e hit num offset is None q =
         let there = node_there v key.opened.slot e inv hit.at in
         let node : v.all.nodes i ≡ Some there.0 = ap v.all.nodes (sym num) ∙ there.1 in
-        let a = locking h i v O ov free lt inv (empty i) (inl (record { fd = fd; below = hit.below; slot = key.opened.slot; is = hit.is; entry = e; at = hit.at; number = num })) q in
-        quiet a.fair refl pos (λ l p. (then_ l offset there.0 (locked h i v) p (record { entry = e; at = hit.at; number = num; offset_is = sym is }) (file_same key.opened.slot v (locked h i v) refl held) (a.owned ∙ (λ r. record O { inodes = put O.inodes i (Some (locked_held (node r))) }))).wp)
+        let a = locking version h i v O ov free lt inv (empty i) (inl (record { fd = fd; below = hit.below; slot = key.opened.slot; is = hit.is; entry = e; at = hit.at; number = num })) q in
+        quiet version a.fair refl pos (λ l p. (then_ l offset there.0 (locked h i v) p (record { entry = e; at = hit.at; number = num; offset_is = sym is }) (file_same key.opened.slot v (locked h i v) refl held) (a.owned ∙ (λ r. record O { inodes = put O.inodes i (Some (locked_held (node r))) }))).wp)
 
 -- A piece: all of it, refused, or as much as there are blocks for; and the lock is given up.
-pub s-write-file : {A : Type 0} {h : ℕ} (fd i offset : ℕ) (b : List ℕ) (x : Node) {k : Wrote → P machine A} {B : List Step → Type 0} {Q : A → List Step → World → Type 0} {n : ℕ} {es : List Step} {w : World} {O : Own}
+pub s-write-file : (version : Version) {A : Type 0} {h : ℕ} (fd i offset : ℕ) (b : List ℕ) (x : Node) {k : Wrote → P (machine version) A} {B : List Step → Type 0} {Q : A → List Step → World → Type 0} {n : ℕ} {es : List Step} {w : World} {O : Own}
     → own_of h w ≡ O → O.desk.lender ≡ None → h < hart_count → 97 < n → O.mine.walk ≡ None → O.mine.pending ≡ None → O.desk.opening ≡ None → O.inodes i ≡ Some (locked_held (Some x)) → O.desk.joined ≡ true → (key : IsWritable O fd i) → StandsBy w key.opened.slot i offset → OpensFile w key.opened.slot → length b ≤ piece_len
     → ((c : Cause) → B (fails (WritePart fd b) c ∷ es)) → B (wrote_step fd b ∷ es)
-    → ((l : ℕ) (c : Cause) (u : World) → l + 98 ≡ n → own_of h u ≡ record O { inodes = put O.inodes i None; mine = record { refs = O.mine.refs; walk = None; pending = None } } → Safe machine h B Q (k (Stopped c)) l (fails (WritePart fd b) c ∷ es) u)
-    → ((l j : ℕ) (u : World) → l + 98 ≡ n → u.clean ≡ false → own_of h u ≡ record O { inodes = put O.inodes i None; mine = record { refs = O.mine.refs; walk = None; pending = None }; desk = record (O.desk) { full = true } } → Safe machine h B Q (k (Short j)) l es u)
-    → ((l : ℕ) (u : World) → l + 98 ≡ n → OpensFile u key.opened.slot → own_of h u ≡ record O { inodes = put O.inodes i None; mine = record { refs = O.mine.refs; walk = None; pending = None } } → Safe machine h B Q (k Whole) l (wrote_step fd b ∷ es) u)
-    → Safe machine h B Q (Do (WriteFile fd i offset b) (writes fd b) k) n es w
-s-write-file {A} {h} fd i offset b y {k} {B} {Q} {n} {es} {w} {O} owns free lt pos walks none idle isi joined key stands file short_piece bf bd bad short then_ = s-owned-from owns free pos (λ v inv ov keeps.
+    → ((l : ℕ) (c : Cause) (u : World) → l + 98 ≡ n → own_of h u ≡ record O { inodes = put O.inodes i None; mine = record { refs = O.mine.refs; walk = None; pending = None } } → Safe (machine version) h B Q (k (Stopped c)) l (fails (WritePart fd b) c ∷ es) u)
+    → ((l j : ℕ) (u : World) → l + 98 ≡ n → u.clean ≡ false → own_of h u ≡ record O { inodes = put O.inodes i None; mine = record { refs = O.mine.refs; walk = None; pending = None }; desk = record (O.desk) { full = true } } → Safe (machine version) h B Q (k (Short j)) l es u)
+    → ((l : ℕ) (u : World) → l + 98 ≡ n → OpensFile u key.opened.slot → own_of h u ≡ record O { inodes = put O.inodes i None; mine = record { refs = O.mine.refs; walk = None; pending = None } } → Safe (machine version) h B Q (k Whole) l (wrote_step fd b ∷ es) u)
+    → Safe (machine version) h B Q (Do (WriteFile fd i offset b) (writes fd b) k) n es w
+s-write-file version {A} {h} fd i offset b y {k} {B} {Q} {n} {es} {w} {O} owns free lt pos walks none idle isi joined key stands file short_piece bf bd bad short then_ = s-owned-from version owns free pos (λ v inv ov keeps.
     let z = writable_here h fd i v O key inv ov lt idle in
     let held = file_stays h fd key.opened.slot w v lt key.opened.below (ap (λ (o : Own). o.desk.fds fd) owns ∙ key.opened.is) keeps file in (
       (
@@ -325,7 +326,7 @@ s-write-file {A} {h} fd i offset b y {k} {B} {Q} {n} {es} {w} {O} owns free lt p
     ))
   where
     Goal : World → ExecResult Wrote World → Type 0
-    Goal v z = Good machine Wrote h (λ a. places h (WriteFile fd i offset b) a (writes fd b a) v) 97 n B es v ⊥ (with_mark h (writes fd b) z) (λ l a u. Wp machine h B Q (k a) l (onto (own h (places h (WriteFile fd i offset b) a (writes fd b a) v)) es) u)
+    Goal v z = Good (machine version) Wrote h (λ a. places version h (WriteFile fd i offset b) a (writes fd b a) v) 97 n B es v ⊥ (with_mark version h (writes fd b) z) (λ l a u. Wp (machine version) h B Q (k a) l (onto (own h (places version h (WriteFile fd i offset b) a (writes fd b a) v)) es) u)
 
     O1 : Own
     O1 = record O { inodes = put O.inodes i None }
@@ -336,38 +337,38 @@ s-write-file {A} {h} fd i offset b y {k} {B} {Q} {n} {es} {w} {O} owns free lt p
     node : (v : World) → own_of h v ≡ O → v.all.nodes i ≡ Some y
     node v ov = has_node h i v O (locked_held (Some y)) ov isi
 
-    stopped : (v : World) → Inv v → own_of h v ≡ O → (s : ℕ) (e : Entry) → Behind h fd s e v → e.file.number ≡ i → e.file.writable ≡ true → (c : Cause) → write_kind y.kind e.file.offset b ≡ Some c → Goal v (Ran (Stopped c) (after_unlock i v))
+    stopped : (v : World) → Inv v → own_of h v ≡ O → (s : ℕ) (e : Entry) → Behind h fd s e v → e.file.number ≡ i → e.file.writable ≡ true → (c : Cause) → write_kind version y.kind e.file.offset b ≡ Some c → Goal v (Ran (Stopped c) (after_unlock i v))
     stopped v inv ov s e hit num writable c stops =
-        fine_after g.fair refl
-        (refused_good h 97 n B Q es (after_unlock i v) O1 (WritePart fd b) c (k (Stopped c)) g.owned free lt g.fair.inv walks none
-        (write_refused_at h fd b c (after_unlock i v) lt
-        (λ res par. write_by_kind v.all h fd b e.file (Some c) res par hit.file writable ((λ z. write_kind (node_or (v.all.nodes (num z))).kind e.file.offset b) ∙ (λ z. write_kind (node_or (node v ov z)).kind e.file.offset b) ∙ stops))
-        (λ res par. write_by_kind (settle v.all) h fd b e.file (Some c) res par (file_settled v.all h fd ∙ hit.file) writable ((λ z. write_kind (node_or ((settle v.all).nodes (num z))).kind e.file.offset b) ∙ (λ z. write_kind (node_or (settled z)).kind e.file.offset b) ∙ stops)))
+        fine_after version g.fair refl
+        (refused_good version h 97 n B Q es (after_unlock i v) O1 (WritePart fd b) c (k (Stopped c)) g.owned free lt g.fair.inv walks none
+        (write_refused_at version h fd b c (after_unlock i v) lt
+        (λ res par. write_by_kind version v.all h fd b e.file (Some c) res par hit.file writable ((λ z. write_kind version (node_or (v.all.nodes (num z))).kind e.file.offset b) ∙ (λ z. write_kind version (node_or (node v ov z)).kind e.file.offset b) ∙ stops))
+        (λ res par. write_by_kind version (settle v.all) h fd b e.file (Some c) res par (file_settled v.all h fd ∙ hit.file) writable ((λ z. write_kind version (node_or ((settle v.all).nodes (num z))).kind e.file.offset b) ∙ (λ z. write_kind version (node_or (settled z)).kind e.file.offset b) ∙ stops)))
         (bf c) pos (λ l u p own2. bad l c u p own2))
       where
         g : Gives h i O v
-        g = gives h i (locked_held (Some y)) O v free lt inv ov isi refl refl none
+        g = gives version h i (locked_held (Some y)) O v free lt inv ov isi refl refl none
 
         settled : (settle v.all).nodes i ≡ Some y
         settled = subst (λ (z : ℕ). (settle v.all).nodes z ≡ v.all.nodes z) num (node_settled h fd v e s inv lt hit) ∙ node v ov
 
-    whole : (v : World) → Inv v → own_of h v ≡ O → (s : ℕ) (e : Entry) → OpensFile (after_piece h i s e (with_bytes e.file.offset b y) b v) key.opened.slot → Behind h fd s e v → e.file.number ≡ i → e.file.writable ≡ true → write_kind y.kind e.file.offset b ≡ None → Goal v (Ran Whole (piece_at v s e b (Some y) false))
+    whole : (v : World) → Inv v → own_of h v ≡ O → (s : ℕ) (e : Entry) → OpensFile (after_piece h i s e (with_bytes e.file.offset b y) b v) key.opened.slot → Behind h fd s e v → e.file.number ≡ i → e.file.writable ≡ true → write_kind version y.kind e.file.offset b ≡ None → Goal v (Ran Whole (piece_at v s e b (Some y) false))
     whole v inv ov s e after hit num writable goes =
-        let a = writing h fd i s e y b v O ov free lt inv walks none hit num isi writable goes in
-        moves_good h 97 n B Q es v (piece_at v s e b (Some y) false) (OwnMove (WritePart fd b) 0) tt (k Whole) (made_by v.all h (new_id v) (v.harts h).walk (OwnMove (WritePart fd b) 0)) (record { all = (after_piece h i s e (with_bytes e.file.offset b y) b v).all; walk = None; found = None; opened = None; entered = None; left = None; told = (wrote_step fd b).told })
+        let a = writing version h fd i s e y b v O ov free lt inv walks none hit num isi writable goes in
+        moves_good version h 97 n B Q es v (piece_at v s e b (Some y) false) (OwnMove (WritePart fd b) 0) tt (k Whole) (made_by version v.all h (new_id v) (v.harts h).walk (OwnMove (WritePart fd b) 0)) (record { all = (after_piece h i s e (with_bytes e.file.offset b y) b v).all; walk = None; found = None; opened = None; entered = None; left = None; told = (wrote_step fd b).told })
         a.made a.fair a.takes bd pos
         (λ l q. (then_ l (after_piece h i s e (with_bytes e.file.offset b y) b v) q after a.owned).wp)
 
-    part : (v : World) → Inv v → own_of h v ≡ O → (s : ℕ) (e : Entry) → Behind h fd s e v → e.file.number ≡ i → e.file.writable ≡ true → (j : ℕ) → write_kind y.kind e.file.offset (take j b) ≡ None → Goal v (Ran (Short j) (piece_at v s e (take j b) (Some y) false))
+    part : (v : World) → Inv v → own_of h v ≡ O → (s : ℕ) (e : Entry) → Behind h fd s e v → e.file.number ≡ i → e.file.writable ≡ true → (j : ℕ) → write_kind version y.kind e.file.offset (take j b) ≡ None → Goal v (Ran (Short j) (piece_at v s e (take j b) (Some y) false))
     part v inv ov s e hit num writable j goes =
-        subst (λ (z : Made). Fine machine h [] 97 n B es v (spoiled h (with_made h z (piece_at v s e (take j b) (Some y) false))) (λ l. Wp machine h B Q (k (Short j)) l es (spoiled h (with_made h z (piece_at v s e (take j b) (Some y) false))))) (sym a.made)
-        (spoils_fine (fair_then a.fair f.fair) refl pos (λ l q. (short l j (spoiled h u) q refl f.owned).wp))
+        subst (λ (z : Made). Fine (machine version) h [] 97 n B es v (spoiled h (with_made h z (piece_at v s e (take j b) (Some y) false))) (λ l. Wp (machine version) h B Q (k (Short j)) l es (spoiled h (with_made h z (piece_at v s e (take j b) (Some y) false))))) (sym a.made)
+        (spoils_fine version (fair_then a.fair f.fair) refl pos (λ l q. (short l j (spoiled h u) q refl f.owned).wp))
       where
         u : World
         u = after_piece h i s e (with_bytes e.file.offset (take j b) y) (take j b) v
 
-        a : Writing h fd i s e y (take j b) v O
-        a = writing h fd i s e y (take j b) v O ov free lt inv walks none hit num isi writable goes
+        a : Writing version h fd i s e y (take j b) v O
+        a = writing version h fd i s e y (take j b) v O ov free lt inv walks none hit num isi writable goes
 
         O2 : Own
         O2 = record O1 { mine = record { refs = O.mine.refs; walk = None; pending = None } }
@@ -376,19 +377,19 @@ s-write-file {A} {h} fd i offset b y {k} {B} {Q} {n} {es} {w} {O} owns free lt p
         f = filling h u O2 a.owned free lt a.fair.inv
 
     by_cause : (v : World) → Inv v → own_of h v ≡ O → v.disk i ≡ Some y → v.alone i ≡ false → (x : Outside) → HonestPiece b x → (s : ℕ) (e : Entry) → OpensFile (after_piece h i s e (with_bytes e.file.offset b y) b v) key.opened.slot → Behind h fd s e v → e.file.number ≡ i → e.file.writable ≡ true
-        → (o : Option Cause) → write_kind y.kind e.file.offset b ≡ o → Goal v (write_if v (Some s) e i b x o)
+        → (o : Option Cause) → write_kind version y.kind e.file.offset b ≡ o → Goal v (write_if v (Some s) e i b x o)
     by_cause v inv ov disk shared x honest s e after hit num writable (Some c) stops = subst (λ (a : Bool). Goal v (Ran (Stopped c) (unlocked i v a))) (sym shared) (stopped v inv ov s e hit num writable c stops)
     by_cause v inv ov disk shared Room honest s e after hit num writable None goes =
         subst (λ (d : Option Node). Goal v (Ran Whole (piece_at v s e b d (v.alone i)))) (sym disk) (subst (λ (a : Bool). Goal v (Ran Whole (piece_at v s e b (Some y) a))) (sym shared) (whole v inv ov s e after hit num writable goes))
     by_cause v inv ov disk shared (RoomFor j) honest s e after hit num writable None goes =
         subst (λ (d : Option Node). Goal v (Ran (Short j) (piece_at v s e (take j b) d (v.alone i)))) (sym disk)
-        (subst (λ (a : Bool). Goal v (Ran (Short j) (piece_at v s e (take j b) (Some y) a))) (sym shared) (part v inv ov s e hit num writable j (fewer_go y.kind e.file.offset j b goes)))
+        (subst (λ (a : Bool). Goal v (Ran (Short j) (piece_at v s e (take j b) (Some y) a))) (sym shared) (part v inv ov s e hit num writable j (fewer_go version y.kind e.file.offset j b goes)))
     by_cause v inv ov disk shared (Picks j) honest s e after hit num writable None goes = absurd honest
 
-    at : (v : World) → Inv v → own_of h v ≡ O → OpensFile v key.opened.slot → (x : Outside) → HonestPiece b x → (e : Entry) → Behind h fd key.opened.slot e v → e.file.number ≡ i → e.file.writable ≡ true → Goal v (write_at v (slot_at v h fd) i b x (entry_of v h fd))
+    at : (v : World) → Inv v → own_of h v ≡ O → OpensFile v key.opened.slot → (x : Outside) → HonestPiece b x → (e : Entry) → Behind h fd key.opened.slot e v → e.file.number ≡ i → e.file.writable ≡ true → Goal v (write_at version v (slot_at v h fd) i b x (entry_of v h fd))
     at v inv ov held x honest e hit num writable =
         let disk = has_disk h i v O (locked_held (Some y)) ov isi in
         let shared : v.alone i ≡ false = ap (λ (z : Held). z.alone) (has_inode h i v O (locked_held (Some y)) ov isi).1 in
-        subst (λ (o : Option ℕ). Goal v (write_at v o i b x (entry_at v.files o))) (sym (slot_is h fd i v O key.opened ov))
-        (subst (λ (o : Option Entry). Goal v (write_at v (Some key.opened.slot) i b x o)) (sym hit.at)
-        (by_cause v inv ov disk shared x honest key.opened.slot e (record { entry = entry_moved e (length b); at = put_same v.files key.opened.slot (Some (entry_moved e (length b))); inode_type = (let a : Some e ≡ Some held.entry = sym hit.at ∙ held.at in let q : e ≡ held.entry = cc in ap (λ (z : Entry). z.inode_type) q ∙ held.inode_type) }) hit num writable (write_kind (node_or (v.disk i)).kind e.file.offset b) (λ z. write_kind (node_or (sym disk z)).kind e.file.offset b)))
+        subst (λ (o : Option ℕ). Goal v (write_at version v o i b x (entry_at v.files o))) (sym (slot_is h fd i v O key.opened ov))
+        (subst (λ (o : Option Entry). Goal v (write_at version v (Some key.opened.slot) i b x o)) (sym hit.at)
+        (by_cause v inv ov disk shared x honest key.opened.slot e (record { entry = entry_moved e (length b); at = put_same v.files key.opened.slot (Some (entry_moved e (length b))); inode_type = (let a : Some e ≡ Some held.entry = sym hit.at ∙ held.at in let q : e ≡ held.entry = cc in ap (λ (z : Entry). z.inode_type) q ∙ held.inode_type) }) hit num writable (write_kind version (node_or (v.disk i)).kind e.file.offset b) (λ z. write_kind version (node_or (sym disk z)).kind e.file.offset b)))

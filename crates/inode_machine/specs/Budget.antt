@@ -1,5 +1,6 @@
 -- How many blocks a call's transactions record at most, by the call's program alone.
 use Rattle.std.specs.Prelude.{ℕ, ◌+◌, ◌≤◌, List, [], ◌∷◌, length, Bool, true, false, ◌||◌, ◌==◌, if◌then◌else◌}
+use Rattle.image_versions.specs.declared.version.Version.{Version}
 use Rattle.inode_machine.specs.Vocabulary.{Call, one_if, Ret, Do}
 use Rattle.inode_machine.specs.Basics.{Op, Answer, P}
 use Rattle.inode_machine.specs.World.Op.{Free, Claim, Store, Fill, Enter, Clear, Empty, JoinFile, WriteFile, Join}
@@ -59,5 +60,5 @@ HasRoom s (Ret a) = Unit {0}
 HasRoom s (Do op m k) = (size (spent_after op s) ≤ most_recorded) × ((a : Answer op) → HasRoom (spent_after op s) (k a))
 
 -- No transaction of a call records more than ten blocks, whatever the call's operations answer.
-abbrev pub TransactionsAreSmall : Type 0
-TransactionsAreSmall = (call : Call) → HasRoom unspent (program call)
+abbrev pub TransactionsAreSmall : Version → Type 0
+TransactionsAreSmall version = (call : Call) → HasRoom unspent (program version call)

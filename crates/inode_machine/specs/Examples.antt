@@ -1,5 +1,7 @@
 -- Runs in which calls finish, from a fresh tree.
 use Rattle.std.specs.Prelude.{◌≡◌, ℕ, zero, suc, true, false, List, [], ◌∷◌, ◌++◌, replicate, Some, codes}
+use Rattle.image_versions.specs.declared.version.Version.{Version}
+use Rattle.image_versions.specs.declared.version.Version.TheVariants.{One, Two}
 use Rattle.plain_tree.specs.declared.answer.Answer.TheVariants as answers
 use Rattle.inode_machine.specs.Vocabulary.{Cause, NoEntry, Exists, IsDirectory, TooManyLinks, Blocks, Descriptors, DiskInodes, DirectorySlots, Reply, Call, Directory, File, node_or, with_nodes, Tree, put, tree_of, count_limit, fresh_tree, EventOutcome, Event, Start, Step, Started, Refused, WasIdle, DidWait, DidRun, DidEnd, DidStop, WasStopped, FinishedCall, State, fresh, outcomes, run}
 use Rattle.plain_tree.specs.declared.answer.NodeType.TheVariants as types
@@ -7,8 +9,8 @@ use Rattle.plain_tree.specs.declared.call.Call.TheVariants as calls
 use Rattle.inode_machine.specs.Basics.{Outside, Room, RoomFor, Picks, slot_limit, with_entry}
 use Rattle.inode_machine.specs.Theory.{at_rest, covered_calls, Refusal, NoSuchHart, Busy, NotEmptyHart, PathTooLong, ZeroInPath}
 
-abbrev pub first : State covered_calls
-first = fresh covered_calls (at_rest (tree_of (fresh_tree 10)))
+abbrev pub first : State (covered_calls One)
+first = fresh (covered_calls One) (at_rest (tree_of (fresh_tree One 10)))
 
 -- so many steps of a hart, with room for all
 unfoldable pub steps : ℕ → ℕ → List (Event Call Outside)
@@ -19,13 +21,14 @@ steps h (suc n) = Step h Room ∷ steps h n
 abbrev pub makes : ℕ → Call → ℕ → List (Event Call Outside)
 makes h call n = Start h call ∷ steps h n
 
-abbrev pub replies : List (FinishedCall covered_calls) → List Reply
-replies [] = []
-replies (f ∷ fs) = f.reply ∷ replies fs
+abbrev pub replies : (version : Version) → List (FinishedCall (covered_calls version)) → List Reply
+replies version [] = []
+replies version (f ∷ fs) = f.reply ∷ replies version fs
 
 -- these replies were given, the newest first, and no step found no room
 abbrev pub Finishes : List (Event Call Outside) → List Reply → Type 0
-Finishes events rs = (replies (run covered_calls events first).finished ≡ rs) × ((run covered_calls events first).world.clean ≡ true)
+Finishes events rs =
+    (replies One (run (covered_calls One) events first).finished ≡ rs) × ((run (covered_calls One) events first).world.clean ≡ true)
 
 abbrev pub done : Call → Reply
 done c = record { answer = answers.Done; call = c }
@@ -177,7 +180,7 @@ InheritFrees =
 -- Starts that are refused: of no hart; of a child that is none, or is the caller, or has descriptors; of a path that is too long, or has a
 -- zero; of a child
 -- while another hands its own to it, and of it by a third one; of a child that has a call.
-abbrev pub refusals : List (EventOutcome covered_calls) → List Refusal
+abbrev pub refusals : List (EventOutcome (covered_calls One)) → List Refusal
 refusals [] = []
 refusals (Refused why ∷ cs) = why ∷ refusals cs
 refusals (Started ∷ cs) = refusals cs
@@ -199,7 +202,7 @@ refused_starts = Start 8 (calls.Dup 0) ∷ Start 1 (calls.Inherit 8) ∷ Start 1
     ∷ Start 2 (calls.Inherit 1) ∷ Start 2 (calls.Inherit 0) ∷ []
 
 abbrev pub StartsRefused : Type 0
-StartsRefused = refusals (outcomes covered_calls (opens ++ refused_starts) first)
+StartsRefused = refusals (outcomes (covered_calls One) (opens ++ refused_starts) first)
     ≡ NoSuchHart ∷ NoSuchHart ∷ Busy ∷ NotEmptyHart ∷ PathTooLong ∷ ZeroInPath ∷ Busy ∷ Busy ∷ Busy ∷ []
 
 -- Two harts: hart 1 walks to the directory, hart 0 removes it under it, and hart 1 frees it at its call's end.
@@ -217,7 +220,8 @@ WalkerFails = Finishes removed_under
 -- No room is found: no inode is free; no block is left for a new directory's entries, and its inode is freed again.
 
 abbrev pub NoRoom : List (Event Call Outside) → List Reply → Type 0
-NoRoom events rs = (replies (run covered_calls events first).finished ≡ rs) × ((run covered_calls events first).world.clean ≡ false)
+NoRoom events rs =
+    (replies One (run (covered_calls One) events first).finished ≡ rs) × ((run (covered_calls One) events first).world.clean ≡ false)
 
 abbrev pub NoInodeLeft : Type 0
 NoInodeLeft = NoRoom (makes 0 make_d 10) (record { answer = answers.Full DiskInodes; call = make_d } ∷ [])
@@ -275,23 +279,23 @@ NoDescriptorToOpen =
 -- here.
 
 abbrev pub much_linked : Tree
-much_linked = let t : Tree = tree_of (fresh_tree 10) in
+much_linked = let t : Tree = tree_of (fresh_tree One 10) in
     with_nodes t (put (put t.nodes 1 (Some (with_entry (codes "a") 2 (node_or (t.nodes 1))))) 2
     (Some (record { count = count_limit; kind = File [] })))
 
 abbrev pub LinkOfMany : Type 0
-LinkOfMany = replies (run covered_calls (makes 0 link_ab 11) (fresh covered_calls (at_rest much_linked))).finished
+LinkOfMany = replies One (run (covered_calls One) (makes 0 link_ab 11) (fresh (covered_calls One) (at_rest much_linked))).finished
     ≡ refused link_ab TooManyLinks ∷ []
 
 -- A directory has all the slots that it may have. So many names of one file aren't well formed, so the program alone is seen here, too.
 
 abbrev pub full_root : Tree
-full_root = let t : Tree = tree_of (fresh_tree 10) in
+full_root = let t : Tree = tree_of (fresh_tree One 10) in
     with_nodes t (put t.nodes 1
     (Some (record { count = 1; kind = Directory (replicate slot_limit (Some (record { name = codes "x"; number = 2 }))) })))
 
 abbrev pub FindsNoSlot : Tree → Call → List (Event Call Outside) → Type 0
-FindsNoSlot t c events = replies (run covered_calls events (fresh covered_calls (at_rest t))).finished
+FindsNoSlot t c events = replies One (run (covered_calls One) events (fresh (covered_calls One) (at_rest t))).finished
     ≡ record { answer = answers.Full DirectorySlots; call = c } ∷ []
 
 abbrev pub NoSlotForDirectory : Type 0
@@ -309,5 +313,27 @@ link_xb = calls.Link (codes "/x") (codes "/b")
 -- and the file keeps its one link
 abbrev pub NoSlotForName : Type 0
 NoSlotForName = FindsNoSlot full_of_links link_xb (makes 0 link_xb 22)
-    × ((run covered_calls (makes 0 link_xb 22) (fresh covered_calls (at_rest full_of_links))).world.disk 2
+    × ((run (covered_calls One) (makes 0 link_xb 22) (fresh (covered_calls One) (at_rest full_of_links))).world.disk 2
     ≡ Some (record { count = 1; kind = File [] }))
+
+-- Two names that agree in their first fourteen bytes are one in version 1, and two in version 2.
+
+abbrev pub make_long : ℕ → Call
+make_long last = calls.Open (codes "/abcdefghijklmn" ++ last ∷ []) 512
+
+abbrev pub makes_long : ℕ → ℕ → List (Event Call Outside)
+makes_long last n = makes 0 (make_long last) 5 ++ Step 0 (Picks n) ∷ steps 0 12
+
+abbrev pub long_reply : ℕ → ℕ → Reply
+long_reply last fd = record { answer = answers.Fd fd; call = make_long last }
+
+-- the second one opens the file of this number
+abbrev pub OpensSecond : Version → ℕ → Type 0
+OpensSecond version n =
+    replies version (run (covered_calls version) (makes_long 49 2 ++ makes_long 50 3 ++ makes 0 (calls.Fstat 1) 3)
+    (fresh (covered_calls version) (at_rest (tree_of (fresh_tree version 10))))).finished
+    ≡ record { answer = answers.Stat (record { device = 1; inode = n; kind = types.File; nlink = 1; size = 0 }); call = calls.Fstat 1 }
+    ∷ long_reply 50 1 ∷ long_reply 49 0 ∷ []
+
+abbrev pub LongNamesAreTold : Type 0
+LongNamesAreTold = OpensSecond One 2 × OpensSecond Two 3

@@ -1,5 +1,6 @@
 -- What each operation makes of the code's part of the world.
 use Rattle.std.specs.Prelude.{ℕ, pos, zero, suc, ◌+◌, ◌-◌, Bool, true, false, ◌&&◌, ◌||◌, not, List, [], ◌∷◌, take, drop, length, ◌==◌, nat_lt, if◌then◌else◌, Option, Some, None}
+use Rattle.image_versions.specs.declared.version.Version.{Version}
 use Rattle.inode_machine.specs.Vocabulary.{Cause, BadDescriptor, BadMode, DirectorySlot, Node, Directory, File, Device, OpenFile, hart_count, descriptor_count, root, Name, put, any_below, all_slots, slots_of, content, node_or, is_used, lowest, has_room, first_free, cleared, emptied, new_directory, written_kind, write_kind, sum_below, one_if, ExecResult, Waits, Ran, Walk}
 use Rattle.inode_machine.specs.Inodes.{InodeType, OfDirectory, OfFile, OfDevice, Face, face_of, face_or, seen_in, no_driver_for}
 use Rattle.inode_machine.specs.World.{Mine, Entry, Desk, World, Op, Answer, ClaimResult, New, NoInode, NoPlace, EntryResult, InPlace, NoBlock, NoSlot, LockResult, NotLocked, LocksIt, JoinResult, NotJoined, Joined, Wrote, Whole, Refused, Short, LoanResult, Lent, Moved, Outside, Room, RoomFor, Picks}
@@ -256,9 +257,10 @@ install_if h w f inode_type (Some s) true = Ran (Some (lowest (w.desks h).fds)) 
 
 -- Descriptors' inodes.
 
-abbrev pub stat_at : ℕ → World → Option Entry → ExecResult (Option (ℕ × Face)) World
-stat_at h w None = Ran None w
-stat_at h w (Some e) = lock_if h e.file.number (Some (e.file.number, face_or (face_of (w.disk e.file.number)))) w (locked h e.file.number w)
+abbrev pub stat_at : Version → ℕ → World → Option Entry → ExecResult (Option (ℕ × Face)) World
+stat_at version h w None = Ran None w
+stat_at version h w (Some e) =
+    lock_if h e.file.number (Some (e.file.number, face_or (face_of version (w.disk e.file.number)))) w (locked h e.file.number w)
     (w.lock e.file.number)
 
 -- why a descriptor is neither read nor written: it isn't open, it isn't open for that, it is a device
@@ -277,8 +279,8 @@ write_refused (Some e) = mode_refusal e.file.writable e.inode_type
 abbrev pub entry_moved : Entry → ℕ → Entry
 entry_moved e by = record { file = record (e.file) { offset = e.file.offset + by }; inode_type = e.inode_type; references = e.references }
 
-abbrev pub part_of : Option Node → ℕ → ℕ → List ℕ
-part_of v offset n = take n (drop offset (content (node_or v).kind))
+abbrev pub part_of : Version → Option Node → ℕ → ℕ → List ℕ
+part_of version v offset n = take n (drop offset (content version (node_or v).kind))
 
 abbrev pub with_offset : World → Option ℕ → Entry → ℕ → World
 with_offset w None e by = w
@@ -294,11 +296,11 @@ lock_at h w None None = Ran (NotLocked BadDescriptor) w
 lock_at h w (Some e) None =
     lock_if h e.file.number (LocksIt e.file.number e.file.offset) w (locked h e.file.number w) (w.lock e.file.number)
 
-abbrev pub read_at : World → ℕ → ℕ → Option ℕ → Option Entry → ExecResult (List ℕ) World
-read_at w n count s None = Ran [] (unlocked n w (w.alone n))
-read_at w n count s (Some e) =
-    Ran (part_of (w.disk n) e.file.offset count)
-    (with_offset (unlocked n w (w.alone n)) s e (length (part_of (w.disk n) e.file.offset count)))
+abbrev pub read_at : Version → World → ℕ → ℕ → Option ℕ → Option Entry → ExecResult (List ℕ) World
+read_at version w n count s None = Ran [] (unlocked n w (w.alone n))
+read_at version w n count s (Some e) =
+    Ran (part_of version (w.disk n) e.file.offset count)
+    (with_offset (unlocked n w (w.alone n)) s e (length (part_of version (w.disk n) e.file.offset count)))
 
 abbrev pub with_joined : World → ℕ → Bool → World
 with_joined w h b = record w { desks = put w.desks h (record (w.desks h) { joined = b }) }
@@ -324,9 +326,9 @@ abbrev pub write_if : World → Option ℕ → Entry → ℕ → List ℕ → Ou
 write_if w s e n b x (Some c) = Ran (Refused c) (unlocked n w (w.alone n))
 write_if w s e n b x None = write_in w s e n b x
 
-abbrev pub write_at : World → Option ℕ → ℕ → List ℕ → Outside → Option Entry → ExecResult Wrote World
-write_at w s n b x None = Ran (Refused BadDescriptor) (unlocked n w (w.alone n))
-write_at w s n b x (Some e) = write_if w s e n b x (write_kind (node_or (w.disk n)).kind e.file.offset b)
+abbrev pub write_at : Version → World → Option ℕ → ℕ → List ℕ → Outside → Option Entry → ExecResult Wrote World
+write_at version w s n b x None = Ran (Refused BadDescriptor) (unlocked n w (w.alone n))
+write_at version w s n b x (Some e) = write_if w s e n b x (write_kind version (node_or (w.disk n)).kind e.file.offset b)
 
 -- Current directories, and what a hart hands on.
 
@@ -401,36 +403,36 @@ abbrev pub released : World → ℕ → ℕ → World
 released w h child =
     record w { desks = put (put w.desks h (record (w.desks h) { lent = λ i. None })) child (record (w.desks child) { lender = None }) }
 
-abbrev pub exec : ℕ → Outside → (op : Op) → World → ExecResult (Answer op) World
-exec h x (Take n looking) w = lock_if h n (seen_in n looking (w.disk n)) w (locked h n w) (w.lock n)
-exec h x (UnlockInode n) w = Ran tt (unlocked n w (w.alone n))
-exec h x (UpStart absolute) w = start_if h (start_number (w.desks h) absolute) w (has_place w (start_number (w.desks h) absolute))
-exec h x (Up n) w = up_if h n w (has_place w n)
-exec h x (WalkDown n) w = walk_down_if h n w (is_last w n)
-exec h x (Down n) w = down_if h n w (is_last w n)
-exec h x (Free n) w = Ran tt (with_record w n None)
-exec h x (Forget n) w = Ran tt (counted_down h n w)
-exec h x (Claim inode_type) w = claim_if h inode_type w x
-exec h x (Store n count) w = Ran tt (changed_record w n (with_count count))
-exec h x (Fill n d) w = fill_if n d w x
-exec h x (Enter d e n) w = enter_if d e n w x (is_full_directory (w.disk d))
-exec h x (Clear d e) w = Ran tt (changed_record w d (without_entry e))
-exec h x (Empty n) w = Ran tt (changed_record w n with_no_bytes)
-exec h x Slot w = slot_if h w (first_from file_count 0 (is_empty_slot w))
-exec h x (Install f inode_type) w = install_if h w f inode_type (w.desks h).hand (has_room (w.desks h).fds)
-exec h x (StatFile fd) w = stat_at h w (entry_of w h fd)
-exec h x (LockFile fd) w = lock_at h w (entry_of w h fd) (read_refused (entry_of w h fd))
-exec h x (ReadFile fd n offset count) w = read_at w n count (slot_at w h fd) (entry_of w h fd)
-exec h x (CheckFile fd) w = Ran (write_refused (entry_of w h fd)) w
-exec h x (JoinFile fd) w = join_at h w (entry_of w h fd) (write_refused (entry_of w h fd))
-exec h x (LockOpen fd n) w = lock_if h n (n, offset_of (entry_of w h fd)) w (locked h n w) (w.lock n)
-exec h x (WriteFile fd n offset bytes) w = write_at w (slot_at w h fd) n bytes x (entry_of w h fd)
-exec h x (Double fd) w = double_at h w (slot_at w h fd) (entry_of w h fd)
-exec h x (Shut fd) w = close_at h w fd (slot_at w h fd) (entry_of w h fd)
-exec h x (SetDirectory n) w = Ran (w.desks h).directory (with_directory (unlocked n w (w.alone n)) h n)
-exec h x (Lend child from) w = lend_if h w child (next_used from (w.desks h).fds)
-exec h x (LendDirectory child) w = Ran (w.desks child).directory (moved_in w h child)
-exec h x (Release child) w = Ran tt (released w h child)
-exec h x Join w = Ran tt (with_joined w h true)
-exec h x Leave w = Ran tt (record w { desks = put w.desks h (record (w.desks h) { joined = false; noted = None }) })
-exec h x Say w = Ran tt w
+abbrev pub exec : Version → ℕ → Outside → (op : Op) → World → ExecResult (Answer op) World
+exec version h x (Take n looking) w = lock_if h n (seen_in version n looking (w.disk n)) w (locked h n w) (w.lock n)
+exec version h x (UnlockInode n) w = Ran tt (unlocked n w (w.alone n))
+exec version h x (UpStart absolute) w = start_if h (start_number (w.desks h) absolute) w (has_place w (start_number (w.desks h) absolute))
+exec version h x (Up n) w = up_if h n w (has_place w n)
+exec version h x (WalkDown n) w = walk_down_if h n w (is_last w n)
+exec version h x (Down n) w = down_if h n w (is_last w n)
+exec version h x (Free n) w = Ran tt (with_record w n None)
+exec version h x (Forget n) w = Ran tt (counted_down h n w)
+exec version h x (Claim inode_type) w = claim_if h inode_type w x
+exec version h x (Store n count) w = Ran tt (changed_record w n (with_count count))
+exec version h x (Fill n d) w = fill_if n d w x
+exec version h x (Enter d e n) w = enter_if d e n w x (is_full_directory (w.disk d))
+exec version h x (Clear d e) w = Ran tt (changed_record w d (without_entry e))
+exec version h x (Empty n) w = Ran tt (changed_record w n with_no_bytes)
+exec version h x Slot w = slot_if h w (first_from file_count 0 (is_empty_slot w))
+exec version h x (Install f inode_type) w = install_if h w f inode_type (w.desks h).hand (has_room (w.desks h).fds)
+exec version h x (StatFile fd) w = stat_at version h w (entry_of w h fd)
+exec version h x (LockFile fd) w = lock_at h w (entry_of w h fd) (read_refused (entry_of w h fd))
+exec version h x (ReadFile fd n offset count) w = read_at version w n count (slot_at w h fd) (entry_of w h fd)
+exec version h x (CheckFile fd) w = Ran (write_refused (entry_of w h fd)) w
+exec version h x (JoinFile fd) w = join_at h w (entry_of w h fd) (write_refused (entry_of w h fd))
+exec version h x (LockOpen fd n) w = lock_if h n (n, offset_of (entry_of w h fd)) w (locked h n w) (w.lock n)
+exec version h x (WriteFile fd n offset bytes) w = write_at version w (slot_at w h fd) n bytes x (entry_of w h fd)
+exec version h x (Double fd) w = double_at h w (slot_at w h fd) (entry_of w h fd)
+exec version h x (Shut fd) w = close_at h w fd (slot_at w h fd) (entry_of w h fd)
+exec version h x (SetDirectory n) w = Ran (w.desks h).directory (with_directory (unlocked n w (w.alone n)) h n)
+exec version h x (Lend child from) w = lend_if h w child (next_used from (w.desks h).fds)
+exec version h x (LendDirectory child) w = Ran (w.desks child).directory (moved_in w h child)
+exec version h x (Release child) w = Ran tt (released w h child)
+exec version h x Join w = Ran tt (with_joined w h true)
+exec version h x Leave w = Ran tt (record w { desks = put w.desks h (record (w.desks h) { joined = false; noted = None }) })
+exec version h x Say w = Ran tt w

@@ -1,5 +1,6 @@
 -- What is seen of an inode: its type, its count and size, and what a directory has under a name.
 use Rattle.std.specs.Prelude.{ℕ, ℤ, Bool, true, false, ◌&&◌, not, drop, nat_lt, if◌then◌else◌, Option, Some, None}
+use Rattle.image_versions.specs.declared.version.Version.{Version}
 use Rattle.inode_machine.specs.Vocabulary.{Cause, IsDirectory, NoDriver, NodeType, Stat, Node, NodeKind, Directory, File, Device, Name, look, has_driver, any_used, size_of, root_device}
 use Rattle.plain_tree.specs.declared.answer.NodeType.TheVariants as types
 
@@ -46,9 +47,9 @@ pub record Face : Type 0 where
   pub count : ℕ
   pub size : ℕ
 
-abbrev pub face_of : Option Node → Option Face
-face_of None = None
-face_of (Some v) = Some (record { inode_type = type_of_kind v.kind; count = v.count; size = size_of v.kind })
+abbrev pub face_of : Version → Option Node → Option Face
+face_of version None = None
+face_of version (Some v) = Some (record { inode_type = type_of_kind v.kind; count = v.count; size = size_of version v.kind })
 
 -- only a directory with links finds anything
 abbrev pub is_live_face : Option Face → Bool
@@ -104,5 +105,5 @@ empty_in v AtNothing = true
 empty_in v (AtName e) = true
 empty_in v AtEntries = is_empty_node v
 
-abbrev pub seen_in : ℕ → Query → Option Node → Sight
-seen_in n looking v = record { face = face_of v; found = found_in n v looking; empty = empty_in v looking }
+abbrev pub seen_in : Version → ℕ → Query → Option Node → Sight
+seen_in version n looking v = record { face = face_of version v; found = found_in n v looking; empty = empty_in v looking }

@@ -21,3 +21,4 @@ pub mod Shortages
 pub mod Kept
 pub mod Making
 pub mod Rooms
+pub mod VersionOne

@@ -1,18 +1,19 @@
 -- What an operation's mark makes of the tree, and which steps are placed.
 use Rattle.std.specs.Prelude.{ℕ, ◌+◌, Bool, true, false, ◌&&◌, List, [], ◌∷◌, if◌then◌else◌, Option, Some, None}
+use Rattle.image_versions.specs.declared.version.Version.{Version}
 use Rattle.inode_machine.specs.Vocabulary.{Cause, Action, OpenStep as Open, Truncate, ReadStep as Read, WritePart, Find, Bump, Enter, Unbump, UnlinkStep as Unlink, MkdirStep as Mkdir, ChdirStep as Chdir, DupStep as Dup, CloseStep as Close, FstatStep as Fstat, InheritStep as Inherit, StepAnswer, Opened, Bytes, Status, NewFd, Done, Failed, NoRoom, Hold, Name, Tree, put, elements, look, start_of, resolve, parent, path_of, refusal, refusal_with, effect_with, answer_with, makes_node, opens_one, lowest, closed, drop_hold, ExecResult, Waits, Ran, Stops, Walk, fail, Deed, Move, MoveStep as Step, Begin, Look, GiveUpWalk, Own}
 use Rattle.inode_machine.specs.Basics.{type_of, Desk, World, Op, Answer, Outside, Mark, is_nothing, first_from, or_zero, with_walk, exec}
 use Rattle.inode_machine.specs.World.Mark.{Makes, Frees, Orphans, Fills, Mends, Spoils}
 
 -- The step acts, or is refused; a tree that isn't settled stays so.
 
-abbrev pub act_all : Option Cause → Tree → ℕ → Action → Option ℕ → Option (ℕ × Name) → ℕ → ℕ → Tree
-act_all (Some k) b h s res par new id = b
-act_all None b h s res par new id = effect_with b h s res par new id
+abbrev pub act_all : Version → Option Cause → Tree → ℕ → Action → Option ℕ → Option (ℕ × Name) → ℕ → ℕ → Tree
+act_all version (Some k) b h s res par new id = b
+act_all version None b h s res par new id = effect_with version b h s res par new id
 
-abbrev pub act_answer : Option Cause → Tree → ℕ → Action → Option ℕ → Option (ℕ × Name) → ℕ → StepAnswer
-act_answer (Some k) b h s res par id = Failed k
-act_answer None b h s res par id = answer_with b h s res par id
+abbrev pub act_answer : Version → Option Cause → Tree → ℕ → Action → Option ℕ → Option (ℕ × Name) → ℕ → StepAnswer
+act_answer version (Some k) b h s res par id = Failed k
+act_answer version None b h s res par id = answer_with version b h s res par id
 
 abbrev pub act_entered : Option Cause → Bool → ℕ → Option ℕ
 act_entered (Some k) m new = None
@@ -68,21 +69,22 @@ abbrev pub act_left : Option Cause → Action → ℕ → Option ℕ
 act_left (Some k) s d = None
 act_left None s d = left_by s d
 
-abbrev pub acts : Tree → ℕ → Action → Option ℕ → Option (ℕ × Name) → ℕ → ℕ → Made
-acts b h s res par new id = record {
-  all = act_all (refusal_with b h s res par) b h s res par new id;
+abbrev pub acts : Version → Tree → ℕ → Action → Option ℕ → Option (ℕ × Name) → ℕ → ℕ → Made
+acts version b h s res par new id = record {
+  all = act_all version (refusal_with version b h s res par) b h s res par new id;
   walk = None;
   found = found_by s res;
-  opened = act_entered (refusal_with b h s res par) (opens_one b h s) id;
-  entered = act_entered (refusal_with b h s res par) (makes_node b s par) new;
-  left = act_left (refusal_with b h s res par) s (b.cwd h);
-  told = Some (record { act = record { step = s; answer = act_answer (refusal_with b h s res par) b h s res par id }; new = new });
+  opened = act_entered (refusal_with version b h s res par) (opens_one b h s) id;
+  entered = act_entered (refusal_with version b h s res par) (makes_node b s par) new;
+  left = act_left (refusal_with version b h s res par) s (b.cwd h);
+  told = Some
+      (record { act = record { step = s; answer = act_answer version (refusal_with version b h s res par) b h s res par id }; new = new });
 }
 
 -- what a path's start is, is counted already, so nothing is left to be
-abbrev pub begun : Tree → ℕ → Action → List Name → ℕ → ℕ → Made
-begun b h s [] new id = record (acts b h s (Some (start_of b h (path_of s))) None new id) { found = None }
-begun b h s (e ∷ es) new id = record {
+abbrev pub begun : Version → Tree → ℕ → Action → List Name → ℕ → ℕ → Made
+begun version b h s [] new id = record (acts version b h s (Some (start_of b h (path_of s))) None new id) { found = None }
+begun version b h s (e ∷ es) new id = record {
   all = b;
   walk = Some (record { step = s; at = start_of b h (path_of s); next = e; rest = es });
   found = None;
@@ -92,10 +94,10 @@ begun b h s (e ∷ es) new id = record {
   told = None;
 }
 
-abbrev pub looked : Tree → ℕ → Walk → List Name → Option ℕ → ℕ → ℕ → Made
-looked b h w [] r new id = acts b h w.step r (Some (w.at, w.next)) new id
-looked b h w (e ∷ es) None new id = acts b h w.step None None new id
-looked b h w (e ∷ es) (Some n) new id = record {
+abbrev pub looked : Version → Tree → ℕ → Walk → List Name → Option ℕ → ℕ → ℕ → Made
+looked version b h w [] r new id = acts version b h w.step r (Some (w.at, w.next)) new id
+looked version b h w (e ∷ es) None new id = acts version b h w.step None None new id
+looked version b h w (e ∷ es) (Some n) new id = record {
   all = b;
   walk = Some (record { step = w.step; at = n; next = e; rest = es });
   found = Some n;
@@ -105,9 +107,9 @@ looked b h w (e ∷ es) (Some n) new id = record {
   told = None;
 }
 
-abbrev pub look_made : Tree → ℕ → Option Walk → ℕ → ℕ → Made
-look_made b h None new id = record { all = b; walk = None; found = None; opened = None; entered = None; left = None; told = None }
-look_made b h (Some w) new id = looked b h w w.rest (look b.nodes w.at w.next) new id
+abbrev pub look_made : Version → Tree → ℕ → Option Walk → ℕ → ℕ → Made
+look_made version b h None new id = record { all = b; walk = None; found = None; opened = None; entered = None; left = None; told = None }
+look_made version b h (Some w) new id = looked version b h w w.rest (look b.nodes w.at w.next) new id
 
 -- what a refused step changes: a refused bump drops its hold
 abbrev pub refused_all : Tree → ℕ → Action → Tree
@@ -132,12 +134,13 @@ abbrev pub own_made : Option Cause → Tree → ℕ → Action → Made → Made
 own_made (Some k) b h s m = record m { all = refused_all b h s }
 own_made None b h s m = m
 
-abbrev pub made_by : Tree → ℕ → ℕ → Option Walk → Move → Made
-made_by b h id k (Begin s new) = begun b h s (elements (path_of s)) new id
-made_by b h id k (Look new) = look_made b h k new id
-made_by b h id k (GiveUpWalk s) =
+abbrev pub made_by : Version → Tree → ℕ → ℕ → Option Walk → Move → Made
+made_by version b h id k (Begin s new) = begun version b h s (elements version (path_of s)) new id
+made_by version b h id k (Look new) = look_made version b h k new id
+made_by version b h id k (GiveUpWalk s) =
     record { all = b; walk = None; found = None; opened = None; entered = None; left = None; told = Some (fail s) }
-made_by b h id k (Own s new) = own_made (refusal b h s) b h s (acts b h s (resolve b h (path_of s)) (parent b h (path_of s)) new id)
+made_by version b h id k (Own s new) =
+    own_made (refusal version b h s) b h s (acts version b h s (resolve version b h (path_of s)) (parent version b h (path_of s)) new id)
 
 -- the least id that no open file has
 abbrev pub new_id : World → ℕ
@@ -217,28 +220,30 @@ mended h w = record w {
   harts = with_walk w.harts h None None;
 }
 
-abbrev pub marked : ℕ → Option Mark → World → World
-marked h None w = w
-marked h (Some (Makes v)) w = with_made h (made_by w.all h (new_id w) (w.harts h).walk v) w
-marked h (Some (Frees n)) w = record w { all = record (w.all) { nodes = put w.all.nodes n None } }
-marked h (Some (Orphans n)) w = record w { all = record (w.all) { nodes = put w.all.nodes n (w.disk n) }; alone = put w.alone n false }
-marked h (Some Fills) w = spoiled h w
-marked h (Some Mends) w = mended h w
-marked h (Some (Spoils s)) w = spoiled h (with_made h (made_by w.all h (new_id w) (w.harts h).walk (Own s 0)) w)
+abbrev pub marked : Version → ℕ → Option Mark → World → World
+marked version h None w = w
+marked version h (Some (Makes v)) w = with_made h (made_by version w.all h (new_id w) (w.harts h).walk v) w
+marked version h (Some (Frees n)) w = record w { all = record (w.all) { nodes = put w.all.nodes n None } }
+marked version h (Some (Orphans n)) w =
+    record w { all = record (w.all) { nodes = put w.all.nodes n (w.disk n) }; alone = put w.alone n false }
+marked version h (Some Fills) w = spoiled h w
+marked version h (Some Mends) w = mended h w
+marked version h (Some (Spoils s)) w = spoiled h (with_made h (made_by version w.all h (new_id w) (w.harts h).walk (Own s 0)) w)
 
-abbrev pub with_mark : {A : Type 0} → ℕ → (A → Option Mark) → ExecResult A World → ExecResult A World
-with_mark h m Waits = Waits
-with_mark h m (Ran a w) = Ran a (marked h (m a) w)
-with_mark h m (Stops w) = Stops w
+abbrev pub with_mark : Version → {A : Type 0} → ℕ → (A → Option Mark) → ExecResult A World → ExecResult A World
+with_mark version h m Waits = Waits
+with_mark version h m (Ran a w) = Ran a (marked version h (m a) w)
+with_mark version h m (Stops w) = Stops w
 
-abbrev pub go : ℕ → Outside → (op : Op) → (Answer op → Option Mark) → World → ExecResult (Answer op) World
-go h x op m w = with_mark h m (exec h x op w)
+abbrev pub go : Version → ℕ → Outside → (op : Op) → (Answer op → Option Mark) → World → ExecResult (Answer op) World
+go version h x op m w = with_mark version h m (exec version h x op w)
 
-abbrev pub places : ℕ → (op : Op) → Answer op → Option Mark → World → List (ℕ × Step)
-places h op a None w = []
-places h op a (Some (Makes v)) w = (h, record { move = v; told = (made_by w.all h (new_id w) (w.harts h).walk v).told }) ∷ []
-places h op a (Some (Frees n)) w = []
-places h op a (Some (Orphans n)) w = []
-places h op a (Some Fills) w = []
-places h op a (Some Mends) w = []
-places h op a (Some (Spoils s)) w = []
+abbrev pub places : Version → ℕ → (op : Op) → Answer op → Option Mark → World → List (ℕ × Step)
+places version h op a None w = []
+places version h op a (Some (Makes v)) w =
+    (h, record { move = v; told = (made_by version w.all h (new_id w) (w.harts h).walk v).told }) ∷ []
+places version h op a (Some (Frees n)) w = []
+places version h op a (Some (Orphans n)) w = []
+places version h op a (Some Fills) w = []
+places version h op a (Some Mends) w = []
+places version h op a (Some (Spoils s)) w = []

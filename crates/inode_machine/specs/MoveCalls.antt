@@ -1,6 +1,7 @@
 -- Calls whose steps are moves on the tree, over any machine: what their events show of calls, and that one list of tree steps explains
 -- them.
 use Rattle.std.specs.Prelude.{◌≡◌, ◌⊎◌, ℕ, zero, suc, ◌<◌, Bool, false, List, [], ◌∷◌, Option, None}
+use Rattle.image_versions.specs.declared.version.Version.{Version}
 use Rattle.inode_machine.specs.Vocabulary.{Reply, Call, Placed, TreeData, tree_of, call_climbs, Shown, Chain, Explains, trace_of, Begun, Replied, Other, hart_count, IsWellFormed, Prog, ExecResult, Machine, Theory, Began, Begins, Lawful, Event, Start, Step, Outcome, Started, Refused, WasIdle, DidWait, DidRun, DidEnd, DidStop, WasStopped, State, AllHonest, fresh, makes, next, run, settle, Stage, Move, MoveStep, PlaysStep, IsWholeCall, Begin, Look, Own, GiveUpWalk}
 
 -- the number that a lookup has for a new node is none, or of the tree's range
@@ -12,8 +13,8 @@ IsOfRange m (GiveUpWalk s) = Unit {0}
 IsOfRange m (Own s new) = Unit {0}
 
 -- the move is made, with such a number
-abbrev pub TakesMove : Stage → ℕ → MoveStep → Stage → Type 0
-TakesMove m h e m' = PlaysStep m h e m' × IsOfRange m e.move
+abbrev pub TakesMove : Version → Stage → ℕ → MoveStep → Stage → Type 0
+TakesMove version m h e m' = PlaysStep version m h e m' × IsOfRange m e.move
 
 -- a machine whose steps are moves of a call on the tree, and calls over it
 pub record MoveMachine : Type 1 where
@@ -40,8 +41,8 @@ pub record MoveMachine : Type 1 where
   pub program : Call → Prog Op Answer Mark Reply
   pub limit : Call → ℕ
 
-abbrev pub machine_of : MoveMachine → Machine
-machine_of m =
+abbrev pub machine_of : Version → MoveMachine → Machine
+machine_of version m =
     record {
       Op = m.Op;
       Answer = m.Answer;
@@ -56,7 +57,7 @@ machine_of m =
       go = m.go;
       places = m.places;
       tree = m.tree;
-      Takes = TakesMove;
+      Takes = TakesMove version;
       Inv = m.Inv;
       Halted = m.Halted;
       Others = m.Others;
@@ -65,10 +66,10 @@ machine_of m =
       Clean = m.Clean;
     }
 
-abbrev pub theory_of : MoveMachine → Theory
-theory_of m =
+abbrev pub theory_of : Version → MoveMachine → Theory
+theory_of version m =
     record {
-      M = machine_of m;
+      M = machine_of version m;
       Call = Call;
       Reply = Reply;
       Refusal = m.Refusal;
@@ -124,15 +125,15 @@ abbrev pub Alone : {Outside : Type 0} → ℕ → List (Event Call Outside) → 
 Alone h [] = Unit {0}
 Alone h (e ∷ es) = StartsBy h e × Alone h es
 
-module _ (m : MoveMachine) where
-  abbrev pub shows : List (Event Call m.Outside) → State (theory_of m) → List Shown
+module _ (version : Version) (m : MoveMachine) where
+  abbrev pub shows : List (Event Call m.Outside) → State (theory_of version m) → List Shown
   shows [] s = []
-  shows (e ∷ es) s = shown_by e (makes (theory_of m) e s).came ∷ shows es (next (theory_of m) e s)
+  shows (e ∷ es) s = shown_by e (makes (theory_of version m) e s).came ∷ shows es (next (theory_of version m) e s)
 
   -- what is shown of the machine and its calls: an operation places no move, or one of its own hart; a start is of one of eight harts and
   -- leaves the tree; a hart that is idle walks nowhere; and the tree has settled
   pub record IsMoving : Type 0 where
-    pub lawful : Lawful (theory_of m)
+    pub lawful : Lawful (theory_of version m)
     pub one : (h : ℕ) (op : m.Op) (a : m.Answer op) (mark : Option m.Mark) (w : m.World)
         → (m.places h op a mark w ≡ []) ⊎ ((e : MoveStep) × (m.places h op a mark w ≡ (h, e) ∷ []))
     pub begins : (h : ℕ) (call : Call) (busy : ℕ → Bool) (w u : m.World) → m.start h call busy w ≡ Begins u
@@ -143,8 +144,8 @@ module _ (m : MoveMachine) where
   -- One list of tree steps explains the run's trace, and leads from its first tree to the tree that its world has.
   pub record HasOneHistory (base : TreeData) (w : m.World) (events : List (Event Call m.Outside)) : Type 0 where
     pub list : List Placed
-    pub explains : Explains base (trace_of (shows events (fresh (theory_of m) w))) list
-    pub leads : Chain (tree_of base) list (m.tree (run (theory_of m) events (fresh (theory_of m) w)).world).tree
+    pub explains : Explains version base (trace_of (shows events (fresh (theory_of version m) w))) list
+    pub leads : Chain version (tree_of base) list (m.tree (run (theory_of version m) events (fresh (theory_of version m) w)).world).tree
 
   -- From a world where every hart rests, on this tree, where no step found no room.
   pub record RunsFrom (base : TreeData) (w : m.World) (events : List (Event Call m.Outside)) : Type 0 where
@@ -152,5 +153,5 @@ module _ (m : MoveMachine) where
     pub idle : (h : ℕ) → m.Idle h w
     pub tree : (m.tree w).tree ≡ tree_of base
     pub well : IsWellFormed (tree_of base)
-    pub honest : AllHonest (theory_of m) events (fresh (theory_of m) w)
-    pub clean : m.Clean (run (theory_of m) events (fresh (theory_of m) w)).world
+    pub honest : AllHonest (theory_of version m) events (fresh (theory_of version m) w)
+    pub clean : m.Clean (run (theory_of version m) events (fresh (theory_of version m) w)).world

@@ -1,5 +1,6 @@
 -- The programs of chdir and inherit.
 use Rattle.std.specs.Prelude.{ℕ, zero, suc, ◌+◌, true, false, List, [], Option, None, if◌then◌else◌}
+use Rattle.image_versions.specs.declared.version.Version.{Version}
 use Rattle.inode_machine.specs.Vocabulary.{NotDirectory, Reply, elements, descriptor_count, Ret, Do, unmarked}
 use Rattle.plain_tree.specs.declared.call.Call.TheVariants as calls
 use Rattle.plain_tree.specs.declared.step.Action.TheVariants as steps
@@ -15,11 +16,11 @@ chdir_at path n ns =
     then Do (SetDirectory n) unmarked (λ old. drop old (tail ns (done (calls.Chdir path))))
     else give_up n (tail ns (failed (calls.Chdir path) NotDirectory)))
 
-abbrev pub chdir_program : List ℕ → P Reply
-chdir_program path =
+abbrev pub chdir_program : Version → List ℕ → P Reply
+chdir_program version path =
     Do Join unmarked (λ _.
     start (steps.Chdir path) path [] (λ d.
-    walk (steps.Chdir path) d (elements path) [] (chdir_at path) (λ why ns. tail ns (stopped (calls.Chdir path) why)))
+    walk (steps.Chdir path) d (elements version path) [] (chdir_at path) (λ why ns. tail ns (stopped (calls.Chdir path) why)))
     (λ why ns. tail ns (stopped (calls.Chdir path) why)))
 
 -- inherit: each descriptor in turn, then the directory; the child's old one is dropped

@@ -1,5 +1,6 @@
 -- The programs of link, unlink and mkdir.
 use Rattle.std.specs.Prelude.{ℕ, ◌+◌, ◌-◌, Bool, true, false, ◌||◌, not, List, [], ◌∷◌, ◌==◌, nat_lt, Option, Some, None, if◌then◌else◌}
+use Rattle.image_versions.specs.declared.version.Version.{Version}
 use Rattle.inode_machine.specs.Vocabulary.{Cause, NoEntry, Exists, IsDirectory, NotEmpty, DotName, TooManyLinks, MemInodes, Blocks, DiskInodes, DirectorySlots as Directory, Reply, Call, Action, Name, elements, same_name, dot, dotdot, count_limit, Do, unmarked, Begin, Look}
 use Rattle.plain_tree.specs.declared.call.Call.TheVariants as calls
 use Rattle.plain_tree.specs.declared.step.Action.TheVariants as steps
@@ -73,8 +74,8 @@ unlink_dots path d ns =
 abbrev pub unlink_in : List ℕ → ℕ → Name → List ℕ → P Reply
 unlink_in path d e ns = if same_name e dot || same_name e dotdot then unlink_dots path d ns else unlink_named path d e ns
 
-abbrev pub unlink_program : List ℕ → P Reply
-unlink_program path = in_parent (calls.Unlink path) (steps.Unlink path) path (unlink_in path) (elements path)
+abbrev pub unlink_program : Version → List ℕ → P Reply
+unlink_program version path = in_parent (calls.Unlink path) (steps.Unlink path) path (unlink_in path) (elements version path)
 
 -- Mkdir. The new directory with its two entries first, then its name and its parent's count.
 
@@ -123,8 +124,8 @@ mkdir_in path d e ns =
     then mkdir_on path d e ns (face_or a.face) (mkdir_refused a.found (face_or a.face))
     else give_up d (tail ns (failed (calls.Mkdir path) NoEntry)))
 
-abbrev pub mkdir_program : List ℕ → P Reply
-mkdir_program path = in_parent (calls.Mkdir path) (steps.Mkdir path) path (mkdir_in path) (elements path)
+abbrev pub mkdir_program : Version → List ℕ → P Reply
+mkdir_program version path = in_parent (calls.Mkdir path) (steps.Mkdir path) path (mkdir_in path) (elements version path)
 
 -- Link. The count goes up first, and down again where the name can't be entered.
 
@@ -172,20 +173,21 @@ bump_refused f = if nat_lt f.count count_limit then None else Some TooManyLinks
 abbrev pub bumps_if : Face → Option Mark
 bumps_if f = if is_directory_type f.inode_type then None else (if is_refused (bump_refused f) then own_step steps.Bump else None)
 
-abbrev pub link_raise : List ℕ → List ℕ → ℕ → List ℕ → Face → Option Cause → P Reply
-link_raise old new n ns f (Some c) = give_up n (tail ns (failed (calls.Link old new) c))
-link_raise old new n ns f None = Do (Store n (f.count + 1)) (λ _. own_step steps.Bump) (λ _. link_name old new n ns (elements new))
+abbrev pub link_raise : Version → List ℕ → List ℕ → ℕ → List ℕ → Face → Option Cause → P Reply
+link_raise version old new n ns f (Some c) = give_up n (tail ns (failed (calls.Link old new) c))
+link_raise version old new n ns f None =
+    Do (Store n (f.count + 1)) (λ _. own_step steps.Bump) (λ _. link_name old new n ns (elements version new))
 
-abbrev pub link_at : List ℕ → List ℕ → ℕ → List ℕ → P Reply
-link_at old new n ns =
+abbrev pub link_at : Version → List ℕ → List ℕ → ℕ → List ℕ → P Reply
+link_at version old new n ns =
     Do (Take n AtNothing) (λ a. bumps_if (face_or a.face)) (λ a.
     if is_directory_type (face_or a.face).inode_type
     then give_up n (tail ns (failed (calls.Link old new) IsDirectory))
-    else link_raise old new n ns (face_or a.face) (bump_refused (face_or a.face)))
+    else link_raise version old new n ns (face_or a.face) (bump_refused (face_or a.face)))
 
-abbrev pub link_program : List ℕ → List ℕ → P Reply
-link_program old new =
+abbrev pub link_program : Version → List ℕ → List ℕ → P Reply
+link_program version old new =
     Do Join unmarked (λ _.
     start (steps.Find old) old [] (λ d.
-    walk (steps.Find old) d (elements old) [] (link_at old new) (λ why ns. tail ns (stopped (calls.Link old new) why)))
+    walk (steps.Find old) d (elements version old) [] (link_at version old new) (λ why ns. tail ns (stopped (calls.Link old new) why)))
     (λ why ns. tail ns (stopped (calls.Link old new) why)))

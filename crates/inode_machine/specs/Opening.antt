@@ -1,5 +1,6 @@
 -- The program of open.
 use Rattle.std.specs.Prelude.{ℕ, Bool, ◌&&◌, ◌||◌, not, List, [], ◌∷◌, ◌==◌, Option, Some, None, if◌then◌else◌}
+use Rattle.image_versions.specs.declared.version.Version.{Version}
 use Rattle.plain_tree.specs.declared.answer.Answer.TheVariants as answers
 use Rattle.inode_machine.specs.Vocabulary.{Cause, NoEntry, MemInodes, OpenFiles, Descriptors, Blocks, DiskInodes, DirectorySlots as Directory, Reply, OpenFile, Name, elements, has, write_only, read_write, empty_it, creates, Do, unmarked, Begin, Look}
 use Rattle.plain_tree.specs.declared.call.Call.TheVariants as calls
@@ -55,11 +56,12 @@ open_at path flags n ns =
     (λ a. open_face path flags n ns (face_or a.face).inode_type (open_refusal (flags == 0) (face_or a.face).inode_type))
 
 -- without CREATE
-abbrev pub open_old : List ℕ → ℕ → P Reply
-open_old path flags =
+abbrev pub open_old : Version → List ℕ → ℕ → P Reply
+open_old version path flags =
     Do Join unmarked (λ _.
     start (steps.Open path flags) path [] (λ d.
-    walk (steps.Open path flags) d (elements path) [] (open_at path flags) (λ why ns. tail ns (stopped (calls.Open path flags) why)))
+    walk (steps.Open path flags) d (elements version path) [] (open_at path flags)
+    (λ why ns. tail ns (stopped (calls.Open path flags) why)))
     (λ why ns. tail ns (stopped (calls.Open path flags) why)))
 
 -- With CREATE. A name that isn't there is made: the inode first, then its name.
@@ -122,5 +124,5 @@ open_new path flags (e ∷ es) =
     walk_parent (steps.Open path flags) d e es [] (create_in path flags) (λ why ns. tail ns (stopped (calls.Open path flags) why)))
     (λ why ns. tail ns (stopped (calls.Open path flags) why)))
 
-abbrev pub open_program : List ℕ → ℕ → P Reply
-open_program path flags = if creates flags then open_new path flags (elements path) else open_old path flags
+abbrev pub open_program : Version → List ℕ → ℕ → P Reply
+open_program version path flags = if creates flags then open_new path flags (elements version path) else open_old version path flags

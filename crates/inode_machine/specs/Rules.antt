@@ -1,6 +1,8 @@
 -- What a hart has, what always holds, and the machine.
-use Rattle.std.specs.Prelude.{◌≡◌, ◌≢◌, ◌⊎◌, ℕ, zero, suc, ◌+◌, ◌<◌, ◌≤◌, Bool, true, false, ◌||◌, List, [], ◌∷◌, length, ◌==◌, nat_lt, if◌then◌else◌, Option, Some, None, IsSome}
-use Rattle.inode_machine.specs.Vocabulary.{Node, OpenFile, Directory, hart_count, descriptor_count, name_len, piece_len, count_limit, is_file, no_driver, holds_raised, Name, hold_names, is_directory, is_live, look, Key, Row, row_of, key_names, sum_below, one_if, IsWellFormed, Walk, Machine, Stage, MoveStep as Step}
+use Rattle.std.specs.Prelude.{◌≡◌, ◌≢◌, ◌⊎◌, ℕ, zero, suc, ◌+◌, ◌*◌, ◌<◌, ◌≤◌, Bool, true, false, ◌||◌, List, [], ◌∷◌, length, ◌==◌, nat_lt, if◌then◌else◌, Option, Some, None, IsSome}
+use Rattle.image_versions.specs.Shared.{most_content_blocks}
+use Rattle.image_versions.specs.declared.version.Version.{Version}
+use Rattle.inode_machine.specs.Vocabulary.{Node, OpenFile, Directory, hart_count, descriptor_count, name_len_of, piece_len, count_limit, is_file, no_driver, holds_raised, Name, hold_names, is_directory, is_live, look, Key, Row, row_of, key_names, sum_below, one_if, IsWellFormed, Walk, Machine, Stage, MoveStep as Step}
 use Rattle.inode_machine.specs.Basics.{OfDirectory, type_of, Query, Mine, Entry, Note, Desk, World, Op, Answer, Mark, Outside, stage_of, file_count, is_at, is_free, place_count, referenced, entry_of, offset_of, read_refused, next_used, child_of, given_of, TakesMove}
 use Rattle.inode_machine.specs.Inodes.Query.{AtNothing, AtName, AtEntries}
 use Rattle.inode_machine.specs.World.Op.{Take, UnlockInode, UpStart, Up, WalkDown, Down, Free, Forget, Claim, Store, Fill, Enter, Clear, Empty, Slot, Install, StatFile, LockFile, ReadFile, CheckFile, JoinFile, LockOpen, WriteFile, Double, Shut, SetDirectory, Lend, LendDirectory, Release, Join, Leave, Say}
@@ -282,16 +284,16 @@ IsText [] = Unit {0}
 IsText (b ∷ bs) = (0 < b) × (b ≢ 47) × (b < 256) × IsText bs
 
 -- a name that an entry can have
-pub record IsName (e : Name) : Type 0 where
+pub record IsName (version : Version) (e : Name) : Type 0 where
   pub some : 0 < length e
-  pub fits : length e ≤ name_len
+  pub fits : length e ≤ name_len_of version
   pub text : IsText e
 
 -- what is looked for is a name
-abbrev pub Sought : Query → Type 0
-Sought AtNothing = Unit {0}
-Sought (AtName e) = IsName e
-Sought AtEntries = Unit {0}
+abbrev pub Sought : Version → Query → Type 0
+Sought version AtNothing = Unit {0}
+Sought version (AtName e) = IsName version e
+Sought version AtEntries = Unit {0}
 
 -- What an operation asks. Who locks an inode refers to it, and hasn't locked it, and where its lock is free it has a record, and what is
 -- looked for in it is a
@@ -363,46 +365,46 @@ pub record Writes (h fd n : ℕ) (w : World) : Type 0 where
 abbrev pub HasFreed : ℕ → ℕ → World → Type 0
 HasFreed h n w = (w.keeper n ≡ Some h) × (w.disk n ≡ None)
 
-abbrev pub Asks : ℕ → Op → World → Type 0
-Asks h (Take n looking) w = Refers h n w × (w.lock n ≡ None → w.disk n ≢ None) × Sought looking
-Asks h (UnlockInode n) w = Locks h n w
-Asks h (UpStart absolute) w = LocksNone h w
-Asks h (Up n) w = Found w.keeper w.all.nodes h n
-Asks h (WalkDown n) w = Spares h n w × (w.keeper n ≢ Some h)
-Asks h (Down n) w = Spares h n w × (w.keeper n ≢ Some h)
-Asks h (Free n) w = Changes h n w
-Asks h (Forget n) w = Spares h n w × (w.lock n ≢ Some h) × HasFreed h n w
-Asks h (Claim inode_type) w = (w.desks h).joined ≡ true
-Asks h (Store n count) w = Changes h n w × HasRecord n w (λ v. (count ≤ count_limit) ⊎ (count ≤ v.count))
-Asks h (Fill n d) w = Changes h n w × HasRecord n w (λ v. v.kind ≡ Directory []) × IsNumber d w
-Asks h (Enter d e n) w = Changes h d w × HasRecord d w (λ v. is_directory v.kind ≡ true) × IsNumber n w × IsName e
-Asks h (Clear d e) w = Changes h d w × HasRecord d w (λ v. IsSome (look (λ i. Some v) d e))
-Asks h (Empty n) w = Changes h n w × HasRecord n w (λ v. is_file v.kind ≡ true)
-Asks h Slot w = (w.desks h).hand ≡ None
-Asks h (Install f inode_type) w = ((w.desks h).hand ≢ None) × (f.offset ≡ 0) × Spares h f.number w
-Asks h (StatFile fd) w = LocksNone h w
-Asks h (LockFile fd) w = LocksNone h w
-Asks h (ReadFile fd n offset count) w =
+abbrev pub Asks : Version → ℕ → Op → World → Type 0
+Asks version h (Take n looking) w = Refers h n w × (w.lock n ≡ None → w.disk n ≢ None) × Sought version looking
+Asks version h (UnlockInode n) w = Locks h n w
+Asks version h (UpStart absolute) w = LocksNone h w
+Asks version h (Up n) w = Found w.keeper w.all.nodes h n
+Asks version h (WalkDown n) w = Spares h n w × (w.keeper n ≢ Some h)
+Asks version h (Down n) w = Spares h n w × (w.keeper n ≢ Some h)
+Asks version h (Free n) w = Changes h n w
+Asks version h (Forget n) w = Spares h n w × (w.lock n ≢ Some h) × HasFreed h n w
+Asks version h (Claim inode_type) w = (w.desks h).joined ≡ true
+Asks version h (Store n count) w = Changes h n w × HasRecord n w (λ v. (count ≤ count_limit) ⊎ (count ≤ v.count))
+Asks version h (Fill n d) w = Changes h n w × HasRecord n w (λ v. v.kind ≡ Directory []) × IsNumber d w
+Asks version h (Enter d e n) w = Changes h d w × HasRecord d w (λ v. is_directory v.kind ≡ true) × IsNumber n w × IsName version e
+Asks version h (Clear d e) w = Changes h d w × HasRecord d w (λ v. IsSome (look (λ i. Some v) d e))
+Asks version h (Empty n) w = Changes h n w × HasRecord n w (λ v. is_file v.kind ≡ true)
+Asks version h Slot w = (w.desks h).hand ≡ None
+Asks version h (Install f inode_type) w = ((w.desks h).hand ≢ None) × (f.offset ≡ 0) × Spares h f.number w
+Asks version h (StatFile fd) w = LocksNone h w
+Asks version h (LockFile fd) w = LocksNone h w
+Asks version h (ReadFile fd n offset count) w =
     Locks h n w × Reads h fd n w × StandsAt h fd offset w × HasRecord n w (λ v. no_driver v.kind ≡ None) × (count ≤ asked_limit)
-Asks h (CheckFile fd) w = Unit {0}
-Asks h (JoinFile fd) w = LocksNone h w × ((w.desks h).joined ≡ false)
-Asks h (LockOpen fd n) w = LocksNone h w × Writes h fd n w
-Asks h (WriteFile fd n offset bytes) w =
+Asks version h (CheckFile fd) w = Unit {0}
+Asks version h (JoinFile fd) w = LocksNone h w × ((w.desks h).joined ≡ false)
+Asks version h (LockOpen fd n) w = LocksNone h w × Writes h fd n w
+Asks version h (WriteFile fd n offset bytes) w =
     Changes h n w × Writes h fd n w × StandsAt h fd offset w × HasRecord n w (λ v. is_file v.kind ≡ true) × (length bytes ≤ piece_len)
-Asks h (Double fd) w = Unit {0}
-Asks h (Shut fd) w = LocksNone h w × ((w.desks h).lent ≡ nothing)
-Asks h (SetDirectory n) w = Locks h n w × Spares h n w
-Asks h (Lend child from) w = Serves h child w × (given_of (w.desks h) ≡ None)
+Asks version h (Double fd) w = Unit {0}
+Asks version h (Shut fd) w = LocksNone h w × ((w.desks h).lent ≡ nothing)
+Asks version h (SetDirectory n) w = Locks h n w × Spares h n w
+Asks version h (Lend child from) w = Serves h child w × (given_of (w.desks h) ≡ None)
     × ((i : ℕ) → from ≤ i → i < descriptor_count → (w.desks h).lent i ≡ None) × (next_used from (w.desks h).fds ≡ None → from ≡ 0)
-Asks h (LendDirectory child) w = Serves h child w × LendsNone h w
-Asks h (Release child) w = Serves h child w × LendsNone h w
-Asks h Join w = LocksNone h w × ((w.desks h).joined ≡ false)
-Asks h Leave w = LocksNone h w × ((w.desks h).joined ≡ true) × (holds_raised true (w.all.holds h) ≡ false)
-Asks h Say w = LocksNone h w × ((w.desks h).joined ≡ false)
+Asks version h (LendDirectory child) w = Serves h child w × LendsNone h w
+Asks version h (Release child) w = Serves h child w × LendsNone h w
+Asks version h Join w = LocksNone h w × ((w.desks h).joined ≡ false)
+Asks version h Leave w = LocksNone h w × ((w.desks h).joined ≡ true) × (holds_raised true (w.all.holds h) ≡ false)
+Asks version h Say w = LocksNone h w × ((w.desks h).joined ≡ false)
 
 -- and that the hart gets nothing from another one
-abbrev pub May : ℕ → Op → World → Type 0
-May h op w = ((w.desks h).lender ≡ None) × Asks h op w
+abbrev pub May : Version → ℕ → Op → World → Type 0
+May version h op w = ((w.desks h).lender ≡ None) × Asks version h op w
 
 -- What may lie outside: an inode that is found is free, and one has no place only where all are taken; of a piece a part is left over; all
 -- else may be short of
@@ -423,39 +425,52 @@ Honest h (Claim inode_type) w x = HonestClaim w x
 Honest h (WriteFile fd n offset bytes) w x = HonestPiece bytes x
 Honest h op w x = Unit {0}
 
--- The most steps below that an operation takes beyond one, with 3 to a touch: get, read, put. A content has 268 blocks, each behind its
+-- The most steps below that an operation takes beyond one, with 3 to a touch: get, read, put. Each block of a content stands behind its
 -- table.
 
 abbrev pub load_cost : ℕ
 load_cost = 3
 
 abbrev pub search_cost : ℕ
-search_cost = 1608
+search_cost = most_content_blocks * 6
+
+-- a content's blocks are given back, and its table
+abbrev pub emptying_cost : ℕ
+emptying_cost = most_content_blocks * 3 + 96
+
+abbrev pub look_cost : ℕ
+look_cost = load_cost + search_cost
+
+abbrev pub enter_cost : ℕ
+enter_cost = search_cost + 32
+
+abbrev pub clear_cost : ℕ
+clear_cost = search_cost + 12
 
 abbrev pub looking_cost : Query → ℕ
-looking_cost AtNothing = 3
-looking_cost (AtName e) = 1611
-looking_cost AtEntries = 1611
+looking_cost AtNothing = load_cost
+looking_cost (AtName e) = look_cost
+looking_cost AtEntries = look_cost
 
 abbrev pub more : Op → ℕ
 more (Take n looking) = looking_cost looking
-more (Free n) = 900
+more (Free n) = emptying_cost
 more (Claim inode_type) = 12300
 more (Store n count) = 2
 more (Fill n d) = 12
-more (Enter d e n) = 1640
-more (Clear d e) = 1620
-more (Empty n) = 900
+more (Enter d e n) = enter_cost
+more (Clear d e) = clear_cost
+more (Empty n) = emptying_cost
 more (StatFile fd) = 3
 more (LockFile fd) = 3
-more (ReadFile fd n offset count) = 1608
+more (ReadFile fd n offset count) = search_cost
 more (LockOpen fd n) = 3
 more (WriteFile fd n offset bytes) = 97
 more Leave = 62
 more op = 0
 
-abbrev pub machine : Machine
-machine =
+abbrev pub machine : Version → Machine
+machine version =
     record {
       Op = Op;
       Answer = Answer;
@@ -466,11 +481,11 @@ machine =
       more = more;
       Outside = Outside;
       Honest = Honest;
-      May = May;
-      go = go;
-      places = places;
+      May = May version;
+      go = go version;
+      places = places version;
       tree = stage_of;
-      Takes = TakesMove;
+      Takes = TakesMove version;
       Inv = Inv;
       Halted = Inv;
       Others = Others;

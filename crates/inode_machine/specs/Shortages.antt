@@ -1,5 +1,6 @@
 -- Runs that fill a table, from a fresh tree: that of open files, and the places for inodes in memory.
 use Rattle.std.specs.Prelude.{◌≡◌, ℕ, zero, suc, ◌+◌, ◌*◌, true, false, List, [], ◌∷◌, ◌++◌, length, Option, Some, None, codes}
+use Rattle.image_versions.specs.declared.version.Version.TheVariants.{One}
 use Rattle.inode_machine.specs.Vocabulary.{MemInodes, OpenFiles, Reply, Call, Node, NodeKind, Directory, File, Device, OpenFile, tree_of, entries, fresh_tree, hart_count, descriptor_count, one_if, Event, State, fresh, run}
 use Rattle.plain_tree.specs.declared.answer.NodeType.TheVariants as types
 use Rattle.plain_tree.specs.declared.call.Call.TheVariants as calls
@@ -37,7 +38,7 @@ number_of None = 0
 number_of (Some n) = suc n
 
 abbrev pub told_kind : NodeKind → List ℕ
-told_kind (Directory slots) = 1 ∷ length slots ∷ entries slots
+told_kind (Directory slots) = 1 ∷ length slots ∷ entries One slots
 told_kind (File bytes) = 2 ∷ length bytes ∷ bytes
 told_kind (Device major minor size) = 3 ∷ []
 
@@ -72,10 +73,11 @@ overview w = each w.all.ninodes (told_inode w) ++ each file_count (λ k. told_en
 
 -- from a state where each step found room these events give these replies, the newest first, of which some found none; and what stands is
 -- as it was
-abbrev pub ChangesNothing : State covered_calls → List (Event Call Outside) → List Reply → Type 0
+abbrev pub ChangesNothing : State (covered_calls One) → List (Event Call Outside) → List Reply → Type 0
 ChangesNothing s events rs =
-    (s.world.clean ≡ true) × (replies (run covered_calls events s).finished ≡ rs) × ((run covered_calls events s).world.clean ≡ false)
-    × (overview (run covered_calls events s).world ≡ overview s.world)
+    (s.world.clean ≡ true) × (replies One (run (covered_calls One) events s).finished ≡ rs)
+    × ((run (covered_calls One) events s).world.clean ≡ false)
+    × (overview (run (covered_calls One) events s).world ≡ overview s.world)
 
 -- A file has one byte. Then seven harts open the root a hundred times, and the eighth finds no place for an open file: the file isn't
 -- emptied.
@@ -83,8 +85,8 @@ ChangesNothing s events rs =
 abbrev pub write_a : Call
 write_a = calls.Write 0 (codes "A")
 
-abbrev pub all_open : State covered_calls
-all_open = run covered_calls
+abbrev pub all_open : State (covered_calls One)
+all_open = run (covered_calls One)
     (creates_as 7 make_a 5 2 10 ++ makes 7 write_a 5 ++ makes 7 (calls.Close 0) 5 ++ opens_for (λ h i. makes h open_root 8) 6
     ++ opens_by (λ h i. makes h open_root 8) 6 4) first
 
@@ -113,7 +115,7 @@ open_b = calls.Open (codes "/b") 0
 
 abbrev pub NoOpenFileForNew : Type 0
 NoOpenFileForNew =
-    replies (run covered_calls
+    replies One (run (covered_calls One)
     (creates_as 7 make_b 5 3 10 ++ makes 0 (calls.Close 0) 5 ++ makes 7 open_b 12 ++ makes 7 stat 3) all_open).finished
     ≡ stat_is types.File 3 1 0 ∷ opened open_b 0 ∷ done (calls.Close 0) ∷ full make_b OpenFiles ∷ all_opened
 
@@ -125,9 +127,9 @@ make_file h i = calls.Open (47 ∷ (97 + (h * descriptor_count + i)) ∷ []) 514
 abbrev pub makes_file : ℕ → ℕ → List (Event Call Outside)
 makes_file h i = creates_as h (make_file h i) 5 (3 + (h * descriptor_count + i)) 10
 
-abbrev pub all_placed : State covered_calls
-all_placed = run covered_calls (creates_as 0 (mkdir (codes "/D")) 5 2 11 ++ opens_for makes_file 3 ++ opens_by makes_file 3 1)
-    (fresh covered_calls (at_rest (tree_of (fresh_tree 60))))
+abbrev pub all_placed : State (covered_calls One)
+all_placed = run (covered_calls One) (creates_as 0 (mkdir (codes "/D")) 5 2 11 ++ opens_for makes_file 3 ++ opens_by makes_file 3 1)
+    (fresh (covered_calls One) (at_rest (tree_of (fresh_tree One 60))))
 
 -- None is left for the directory, for a new file or for a new directory; and a link's raise is taken back.
 

@@ -1,5 +1,6 @@
 -- The calls that are shown right, as a theory: what every list of events makes of them.
 use Rattle.std.specs.Prelude.{◌≡◌, ◌≢◌, ◌⊎◌, ◌+◌, Option, Some, ℕ, Bool, true, false, ◌&&◌, ◌||◌, not, nat_lt, ◌==◌, List, [], ◌∷◌, length, if◌then◌else◌, None}
+use Rattle.image_versions.specs.declared.version.Version.{Version}
 use Rattle.inode_machine.specs.Vocabulary.{Reply, Call, Open, Read, Write, Link, Unlink, Mkdir, Chdir, Dup, Fstat, Close, Inherit, Tree, put, any_below, hart_count, descriptor_count, one_if, sum_below, IsWellFormed, Theory, Began, Refuses, Begins, Event, AllHonest, run, fresh, IsExplained, IsWholeCall, OpenFile, Node}
 use Rattle.inode_machine.specs.Basics.{Mine, Desk, World, Outside, stage_of, InodeType, OfDirectory, type_of_kind, is_nothing, serving}
 use Rattle.inode_machine.specs.Rules.{Inv, Idle, machine, asked_limit}
@@ -111,38 +112,38 @@ begin_if covered h call busy w = only_if (nat_lt h hart_count) NoSuchHart
     (only_if (is_nothing (w.desks h).lender) Busy (only_if covered (why_not (call_wrong call)) (begin_call h call busy w)))
 
 -- the machine with those calls alone that are of this kind
-abbrev pub calls_that : (Call → Bool) → Theory
-calls_that kind =
+abbrev pub calls_that : Version → (Call → Bool) → Theory
+calls_that version kind =
     record {
-      M = machine;
+      M = machine version;
       Call = Call;
       Reply = Reply;
       Refusal = Refusal;
       start = λ h call busy w. begin_if (kind call) h call busy w;
       busy = Busy;
-      program = program;
+      program = program version;
       Written = IsWholeCall;
-      limit = limit;
+      limit = limit version;
     }
 
 -- Every list of events, of any harts, from a world that holds and where every hart rests, is explained by one list of tree steps.
-abbrev pub AreExplained : (Call → Bool) → Type 0
-AreExplained kind = (w : World) (events : List (Event Call Outside)) → Inv w → ((h : ℕ) → Idle h w)
-    → AllHonest (calls_that kind) events (fresh (calls_that kind) w)
-    → IsExplained (calls_that kind) (stage_of w) (run (calls_that kind) events (fresh (calls_that kind) w))
+abbrev pub AreExplained : Version → (Call → Bool) → Type 0
+AreExplained version kind = (w : World) (events : List (Event Call Outside)) → Inv w → ((h : ℕ) → Idle h w)
+    → AllHonest (calls_that version kind) events (fresh (calls_that version kind) w)
+    → IsExplained (calls_that version kind) (stage_of w) (run (calls_that version kind) events (fresh (calls_that version kind) w))
 
-abbrev pub descriptor_calls : Theory
-descriptor_calls = calls_that on_descriptors
+abbrev pub descriptor_calls : Version → Theory
+descriptor_calls version = calls_that version on_descriptors
 
 -- all eleven, where nothing is wrong with the call itself
 abbrev pub is_covered : Call → Bool
 is_covered call = is_nothing (call_wrong call)
 
-abbrev pub covered_calls : Theory
-covered_calls = calls_that is_covered
+abbrev pub covered_calls : Version → Theory
+covered_calls version = calls_that version is_covered
 
-abbrev pub CallsAreExplained : Type 0
-CallsAreExplained = AreExplained is_covered
+abbrev pub CallsAreExplained : Version → Type 0
+CallsAreExplained version = AreExplained version is_covered
 
 -- Whatever has happened, also where a step found no room: the tree before it settles is well formed, what no hart keeps is on disk as the
 -- tree has it, and so
@@ -152,9 +153,10 @@ pub record StaysInOrder (w : World) : Type 0 where
   pub whole : (i : ℕ) → w.keeper i ≡ None → w.disk i ≡ w.all.nodes i
   pub quiet : (i h : ℕ) → w.keeper i ≡ Some h → (w.desks h).joined ≡ false → w.disk i ≡ w.all.nodes i
 
-abbrev pub WorldsStayInOrder : Type 0
-WorldsStayInOrder = (w : World) (events : List (Event Call Outside)) → Inv w → ((h : ℕ) → Idle h w)
-    → AllHonest covered_calls events (fresh covered_calls w) → StaysInOrder (run covered_calls events (fresh covered_calls w)).world
+abbrev pub WorldsStayInOrder : Version → Type 0
+WorldsStayInOrder version = (w : World) (events : List (Event Call Outside)) → Inv w → ((h : ℕ) → Idle h w)
+    → AllHonest (covered_calls version) events (fresh (covered_calls version) w)
+    → StaysInOrder (run (covered_calls version) events (fresh (covered_calls version) w)).world
 
 -- A world at rest on a tree without open files, orphans included.
 

@@ -39,4 +39,5 @@ pub use Rattle.plain_tree.specs.declared.step.StepAnswer.{StepAnswer}
 pub use Rattle.plain_tree.specs.declared.trace.Placed.{Placed}
 pub use Rattle.plain_tree.specs.declared.tree.Hold.{Hold}
 pub use Rattle.plain_tree.specs.declared.tree.OpenFile.{OpenFile}
-pub use Rattle.plain_tree.specs.VersionOne.{name_len, content, refusal, size_of, write_kind, entries}
+pub use Rattle.image_versions.specs.Versions.{name_len_of}
+pub use Rattle.plain_tree.specs.Steps.{content, refusal, size_of, write_kind, entries}

@@ -2,7 +2,8 @@
 //! call is right whatever the other harts do. The history of a run is kept beside it. The functions do nothing: each carries a law.
 #![tactic(auto)]
 
-ghost use Rattle.inode_machine.specs.Examples.{ChdirFinishes, CloseFinishes, CreateFinishes, DupFinishes, InheritFinishes, InheritFrees, InheritMoves, LinkBelowNothing, LinkFinishes, LinkOfDirectory, LinkOfMany, LinkOfNothing, LinkToNoName, LinkToTaken, MkdirFinishes, NoBlockForDirectory, NoBlockForFile, NoBlockForName, NoBlockForPart, NoSlotForDirectory, NoSlotForFile, NoSlotForName, NoBlockLeft, NoDescriptorToDouble, NoDescriptorToOpen, NoInodeForFile, NoInodeLeft, OpenFinishes, ReadFinishes, StartsRefused, StatFinishes, UnlinkFinishes, WalkerFails, WriteFinishes};
+ghost use Rattle.image_versions.specs.declared.version.Version.{Version};
+ghost use Rattle.inode_machine.specs.Examples.{ChdirFinishes, CloseFinishes, CreateFinishes, DupFinishes, InheritFinishes, InheritFrees, InheritMoves, LinkBelowNothing, LinkFinishes, LinkOfDirectory, LinkOfMany, LinkOfNothing, LinkToNoName, LinkToTaken, LongNamesAreTold, MkdirFinishes, NoBlockForDirectory, NoBlockForFile, NoBlockForName, NoBlockForPart, NoSlotForDirectory, NoSlotForFile, NoSlotForName, NoBlockLeft, NoDescriptorToDouble, NoDescriptorToOpen, NoInodeForFile, NoInodeLeft, OpenFinishes, ReadFinishes, StartsRefused, StatFinishes, UnlinkFinishes, WalkerFails, WriteFinishes};
 ghost use Rattle.inode_machine.specs.Budget.{TransactionsAreSmall};
 ghost use Rattle.inode_machine.specs.Histories.{CallsHaveOneHistory, OneHartHasOneHistory};
 ghost use Rattle.inode_machine.specs.Shortages.{NoOpenFileForNew, NoOpenFileLeft, NoPlaceLeft};
@@ -20,7 +21,7 @@ ghost use Rattle.inode_machine.specs.Histories.{covered};
 /// without a call has no lock, no transaction, and the references of its descriptors and current directory alone. A hart that
 /// gets another's descriptors starts nothing until it has them all and the directory.
 pub fn calls_are_explained()
-    ensures { CallsAreExplained }
+    ensures { (version : Version) → CallsAreExplained version }
 {}
 
 /// For every list of events of any harts one list of tree steps explains all calls that were started: each finished call's
@@ -28,24 +29,24 @@ pub fn calls_are_explained()
 /// leads from the tree at the beginning to the tree as the world has it at the end; as long as no step found no room and
 /// no path has the element "..".
 pub fn calls_have_one_history()
-    ensures { CallsHaveOneHistory }
+    ensures { (version : Version) → CallsHaveOneHistory version }
 {}
 
 /// Where one hart alone makes calls the same holds for any paths.
 pub fn one_hart_has_one_history()
-    ensures { OneHartHasOneHistory }
+    ensures { (version : Version) → OneHartHasOneHistory version }
 {}
 
 /// Also once a step found no room, and where paths climb: the tree before it settles stays well formed, and what no hart
 /// keeps, or one in no transaction does, is on disk as that tree has it.
 pub fn worlds_stay_in_order()
-    ensures { WorldsStayInOrder }
+    ensures { (version : Version) → WorldsStayInOrder version }
 {}
 
 /// No transaction of a call records more than ten blocks, whatever the call's operations answer: those of the records of the
 /// inodes that it changes or frees, each counted once, the bitmap, and the blocks of contents that it writes.
 pub fn transactions_are_small()
-    ensures { TransactionsAreSmall }
+    ensures { (version : Version) → TransactionsAreSmall version }
 {}
 
 /// There are such beginnings: a well-formed tree without open files, orphans included, with every hart at rest.
@@ -60,7 +61,8 @@ pub fn worlds_with_a_file_rest()
 
 /// There are runs, computed from a fresh tree, in which calls finish; one in which a hart's directory is removed under it
 /// and it frees that itself; some in which no room is found; and starts that are refused. Where all hundred open files are
-/// taken, or all fifty places for inodes in memory are, calls change nothing.
+/// taken, or all fifty places for inodes in memory are, calls change nothing. Names that agree in fourteen bytes are told apart in
+/// version 2.
 pub fn calls_finish()
     ensures open { OpenFinishes }
     ensures stat { StatFinishes }
@@ -99,6 +101,7 @@ pub fn calls_finish()
     ensures files { NoOpenFileLeft }
     ensures made { NoOpenFileForNew }
     ensures places { NoPlaceLeft }
+    ensures long_names { LongNamesAreTold }
 {}
 
 /// And runs in which two harts meet, event by event: a walk to a directory that is removed under it, also where both names
@@ -117,11 +120,11 @@ pub fn harts_meet()
 
 /// The list that is kept beside a run of the eleven calls over whole inodes explains it, and leads to its tree.
 pub fn runs_have_the_history()
-    ensures { RunsHaveTheHistory covered }
+    ensures { (version : Version) → RunsHaveTheHistory version (covered version) }
 {}
 
 /// Each event of a run, whatever its paths, makes the move that it places as code makes it (`MayMake`, `stage_by`, `told_by_move`),
 /// and where it places none the tree and all walks stay; as long as no step found no room.
 pub fn runs_make_moves()
-    ensures { RunsMakeMoves covered }
+    ensures { (version : Version) → RunsMakeMoves version (covered version) }
 {}

@@ -37,7 +37,7 @@ pub use Rattle.inode_data.specs.FreeingInodes.{FreeingReady, freeing_asked, free
 pub use Rattle.inode_data.specs.PartReading.{ReadReady, filled_to, read_asked, read_count, read_left}
 pub use Rattle.inode_data.specs.PartWriting.{IsWithin}
 pub use Rattle.inode_data.specs.declared.write_part.WritePart.{WritePart}
-pub use Rattle.inode_machine.specs.Rules.{machine}
+pub use Rattle.inode_machine.specs.VersionOne.{machine}
 pub use Rattle.inode_table.specs.Making.{NewReady, beside_new, new_asked, new_left, new_seat, new_value}
 pub use Rattle.inode_table.specs.declared.new_inode.Made.{Made}
 pub use Rattle.inodes_on_blocks.specs.Programs.{handlers}

@@ -1,13 +1,13 @@
 -- The operation that takes a new inode acts where a block of the table is looked through; its record is put in a step of its own.
 use Rattle.inodes_on_blocks.proofs.Vocabulary.{◌≡◌, ◌≢◌, inl, inr, ℕ, zero, suc, ℤ, pos, negsuc, ◌+◌, ◌*◌, ◌/◌, ◌<◌, ◌≤◌, ◌||◌, ◌&&◌, Bool, true, false, List, Option, Some, None, is_some, refl, sym, ◌∙◌, ap, subst, arith, if◌then◌else◌, [], IsSome, nat_lt, is_none, nat_tests, Super, dinode_at, IsOutsideLog, SeatState, kept, given_back, holder_of, has, HasRoom, is_free, is_number, hart_count, and_true, put_same, put_other, Do, unmarked, ExecResult, Ran, Machine, Laws, P, Wp, Both, joined, Below, Handover, Lasts, Here, Silent, ToAct, to_act, acted, s-silent, Wp-more, TablesState, references_in, up_inode, first_free, is_unreferenced, Outside, Passes, seen_of, keeps_whole, leaves_own, shows_its_puts, free_in, inode_blocks, new_record, inode_block, with_dinode, Spent, size, most_recorded, InodeType, Claim, claimed, counted_up, has_place, place_count, referenced, blank, marked, with_mark, Idle, Inv, more, loaded, kind_of, World, log_of, tables_of, inode_in, came_to, exec, alone, Answers, IsDone, in_hand, HasBuffer, SameBut, Carry, IsThrough, Keeps, Kept, Labels, Same, Stands, below, labelled, IsMade, answers, claim, claim_at, claim_from, claim_in, claim_mark, HasInodes, Owners, GivesRoom, HasSpent, Shows, ActsWithin, DoesItWithin, inodes_per_block}
 use Rattle.std.specs.Prelude.{Contains}
+use Rattle.inode_machine.specs.VersionOne as one
 use Rattle.fs_machine.specs.Tables as places
 use Rattle.fs_machine.specs.Premises as premises
 use Rattle.fs_machine.specs.Steps as steps
 use Rattle.inode_table.specs.NewInodes.{is_zero}
 use Rattle.inode_table.specs.Programs.{place_of}
 use Rattle.inode_machine.specs.World as above
-use Rattle.inode_machine.specs.Rules as rules
 use Rattle.inodes_on_blocks.specs.ShownTables as tables
 use Rattle.inodes_on_blocks.proofs.Basics.{by_place, alone_keeps, alone_laws, lasts_done, kept_same, Answered, s-answered, IsQuiet, buffer_seen, buffer_then, quiet_but, quiet_others, quiet_shows, s-back, s-fetch, with_buffers, back_hand, AllInHand, base_marked, below_laws, in_hand_then, lent_then, through_then, hands_marked, empty_hand, inode_place, inode_read, marked_same, shows_marked, among_free, found_passes, may_put, untaken, other_spends}
 use Rattle.inodes_on_blocks.proofs.Changing.{LeftTo, left_but, left_same}
@@ -118,7 +118,7 @@ module _ (sizes : Super) (l : Labels) (laws : Laws (labelled l)) (keeps : Keeps 
 
   -- ---- a block in hand, at u
 
-  module _ (q : ℕ) (bytes : List ℕ) (u : W) (gs : List l.Step) (todo : Todo gs u.seen) (shows : Shows u.real u.seen) (inv : Inv u.seen) (may : rules.May h (Claim inode_type) u.seen) (looks : Looks u.real u.seen)
+  module _ (q : ℕ) (bytes : List ℕ) (u : W) (gs : List l.Step) (todo : Todo gs u.seen) (shows : Shows u.real u.seen) (inv : Inv u.seen) (may : one.May h (Claim inode_type) u.seen) (looks : Looks u.real u.seen)
       (buffer : HasBuffer h (sizes.inodestart + q) bytes u.real) (one : in_hand h u.real ≡ 1) (out : IsOutsideLog (log_of u.real).sizes (sizes.inodestart + q)) where
     abbrev b : ℕ
     b = sizes.inodestart + q

@@ -1,4 +1,5 @@
 -- A name cleared acts where the directory's record is put, after its slot was put free.
+use Rattle.inode_machine.specs.VersionOne as one
 use Rattle.inodes_on_blocks.proofs.Vocabulary.{◌≡◌, ◌≢◌, ℕ, zero, suc, ◌+◌, ◌-◌, ◌*◌, ◌/◌, ◌%◌, ◌<◌, ◌≤◌, ◌==◌, ◌&&◌, nat_lt, Bool, true, false, List, [], ◌∷◌, length, max, get_or, Option, Some, None, refl, sym, ◌∙◌, ap, subst, arith, if◌then◌else◌, IsSome, option_map, unwrap_or, none-some, Found, Named, block_count, look_at, search_from, with_dirent, with_slot, Free, Dinode, Super, IsBytes, IsDinode, recovered, All, IsData, is_free, numbers_of, block_number, content_block, HoldsAt, IsOwned, entry_of, size_in, IsPut, IsLaidOut, Becomes, slots_with, Slot, Node, NodeKind, Directory, File, Device, cleared, node_or, Name, same_name, live_directory, look, first_slot, all_slots, put, hart_count, eq_is, Ret, bind, Ran, Laws, Machine, P, Wp, Both, joined, Below, Lasts, Handover, ToAct, to_act, may_act, bind-assoc, Wp-more, lock_holder, fetch, seen_of, Direct, InTable, BlockInHand, fetch_at, fetch_block, no_record, inode_block, Clear, without_entry, with_record, Inv, World, log_of, tables_of, disk_of, inode_in, KeepsRoom, in_hand, HasBuffer, KeepsInode, NothingMore, Finds, Opened, Had, Apart, Has, Emptied, Same, Kept, Carry, record_had, IsFirstNamed, IsKnown, InHand, Stands, below, Labels, labelled, Keeps, put_named, slot_found, clear_in, clear_slot, clear, learned, number_found, IsChanging, GivesRoom, Shows, record_in, block_len, direct, dirent_len, dirents_per_block, most_blocks}
 use Rattle.inodes_on_blocks.proofs.Basics.{at_index, good_seen, kept_then, kept_same, same_inode, same_numbers, holds_now, used_now, block_stays, but_same, but_then, below_laws, lock_range, seen_dinode, TakesStep, s-here}
 use Rattle.directory.proofs.IndexChanges.{index_cleared}
@@ -9,7 +10,6 @@ use Rattle.fs_machine.specs.InMemory.{IndexState, Loaded, unindexed}
 use Rattle.plain_tree.specs.Tree as tree
 use Rattle.plain_tree.specs.Tree.{slots_of}
 use Rattle.inode_machine.specs.World as above
-use Rattle.inode_machine.specs.Rules as rules
 use Rattle.inodes_on_blocks.specs.Indexes.{IsIndexOf, slot_read}
 use Rattle.inodes_on_blocks.specs.Naming.{slot_of}
 use Rattle.inodes_on_blocks.proofs.Changing.{owner_with, Changing, LeftTo, left_but, changing_start, changing_then, numbers_stay}
@@ -49,7 +49,7 @@ module _ (sizes : Super) (l : Labels) (laws : Laws (labelled l)) (keeps : Keeps 
   abbrev Todo : List l.Step → above.World → Type 0
   Todo = ToAct (labelled l) (below sizes) laws (below_laws sizes l keeps) h B (Clear n e) m C lasts
 
-  may_at : (fs : List l.Step) (g : above.World) → Todo fs g → Inv g → rules.May h (Clear n e) g
+  may_at : (fs : List l.Step) (g : above.World) → Todo fs g → Inv g → one.May h (Clear n e) g
   may_at fs g todo inv = may_act (labelled l) (below sizes) laws (below_laws sizes l keeps) h B (Clear n e) m C lasts fs g todo inv
 
   changes : (fs : List l.Step) (g : above.World) → Todo fs g → Inv g → IsChanging h n g
@@ -97,7 +97,7 @@ module _ (sizes : Super) (l : Labels) (laws : Laws (labelled l)) (keeps : Keeps 
   -- ---- from v on, where the lock is the hart's
 
   module _ (v : W) (fs : List l.Step) (todo : Todo fs v.seen) (shows : Shows v.real v.seen) (inv : Inv v.seen) (stands : Stands sizes h v.real v.seen c) (knows : Knows v.real) where
-    may : rules.May h (Clear n e) v.seen
+    may : one.May h (Clear n e) v.seen
     may = may_at fs v.seen todo inv
 
     mine : lock_holder n (tables_of v.real) ≡ Some h

@@ -1,4 +1,5 @@
 -- The operations that count references act at their one step.
+use Rattle.inode_machine.specs.VersionOne as one
 use Rattle.inodes_on_blocks.proofs.Vocabulary.{◌≡◌, ◌≢◌, inl, inr, ℕ, pos, ◌+◌, ◌-◌, ◌^◌, ◌<◌, ◌==◌, nat_lt, Bool, true, false, Option, Some, None, refl, sym, ◌∙◌, ap, subst, arith, if◌then◌else◌, IsSome, is_some, slice_get, nat_tests, none-some, Dinode, Node, put, hart_count, root, same_or, and_true, eq_is, eq_not, put_same, put_other, sum_part, HoldsAt, IsRecord, ExecResult, Waits, Ran, Stops, exec_result_in, Laws, Both, TablesState, references_of, up_inode, up_directory, directory_of, dead_of, DroppedState, Counts, Stays, Dies, drop_inode, drop_walked, Number, Walked, UpStart, Up, WalkDown, Down, counted_up, has_place, up_if, start_if, counted_down, reserved, is_last, walk_down_if, down_if, Inv, put_elim, ours_none, ours_some, two_refs, opens_slots, Numbered, found_number, start_is_number, loaded, BothCame, MayDie, load_after, World, log_of, tables_of, disk_of, inode_in, Shows, Had, Carry, IsLoaded, Base, Labels, labelled, Keeps, IsOpened, up_start, walk_down, down, is_listed, is_dying, had_of, with_dying, ActsOnce, Loaded, IsIndexOf}
 use Rattle.fs_machine.specs.Inodes.{is_positive}
 use Rattle.fs_machine.specs.Steps as steps
@@ -24,7 +25,7 @@ module _ (l : Labels) (laws : Laws (labelled l)) (keeps : Keeps l) (h : ℕ) (lt
   -- ---- up
 
   counted_came : (op : above.Op) (n : ℕ) (v : W) (c : Carry) (b : above.Answer op) (t : TablesState) → Shows v.real v.seen → Base h v.real v.seen c → (v.seen.desks h).lender ≡ None → Numbered n v.seen
-      → above_exec.exec h above.Room op v.seen ≡ Ran b (counted_up h n v.seen) → tables.Shows t (counted_up h n v.seen) (loaded (tables_of v.real)) → Came l laws keeps h op v b (with_tables v.real t) c
+      → one.exec h above.Room op v.seen ≡ Ran b (counted_up h n v.seen) → tables.Shows t (counted_up h n v.seen) (loaded (tables_of v.real)) → Came l laws keeps h op v b (with_tables v.real t) c
   counted_came op n v c b t shows base free range ran after = record {
     then_ = counted_up h n v.seen;
     ran = ran;
@@ -49,7 +50,7 @@ module _ (l : Labels) (laws : Laws (labelled l)) (keeps : Keeps l) (h : ℕ) (lt
   }
 
   up_to : (op : above.Op) (n : ℕ) (v : W) (c : Carry) (answer : Option ℕ → above.Answer op) (yes_ no_ : above.Answer op) → answer (Some n) ≡ yes_ → answer None ≡ no_ → Shows v.real v.seen → Base h v.real v.seen c → (v.seen.desks h).lender ≡ None → Numbered n v.seen
-      → (has_place v.seen n ≡ true → above_exec.exec h above.Room op v.seen ≡ Ran yes_ (counted_up h n v.seen)) → (has_place v.seen n ≡ false → above_exec.exec h above.Room op v.seen ≡ Ran no_ v.seen)
+      → (has_place v.seen n ≡ true → one.exec h above.Room op v.seen ≡ Ran yes_ (counted_up h n v.seen)) → (has_place v.seen n ≡ false → one.exec h above.Room op v.seen ≡ Ran no_ v.seen)
       → CameTo l laws keeps h op v ⊥ (exec_result_in (with_tables v.real) (up_inode n (tables_of v.real))) answer (λ a. c)
   up_to op n v c answer yes_ no_ is_yes is_no shows base free range goes stays =
       by_place h n (tables_of v.real) v.seen (loaded (tables_of v.real)) shows.tables range.low range.size _
@@ -171,7 +172,7 @@ module _ (l : Labels) (laws : Laws (labelled l)) (keeps : Keeps l) (h : ℕ) (lt
       record { some = some; free = last_free n v.seen inv mine may.1; alike = λ one. dies_alike n v shows (old one) some (last_free n v.seen inv mine may.1 one) (loose one) }
 
   pub counted_down_came : (op : above.Op) (n : ℕ) (v : W) (c : Carry) (b : above.Answer op) (t : TablesState) → Shows v.real v.seen → Base h v.real v.seen c → (v.seen.desks h).lender ≡ None → v.seen.lock n ≢ Some h → (v.seen.alone n ≡ true → above_exec.is_dead (v.seen.disk n) ≡ false) → (v.seen.alone n ≡ true → v.real.new n ≡ None)
-      → above_exec.exec h above.Room op v.seen ≡ Ran b (counted_down h n v.seen) → tables.Shows t (counted_down h n v.seen) (load_after n (v.seen.refs n) (loaded (tables_of v.real)) Counts) → Came l laws keeps h op v b (with_tables v.real t) c
+      → one.exec h above.Room op v.seen ≡ Ran b (counted_down h n v.seen) → tables.Shows t (counted_down h n v.seen) (load_after n (v.seen.refs n) (loaded (tables_of v.real)) Counts) → Came l laws keeps h op v b (with_tables v.real t) c
   counted_down_came op n v c b t shows base free not_mine lone old ran after = record {
     then_ = counted_down h n v.seen;
     ran = ran;
@@ -243,7 +244,7 @@ module _ (l : Labels) (laws : Laws (labelled l)) (keeps : Keeps l) (h : ℕ) (lt
 
   -- it stays, for the hart to free
   reserved_came : (op : above.Op) (n : ℕ) (v : W) (c : Carry) (b : above.Answer op) (t : TablesState) → Shows v.real v.seen → Base h v.real v.seen c → (v.seen.desks h).lender ≡ None → v.real.new n ≡ None
-      → above_exec.exec h above.Room op v.seen ≡ Ran b (reserved h n v.seen) → tables.Shows t (reserved h n v.seen) (loaded (tables_of v.real)) → Came l laws keeps h op v b (with_tables v.real t) c
+      → one.exec h above.Room op v.seen ≡ Ran b (reserved h n v.seen) → tables.Shows t (reserved h n v.seen) (loaded (tables_of v.real)) → Came l laws keeps h op v b (with_tables v.real t) c
   reserved_came op n v c b t shows base free old ran after = record {
     then_ = reserved h n v.seen;
     ran = ran;
@@ -261,7 +262,7 @@ module _ (l : Labels) (laws : Laws (labelled l)) (keeps : Keeps l) (h : ℕ) (lt
 
   -- its lock is taken, to free it
   dying_came : (op : above.Op) (n : ℕ) (v : W) (c : Carry) (b : above.Answer op) (t : TablesState) → Shows v.real v.seen → Base h v.real v.seen c → (v.seen.desks h).lender ≡ None → 0 < v.seen.refs n → v.seen.lock n ≡ None → v.seen.keeper n ≡ None → above_exec.is_dead (v.seen.disk n) ≡ true
-      → above_exec.exec h above.Room op v.seen ≡ Ran b (record (reserved h n v.seen) { lock = put v.seen.lock n (Some h) }) → tables.Shows t (record (reserved h n v.seen) { lock = put v.seen.lock n (Some h) }) (put (loaded (tables_of v.real)) n None)
+      → one.exec h above.Room op v.seen ≡ Ran b (record (reserved h n v.seen) { lock = put v.seen.lock n (Some h) }) → tables.Shows t (record (reserved h n v.seen) { lock = put v.seen.lock n (Some h) }) (put (loaded (tables_of v.real)) n None)
       → Came l laws keeps h op v b (with_tables v.real t) (put c n (had_of (loaded (tables_of v.real) n)))
   dying_came op n v c b t shows base free some unlocked unkept dead ran after = record {
     then_ = record (reserved h n v.seen) { lock = put v.seen.lock n (Some h) };

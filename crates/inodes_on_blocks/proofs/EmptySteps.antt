@@ -1,9 +1,9 @@
 -- A file's content is given back: the operation acts where its record is put without it.
+use Rattle.inode_machine.specs.VersionOne as one
 use Rattle.inodes_on_blocks.proofs.Vocabulary.{◌≡◌, ℕ, zero, suc, pos, ◌^◌, ◌<◌, ◌≤◌, ◌==◌, Bool, true, false, List, [], ◌∷◌, length, take, replicate, Option, Some, None, refl, sym, ◌∙◌, ap, subst, arith, if◌then◌else◌, AllByRecursion, unwrap_or, none-some, same_Some, Super, Dinode, IsDinode, sizes_of, Node, NodeKind, Directory, File, Device, emptied, node_or, hart_count, HoldsAt, IsInode, NamesOwned, size_in, type_in, numbers_by_free, bind, once, Ran, Laws, Machine, P, Wp, Both, joined, Below, Lasts, Handover, ToAct, to_act, may_act, Stable, Wp-more, lock_holder, fetch, seen_of, free_block, table_of, free_numbers, free_indirect, free_in_table, without_content, direct, no_record, inode_block, Empty, with_record, with_no_bytes, Inv, Idle, more, World, log_of, tables_of, disk_of, inode_in, empty, Owns, KeepsRoom, KeepsInode, Kept, NothingMore, Had, Apart, Has, Emptied, Carry, record_had, IsLoaded, InHand, Base, Stands, below, Labels, labelled, Keeps, IsChanging, GivesRoom, Shows, record_in, put_record, Loaded, unindexed, IsIndexOf, index_in, recorded_had, all_slots, had_in, addresses}
 use Rattle.plain_tree.specs.Steps.{is_file}
 use Rattle.inodes_on_blocks.proofs.Basics.{laid_before, node_held, empty_laid, empty_named, good_seen, kept_same, below_laws, hand_then, kept_disk, lent_then, untouched_same, through_then, given_order, order_owned, order_named, lock_range, TakesStep, s-here, AllBut, Ready, seen_dinode, untaken, indexed_file, indexed_none, emptied_slots}
 use Rattle.inode_machine.specs.World as above
-use Rattle.inode_machine.specs.Rules as rules
 use Rattle.inodes_on_blocks.proofs.ContentGiven.{Between, content_steps, named_kept, s-content}
 use Rattle.inodes_on_blocks.proofs.StoreSteps.{PutsRecord, record_acts}
 use Rattle.inodes_on_blocks.proofs.NewInodes.{all_zero}
@@ -222,13 +222,13 @@ module _ (sizes : Super) (l : Labels) (laws : Laws (labelled l)) (keeps : Keeps 
       last : P M (Handover (Unit {0}) Carry)
       last = bind (fetch (inode_block sizes.inodestart n)) (put_record (Empty n) m tt (inode_block sizes.inodestart n) n d (Has (recorded_had c n d) NothingMore) c)
 
-      may_there : (fs : List l.Step) (g : above.World) → Todo fs g → Inv g → rules.May h (Empty n) g
+      may_there : (fs : List l.Step) (g : above.World) → Todo fs g → Inv g → one.May h (Empty n) g
       may_there fs g stage inv = may_act (labelled l) (below sizes) laws (below_laws sizes l keeps) h B (Empty n) m C lasts fs g stage inv
 
       changing : (fs : List l.Step) (g : above.World) → Todo fs g → Inv g → IsChanging h n g
       changing fs g stage inv = let may = may_there fs g stage inv in record { lock = may.1.0.0; joined = may.1.0.1 }
 
-      puts : (u : W) → Begins n (had_in c n) (u.seen.disk n) u.real u.seen → (z : W) → Shows z.real z.seen → rules.May h (Empty n) z.seen → HasNone h n c (u.seen.disk n) z.real z.seen → PutsRecord h (Empty n) n tt d (Has (recorded_had c n d) NothingMore) z.real z.seen
+      puts : (u : W) → Begins n (had_in c n) (u.seen.disk n) u.real u.seen → (z : W) → Shows z.real z.seen → one.May h (Empty n) z.seen → HasNone h n c (u.seen.disk n) z.real z.seen → PutsRecord h (Empty n) n tt d (Has (recorded_had c n d) NothingMore) z.real z.seen
       puts u begin_ z shows may has =
           let disk = disk_of (log_of z.real) in
           let v : Node = may.1.1.node in

@@ -1,4 +1,5 @@
 -- A name entered acts where the directory's record is put, after its entry was written; or, where the directory has no slot left, where its last block is given back.
+use Rattle.inode_machine.specs.VersionOne as one
 use Rattle.inodes_on_blocks.proofs.Vocabulary.{◌≡◌, inl, inr, ℕ, zero, suc, ◌+◌, ◌-◌, ◌*◌, ◌/◌, ◌<◌, ◌≤◌, ◌==◌, ◌&&◌, nat_lt, Bool, true, false, List, [], length, drop, max, min, get_or, take, none-some, Option, Some, None, refl, sym, ◌∙◌, ap, subst, arith, if◌then◌else◌, slice_index, nat_tests, Found, slot_for, IsFirst, Unused, block_count, look_at, search_from, slot_count, Used, Dinode, Dirent, Super, IsDirent, spell_dirent, length-spell_dirent, is_free, content_block, HoldsAt, entry_of, size_in, slots_with, Slot, Node, NodeKind, Directory, File, Device, node_or, Name, hart_count, same_or, put_same, put_other, eq_not, eq_self, Ret, bind, Ran, Laws, Machine, P, Wp, Both, joined, Below, Lasts, Handover, ToAct, to_act, may_act, Wp-more, lock_holder, Direct, InTable, BlockInHand, fetch_at, fetch_block, blocks_between, WriteResult, front_of, write_blocks, inode_block, Spent, size, with_contents, most_recorded, Enter, all_used, enter_if, is_full_directory, with_entry, with_record, marked, Inv, IsSpent, World, log_of, tables_of, disk_of, inode_in, enter, entered_to, put_grown, look_last, search_full, Acts, acts, Same, Kept, Knowledge, NothingMore, Finds, Opened, Had, Apart, Has, Emptied, IsOpened, Carry, InHand, Base, Stands, below, Labels, labelled, Keeps, IsChanging, HasSpent, Shows, record_in, One, block_len, direct, dirent_len, dirents_per_block, most_blocks, most_slots}
 use Rattle.directory.proofs.Indexed.{else_searched, few_known, searched_from}
 use Rattle.directory.proofs.IndexChanges.{index_entered}
@@ -11,7 +12,6 @@ use Rattle.plain_tree.specs.Steps.{first_free}
 use Rattle.plain_tree.specs.Tree as tree
 use Rattle.plain_tree.specs.Tree.{slots_of}
 use Rattle.inode_machine.specs.World as above
-use Rattle.inode_machine.specs.Rules as rules
 use Rattle.inodes_on_blocks.specs.Entering.{seek_full}
 use Rattle.inodes_on_blocks.specs.Indexes.{IsIndexOf, slot_read}
 use Rattle.inodes_on_blocks.specs.Storing.{index_in, loaded_in, reindexed, with_index}
@@ -89,13 +89,13 @@ module _ (sizes : Super) (l : Labels) (laws : Laws (labelled l)) (keeps : Keeps 
   abbrev Todo : List l.Step → above.World → Type 0
   Todo = ToAct (labelled l) (below sizes) laws (below_laws sizes l keeps) h B (Enter n e q) m C lasts
 
-  may_at : (fs : List l.Step) (g : above.World) → Todo fs g → Inv g → rules.May h (Enter n e q) g
+  may_at : (fs : List l.Step) (g : above.World) → Todo fs g → Inv g → one.May h (Enter n e q) g
   may_at fs g todo inv = may_act (labelled l) (below sizes) laws (below_laws sizes l keeps) h B (Enter n e q) m C lasts fs g todo inv
 
   changes : (fs : List l.Step) (g : above.World) → Todo fs g → Inv g → IsChanging h n g
   changes fs g todo inv = let may = may_at fs g todo inv in record { lock = may.1.0.0; joined = may.1.0.1 }
 
-  asks : (g : above.World) → rules.May h (Enter n e q) g → IsChanging h n g × ((g.desks h).lender ≡ None)
+  asks : (g : above.World) → one.May h (Enter n e q) g → IsChanging h n g × ((g.desks h).lender ≡ None)
   asks g asked = (record { lock = asked.1.0.0; joined = asked.1.0.1 }, asked.0)
 
   abbrev bytes : List ℕ
@@ -164,7 +164,7 @@ module _ (sizes : Super) (l : Labels) (laws : Laws (labelled l)) (keeps : Keeps 
   -- ---- from v on, where the lock is the hart's
 
   module _ (v : W) (fs : List l.Step) (todo : Todo fs v.seen) (shows : Shows v.real v.seen) (inv : Inv v.seen) (stands : Stands sizes h v.real v.seen c) (knows : HasSpent sizes h s v.real) where
-    may : rules.May h (Enter n e q) v.seen
+    may : one.May h (Enter n e q) v.seen
     may = may_at fs v.seen todo inv
 
     mine : lock_holder n (tables_of v.real) ≡ Some h

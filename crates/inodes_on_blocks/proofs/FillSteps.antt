@@ -1,9 +1,9 @@
 -- A new directory's two names written act where its record is put.
+use Rattle.inode_machine.specs.VersionOne as one
 use Rattle.inodes_on_blocks.proofs.Vocabulary.{◌≡◌, ◌≢◌, ℕ, zero, suc, ◌+◌, ◌-◌, ◌*◌, ◌/◌, ◌<◌, ◌≤◌, ◌==◌, nat_lt, Bool, true, false, List, [], ◌∷◌, length, length-take, drop, Option, Some, None, refl, sym, ◌∙◌, ap, subst, arith, if◌then◌else◌, slice_index, unwrap_or, none-some, Dinode, Super, spell_dirent, Used, HoldsAt, size_in, Node, node_or, dot, dotdot, hart_count, bind, Ran, Laws, Machine, P, Wp, Both, joined, Below, Lasts, Handover, ToAct, to_act, may_act, Wp-more, lock_holder, Direct, InTable, table_of, blocks_between, WriteResult, front_of, take_one, located, name_direct, with_table, locate_in_table, locate_at, write_located, write_blocks, no_record, inode_block, Spent, size, with_contents, most_recorded, Fill, with_dots, with_record, Inv, IsSpent, World, log_of, tables_of, disk_of, inode_in, dots, filled_to, fill, put_grown, Had, Apart, Has, Emptied, Carry, record_had, InHand, Stands, below, Labels, labelled, Keeps, IsChanging, HasSpent, Shows, record_in, block_len, direct, dirent_len}
 use Rattle.directory.proofs.IndexChanges.{index_none}
 use Rattle.fs_machine.specs.InMemory.{no_index, unindexed}
 use Rattle.inode_machine.specs.World as above
-use Rattle.inode_machine.specs.Rules as rules
 use Rattle.inodes_on_blocks.specs.Indexes.{IsIndexOf, slot_read}
 use Rattle.inodes_on_blocks.specs.Storing.{index_in}
 use Rattle.inodes_on_blocks.proofs.Basics.{HasBlocks, blocks_start, below_laws, lock_range, append_bytes, seen_dinode, spent_stays, TakesStep, s-here}
@@ -72,13 +72,13 @@ module _ (sizes : Super) (l : Labels) (laws : Laws (labelled l)) (keeps : Keeps 
   abbrev Todo : List l.Step → above.World → Type 0
   Todo = ToAct (labelled l) (below sizes) laws (below_laws sizes l keeps) h B (Fill n p) m C lasts
 
-  may_at : (fs : List l.Step) (g : above.World) → Todo fs g → Inv g → rules.May h (Fill n p) g
+  may_at : (fs : List l.Step) (g : above.World) → Todo fs g → Inv g → one.May h (Fill n p) g
   may_at fs g todo inv = may_act (labelled l) (below sizes) laws (below_laws sizes l keeps) h B (Fill n p) m C lasts fs g todo inv
 
   changes : (fs : List l.Step) (g : above.World) → Todo fs g → Inv g → IsChanging h n g
   changes fs g todo inv = let may = may_at fs g todo inv in record { lock = may.1.0.0; joined = may.1.0.1 }
 
-  asks : (g : above.World) → rules.May h (Fill n p) g → IsChanging h n g × ((g.desks h).lender ≡ None)
+  asks : (g : above.World) → one.May h (Fill n p) g → IsChanging h n g × ((g.desks h).lender ≡ None)
   asks g asked = (record { lock = asked.1.0.0; joined = asked.1.0.1 }, asked.0)
 
   ends_take : (w : WriteResult) → TakesStep sizes l laws keeps h lt B (filled_to sizes n p c m w)
@@ -90,7 +90,7 @@ module _ (sizes : Super) (l : Labels) (laws : Laws (labelled l)) (keeps : Keeps 
 
   -- from v on, where the lock is the hart's
   module _ (v : W) (fs : List l.Step) (todo : Todo fs v.seen) (shows : Shows v.real v.seen) (inv : Inv v.seen) (stands : Stands sizes h v.real v.seen c) (knows : HasSpent sizes h s v.real) where
-    may : rules.May h (Fill n p) v.seen
+    may : one.May h (Fill n p) v.seen
     may = may_at fs v.seen todo inv
 
     mine : lock_holder n (tables_of v.real) ≡ Some h

@@ -1,11 +1,11 @@
 -- The reference that is left to a freed inode goes in one step.
+use Rattle.inode_machine.specs.VersionOne as one
 use Rattle.inodes_on_blocks.proofs.Vocabulary.{◌≡◌, ℕ, ◌<◌, ◌==◌, ◌&&◌, Bool, false, true, Option, Some, None, refl, sym, ◌∙◌, ap, subst, if◌then◌else◌, slice_get, SlotState, pick, Node, hart_count, ExecResult, Waits, Ran, Stops, exec_result_in, Laws, Both, Inode, TablesState, place_of, DroppedState, Counts, Dies, dead_in, dying, drop_inode, drop_at, drop_dying, drop_freed, uncounted_freed as freed_at, Freed, Forget, is_last, down_if, counted_down, Inv, load_after, BothCame, loaded, loaded_at, loaded_of, World, tables_of, Shows, Carry, Base, Labels, labelled, Keeps, forget, ActsOnce, Loaded}
 use Rattle.fs_machine.specs.declared.entries.Entry.{Entry}
 use Rattle.fs_machine.specs.Steps as steps
 use Rattle.fs_machine.specs.Premises as premises
 use Rattle.inode_machine.specs.World as above
 use Rattle.inode_machine.specs.Exec as above_exec
-use Rattle.inode_machine.specs.Rules as rules
 use Rattle.inodes_on_blocks.specs.ShownTables as tables
 use Rattle.inodes_on_blocks.proofs.Drops.{references_are_dropped}
 use Rattle.inodes_on_blocks.proofs.Basics.{kept_old, fewer_owed, CameTo, one_step, with_tables}
@@ -41,7 +41,7 @@ module _ (l : Labels) (laws : Laws (labelled l)) (keeps : Keeps l) (h : ℕ) (lt
   abbrev W : Type 0
   W = Both World above.World
 
-  forgotten_came : (n : ℕ) (v : W) (c : Carry) → Shows v.real v.seen → Inv v.seen → Base h v.real v.seen c → rules.May h (Forget n) v.seen
+  forgotten_came : (n : ℕ) (v : W) (c : Carry) → Shows v.real v.seen → Inv v.seen → Base h v.real v.seen c → one.May h (Forget n) v.seen
       → CameTo l laws keeps h (Forget n) v ⊥ (exec_result_in (with_tables v.real) (drop_freed n (tables_of v.real))) (λ a. tt {0}) (λ a. c)
   forgotten_came n v c shows inv base may =
       subst (λ (d : ExecResult DroppedState TablesState). CameTo l laws keeps h (Forget n) v ⊥ (exec_result_in (with_tables v.real) d) (λ a. tt {0}) (λ a. c)) (sym (freed_is h n (tables_of v.real) (shows.loads.typed n may.1.2.1)))

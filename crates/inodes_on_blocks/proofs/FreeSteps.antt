@@ -1,9 +1,9 @@
 -- An inode without links is freed: its content is given back, its record goes into its block without that, and there once more without a type, where the operation acts.
+use Rattle.inode_machine.specs.VersionOne as one
 use Rattle.inodes_on_blocks.proofs.Vocabulary.{◌≡◌, ◌≢◌, ℕ, suc, ◌<◌, false, List, [], length, Option, Some, None, refl, sym, ◌∙◌, ap, subst, arith, Super, Dinode, IsDinode, IsOutsideLog, has, HasRoom, Node, hart_count, bind, once, Laws, Machine, P, Wp, Both, joined, Below, Lasts, Handover, Here, ToAct, to_act, may_act, Stable, bind-assoc, Wp-more, lock_holder, LogPart, put_block, fetch, seen_of, without_content, freed, inode_block, put_inode, with_dinode, store_inode, Inv, Idle, more, Owners, World, log_of, tables_of, disk_of, owners_of, KeepsRoom, world_with, in_hand, HasBuffer, IsFetched, Emptied, Carry, Stands, below, Labels, labelled, Keeps, IsThrough, CanPut, IsChanging, Shows, record_in, put_record, had_in, block_len}
 use Rattle.inodes_on_blocks.proofs.Basics.{freed_held, buffer_then, buffer_seen, s-fetch, below_laws, lent_then, through_then, through_put, empty_hand, after, lock_range, quiet_owners, Ready, inode_home, untaken, place_in, can_record, others_then, none_then, named_then, open_same}
 use Rattle.inode_machine.specs.World as above
 use Rattle.inode_machine.specs.World.Op.{Free}
-use Rattle.inode_machine.specs.Rules as rules
 use Rattle.inodes_on_blocks.specs.Emptying.{free}
 use Rattle.inodes_on_blocks.proofs.EmptySteps.{HasNone, none_lasts, Begins, s-none}
 use Rattle.inodes_on_blocks.proofs.ContentGiven.{content_steps}
@@ -143,7 +143,7 @@ module _ (sizes : Super) (l : Labels) (laws : Laws (labelled l)) (keeps : Keeps 
       changing fs g stage inv =
           let may = may_act (labelled l) (below sizes) laws (below_laws sizes l keeps) h B (Free n) m C lasts fs g stage inv in record { lock = may.1.0; joined = may.1.1 }
 
-      puts : (u : W) → Begins sizes l laws keeps h lt n (had_in c n) (u.seen.disk n) u.real u.seen → (z : W) → Shows z.real z.seen → rules.May h (Free n) z.seen → HasNone h n c (u.seen.disk n) z.real z.seen → PutsRecord h (Free n) n tt (freed d) Emptied z.real z.seen
+      puts : (u : W) → Begins sizes l laws keeps h lt n (had_in c n) (u.seen.disk n) u.real u.seen → (z : W) → Shows z.real z.seen → one.May h (Free n) z.seen → HasNone h n c (u.seen.disk n) z.real z.seen → PutsRecord h (Free n) n tt (freed d) Emptied z.real z.seen
       puts u begin_ z shows may has = record {
         node = None;
         ran = refl;

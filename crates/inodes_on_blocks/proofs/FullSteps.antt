@@ -1,4 +1,5 @@
 -- A directory that has all its slots, and none free: the operation acts where the last block that is searched is given back, and changes nothing.
+use Rattle.inode_machine.specs.VersionOne as one
 use Rattle.inodes_on_blocks.proofs.Vocabulary.{◌≡◌, ℕ, zero, suc, ◌+◌, ◌*◌, ◌<◌, false, List, Option, Some, None, refl, sym, ◌∙◌, ap, subst, arith, Found, Unused, found_in, look_at, Dinode, Super, IsOutsideLog, block_len, holder_of, given_back, is_free, numbers_of, block_number, content_block, HoldsAt, Node, hart_count, Do, bind, unmarked, Ran, Machine, Laws, P, Wp, Both, joined, Lasts, ToAct, to_act, s-act, bind-assoc, Wp-more, lock_holder, Passes, Put, keeps_whole, leaves_own, shows_its_puts, BlockInHand, fetch_block, marked, with_mark, World, log_of, tables_of, disk_of, inode_in, if_none, look_last, search_full, Acts, acts, in_hand, SameBut, IsFetched, KeepsInode, Same, Kept, below, Labels, labelled, Keeps}
 use Rattle.directory.proofs.Indexed.{else_searched, searched_from}
 use Rattle.directory.specs.Indexes.{raised}
@@ -7,7 +8,6 @@ use Rattle.fs_machine.specs.InMemory.{IndexState}
 use Rattle.fs_machine.specs.Premises as premises
 use Rattle.fs_machine.specs.Steps as steps
 use Rattle.inode_machine.specs.World as above
-use Rattle.inode_machine.specs.Exec as above_exec
 use Rattle.inode_machine.specs.Rules as rules
 use Rattle.inodes_on_blocks.proofs.Basics.{kept_then, same_inode, holds_now, used_now, block_stays, content_stays, IsQuiet, with_buffers, but_same, but_then, held_then, quiet_shows, quiet_others, quiet_but, s-back, back_hand, below_laws, same_again, marked_same, shows_marked}
 use Rattle.inodes_on_blocks.proofs.ContentFetch.{s-content, s-touch}
@@ -33,13 +33,13 @@ module _ (sizes : Super) (l : Labels) (laws : Laws (labelled l)) (keeps : Keeps 
     pub record ActedAt (b : ℕ) (w v : W) (r : World) (gs : List l.Step) : Type 0 where
       pub since : SameBut h b w.real r
       pub kept : Kept h w.seen v.seen
-      pub may : rules.May h op v.seen
+      pub may : one.May h op v.seen
       pub done : C answer gs (marked h (m answer) v.seen)
       pub count : in_hand h w.real ≡ suc (in_hand h r)
 
     -- A buffer is given back as it was, and there the operation acts, which changes nothing above but for its mark.
     pub s-back-acts : {A : Type 0} (Q : A → List l.Step → W → Type 0) (b : ℕ) (k : Unit {0} → P M A) (j : ℕ) (es : List l.Step) (w : W) → Todo es w.seen → holder_of b (log_of w.real).seats ≡ Some h → IsOutsideLog (log_of w.real).sizes b
-        → ((v : W) → Kept h w.seen v.seen → rules.May h op v.seen → above_exec.exec h outside op v.seen ≡ Ran answer v.seen)
+        → ((v : W) → Kept h w.seen v.seen → one.May h op v.seen → one.exec h outside op v.seen ≡ Ran answer v.seen)
         → ((v : W) (r : World) (gs : List l.Step) → ActedAt b w v r gs → Wp M h B Q (k tt) j gs (record { real = r; seen = marked h (m answer) v.seen }))
         → Wp M h B Q (Do (Put b None) (λ a. acts op outside m) k) (suc j) es w
     unfolding steps.exec premises.May premises.MayWait premises.Honest
@@ -90,9 +90,9 @@ module _ (sizes : Super) (l : Labels) (laws : Laws (labelled l)) (keeps : Keeps 
       -- where a free slot was found it is still to act; else it has
       pub record Rests (found : Searched) : Type 0 where
         pub some : (f : Found) → found.found ≡ Some f → (v : W) (fs : List l.Step) → Same h w.real v.real → Kept h w.seen v.seen → Todo fs v.seen → Wp M h B Q (g found) j fs v
-        pub none : found.found ≡ None → (v : W) (r : World) (gs : List l.Step) → Same h w.real r → Kept h w.seen v.seen → rules.May h op v.seen → C answer gs (marked h (m answer) v.seen) → Wp M h B Q (g found) j gs (record { real = r; seen = marked h (m answer) v.seen })
+        pub none : found.found ≡ None → (v : W) (r : World) (gs : List l.Step) → Same h w.real r → Kept h w.seen v.seen → one.May h op v.seen → C answer gs (marked h (m answer) v.seen) → Wp M h B Q (g found) j gs (record { real = r; seen = marked h (m answer) v.seen })
         -- nothing was found: what is above stays
-        pub stays : found.found ≡ None → (v : W) → Kept h w.seen v.seen → rules.May h op v.seen → above_exec.exec h outside op v.seen ≡ Ran answer v.seen
+        pub stays : found.found ≡ None → (v : W) → Kept h w.seen v.seen → one.May h op v.seen → one.exec h outside op v.seen ≡ Ran answer v.seen
 
       -- at u, in the same way
       module _ (u : W) (same : Same h w.real u.real) (kept : Kept h w.seen u.seen) (k : ℕ) (within : block_len * k < d.size) where

@@ -1,4 +1,5 @@
 -- An operation that puts an inode's record after its blocks were written acts at the put.
+use Rattle.inode_machine.specs.VersionOne as one
 use Rattle.inodes_on_blocks.proofs.Vocabulary.{◌≡◌, inl, inr, ℕ, ◌+◌, ◌^◌, ◌<◌, ◌≤◌, List, length, max, Option, Some, None, sym, ◌∙◌, ap, subst, arith, Dinode, Super, IsDinode, Node, put, hart_count, same_or, put_same, put_other, Ran, bind, Laws, Machine, Wp, Both, joined, Below, Lasts, Handover, ToAct, Wp-weaker, fetch, inode_block, Spent, size, with_contents, most_recorded, IsSpent, World, put_grown, Carry, below, Labels, labelled, Keeps, put_named, IsChanging, HasSpent}
 use Rattle.fs_machine.specs.InMemory.{IndexState}
 use Rattle.inode_machine.specs.World as above
@@ -30,7 +31,7 @@ module _ (sizes : Super) (l : Labels) (laws : Laws (labelled l)) (keeps : Keeps 
   abbrev M : Machine
   M = joined (labelled l) (below sizes)
 
-  module _ (op : above.Op) (m : above.Answer op → Option above.Mark) (c : Carry) (asks : (g : above.World) → rules.May h op g → IsChanging h n g × ((g.desks h).lender ≡ None))
+  module _ (op : above.Op) (m : above.Answer op → Option above.Mark) (c : Carry) (asks : (g : above.World) → one.May h op g → IsChanging h n g × ((g.desks h).lender ≡ None))
       (B : List l.Step → Type 0) (C : above.Answer op → List l.Step → above.World → Type 0) (lasts : Lasts (labelled l) h B C)
       (o : Option Node) (s : Spent) (named : IsSpent sizes s (inode_block sizes.inodestart n)) (most : ℕ) (room : size s + most ≤ most_recorded) where
     abbrev pub Ends : Handover (above.Answer op) Carry → List l.Step → W → Type 0
@@ -38,7 +39,7 @@ module _ (sizes : Super) (l : Labels) (laws : Laws (labelled l)) (keeps : Keeps 
 
     -- the record d that the program has, of size `was`, goes back with what was written up to an offset; it is laid out so for node x
     pub s-grown : (outside : above.Outside) (answer : above.Answer op) (x : Node) (index : IndexState) (right : IsIndexOf index (Some x)) (was z upto : ℕ) (d : Dinode) (bs : List ℕ) → ((v : W) → rules.Honest h op v.seen outside)
-        → ((g : above.World) → rules.May h op g → g.disk n ≡ o → above_exec.exec h outside op g ≡ Ran answer (above_exec.with_record g n (Some x)))
+        → ((g : above.World) → one.May h op g → g.disk n ≡ o → one.exec h outside op g ≡ Ran answer (above_exec.with_record g n (Some x)))
         → Fits was d → max was upto ≡ z → z < 2 ^ 32 → length bs ≤ most → (es : List l.Step) (w : W)
         → Between sizes h n (ToAct (labelled l) (below sizes) laws (below_laws sizes l keeps) h B op m C lasts es) c o (sized z d) x (HasBlocks sizes h s bs) w
         → Wp M h B Ends (put_grown op outside m answer sizes n c index (record { inode = d; upto = upto })) 3 es w

@@ -1,4 +1,5 @@
 -- A transaction is joined for the inode that a descriptor names, in one step, where that may be written.
+use Rattle.inode_machine.specs.VersionOne as one
 use Rattle.inodes_on_blocks.proofs.Vocabulary.{◌≡◌, ℕ, ◌<◌, Bool, true, false, length, Option, Some, None, refl, sym, ◌∙◌, ap, subst, option_map, same_Some, joined_count as joined, limit_of, join_waits, hart_count, Cause, Ran, Laws, Both, Refused, file_named, refusal_of, join_if, IsWholeLog, After, keeps_whole, Entry, JoinResult, NotJoined, Joined, JoinFile, write_refused, join_at, Inv, loaded, file_of, refused_as, World, log_of, tables_of, came_to, Shows, Carry, Base, Labels, labelled, Keeps, cause_of, joining_to, join_file, ActsOnce}
 use Rattle.plain_tree.specs.declared.answer.Cause.TheVariants as causes
 use Rattle.fs_machine.specs.declared.files.OpenFile.{OpenFile}
@@ -9,7 +10,6 @@ use Rattle.fs_machine.specs.Premises as premises
 use Rattle.inode_machine.specs.World as above
 use Rattle.inode_machine.specs.Exec as above_exec
 use Rattle.inode_machine.specs.Exec.{entry_of}
-use Rattle.inode_machine.specs.Rules as rules
 use Rattle.inodes_on_blocks.proofs.Basics.{descriptors_name_files, Came, CameTo, one_step}
 use Rattle.inodes_on_blocks.proofs.JoinSteps.{alone, join_came}
 use Rattle.inodes_on_blocks.proofs.SlotSteps.{all_same, came_quiet, runs_here, same_back}
@@ -18,20 +18,20 @@ module _ (l : Labels) (laws : Laws (labelled l)) (keeps : Keeps l) (h : ℕ) (lt
   abbrev W : Type 0
   W = Both World above.World
 
-  module _ (fd : ℕ) (v : W) (c : Carry) (shows : Shows v.real v.seen) (base : Base h v.real v.seen c) (may : rules.May h (JoinFile fd) v.seen) where
+  module _ (fd : ℕ) (v : W) (c : Carry) (shows : Shows v.real v.seen) (base : Base h v.real v.seen c) (may : one.May h (JoinFile fd) v.seen) where
     abbrev Waiting : Bool
     Waiting = join_waits (log_of v.real).phase (length (log_of v.real).group) (joined (log_of v.real).members) (limit_of (log_of v.real).sizes)
 
     abbrev Leads : Option OpenFile → Option Refused → Type 0
     Leads f why = CameTo l laws keeps h (JoinFile fd) v (Waiting ≡ true) (came_to h (steps.JoinToWrite fd) v.real (steps.join_unless h v.real.state f why)) joining_to (λ a. c)
 
-    refused : (why : Refused) (k : Cause) → cause_of why ≡ k → above_exec.exec h above.Room (JoinFile fd) v.seen ≡ Ran (NotJoined k) v.seen → Came l laws keeps h (JoinFile fd) v (NotJoined (cause_of why)) v.real c
+    refused : (why : Refused) (k : Cause) → cause_of why ≡ k → one.exec h above.Room (JoinFile fd) v.seen ≡ Ran (NotJoined k) v.seen → Came l laws keeps h (JoinFile fd) v (NotJoined (cause_of why)) v.real c
     refused why k e ran = came_quiet l laws keeps h lt (JoinFile fd) v (NotJoined (cause_of why)) (tables_of v.real) v.seen c shows base may.0 (ran ∙ ap (λ (z : Cause). Ran (NotJoined z) v.seen) (sym e)) shows.tables (all_same h v.seen)
 
     abbrev LeadsOn : Entry → Bool → Type 0
     LeadsOn e b = CameTo l laws keeps h (JoinFile fd) v (Waiting ≡ true) (came_to h (steps.JoinToWrite fd) v.real (steps.joins (file_of e) (steps.in_log v.real.state (join_if h (log_of v.real) b)))) joining_to (λ a. c)
 
-    goes_on : (e : Entry) → above_exec.exec h above.Room (JoinFile fd) v.seen ≡ Ran (Joined e.file.number) (above_exec.with_joined v.seen h true) → (b : Bool) → Waiting ≡ b
+    goes_on : (e : Entry) → one.exec h above.Room (JoinFile fd) v.seen ≡ Ran (Joined e.file.number) (above_exec.with_joined v.seen h true) → (b : Bool) → Waiting ≡ b
         → After (λ t. IsWholeLog t.log) (steps.in_log v.real.state (join_if h (log_of v.real) b)) → LeadsOn e b
     goes_on e ran true is whole = is
     goes_on e ran false is whole = join_came l laws keeps h lt (JoinFile fd) (Joined e.file.number) v c ran shows base may.0 may.1.0 whole
@@ -55,7 +55,7 @@ module _ (l : Labels) (laws : Laws (labelled l)) (keeps : Keeps l) (h : ℕ) (lt
       one_step l laws keeps h (JoinFile fd) m (λ c. steps.JoinToWrite fd) (λ c. joining_to) (λ c a. c) (λ v. tt)
       (λ v c shows inv base may. ((lt, alone l laws keeps h lt v shows may.1.1), λ x t. by v c shows inv base may (keeps_whole h x steps.Join v.real.state shows.whole (lt, alone l laws keeps h lt v shows may.1.1) tt)))
     where
-      by : (v : W) (c : Carry) → Shows v.real v.seen → Inv v.seen → Base h v.real v.seen c → rules.May h (JoinFile fd) v.seen
+      by : (v : W) (c : Carry) → Shows v.real v.seen → Inv v.seen → Base h v.real v.seen c → one.May h (JoinFile fd) v.seen
           → After (λ t. IsWholeLog t.log) (steps.in_log v.real.state (join_if h (log_of v.real) (join_waits (log_of v.real).phase (length (log_of v.real).group) (joined (log_of v.real).members) (limit_of (log_of v.real).sizes))))
           → CameTo l laws keeps h (JoinFile fd) v (join_waits (log_of v.real).phase (length (log_of v.real).group) (joined (log_of v.real).members) (limit_of (log_of v.real).sizes) ≡ true)
           (came_to h (steps.JoinToWrite fd) v.real (steps.join_unless h v.real.state (file_named h fd (tables_of v.real)) (refusal_of want.Write (file_named h fd (tables_of v.real))))) joining_to (λ a. c)

@@ -1,11 +1,11 @@
 -- A transaction is joined in one step, which may wait below.
 use Rattle.inodes_on_blocks.proofs.Vocabulary.{◌≡◌, inl, inr, ℕ, ◌<◌, Bool, true, false, length, get_or, get_or-set_other, is_some, Option, Some, None, refl, sym, ◌∙◌, ap, subst, if◌then◌else◌, slice_get, slice_set, slice_get-get_or, slice_get-set_other, put, hart_count, same_or, put_same, put_other, joined_count as joined, limit_of, join_waits, Ran, Laws, Both, join_if, IsWholeLog, After, keeps_whole, Desk, Join, LocksNone, loaded, is_joined, Ghost, AreOnBlocks, World, log_of, tables_of, disk_of, came_to, Shows, if_joined, ghost_of, on_blocks, Carry, Base, Labels, labelled, Keeps, join, ActsOnce}
 use Rattle.std.proofs.lemmas.List.{get_or-set_same}
+use Rattle.inode_machine.specs.VersionOne as one
 use Rattle.fs_machine.specs.Steps as steps
 use Rattle.fs_machine.specs.Premises as premises
 use Rattle.inode_machine.specs.World as above
 use Rattle.inode_machine.specs.Exec as above_exec
-use Rattle.inode_machine.specs.Rules as rules
 use Rattle.inodes_on_blocks.proofs.Basics.{part_same, join_keeps, still_joined, untouched_same, Came, CameTo, one_step}
 use Rattle.inodes_on_blocks.proofs.LeaveSteps.{tables_desk}
 
@@ -56,7 +56,7 @@ module _ (l : Labels) (laws : Laws (labelled l)) (keeps : Keeps l) (h : ℕ) (lt
       ghost = λ z. record { nodes = on_blocks v.real.new v.seen.disk; owner = v.real.owner; left = v.real.left; changing = λ i. change (v.seen.lock i) (none i) z }
 
   -- an operation that joins, and has this answer
-  pub join_came : (op : above.Op) (a : above.Answer op) (v : W) (c : Carry) → above_exec.exec h above.Room op v.seen ≡ Ran a (above_exec.with_joined v.seen h true) → Shows v.real v.seen → Base h v.real v.seen c
+  pub join_came : (op : above.Op) (a : above.Answer op) (v : W) (c : Carry) → one.exec h above.Room op v.seen ≡ Ran a (above_exec.with_joined v.seen h true) → Shows v.real v.seen → Base h v.real v.seen c
       → (v.seen.desks h).lender ≡ None → LocksNone h v.seen → IsWholeLog (log_of (with_member v.real)) → Came l laws keeps h op v a (with_member v.real) c
   join_came op a v c ran shows base free none whole = record {
     then_ = above_exec.with_joined v.seen h true;
@@ -89,7 +89,7 @@ module _ (l : Labels) (laws : Laws (labelled l)) (keeps : Keeps l) (h : ℕ) (lt
       one_step l laws keeps h Join m (λ c. steps.Join) (λ c a. a) (λ c a. c) (λ v. tt)
       (λ v c shows inv base may. ((lt, alone v shows may.1.1), λ x t. by v c shows base may (join_waits (log_of v.real).phase (length (log_of v.real).group) (joined (log_of v.real).members) (limit_of (log_of v.real).sizes)) refl (keeps_whole h x steps.Join v.real.state shows.whole (lt, alone v shows may.1.1) tt)))
     where
-      by : (v : W) (c : Carry) → Shows v.real v.seen → Base h v.real v.seen c → rules.May h Join v.seen → (b : Bool) → join_waits (log_of v.real).phase (length (log_of v.real).group) (joined (log_of v.real).members) (limit_of (log_of v.real).sizes) ≡ b
+      by : (v : W) (c : Carry) → Shows v.real v.seen → Base h v.real v.seen c → one.May h Join v.seen → (b : Bool) → join_waits (log_of v.real).phase (length (log_of v.real).group) (joined (log_of v.real).members) (limit_of (log_of v.real).sizes) ≡ b
           → After (λ t. IsWholeLog t.log) (steps.in_log v.real.state (join_if h (log_of v.real) b))
           → CameTo l laws keeps h Join v (join_waits (log_of v.real).phase (length (log_of v.real).group) (joined (log_of v.real).members) (limit_of (log_of v.real).sizes) ≡ true) (came_to h steps.Join v.real (steps.in_log v.real.state (join_if h (log_of v.real) b))) (λ a. a) (λ a. c)
       by v c shows base may true e whole = e

@@ -1,12 +1,12 @@
 -- A transaction is left in one step, and the writes of the commit that begins with it follow in silence.
 use Rattle.inodes_on_blocks.proofs.Vocabulary.{◌≡◌, ◌≢◌, inl, inr, ℕ, zero, suc, ◌+◌, ◌-◌, ◌<◌, ◌≤◌, ◌==◌, Bool, true, false, List, [], ◌∷◌, Option, Some, None, length, get_or-set_other, is_some, refl, sym, ◌∙◌, ap, subst, arith, if◌then◌else◌, slice_set, eqb-true, eqb-false, slice_get-set_other, Super, IsOutsideLog, is_held_by, AfterLeave, Commits, Phase, Open, Staging, Installing, Halted, joined_count, IsMember, IsUnderWay, next_phase, group_in, phase_at_leave, turn_is_out, seats_after, seats_at_fault, left_at, pick, under_way, put, hart_count, same_or, put_same, put_other, Ret, bind, ExecResult, Ran, Machine, Laws, P, Wp, Both, joined, Below, Lasts, Handover, holding, Silent, s-silent, Acting, s-act, acted, TablesState, lock_holder, LogPart, Outside, Passes, Fails, written, commit_if, is_open, failed, commits, commit_unless, after_leave, own_of, seen_of, Commit, IsWholeLog, After, keeps_whole, leaves_own, SameFor, same_after, shows_its_puts, Desk, Leave, is_at, marked, Inv, LocksNone, more, if_kept, is_hart, loaded, descriptor, first, lent_by, place_with, is_joined, Ghost, AreOnBlocks, World, log_of, tables_of, came_to, exec, Shows, CommitShows, if_joined, ghost_of, on_blocks, Same, Kept, Carry, Base, Stands, commit_in, below, Labels, labelled, Keeps, leave, ActsOnce, Loaded}
 use Rattle.std.proofs.lemmas.List.{get_or-set_same}
+use Rattle.inode_machine.specs.VersionOne as one
 use Rattle.buffer_cache.specs.Lists.{count_of}
 use Rattle.group_log.specs.declared.log.AfterLeave.TheVariants.{Free}
 use Rattle.fs_machine.specs.Steps as steps
 use Rattle.fs_machine.specs.Premises as premises
 use Rattle.inode_machine.specs.World as above
-use Rattle.inode_machine.specs.Rules as rules
 use Rattle.inode_machine.specs.Rules.{Own}
 use Rattle.inodes_on_blocks.specs.ShownTables as tables
 use Rattle.inodes_on_blocks.proofs.Basics.{part_same, taken_same, lenders_set, is_member, nobody_commits, commit_other, with_log, written_to, LeavesSeen, written_shows, written_same, below_laws, held_back, kept_alike, hart_is, is_here, marked_same, shows_marked, leave_keeps}
@@ -365,7 +365,7 @@ module _ (l : Labels) (laws : Laws (labelled l)) (keeps : Keeps l) (h : ℕ) (lt
     }
 
   module _ (sizes : Super) (B : List l.Step → Type 0) (C : Unit {0} → List l.Step → above.World → Type 0) (m : Unit {0} → Option above.Mark) (lasts : Lasts (labelled l) h B C) (c : Carry) where
-    module _ (v : Both World above.World) (shows : Shows v.real v.seen) (may : rules.May h Leave v.seen) (stands : Stands sizes h v.real v.seen c) (whole : IsWholeLog (left_log (log_of v.real))) where
+    module _ (v : Both World above.World) (shows : Shows v.real v.seen) (may : one.May h Leave v.seen) (stands : Stands sizes h v.real v.seen c) (whole : IsWholeLog (left_log (log_of v.real))) where
       abbrev kept_log : LogPart
       kept_log = log_of v.real
 

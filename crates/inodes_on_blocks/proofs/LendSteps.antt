@@ -1,12 +1,11 @@
 -- What a hart hands on to the child that it serves, and the child let go, each at its one step.
+use Rattle.inode_machine.specs.VersionOne as one
 use Rattle.inodes_on_blocks.proofs.Vocabulary.{◌≡◌, ◌≢◌, inl, inr, ℕ, ◌+◌, ◌<◌, ◌≤◌, nat_lt, Bool, true, false, Option, Some, None, refl, sym, ◌∙◌, ap, subst, arith, nat_tests, none-some, same_Some, put, hart_count, descriptor_count, largest_size, same_or, put_other, put_same, ExecResult, Waits, Ran, Laws, Both, Given, next_full, give_next, descriptors_of, Desk, LoanResult, Lent, Moved, Entry, Lend, LendDirectory, Release, next_used, with_lent, handed, moved_in, lend_last, lend_if, released, serving, more_users, slot_or, Inv, Serves, one_refs, next_is, next_past, loaded, descriptor, first, lent_by, given_as, World, tables_of, Shows, Labels, labelled, Keeps, lent_to, old_directory, lend, lend_directory, release, ActsOnce}
 use Rattle.fs_machine.specs.declared.desk.Desk as cards
 use Rattle.fs_machine.specs.declared.slots.Given.TheVariants as given
 use Rattle.fs_machine.specs.Steps as steps
 use Rattle.fs_machine.specs.Premises as premises
 use Rattle.inode_machine.specs.World as above
-use Rattle.inode_machine.specs.Exec as above_exec
-use Rattle.inode_machine.specs.Rules as rules
 use Rattle.inode_machine.specs.Rules.{Has}
 use Rattle.inodes_on_blocks.proofs.Basics.{part_same, CameTo, one_step, open_alike, open_put, open_twice}
 use Rattle.inodes_on_blocks.proofs.Gives.{next_full_is, descriptors_are_given, directories_are_given, children_are_released}
@@ -190,13 +189,13 @@ module _ (l : Labels) (laws : Laws (labelled l)) (keeps : Keeps l) (h : ℕ) (lt
         may_give child descriptor_count v shows inv may.0 may.1.0 (omega arith) (λ i low below. absurd (omega (arith, low, below))),
         λ x t.
             subst (λ (d : ExecResult Given World). CameTo l laws keeps h (LendDirectory child) v ⊥ d old_directory (λ a. c)) (sym (in_tables_is h (steps.GiveDescriptor child descriptor_count) v.real (λ a o. refl) (λ s. refl) (λ a l. refl) (give_next h child descriptor_count (tables_of v.real))))
-            (from_both l laws keeps h lt (LendDirectory child) v ⊥ old_directory (λ a b. a ≡ given.Directory b) c (give_next h child descriptor_count (tables_of v.real)) (above_exec.exec h above.Room (LendDirectory child) v.seen) refl
+            (from_both l laws keeps h lt (LendDirectory child) v ⊥ old_directory (λ a b. a ≡ given.Directory b) c (give_next h child descriptor_count (tables_of v.real)) (one.exec h above.Room (LendDirectory child) v.seen) refl
             (directories_are_given h child (tables_of v.real) v.seen (loaded (tables_of v.real)) shows.tables inv (runs_here l laws keeps h lt v may.0) may.1)
             (λ e. no_wait _ _ e) (λ a b e. ap old_directory e) (λ b u e. ran_same h v.seen (moved_in v.seen h child) u (v.seen.desks child).directory b e (moved_same h child v.seen inv lt)) shows base may.0),
       ))
 
   -- from here on the child has none, of its own or on its way
-  child_none : (child from : ℕ) (w : above.World) → Inv w → rules.Asks h (Lend child from) w → (i : ℕ) → from ≤ i → i < descriptor_count → descriptor w.desks child i ≡ None
+  child_none : (child from : ℕ) (w : above.World) → Inv w → one.Asks h (Lend child from) w → (i : ℕ) → from ≤ i → i < descriptor_count → descriptor w.desks child i ≡ None
   child_none child from w inv asks i low below =
       let has = subst (λ (z : Option ℕ). Has z (w.desks child).fds (w.all.cwd child) (w.desks child).directory (w.desks h).directory) asks.1 (inv.lent child h asks.0.0 asks.0.1).has in
       (λ z. first (has.0 i below z) (lent_by w.desks (asks.0.1 z) i)) ∙ asks.2 i low below
@@ -210,7 +209,7 @@ module _ (l : Labels) (laws : Laws (labelled l)) (keeps : Keeps l) (h : ℕ) (lt
         may_give child from v shows inv may.0 may.1.0 le (child_none child from v.seen inv may.1),
         λ x t.
             subst (λ (d : ExecResult Given World). CameTo l laws keeps h (Lend child from) v ⊥ d lent_to (λ a. c)) (sym (in_tables_is h (steps.GiveDescriptor child from) v.real (λ a o. refl) (λ s. refl) (λ a l. refl) (give_next h child from (tables_of v.real))))
-            (from_both l laws keeps h lt (Lend child from) v ⊥ lent_to (λ a b. a ≡ given_as b) c (give_next h child from (tables_of v.real)) (above_exec.exec h above.Room (Lend child from) v.seen) refl
+            (from_both l laws keeps h lt (Lend child from) v ⊥ lent_to (λ a b. a ≡ given_as b) c (give_next h child from (tables_of v.real)) (one.exec h above.Room (Lend child from) v.seen) refl
             (descriptors_are_given h child from (tables_of v.real) v.seen (loaded (tables_of v.real)) shows.tables inv (runs_here l laws keeps h lt v may.0) may.1 le)
             (lend_runs h child v.seen (next_used from (v.seen.desks h).fds)) (λ a b e. ap lent_to e ∙ lent_back b) (λ b u e. lend_same h child v.seen (next_used from (v.seen.desks h).fds) b u inv lt (child_apart h child v.seen may.0 may.1.0.1) e) shows base may.0),
       ))

@@ -1,4 +1,5 @@
 -- The lock of an open file's inode, taken by its descriptor, acts where it is had.
+use Rattle.inode_machine.specs.VersionOne as one
 use Rattle.inodes_on_blocks.proofs.Vocabulary.{◌≡◌, ◌≢◌, ℕ, ◌<◌, ◌^◌, Bool, true, false, List, Option, Some, None, refl, sym, ◌∙◌, ap, subst, arith, option_map, MatchOption, none-some, same_Some, Super, Cause, BadDescriptor, put, hart_count, put_same, bind, ExecResult, Waits, Ran, exec_result_in, Laws, Wp, Both, joined, Below, Lasts, Acting, acted, s-act, TablesState, file_named, lock_holder, LockedState, Refuses, Locks, lock_file as lock_named, lock_unless, lock_inode, with_file as with_locked, Outside, lock_opened, with_open, MayLockFile, IsElsewhere, InodeType, OfDirectory, OfFile, OfDevice, Entry, LockResult, NotLocked, LocksIt, LockOpen, entry_at, slot_at, lock_at, lock_if, locked, mode_refusal, offset_of, read_refused, Inv, loaded, file_of, refused_as, World, tables_of, exec, Shows, Opened, NothingMore, Has, Carry, HasOpen, Stands, below, Labels, labelled, Keeps, cause_of, ActsOnceAt, file_locked, open_locked, lock_open, load_unless, Loaded}
 use Rattle.fs_machine.specs.declared.files.Want.TheVariants as want
 use Rattle.fs_machine.specs.declared.files.OpenFile as files
@@ -7,7 +8,6 @@ use Rattle.fs_machine.specs.Premises as premises
 use Rattle.inode_machine.specs.World as above
 use Rattle.inode_machine.specs.World.Op.{LockFile}
 use Rattle.inode_machine.specs.Exec.{entry_of}
-use Rattle.inode_machine.specs.Rules as rules
 use Rattle.inodes_on_blocks.specs.ShownTables as tables
 use Rattle.inodes_on_blocks.proofs.Basics.{by_lock, place_there, names_at, file_is, descriptors_name_files, below_laws, s-load, SameCode, open_alike, open_kept, open_then, with_tables}
 use Rattle.inodes_on_blocks.specs.Files.{with_file, lock_file}
@@ -104,7 +104,7 @@ module _ (l : Labels) (laws : Laws (labelled l)) (keeps : Keeps l) (h : ℕ) (lt
         may_be v None shows inv free is none = subst (λ (z : Option files.OpenFile). MayLockFile h z (tables_of v.real)) (sym (named v None shows inv free is)) tt
         may_be v (Some e) shows inv free is none = subst (λ (z : Option files.OpenFile). MayLockFile h z (tables_of v.real)) (sym (named v (Some e) shows inv free is)) (may_lock v e shows inv is none)
 
-        by : (v : W) → Shows v.real v.seen → Inv v.seen → Stands sizes h v.real v.seen c → rules.May h (LockFile fd) v.seen → (o : Option Entry) → entry_of v.seen h fd ≡ o → (r : Option Cause) → read_refused (entry_of v.seen h fd) ≡ r
+        by : (v : W) → Shows v.real v.seen → Inv v.seen → Stands sizes h v.real v.seen c → one.May h (LockFile fd) v.seen → (o : Option Entry) → entry_of v.seen h fd ≡ o → (r : Option Cause) → read_refused (entry_of v.seen h fd) ≡ r
             → premises.May h (steps.LockFile want.Read fd) v.real.state × ((x : Outside) → premises.Honest h (steps.LockFile want.Read fd) v.real.state x → IsActing v (exec h x (steps.LockFile want.Read fd) v.real))
         by v shows inv stands_v may o is (Some why) r =
             let t = tables_of v.real in
@@ -163,7 +163,7 @@ module _ (l : Labels) (laws : Laws (labelled l)) (keeps : Keeps l) (h : ℕ) (lt
         on_tables v x d is acting =
             subst (λ (z : ExecResult A World). IsActing v z) (sym (in_tables_is h (steps.LockOpen fd) v.real (λ a o. refl) (λ s. refl) (λ a l. refl) (lock_opened h (tables_of v.real) (file_named h fd (tables_of v.real))) ∙ ap (exec_result_in (with_tables v.real)) is)) acting
 
-        by : (v : W) → Shows v.real v.seen → Inv v.seen → Stands sizes h v.real v.seen c → rules.May h (LockOpen fd n) v.seen → (e : Entry) → entry_of v.seen h fd ≡ Some e → e.file.number ≡ n
+        by : (v : W) → Shows v.real v.seen → Inv v.seen → Stands sizes h v.real v.seen c → one.May h (LockOpen fd n) v.seen → (e : Entry) → entry_of v.seen h fd ≡ Some e → e.file.number ≡ n
             → premises.May h (steps.LockOpen fd) v.real.state × ((x : Outside) → premises.Honest h (steps.LockOpen fd) v.real.state x → IsActing v (exec h x (steps.LockOpen fd) v.real))
         by v shows inv stands_v may e is number =
             let t = tables_of v.real in

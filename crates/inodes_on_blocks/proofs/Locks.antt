@@ -3,7 +3,7 @@ use Rattle.inodes_on_blocks.proofs.Vocabulary.{◌≡◌, ◌≢◌, ℕ, ◌<�
 use Rattle.sleep_lock.specs.SleepLock.{guard_of}
 use Rattle.fs_machine.proofs.Places.{Found}
 use Rattle.fs_machine.proofs.Locking.{slot_at}
-use Rattle.inode_machine.specs.Inodes.{seen_in}
+use Rattle.inode_machine.specs.VersionOne.{seen_in}
 use Rattle.inode_machine.specs.World.{World}
 use Rattle.inodes_on_blocks.specs.ShownTables.{Shows}
 use Rattle.inodes_on_blocks.proofs.Places.{locks_set}

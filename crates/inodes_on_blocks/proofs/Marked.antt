@@ -1,4 +1,5 @@
 -- What an operation above is marked with changes nothing that the machine below shows.
+use Rattle.inode_machine.specs.VersionOne as one
 use Rattle.inodes_on_blocks.proofs.Vocabulary.{inl, inr, ◌≡◌, ℕ, ◌<◌, Bool, true, false, List, [], ◌∷◌, Option, Some, None, refl, sym, ◌∙◌, ap, subst, if◌then◌else◌, Cause, Node, Action, OpenStep as Open, Truncate, ReadStep as Read, WritePart, Find, Bump, EnterStep as Enter, Unbump, Unlink, Mkdir, Chdir, Dup, Close, Fstat, Inherit, Hold, OpenFile, Name, Tree, put, look, elements, resolve, parent, creates, has_room, lowest, file_at, effect_with, effect_by, refusal, refusal_with, path_of, hart_count, any_same, either, Walk, Move, Begin, Look, GiveUpWalk, OwnMove as Own, Desk, Mark, Makes, Frees, Orphans, Fills, Mends, Spoils, type_of, is_at, is_dead, put_elim, marked, made_by, with_made, with_opened, with_noted, with_left, spoiled, act_all, new_id, unheld, unmoved, unopened, TablesState, descriptor, first, lent_by, place_with, loaded, Ghost, AreOnBlocks, log_of, tables_of, Shows, if_joined, ghost_of, on_blocks, Loaded, IsIndexOf}
 use Rattle.plain_tree.specs.Steps as plain
 use Rattle.inode_machine.specs.World.{World}
@@ -91,14 +92,14 @@ act_size : (k : Option Cause) (b : Tree) (h : ℕ) (s : Action) (res : Option �
 act_size (Some k) b h s res par new id = refl
 act_size None b h s res par new id = effect_size b h s res par new id
 
-acts_size : (b : Tree) (h : ℕ) (s : Action) (res : Option ℕ) (par : Option (ℕ × Name)) (new id : ℕ) → (marks.acts b h s res par new id).all.ninodes ≡ b.ninodes
+acts_size : (b : Tree) (h : ℕ) (s : Action) (res : Option ℕ) (par : Option (ℕ × Name)) (new id : ℕ) → (one.acts b h s res par new id).all.ninodes ≡ b.ninodes
 acts_size b h s res par new id = act_size (refusal_with b h s res par) b h s res par new id
 
-begun_size : (b : Tree) (h : ℕ) (s : Action) (es : List Name) (new id : ℕ) → (marks.begun b h s es new id).all.ninodes ≡ b.ninodes
+begun_size : (b : Tree) (h : ℕ) (s : Action) (es : List Name) (new id : ℕ) → (one.begun b h s es new id).all.ninodes ≡ b.ninodes
 begun_size b h s [] new id = acts_size b h s _ None new id
 begun_size b h s (e ∷ es) new id = refl
 
-looked_size : (b : Tree) (h : ℕ) (k : Walk) (es : List Name) (r : Option ℕ) (new id : ℕ) → (marks.looked b h k es r new id).all.ninodes ≡ b.ninodes
+looked_size : (b : Tree) (h : ℕ) (k : Walk) (es : List Name) (r : Option ℕ) (new id : ℕ) → (one.looked b h k es r new id).all.ninodes ≡ b.ninodes
 looked_size b h k [] r new id = acts_size b h k.step r (Some (k.at, k.next)) new id
 looked_size b h k (e ∷ es) None new id = acts_size b h k.step None None new id
 looked_size b h k (e ∷ es) (Some n) new id = refl
@@ -129,7 +130,7 @@ made_by_size b h id k (Begin s new) = begun_size b h s (elements (path_of s)) ne
 made_by_size b h id None (Look new) = refl
 made_by_size b h id (Some k) (Look new) = looked_size b h k k.rest (look b.nodes k.at k.next) new id
 made_by_size b h id k (GiveUpWalk s) = refl
-made_by_size b h id k (Own s new) = own_size (refusal b h s) b h s (marks.acts b h s (resolve b h (path_of s)) (parent b h (path_of s)) new id) (acts_size b h s (resolve b h (path_of s)) (parent b h (path_of s)) new id)
+made_by_size b h id k (Own s new) = own_size (refusal b h s) b h s (one.acts b h s (resolve b h (path_of s)) (parent b h (path_of s)) new id) (acts_size b h s (resolve b h (path_of s)) (parent b h (path_of s)) new id)
 
 unopened_size : (t : Tree) (h : ℕ) (o : Option ℕ) → (unopened t h o).ninodes ≡ t.ninodes
 unopened_size t h None = refl

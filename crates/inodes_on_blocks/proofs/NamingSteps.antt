@@ -1,4 +1,5 @@
 -- An operation that puts the record of an inode that the hart was changing acts at the put.
+use Rattle.inode_machine.specs.VersionOne as one
 use Rattle.inodes_on_blocks.proofs.Vocabulary.{◌≡◌, ◌≢◌, ℕ, suc, ◌<◌, false, List, length, Option, Some, None, is_some, sym, ◌∙◌, ap, subst, arith, Super, Dinode, IsDinode, IsOutsideLog, holder_of, kept, has, HasRoom, Node, put, hart_count, Ret, bind, Ran, Laws, Machine, Wp, Both, joined, Below, Lasts, Handover, Wp-weaker, Here, ToAct, to_act, may_act, Acting, s-act, Outside, fetch, seen_of, Put, inode_block, with_dinode, marked, with_mark, Inv, World, log_of, exec, KeepsRoom, world_with, in_hand, IsFetched, NothingMore, Has, Carry, below, Labels, labelled, Keeps, put_named, CanPut, IsChanging, owners_with, GivesRoom, Shows, block_len}
 use Rattle.fs_machine.specs.Steps as steps
 use Rattle.fs_machine.specs.Premises as premises
@@ -24,8 +25,8 @@ module _ (sizes : Super) (l : Labels) (laws : Laws (labelled l)) (keeps : Keeps 
   at r = inode_block (log_of r).sizes.inodestart n
 
   module _ (op : above.Op) (outside : above.Outside) (m : above.Answer op → Option above.Mark) (answer : above.Answer op) (c : Carry) (o : Option Node) (d : Dinode) (x : Node) (index : IndexState) (right : IsIndexOf index (Some x)) (fits : IsDinode d)
-      (honest : (v : W) → rules.Honest h op v.seen outside) (asks : (g : above.World) → rules.May h op g → IsChanging h n g × ((g.desks h).lender ≡ None))
-      (ran : (g : above.World) → rules.May h op g → g.disk n ≡ o → above_exec.exec h outside op g ≡ Ran answer (above_exec.with_record g n (Some x)))
+      (honest : (v : W) → rules.Honest h op v.seen outside) (asks : (g : above.World) → one.May h op g → IsChanging h n g × ((g.desks h).lender ≡ None))
+      (ran : (g : above.World) → one.May h op g → g.disk n ≡ o → one.exec h outside op g ≡ Ran answer (above_exec.with_record g n (Some x)))
       (Knows Then : World → Type 0) (room : KeepsRoom h (inode_block sizes.inodestart n) Knows Then)
       (B : List l.Step → Type 0) (C : above.Answer op → List l.Step → above.World → Type 0) (lasts : Lasts (labelled l) h B C) where
     abbrev b : ℕ
@@ -50,7 +51,7 @@ module _ (sizes : Super) (l : Labels) (laws : Laws (labelled l)) (keeps : Keeps 
         (λ a z u g. (gs : List l.Step) → Inv g → C z gs g → Wp M h B Q (Ret (record { answer = answer; carry = put c n (Has loads NothingMore) })) 0 gs (record { real = u; seen = g })))
 
     -- the put, where the buffer is in hand
-    acts_there : (v : W) → Shows v.real v.seen → rules.May h op v.seen → IsChanged v → in_hand h v.real ≡ 1 → CanPut h (at v.real) (with_record n d v.real) (log_of v.real) → (log_of v.real).sizes ≡ sizes → Then (world_with h (at v.real) (with_record n d v.real) v.real) → Acts v (at v.real) (with_record n d v.real)
+    acts_there : (v : W) → Shows v.real v.seen → one.May h op v.seen → IsChanged v → in_hand h v.real ≡ 1 → CanPut h (at v.real) (with_record n d v.real) (log_of v.real) → (log_of v.real).sizes ≡ sizes → Then (world_with h (at v.real) (with_record n d v.real) v.real) → Acts v (at v.real) (with_record n d v.real)
     unfolding steps.exec premises.MayWait premises.Honest
     acts_there v shows may changing one can here spent =
         let r = v.real in
@@ -118,8 +119,8 @@ module _ (sizes : Super) (l : Labels) (laws : Laws (labelled l)) (keeps : Keeps 
 
   -- the same, where no more is asked of what was spent
   module _ (op : above.Op) (outside : above.Outside) (m : above.Answer op → Option above.Mark) (answer : above.Answer op) (c : Carry) (o : Option Node) (d : Dinode) (x : Node) (index : IndexState) (right : IsIndexOf index (Some x)) (fits : IsDinode d)
-      (honest : (v : W) → rules.Honest h op v.seen outside) (asks : (g : above.World) → rules.May h op g → IsChanging h n g × ((g.desks h).lender ≡ None))
-      (ran : (g : above.World) → rules.May h op g → g.disk n ≡ o → above_exec.exec h outside op g ≡ Ran answer (above_exec.with_record g n (Some x)))
+      (honest : (v : W) → rules.Honest h op v.seen outside) (asks : (g : above.World) → one.May h op g → IsChanging h n g × ((g.desks h).lender ≡ None))
+      (ran : (g : above.World) → one.May h op g → g.disk n ≡ o → one.exec h outside op g ≡ Ran answer (above_exec.with_record g n (Some x)))
       (Knows : World → Type 0) (gives : GivesRoom h (inode_block sizes.inodestart n) Knows)
       (B : List l.Step → Type 0) (C : above.Answer op → List l.Step → above.World → Type 0) (lasts : Lasts (labelled l) h B C) (es : List l.Step) (w : W) where
     pub naming_acts : ToAct (labelled l) (below sizes) laws (below_laws sizes l keeps) h B op m C lasts es w.seen → Shows w.real w.seen → Changing h n c o d x w.real w.seen → in_hand h w.real ≡ 0 → (log_of w.real).sizes ≡ sizes → Knows w.real

@@ -2,7 +2,7 @@
 use Rattle.inodes_on_blocks.proofs.Vocabulary.{◌≡◌, ◌≢◌, ⊎_elim, ℕ, ℤ, ◌+◌, ◌-◌, ◌*◌, ◌/◌, ◌<◌, ◌≤◌, Bool, cond, false, List, [], length, take, drop, Some, None, refl, sym, ◌∙◌, ap, subst, arith, cases_lt, lt-ltb, le-ltb, length-drop, none-some, Dinode, IsBytes, block_len, largest_size, is_free, content_block, blocks_for, numbers_of, block_number, HoldsAt, blocks_between, end_of, front, NoDriver, Node, Device, no_driver, seen_of, World, log_of, disk_of, inode_in, Shows, most_blocks}
 use Rattle.std.proofs.lemmas.List.{length-take}
 use Rattle.plain_tree.specs.VersionOne as tree
-use Rattle.inode_machine.specs.Exec.{part_of}
+use Rattle.inode_machine.specs.VersionOne.{part_of}
 use Rattle.inode_machine.specs.World as above
 use Rattle.inodes_on_blocks.proofs.Basics.{data_place, block_data, block_seen}
 use Rattle.inodes_on_blocks.proofs.ContentParts.{with_bytes, read_all, up_to}

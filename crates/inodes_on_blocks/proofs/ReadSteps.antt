@@ -1,12 +1,12 @@
 -- A part of a locked file is read, and the operation acts where the lock is given up and the offset moves.
+use Rattle.inode_machine.specs.VersionOne as one
 use Rattle.inodes_on_blocks.proofs.Vocabulary.{◌≡◌, ◌≢◌, ℕ, zero, suc, ◌+◌, ◌-◌, ◌/◌, ◌<◌, ◌≤◌, nat_lt, Bool, true, false, List, [], length, Option, Some, None, refl, sym, ◌∙◌, ap, subst, arith, if◌then◌else◌, option_map, unwrap_or, IfSome, none-some, same_Some, Dinode, Super, largest_size, HoldsAt, Node, put, hart_count, put_other, Ret, bind, Ran, Machine, Laws, Wp, Both, Handover, joined, Below, Lasts, Acting, ToAct, to_act, may_act, s-act, Wp-more, Inode, unlock_inode, TablesState, file_named, lock_holder, Outside, no_record, Direct, InTable, FilledMemory, blocks_between, end_of, fetch_at, next_block, read_blocks, read_from, read_part, Entry, ReadFile, entry_at, entry_moved, offset_of, read_at, slot_at, unlocked, with_offset, Inv, loaded, file_of, ActsOnceAt, World, log_of, tables_of, disk_of, inode_in, exec, give_read, read_file, Apart, Emptied, Has, Had, Carry, InHand, IsLoaded, Stands, below, Labels, labelled, Keeps, record_had, Shows, OffsetsShow, record_in, Loaded, unindexed, block_len, direct}
 use Rattle.fs_machine.specs.declared.files.OpenFile as files
 use Rattle.fs_machine.specs.Premises as premises
 use Rattle.fs_machine.specs.Steps as steps
 use Rattle.inode_machine.specs.World as above
-use Rattle.inode_machine.specs.Exec as above_exec
-use Rattle.inode_machine.specs.Exec.{entry_of, part_of}
-use Rattle.inode_machine.specs.Rules as rules
+use Rattle.inode_machine.specs.Exec.{entry_of}
+use Rattle.inode_machine.specs.VersionOne.{part_of}
 use Rattle.inodes_on_blocks.specs.ShownTables as tables
 use Rattle.inodes_on_blocks.proofs.Basics.{file_is, offsets_are_moved, kept_same, below_laws, kept_disk, OpenStays, TakesStep, s-here, with_tables}
 use Rattle.inodes_on_blocks.proofs.ContentParts.{with_bytes}
@@ -101,7 +101,7 @@ module _ (l : Labels) (laws : Laws (labelled l)) (keeps : Keeps l) (h : ℕ) (lt
           → Acting (labelled l) (below sizes) laws (below_laws sizes l keeps) h B op m C lasts above.Room u (premises.MayWait h (steps.Unlock inode (Some (fd, offset + length part))) u.real.state) (exec h x (steps.Unlock inode (Some (fd, offset + length part))) u.real)
           (λ a b r g. (gs : List l.Step) → Inv g → C b gs g → Wp M h B Q (Ret (record { answer = part; carry = put c n Apart })) 0 gs (record { real = r; seen = g })))
 
-      acts_there : (u : W) → Shows u.real u.seen → Inv u.seen → Stands sizes h u.real u.seen c → rules.May h op u.seen → part_of (u.seen.disk n) offset count ≡ part → (e : Entry) → entry_of u.seen h fd ≡ Some e → e.file.number ≡ n → e.file.offset ≡ offset
+      acts_there : (u : W) → Shows u.real u.seen → Inv u.seen → Stands sizes h u.real u.seen c → one.May h op u.seen → part_of (u.seen.disk n) offset count ≡ part → (e : Entry) → entry_of u.seen h fd ≡ Some e → e.file.number ≡ n → e.file.offset ≡ offset
           → (o : Option ℕ) → slot_at u.seen h fd ≡ o → Acts u
       unfolding steps.exec premises.May premises.MayWait premises.Honest
       acts_there u shows inv stands may read e is number at None slot = absurd (none-some e (sym (ap (entry_at u.seen.files) slot) ∙ is))
@@ -114,7 +114,7 @@ module _ (l : Labels) (laws : Laws (labelled l)) (keeps : Keeps l) (h : ℕ) (lt
           let far : e.file.offset + length part ≤ largest_size = subst (λ (k : ℕ). k + length part ≤ largest_size) (sym at) (short (subst (λ (k : ℕ). k ≤ largest_size) at bound)) in
           let name : file_named h fd t ≡ Some (file_of e) = file_is h fd t g (loaded t) shows.tables inv runs ∙ ap (option_map file_of) is in
           let then_ : above.World = with_offset (unlocked n g (g.alone n)) (slot_at g h fd) e (length part) in
-          let ran : above_exec.exec h above.Room op g ≡ Ran part then_ = ap (read_at g n count (slot_at g h fd)) is
+          let ran : one.exec h above.Room op g ≡ Ran part then_ = ap (read_at g n count (slot_at g h fd)) is
           ∙ ap (λ (xs : List ℕ). Ran xs (with_offset (unlocked n g (g.alone n)) (slot_at g h fd) e (length xs))) (ap (λ (k : ℕ). part_of (g.disk n) k count) at ∙ read) in
           let moved = offsets_are_moved h fd (length part) e inode t g (loaded t) shows.tables inv runs may.1.0 is in
           let after : tables.Shows (unlock_inode h inode (Some (fd, offset + length part)) t) then_ (put (loaded t) n (record_had (c n))) =
@@ -143,7 +143,7 @@ module _ (l : Labels) (laws : Laws (labelled l)) (keeps : Keeps l) (h : ℕ) (lt
     from : (v : W) (fs : List l.Step) → Todo fs v.seen → Shows v.real v.seen → Inv v.seen → Stands sizes h v.real v.seen c → Wp M h B Q (read_file fd n offset count c m) 1609 fs v
     from v fs todo shows inv stands = by (c n) refl (stands.0.inodes n mine)
       where
-        may : rules.May h op v.seen
+        may : one.May h op v.seen
         may = may_act (labelled l) (below sizes) laws (below_laws sizes l keeps) h B op m C lasts fs v.seen todo inv
 
         mine : lock_holder n (tables_of v.real) ≡ Some h

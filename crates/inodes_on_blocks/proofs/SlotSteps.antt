@@ -1,4 +1,5 @@
 -- The operations on descriptors and open files act at their one step.
+use Rattle.inode_machine.specs.VersionOne as one
 use Rattle.inodes_on_blocks.proofs.Vocabulary.{◌≡◌, inl, inr, ℕ, ◌<◌, ◌≤◌, ◌==◌, Bool, true, false, Option, Some, None, refl, sym, ◌∙◌, ap, subst, arith, ◌+◌, ◌-◌, ◌≢◌, IsSome, option_map, none-some, same_Some, Cause, OpenFile, put, lowest, has_room, hart_count, largest_size, ExecResult, Waits, Ran, Stops, exec_result_in, Laws, Both, Doubled, TablesState, file_named, refusal_of, take_place, open_file, double_descriptor, shut_descriptor, Entry, Install, CheckFile, Double, Shut, Say, slot_if, install_if, first_from, file_count, is_empty_slot, double_if, slot_at, close_at, close_if, mode_refusal, write_refused, entry_at, InodeType, OfDirectory, OfFile, OfDevice, loaded, new_file, Runs, BothCame, doubled_as, shut_as, refused_as, World, tables_of, came_to, commits_after, owners_of, owners_after, new_after, Shows, OffsetsShow, Carry, Base, Labels, labelled, Keeps, doubled_to, shut_to, cause_if, slot, install, double, close, check_file, say, ActsOnce, LogPart, lowest_free, renewed_same, Inv, same_or, put_same, put_other, IsIndexOf}
 use Rattle.fs_machine.specs.declared.files.Want.TheVariants as want
 use Rattle.fs_machine.specs.declared.slots.Shut as shuts
@@ -64,7 +65,7 @@ module _ (l : Labels) (laws : Laws (labelled l)) (keeps : Keeps l) (h : ℕ) (lt
   W = Both World above.World
 
   pub came_quiet : (op : above.Op) (v : W) (b : above.Answer op) (t : TablesState) (u : above.World) (c : Carry) → Shows v.real v.seen → Base h v.real v.seen c → (v.seen.desks h).lender ≡ None
-      → above_exec.exec h above.Room op v.seen ≡ Ran b u → tables.Shows t u (loaded (tables_of v.real)) → SameInodes h v.seen u → Came l laws keeps h op v b (with_tables v.real t) c
+      → one.exec h above.Room op v.seen ≡ Ran b u → tables.Shows t u (loaded (tables_of v.real)) → SameInodes h v.seen u → Came l laws keeps h op v b (with_tables v.real t) c
   came_quiet op v b t u c shows base free ran after s = record {
     then_ = u;
     ran = ran;
@@ -86,7 +87,7 @@ module _ (l : Labels) (laws : Laws (labelled l)) (keeps : Keeps l) (h : ℕ) (lt
 
   -- by what came of both
   pub from_both : (op : above.Op) {A : Type 0} (v : W) (wait : Type 0) (answer : A → above.Answer op) (Fits : A → above.Answer op → Type 0) (c : Carry) (d : ExecResult A TablesState) (e : ExecResult (above.Answer op) above.World)
-      → above_exec.exec h above.Room op v.seen ≡ e → BothCame Fits (λ a. loaded (tables_of v.real)) d e → (e ≡ Waits → ⊥) → ((a : A) (b : above.Answer op) → Fits a b → answer a ≡ b)
+      → one.exec h above.Room op v.seen ≡ e → BothCame Fits (λ a. loaded (tables_of v.real)) d e → (e ≡ Waits → ⊥) → ((a : A) (b : above.Answer op) → Fits a b → answer a ≡ b)
       → ((b : above.Answer op) (u : above.World) → e ≡ Ran b u → SameInodes h v.seen u) → Shows v.real v.seen → Base h v.real v.seen c → (v.seen.desks h).lender ≡ None
       → CameTo l laws keeps h op v wait (exec_result_in (with_tables v.real) d) answer (λ a. c)
   from_both op v wait answer Fits c Waits Waits is both no_waits fits same shows base free = absurd (no_waits refl)
@@ -138,7 +139,7 @@ module _ (l : Labels) (laws : Laws (labelled l)) (keeps : Keeps l) (h : ℕ) (lt
         (lt, hand_here h (tables_of v.real) v.seen (loaded (tables_of v.real)) shows.tables (runs_here v may.0) ∙ may.1),
         λ x t.
             subst (λ (d : ExecResult Bool World). CameTo l laws keeps h Slot v ⊥ d (λ a. a) (λ a. c)) (sym (in_tables_is h steps.TakePlace v.real (λ a o. refl) (λ s. refl) (λ a l. refl) (take_place h (tables_of v.real))))
-            (from_both Slot v ⊥ (λ a. a) (λ a b. a ≡ b) c (take_place h (tables_of v.real)) (above_exec.exec h above.Room Slot v.seen) refl
+            (from_both Slot v ⊥ (λ a. a) (λ a b. a ≡ b) c (take_place h (tables_of v.real)) (one.exec h above.Room Slot v.seen) refl
             (places_are_taken h (tables_of v.real) v.seen (loaded (tables_of v.real)) shows.tables (runs_here v may.0) may.1)
             (slot_runs v.seen (first_from file_count 0 (is_empty_slot v.seen))) (λ a b e. e) (slot_same v.seen (first_from file_count 0 (is_empty_slot v.seen))) shows base may.0),
       ))
@@ -182,7 +183,7 @@ module _ (l : Labels) (laws : Laws (labelled l)) (keeps : Keeps l) (h : ℕ) (lt
         ),
         λ x t.
             subst (λ (d : ExecResult (Option ℕ) World). CameTo l laws keeps h (Install f inode_type) v ⊥ d (λ a. a) (λ a. c)) (sym (in_tables_is h (steps.TakeDescriptor f.number (new_file f inode_type)) v.real (λ a o. refl) (λ s. refl) (λ a l. refl) (open_file h f.number (new_file f inode_type) (tables_of v.real))))
-            (from_both (Install f inode_type) v ⊥ (λ a. a) (λ a b. a ≡ b) c (open_file h f.number (new_file f inode_type) (tables_of v.real)) (above_exec.exec h above.Room (Install f inode_type) v.seen) refl
+            (from_both (Install f inode_type) v ⊥ (λ a. a) (λ a b. a ≡ b) c (open_file h f.number (new_file f inode_type) (tables_of v.real)) (one.exec h above.Room (Install f inode_type) v.seen) refl
             (files_are_opened h f inode_type (tables_of v.real) v.seen (loaded (tables_of v.real)) shows.tables inv (runs_here v may.0) may.1.0 may.1.1)
             (opened_runs v.seen f inode_type (v.seen.desks h).hand (has_room (v.seen.desks h).fds)) (λ a b e. e) (λ a u. opened_same v.seen f inode_type (v.seen.desks h).hand (has_room (v.seen.desks h).fds) a u inv may.1.1 refl refl) shows base may.0),
       ))
@@ -225,7 +226,7 @@ module _ (l : Labels) (laws : Laws (labelled l)) (keeps : Keeps l) (h : ℕ) (lt
         lt,
         λ x t.
             subst (λ (d : ExecResult Doubled World). CameTo l laws keeps h (Double fd) v ⊥ d doubled_to (λ a. c)) (sym (in_tables_is h (steps.Double fd) v.real (λ a o. refl) (λ s. refl) (λ a l. refl) (double_descriptor h fd (tables_of v.real))))
-            (from_both (Double fd) v ⊥ doubled_to (λ a b. a ≡ doubled_as b) c (double_descriptor h fd (tables_of v.real)) (above_exec.exec h above.Room (Double fd) v.seen) refl
+            (from_both (Double fd) v ⊥ doubled_to (λ a b. a ≡ doubled_as b) c (double_descriptor h fd (tables_of v.real)) (one.exec h above.Room (Double fd) v.seen) refl
             (descriptors_are_doubled h fd (tables_of v.real) v.seen (loaded (tables_of v.real)) shows.tables inv (runs_here v may.0))
             (doubled_runs v.seen (slot_at v.seen h fd) (entry_of v.seen h fd)) (λ a b e. ap doubled_to e ∙ doubled_back b) (λ a u. doubled_same v.seen (slot_at v.seen h fd) (entry_of v.seen h fd) a u refl) shows base may.0),
       ))
@@ -268,7 +269,7 @@ module _ (l : Labels) (laws : Laws (labelled l)) (keeps : Keeps l) (h : ℕ) (lt
         lt,
         λ x t.
             subst (λ (d : ExecResult shuts.Shut World). CameTo l laws keeps h (Shut fd) v ⊥ d shut_to (λ a. c)) (sym (in_tables_is h (steps.Close fd) v.real (λ a o. refl) (λ s. refl) (λ a l. refl) (shut_descriptor h fd (tables_of v.real))))
-            (from_both (Shut fd) v ⊥ shut_to (λ a b. a ≡ shut_as b) c (shut_descriptor h fd (tables_of v.real)) (above_exec.exec h above.Room (Shut fd) v.seen) refl
+            (from_both (Shut fd) v ⊥ shut_to (λ a b. a ≡ shut_as b) c (shut_descriptor h fd (tables_of v.real)) (one.exec h above.Room (Shut fd) v.seen) refl
             (descriptors_are_shut h fd (tables_of v.real) v.seen (loaded (tables_of v.real)) shows.tables inv (runs_here v may.0) (λ i z. may.1.1 z i))
             (closed_runs v.seen fd (slot_at v.seen h fd) (entry_of v.seen h fd)) (λ a b e. ap shut_to e ∙ shut_back b) (λ a u. closed_same v.seen fd (slot_at v.seen h fd) (entry_of v.seen h fd) a u may.1.0 refl) shows base may.0),
       ))

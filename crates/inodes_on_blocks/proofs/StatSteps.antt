@@ -1,4 +1,5 @@
 -- An operation that locks an inode and loads it acts where the lock is had: so the one that tells a descriptor's state.
+use Rattle.inode_machine.specs.VersionOne as one
 use Rattle.inodes_on_blocks.proofs.Vocabulary.{◌≡◌, ◌≢◌, inl, inr, ℕ, pos, ◌<◌, Bool, false, List, Option, Some, None, refl, sym, ◌∙◌, ap, subst, arith, if◌then◌else◌, IsSome, option_map, MatchOption, none-some, Dinode, Super, Node, NodeKind, Directory, File, Device, put, hart_count, same_or, put_same, put_other, is_number, is_free, IsInode, IsRecord, type_in, ExecResult, Waits, Ran, exec_result_in, Laws, Wp, Both, joined, Below, Lasts, Acting, acted, s-act, TablesState, file_named, lock_holder, LockedState, Refuses, Locks, refusal_of, lock_file, lock_unless, lock_inode, with_file, Outside, LockFile, MayLockFile, IsElsewhere, Face, face_of, face_or, Entry, StatFile, entry_at, slot_at, lock_if, locked, stat_at, marked, with_mark, Inv, ours_none, ours_some, lone_file, opens_slots, node_there, loaded, file_of, World, log_of, tables_of, inode_in, exec, Shows, NothingMore, Had, Has, Carry, IsLoaded, InHand, Base, Stands, below, Labels, labelled, Keeps, IsOpened, ActsOnceAt, face_in, inode_type_at, natural, stat_file, stat_locked, stat_loaded, Loaded, unindexed, IsIndexOf, unwrap_or}
 use Rattle.fs_machine.specs.declared.files.Want.TheVariants as want
 use Rattle.fs_machine.specs.declared.files.OpenFile as files
@@ -6,7 +7,6 @@ use Rattle.fs_machine.specs.declared.files.Refused.TheVariants as refused
 use Rattle.fs_machine.specs.Steps as steps
 use Rattle.fs_machine.specs.Premises as premises
 use Rattle.inode_machine.specs.World as above
-use Rattle.inode_machine.specs.Exec as above_exec
 use Rattle.inode_machine.specs.Exec.{entry_of}
 use Rattle.inode_machine.specs.Rules as rules
 use Rattle.inodes_on_blocks.specs.ShownTables as tables
@@ -103,7 +103,7 @@ module _ (l : Labels) (laws : Laws (labelled l)) (keeps : Keeps l) (h : ℕ) (lt
 
   -- of an inode that has a type: its record is in hand from there on, though it may have to be read yet
   pub lock_came : (op : above.Op) (n : ℕ) (v : W) (c : Carry) (b : above.Answer op) (t : TablesState) → Shows v.real v.seen → Base h v.real v.seen c → (v.seen.desks h).lender ≡ None → 0 < v.seen.refs n
-      → v.seen.lock n ≡ None → v.real.new n ≡ None → v.seen.disk n ≢ None → above_exec.exec h above.Room op v.seen ≡ Ran b (locked h n v.seen) → tables.Shows t (locked h n v.seen) (put (loaded (tables_of v.real)) n None)
+      → v.seen.lock n ≡ None → v.real.new n ≡ None → v.seen.disk n ≢ None → one.exec h above.Room op v.seen ≡ Ran b (locked h n v.seen) → tables.Shows t (locked h n v.seen) (put (loaded (tables_of v.real)) n None)
       → Came l laws keeps h op v b (with_tables v.real t) (put c n (Has (loads_of v.real n) NothingMore))
   lock_came op n v c b t shows base free some unlocked old typed ran after = record {
     then_ = locked h n v.seen;
@@ -198,7 +198,7 @@ module _ (l : Labels) (laws : Laws (labelled l)) (keeps : Keeps l) (h : ℕ) (lt
         on_tables v x d is acting =
             subst (λ (z : ExecResult LockedState World). IsActing v z) (sym (in_tables_is h (LockFile want.Stat fd) v.real (λ a o. refl) (λ s. refl) (λ a l. refl) (lock_file h want.Stat fd (tables_of v.real)) ∙ ap (exec_result_in (with_tables v.real)) is)) acting
 
-        by : (v : W) → Shows v.real v.seen → Inv v.seen → Stands sizes h v.real v.seen c → rules.May h (StatFile fd) v.seen → (o : Option Entry) → entry_of v.seen h fd ≡ o
+        by : (v : W) → Shows v.real v.seen → Inv v.seen → Stands sizes h v.real v.seen c → one.May h (StatFile fd) v.seen → (o : Option Entry) → entry_of v.seen h fd ≡ o
             → premises.May h (LockFile want.Stat fd) v.real.state × ((x : Outside) → premises.Honest h (LockFile want.Stat fd) v.real.state x → IsActing v (exec h x (LockFile want.Stat fd) v.real))
         by v shows inv stands_v may None e =
             let named : file_named h fd (tables_of v.real) ≡ None = file_is h fd (tables_of v.real) v.seen (loaded (tables_of v.real)) shows.tables inv (record { below = lt; free = may.0 }) ∙ ap (option_map file_of) e in (

@@ -1,9 +1,9 @@
 -- A program of one step on the tables acts at it.
+use Rattle.inode_machine.specs.VersionOne as one
 use Rattle.inodes_on_blocks.proofs.Vocabulary.{◌≡◌, ◌≢◌, ℕ, suc, List, Option, None, ap, ◌∙◌, arith, Super, Ret, once, ExecResult, Waits, Ran, Stops, Laws, Wp, Both, joined, Below, Lasts, Acting, s-act, Outside, Own, own_of, IsWholeLog, After, leaves_own, marked, with_mark, Inv, more, World, log_of, owners_after, commits_after, came_to, exec, new_after, Shows, Same, Kept, Carry, Base, Stands, below, Labels, labelled, Keeps, one, ActsOnce}
 use Rattle.fs_machine.specs.Steps as steps
 use Rattle.fs_machine.specs.Premises as premises
 use Rattle.inode_machine.specs.World as above
-use Rattle.inode_machine.specs.Exec as above_exec
 use Rattle.inode_machine.specs.Rules as rules
 use Rattle.inodes_on_blocks.proofs.Marked.{marked_same, shows_marked}
 use Rattle.inodes_on_blocks.proofs.Layer.{below_laws, base_marked}
@@ -24,7 +24,7 @@ module _ (l : Labels) (laws : Laws (labelled l)) (keeps : Keeps l) (h : ℕ) whe
   -- the step ran, and the operation above did
   pub record Came (op : above.Op) (v : W) (b : above.Answer op) (r : World) (c : Carry) : Type 0 where
     pub then_ : above.World
-    pub ran : above_exec.exec h above.Room op v.seen ≡ Ran b then_
+    pub ran : one.exec h above.Room op v.seen ≡ Ran b then_
     pub free : (then_.desks h).lender ≡ None
     pub shows : Shows r then_
     pub same : (other : ℕ) → other ≢ h → Same other v.real r
@@ -38,7 +38,7 @@ module _ (l : Labels) (laws : Laws (labelled l)) (keeps : Keeps l) (h : ℕ) whe
   -- from this world on, of which the hart's own stays above
   pub one_step_from : (op : above.Op) (m : above.Answer op → Option above.Mark) (lop : steps.Op) (answer : steps.Answer lop → above.Answer op) (carry : steps.Answer lop → Carry) → ((v : W) → rules.Honest h op v.seen above.Room)
       → (sizes : Super) (c : Carry) (B : List l.Step → Type 0) (C : above.Answer op → List l.Step → above.World → Type 0) (es : List l.Step) (w : W)
-      → ((v : W) → Kept h w.seen v.seen → Shows v.real v.seen → Inv v.seen → Base h v.real v.seen c → rules.May h op v.seen
+      → ((v : W) → Kept h w.seen v.seen → Shows v.real v.seen → Inv v.seen → Base h v.real v.seen c → one.May h op v.seen
       → premises.May h lop v.real.state × ((x : Outside) → premises.Honest h lop v.real.state x → CameTo op v (premises.MayWait h lop v.real.state) (exec h x lop v.real) answer carry))
       → Lasts (labelled l) h B C → Wp (labelled l) h B C (once op m) (suc (more op)) es w.seen → Stands sizes h w.real w.seen c
       → Wp (joined (labelled l) (below sizes)) h B (Below (labelled l) (below sizes) h C) (one op m lop answer carry) (suc (more op)) es w
@@ -69,7 +69,7 @@ module _ (l : Labels) (laws : Laws (labelled l)) (keeps : Keeps l) (h : ℕ) whe
 
   pub one_step : (op : above.Op) (m : above.Answer op → Option above.Mark) (lop : Carry → steps.Op) (answer : (c : Carry) → steps.Answer (lop c) → above.Answer op) (carry : (c : Carry) → steps.Answer (lop c) → Carry)
       → ((v : W) → rules.Honest h op v.seen above.Room)
-      → ((v : W) (c : Carry) → Shows v.real v.seen → Inv v.seen → Base h v.real v.seen c → rules.May h op v.seen
+      → ((v : W) (c : Carry) → Shows v.real v.seen → Inv v.seen → Base h v.real v.seen c → one.May h op v.seen
       → premises.May h (lop c) v.real.state × ((x : Outside) → premises.Honest h (lop c) v.real.state x → CameTo op v (premises.MayWait h (lop c) v.real.state) (exec h x (lop c) v.real) (answer c) (carry c)))
       → ActsOnce l h op m (λ c m. one op m (lop c) (answer c) (carry c))
   one_step op m lop answer carry honest rule sizes c B C es w lasts todo stands = one_step_from op m (lop c) (answer c) (carry c) honest sizes c B C es w (λ v kept shows inv base may. rule v c shows inv base may) lasts todo stands

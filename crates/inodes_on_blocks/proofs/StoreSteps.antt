@@ -1,17 +1,17 @@
 -- An operation that puts an inode's record acts at the put.
+use Rattle.inode_machine.specs.VersionOne as one
 use Rattle.inodes_on_blocks.proofs.Vocabulary.{◌≡◌, ◌≢◌, inl, inr, ℕ, suc, pos, ◌<◌, true, false, List, length, Option, Some, None, refl, sym, ◌∙◌, ap, subst, arith, unwrap_or, none-some, Super, Dinode, IsDinode, sizes_of, IsOutsideLog, holder_of, has, HasRoom, Node, node_or, put, hart_count, same_or, put_same, put_other, UpToLog, numbers_of, HoldsAt, NamesOwned, IsInodePut, IsLaidOut, Ret, bind, once, Ran, Laws, Machine, Wp, Both, joined, Below, Lasts, Handover, Here, ToAct, to_act, may_act, Acting, s-act, lock_holder, LogPart, Outside, put_block, fetch, seen_of, Put, no_record, inode_block, with_dinode, Store, with_record, with_count, marked, with_mark, Inv, more, Owners, World, log_of, tables_of, disk_of, inode_in, owners_of, exec, CanPut, Shows, NothingMore, Had, Apart, Has, Emptied, Carry, record_had, IsLoaded, InHand, Base, Stands, below, Labels, labelled, Keeps, IsOpened, IsThrough, in_hand, HasBuffer, IsFetched, GivesRoom, record_in, put_record, store, unindexed, index_in, recorded_had, all_slots, block_len}
 use Rattle.inodes_on_blocks.proofs.Basics.{laid_before, node_held, count_laid, good_seen, marked_same, shows_marked, below_laws, base_marked, AllInHand, in_hand_then, lent_then, through_then, through_put, back_hand, buffer_then, buffer_seen, s-fetch, count_fits, may_put, after, lock_range, quiet_owners, node_then, AllBut, LastsInHand, Ready, inode_home, seen_dinode, untaken, place_in, can_record, then_, is_put, same_then, inode_then, others_then, none_then, open_alike, indexed_file, indexed_in}
 use Rattle.fs_machine.specs.Steps as steps
 use Rattle.fs_machine.specs.Premises as premises
 use Rattle.inode_machine.specs.World as above
-use Rattle.inode_machine.specs.Exec as above_exec
 use Rattle.inode_machine.specs.Rules as rules
 use Rattle.inodes_on_blocks.proofs.RecordThen.{shows_then}
 
 -- What a hart knows of inode n, whose lock it has, where it is to put this record for it, and has `had` of it then: the operation above makes this of it.
 pub record PutsRecord (h : ℕ) (op : above.Op) (n : ℕ) (answer : above.Answer op) (d : Dinode) (had : Had) (r : World) (g : above.World) : Type 0 where
   pub node : Option Node
-  pub ran : above_exec.exec h above.Room op g ≡ Ran answer (with_record g n node)
+  pub ran : one.exec h above.Room op g ≡ Ran answer (with_record g n node)
   pub mine : g.lock n ≡ Some h
   pub keeps : g.keeper n ≡ Some h
   pub joined : (g.desks h).joined ≡ true
@@ -82,7 +82,7 @@ module _ (sizes : Super) (l : Labels) (laws : Laws (labelled l)) (keeps : Keeps 
 
   module _ (op : above.Op) (m : above.Answer op → Option above.Mark) (answer : above.Answer op) (d : Dinode) (had : Had) (c : Carry) (honest : (v : W) → rules.Honest h op v.seen above.Room)
       (This : World → above.World → Type 0) (this_lasts : LastsInHand h This) (others : (r : World) (g : above.World) → This r g → AllBut n h c r g)
-      (puts : (v : W) → Shows v.real v.seen → Inv v.seen → rules.May h op v.seen → This v.real v.seen → PutsRecord h op n answer d had v.real v.seen)
+      (puts : (v : W) → Shows v.real v.seen → Inv v.seen → one.May h op v.seen → This v.real v.seen → PutsRecord h op n answer d had v.real v.seen)
       (Knows : World → Type 0) (gives : GivesRoom h (inode_block sizes.inodestart n) Knows)
       (B : List l.Step → Type 0) (C : above.Answer op → List l.Step → above.World → Type 0) (lasts : Lasts (labelled l) h B C) where
     abbrev b : ℕ
@@ -172,7 +172,7 @@ module _ (sizes : Super) (l : Labels) (laws : Laws (labelled l)) (keeps : Keeps 
   -- ---- a count
 
   -- the record in hand is the one that is seen, and the node's
-  count_puts : (count : ℕ) (c : Carry) (v : W) → Shows v.real v.seen → rules.May h (Store n count) v.seen → AllInHand h c v.real v.seen
+  count_puts : (count : ℕ) (c : Carry) (v : W) → Shows v.real v.seen → one.May h (Store n count) v.seen → AllInHand h c v.real v.seen
       → PutsRecord h (Store n count) n tt (record (record_in c n) { nlink = pos count }) (Has (recorded_had c n (record (record_in c n) { nlink = pos count })) NothingMore) v.real v.seen
   count_puts count c v shows may all = by (c n) refl hand
     where

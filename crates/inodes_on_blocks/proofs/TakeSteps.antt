@@ -1,11 +1,12 @@
 -- The operation that locks an inode, loads it and looks at it acts where the lock is had.
+use Rattle.inode_machine.specs.Rules.{search_cost}
 use Rattle.inodes_on_blocks.proofs.Vocabulary.{◌≡◌, ◌≢◌, inl, inr, ℕ, suc, ◌<◌, nat_lt, ◌&&◌, Bool, true, false, not, List, Option, Some, None, is_some, refl, sym, ◌∙◌, ap, subst, arith, if◌then◌else◌, none-some, Found, Aim, Named, block_count, Dinode, Super, Node, Name, put, live_directory, hart_count, same_or, put_same, put_other, is_free, HoldsAt, Ret, bind, ExecResult, Waits, Ran, exec_result_in, Machine, Laws, P, Wp, Both, Handover, joined, Below, Lasts, Acting, acted, s-act, Wp-more, TablesState, lock_holder, lock_inode, Outside, Lock, Sight, Query, AtNothing, AtName, AtEntries, Take, lock_if, locked, Inv, looking_cost, one_refs, two_refs, loaded, World, log_of, tables_of, disk_of, inode_in, exec, Shows, Same, Kept, Knowledge, NothingMore, Had, Has, Carry, IsKnown, IsLoaded, InHand, Base, Stands, below, Labels, labelled, Keeps, IsOpened, ActsOnceAt, face_in, number_found, learned, seen_record, looked, take_inode as take, load_unless}
 use Rattle.directory.specs.Programs.{Entry, Searched, search}
 use Rattle.fs_machine.specs.InMemory.{IndexState, Loaded}
 use Rattle.plain_tree.specs.Tree as tree
 use Rattle.fs_machine.specs.Steps as steps
 use Rattle.fs_machine.specs.Premises as premises
-use Rattle.inode_machine.specs.Inodes.{seen_in}
+use Rattle.inode_machine.specs.VersionOne.{seen_in}
 use Rattle.inode_machine.specs.World as above
 use Rattle.inodes_on_blocks.specs.Indexes.{IsIndexOf}
 use Rattle.inodes_on_blocks.specs.ShownTables as tables
@@ -19,8 +20,8 @@ use Rattle.inodes_on_blocks.proofs.StatSteps.{in_use, face_seen, loads_of, loads
 -- the steps after the load: six a block
 abbrev steps_of : Query → ℕ
 steps_of AtNothing = 0
-steps_of (AtName e) = 1608
-steps_of AtEntries = 1608
+steps_of (AtName e) = search_cost
+steps_of AtEntries = search_cost
 
 same_ran : (b : Sight) (g u : above.World) → Ran b g ≡ Ran b u → g ≡ u
 same_ran b g u e = cc e
@@ -131,11 +132,11 @@ module _ (l : Labels) (laws : Laws (labelled l)) (keeps : Keeps l) (h : ℕ) (lt
       -- a search, and what is answered by what it finds
       searches : (looking : Query) (aim : Aim) → tree.is_directory node.kind ≡ true → (learns : Option Found → Knowledge) (found : Option Found → Option ℕ) (empty : Option Found → Bool)
           → ((x : Loaded) (o : Option Found) (g : above.World) → IsOpened h n (Has x (learns o)) g) → IsKnown (learns (finds aim).found) (Some node) → found (finds aim).found ≡ (seen_in n looking (Some node)).found
-          → empty (finds aim).found ≡ (seen_in n looking (Some node)).empty → Goes (bind (search aim (with_it y)) (λ o. seen_record c n (with_it o.index) (learns o.found) (found o.found) (empty o.found))) 1608 looking
+          → empty (finds aim).found ≡ (seen_in n looking (Some node)).empty → Goes (bind (search aim (with_it y)) (λ o. seen_record c n (with_it o.index) (learns o.found) (found o.found) (empty o.found))) search_cost looking
       searches looking aim directory learns found empty apart known found_is empty_is v fs same kept stage =
           let few = few_blocks d in
           let steps = touches_are (block_count d) 0 in
-          Wp-more M h (bind (search aim (with_it y)) goes) B Q (touches (block_count d) 0) 1608 fs v (omega (arith, few, steps))
+          Wp-more M h (bind (search aim (with_it y)) goes) B Q (touches (block_count d) 0) search_cost fs v (omega (arith, few, steps))
           (s-search sizes l laws keeps h lt B Q (C (seen_in n looking (Some node))) (acted (labelled l) (below sizes) laws (below_laws sizes l keeps) h B (Take n looking) m C lasts (seen_in n looking (Some node)))
           n (Some node) aim goes 0 w holds used mine stands.0.free y v fs same kept stage (block_within (disk_of (log_of w.real)) w.real.owner n node holds used)
           (ends looking (finds aim).index (still_right (disk_of (log_of w.real)) w.real.owner n node holds used y right aim directory) (learns (finds aim).found) (found (finds aim).found) (empty (finds aim).found)
@@ -148,28 +149,28 @@ module _ (l : Labels) (laws : Laws (labelled l)) (keeps : Keeps l) (h : ℕ) (lt
       looks_so AtNothing = ends AtNothing y right NothingMore None true (λ g. tt) tt refl refl
       looks_so (AtName e) = by (live_directory (Some node)) refl
         where
-          by : (b : Bool) → live_directory (Some node) ≡ b → Goes (looked (AtName e) c n (with_it y)) 1608 (AtName e)
+          by : (b : Bool) → live_directory (Some node) ≡ b → Goes (looked (AtName e) c n (with_it y)) search_cost (AtName e)
           by true live v fs same kept stage =
-              subst (λ (b : Bool). Wp M h B Q (bind (if b then search (Named e) (with_it y) else Ret (record { found = None; index = y })) (λ o. seen_record c n (with_it o.index) (learned e o.found) (number_found o.found) true)) 1608 fs v)
+              subst (λ (b : Bool). Wp M h B Q (bind (if b then search (Named e) (with_it y) else Ret (record { found = None; index = y })) (λ o. seen_record c n (with_it o.index) (learned e o.found) (number_found o.found) true)) search_cost fs v)
               (sym (live_is (disk_of (log_of w.real)) w.real.owner n node holds used ∙ live))
               (searches (AtName e) (Named e) (live_directories live) (learned e) number_found (λ o. true) (learned_apart e) (slot_found (disk_of (log_of w.real)) w.real.owner n node holds used y right e live)
               (name_found (disk_of (log_of w.real)) w.real.owner n node holds used y right e live) refl v fs same kept stage)
           by false dead v fs same kept stage =
-              subst (λ (b : Bool). Wp M h B Q (bind (if b then search (Named e) (with_it y) else Ret (record { found = None; index = y })) (λ o. seen_record c n (with_it o.index) (learned e o.found) (number_found o.found) true)) 1608 fs v)
+              subst (λ (b : Bool). Wp M h B Q (bind (if b then search (Named e) (with_it y) else Ret (record { found = None; index = y })) (λ o. seen_record c n (with_it o.index) (learned e o.found) (number_found o.found) true)) search_cost fs v)
               (sym (live_is (disk_of (log_of w.real)) w.real.owner n node holds used ∙ dead))
-              (Wp-more M h (seen_record c n (with_it y) NothingMore None true) B Q 0 1608 fs v (omega arith)
+              (Wp-more M h (seen_record c n (with_it y) NothingMore None true) B Q 0 search_cost fs v (omega arith)
               (ends (AtName e) y right NothingMore None true (λ g. tt) tt (name_lost (disk_of (log_of w.real)) w.real.owner n node holds used e dead) refl v fs same kept stage))
       looks_so AtEntries = by (tree.is_directory node.kind) refl
         where
-          by : (b : Bool) → tree.is_directory node.kind ≡ b → Goes (looked AtEntries c n (with_it y)) 1608 AtEntries
+          by : (b : Bool) → tree.is_directory node.kind ≡ b → Goes (looked AtEntries c n (with_it y)) search_cost AtEntries
           by true directory v fs same kept stage =
-              subst (λ (b : Bool). Wp M h B Q (bind (if b then search Entry (with_it y) else Ret (record { found = None; index = y })) (λ o. seen_record c n (with_it o.index) NothingMore None (not (is_some o.found)))) 1608 fs v)
+              subst (λ (b : Bool). Wp M h B Q (bind (if b then search Entry (with_it y) else Ret (record { found = None; index = y })) (λ o. seen_record c n (with_it o.index) NothingMore None (not (is_some o.found)))) search_cost fs v)
               (sym (directory_is (disk_of (log_of w.real)) w.real.owner n node holds used ∙ directory))
               (searches AtEntries Entry directory (λ o. NothingMore) (λ o. None) (λ o. not (is_some o)) (λ x o g. tt) tt refl (entries_found (disk_of (log_of w.real)) w.real.owner n node holds used y right directory) v fs same kept stage)
           by false other v fs same kept stage =
-              subst (λ (b : Bool). Wp M h B Q (bind (if b then search Entry (with_it y) else Ret (record { found = None; index = y })) (λ o. seen_record c n (with_it o.index) NothingMore None (not (is_some o.found)))) 1608 fs v)
+              subst (λ (b : Bool). Wp M h B Q (bind (if b then search Entry (with_it y) else Ret (record { found = None; index = y })) (λ o. seen_record c n (with_it o.index) NothingMore None (not (is_some o.found)))) search_cost fs v)
               (sym (directory_is (disk_of (log_of w.real)) w.real.owner n node holds used ∙ other))
-              (Wp-more M h (seen_record c n (with_it y) NothingMore None true) B Q 0 1608 fs v (omega arith)
+              (Wp-more M h (seen_record c n (with_it y) NothingMore None true) B Q 0 search_cost fs v (omega arith)
               (ends AtEntries y right NothingMore None true (λ g. tt) tt refl (no_entries (disk_of (log_of w.real)) w.real.owner n node holds used other) v fs same kept stage))
 
     -- by what was loaded

@@ -4,7 +4,9 @@ unfoldable pub use Rattle.inodes_on_blocks.specs.Vocabulary.{any_below, double_d
 pub use Rattle.inodes_on_blocks.specs.Vocabulary.{node_of}
 pub use Rattle.fs_machine.proofs.Vocabulary.{Bool, Fails, Get, GetLaws, IfSome, InsideFits, IsElsewhere, IsSome, IsSoundInodes, List, LockFile, MatchOption, MayLockFile, None, Option, Passes, PlaceFits, Read, Some, [], ap, arith, as_new, begun_at, cases_eq, change_at, change_first, change_to_end, claim_first, claims, commit_if, commit_unless, commits, cond, count_by, counted_at, dead_in, descriptors_of, exec_result_in, directory_of, double_at, double_to, drop_at, drop_dying, drop_which, dying, eqb-true, failed, false, file_in, filled, first_empty, first_free, first_passes, freed_at as uncounted_freed, freed_if, get_by, get_laws, get_new, get_or, get_or_from_slice_get, give_at, give_by, given_back, given_directory, got_by, group_in, hand_of, has_block, holder_at, if◌then◌else◌, in_log, in_tables, inl, inr, is_file_of, is_none, is_open, is_some, is_unreferenced, is_unused, join_if, join_unless, join_waits, joins, left_at, length, length-set, limit_of, list_any, lock_open as lock_opened, lock_row_at, lock_unless, locked_as, members_with, mine_of, moved_at, names, nat_lt, nat_tests, next_full, next_phase, none-some, not, one_less, open_at, open_by, open_in, open_of, opened, option_and_then, option_map_or, others_given_back, own_of, phase_at_leave, pick, place_named, position-Some, position_or_len, read_block, read_unless, references_at, references_of, refl, replicate, row_of, same_Some, seat_changed, seat_given_back, seat_in, seat_of, seat_of_others, seats_after, seats_at_fault, set, shut_at, slice_get, slice_get-get_or, slice_get-set_other, slice_get-set_same, slice_get_within, slice_index, slice_set, subst, suc, sym, take_at, taken, true, turn_is_out, uncounted_at, under_way, unlock_at, up_whom, with_block, with_content, with_descriptor, with_directory, with_file, with_hand, with_holder, with_offset as tables_offset, with_open, with_pin, with_seat, with_seats, without_holder, written, zero, ℕ, ⊎_elim, ◌&&◌, ◌++◌, ◌+◌, ◌-◌, ◌<◌, ◌==◌, ◌∙◌, ◌∷◌, ◌≡◌, ◌≢◌, ◌≤◌, ◌⊎◌}
 unfoldable pub use Rattle.fs_machine.proofs.Vocabulary.{drop_freed, get_of, lock_of}
-pub use Rattle.inode_machine.proofs.Vocabulary.{Begin, Fills, Fine, Folders, Frees, Goes, Good, Held, HonestPiece, IsForest, IsName, IsText, IsThere, JoinResult, Joined, Laws, Lends, LocksNone, Look, Makes, Mark, Mends, Move, NotJoined, Orphans, OwnMove, P, GiveUpWalk, Spares, Spoils, TreeData, Walk, and_then, and_true, any_at, any_none, append-nil, append_assoc, blank, child_of, claimed, close_at, close_if, close_last, close_less, content, counted_down, counted_up, creates, dead_links, double_if, down_if, either, elements, emptied, enter_if, entry_at, entry_moved, eq_is, eq_isnt, eq_not, eq_self, face_of, face_or, file_at, filter, folder, folder_dead, folders_of, handed, has_place, has_room, holds_raised, install_if, installed, is_empty_kind, is_empty_node, is_empty_slot, is_full_directory, is_last, is_nothing, join_at, lend_if, lend_last, length-append, links_in, links_of, live_directory, live_is, lock_at, lock_if, locked, look_live, looking_cost, lowest, made_by, map, marked, mended, mode_refusal, more_users, moved_in, new_id, next_used, no_driver, no_node as dead_no_directory, node_or, none_any, number_is, offset_of, one_no, one_yes, onto, own, parent, path_of, place_count, put_other, put_same, raised_at, read_at, referenced, reserved, resolve, same_or, serving, settled_well, slot_if, slot_or, type_of, spoiled, start_if, stat_at, sum_changed, sum_none, sum_part, sum_same, take, take-append-drop, unheld, unlocked, unmoved, unopened, up_if, users, uses, view, walk_down_if, with_bytes, with_count, with_dots, with_entry, with_lent, with_made, with_mark, with_no_bytes, without_entry, write_at, write_if, write_kind, ◌*◌, ◌/◌, ◌^◌, ◌||◌, effect_with, entries, refusal_with}
+pub use Rattle.inode_machine.proofs.Vocabulary.{Begin, Fills, Fine, Folders, Frees, Goes, Good, Held, HonestPiece, IsForest, IsText, IsThere, JoinResult, Joined, Laws, Lends, LocksNone, Look, Makes, Mark, Mends, Move, NotJoined, Orphans, OwnMove, P, GiveUpWalk, Spares, Spoils, TreeData, Walk, and_then, and_true, any_at, any_none, append-nil, append_assoc, blank, child_of, claimed, close_at, close_if, close_last, close_less, counted_down, counted_up, creates, dead_links, double_if, down_if, either, emptied, enter_if, entry_at, entry_moved, eq_is, eq_isnt, eq_not, eq_self, face_or, file_at, filter, folder, folder_dead, folders_of, handed, has_place, has_room, holds_raised, install_if, installed, is_empty_kind, is_empty_node, is_empty_slot, is_full_directory, is_last, is_nothing, join_at, lend_if, lend_last, length-append, links_in, links_of, live_directory, live_is, lock_at, lock_if, locked, look_live, looking_cost, lowest, map, mended, mode_refusal, more_users, moved_in, new_id, next_used, no_driver, no_node as dead_no_directory, node_or, none_any, number_is, offset_of, one_no, one_yes, onto, own, path_of, place_count, put_other, put_same, raised_at, referenced, reserved, same_or, serving, settled_well, slot_if, slot_or, type_of, spoiled, start_if, sum_changed, sum_none, sum_part, sum_same, take, take-append-drop, unheld, unlocked, unmoved, unopened, up_if, users, uses, view, walk_down_if, with_bytes, with_count, with_dots, with_entry, with_lent, with_made, with_no_bytes, without_entry, write_if, ◌*◌, ◌/◌, ◌^◌, ◌||◌}
+pub use Rattle.plain_tree.specs.VersionOne.{content, elements, parent, resolve, write_kind, effect_with, entries, refusal_with}
+pub use Rattle.inode_machine.specs.VersionOne.{IsName, face_of, made_by, marked, read_at, stat_at, with_mark, write_at}
 unfoldable pub use Rattle.inode_machine.proofs.Vocabulary.{all_used, any_used, cleared, effect_by, entries_by, first_from, first_slot, follow, look, lowest_from, sum_below}
 pub use Rattle.image_tree.proofs.Vocabulary.{All, AllByRecursion, AllPairs, Contains-append_left, Contains-append_right, HasGoodLog, HasGoodNumbers, HasGoodTypes, HasMarks, HasRoot, IsDotDot, IsGoodType, NamesOnce, blocks_for, cases_lt, count_of, drop, drop_all, eqb, false_from_ne_true, false≢true, flat_map, get_or-map, get_or-replicate, get_or_append_left, get_or_at, get_or_past, is_directory, is_file, is_live, is_positive, length-map, length-replicate, length-u32s_at, list_all, log_count, log_head_at, logged-empty, lt-ltb, min, nat_le, negsuc, number_in, pos, recovered-empty, recovered-own, recursion_from_All, slot_numbers, slot_of, sum_by-append, sum_by-cons, ℤ, ◌%◌, ◌<ℤ◌, ◌≤ℤ◌}
 pub use Rattle.image_tree.specs.VersionOne.{IsViewOf, HasGoodCounts, HasGoodSizes, HasGoodSlots, IsOneTree, children_of, further_in, further_names_of, named_in, names_of, parent_of, proper_in, proper_names_of, up, first_nodes, first_slots, slot_at as slot_on, slots_in}
@@ -130,7 +132,8 @@ pub use Rattle.inode_machine.proofs.Rows.{below_is}
 pub use Rattle.inode_machine.proofs.Stats.{node_there}
 pub use Rattle.inode_machine.proofs.Tables.{lowest_free, users_put}
 pub use Rattle.inode_machine.proofs.Turnings.{serving_none}
-pub use Rattle.inode_machine.specs.Marks.{act_all, with_left, with_noted, with_opened}
+pub use Rattle.inode_machine.specs.Marks.{with_left, with_noted, with_opened}
+pub use Rattle.inode_machine.specs.VersionOne.{act_all}
 pub use Rattle.inode_machine.specs.Rules.{LendsNone, Serves}
 pub use Rattle.inode_table.proofs.Stored.{stores_one}
 pub use Rattle.inode_table.specs.NewInodes.{is_free_in}

@@ -1,8 +1,8 @@
 -- A piece is written into a locked file, and the operation acts where the lock is given up; or it is refused.
+use Rattle.inode_machine.specs.VersionOne as one
 use Rattle.inodes_on_blocks.proofs.Vocabulary.{◌≡◌, ⊎_elim, ℕ, zero, suc, ◌+◌, ◌-◌, ◌/◌, ◌<◌, ◌≤◌, ◌==◌, ◌&&◌, not, nat_lt, Bool, true, false, List, [], ◌∷◌, length, take, drop, Option, Some, None, refl, sym, ◌∙◌, ap, subst, arith, append_assoc, if◌then◌else◌, slice_index, max, unwrap_or, cases_lt, nat_tests, none-some, Dinode, Super, IsBytes, overwrite, IsDinode, largest_size, HoldsAt, Cause, BadOffset, TooBig, Node, NodeKind, Directory, File, Device, content, node_or, write_kind, hart_count, Ret, bind, Machine, Laws, P, Wp, Both, Handover, joined, Below, Lasts, ToAct, to_act, may_act, bind-assoc, Wp-more, lock_holder, inode_block, no_record, store_inode, Direct, InTable, table_of, blocks_between, WriteResult, front_of, grown, locate_at, locate_in_table, located, name_direct, store_written, take_one, with_table, write_blocks, write_located, Spent, size, with_bitmap, with_contents, with_inode, most_recorded, Wrote, WriteFile, with_bytes, Inv, World, log_of, tables_of, disk_of, inode_in, Apart, Emptied, Has, Had, Carry, IsLoaded, Stands, below, Labels, labelled, Keeps, record_had, IsChanging, HasSpent, Shows, ActsWithin, DoesItWithin, NoMore, record_in, deny_write, give_written, refused_in, write_file, write_unless, Answers, IsDone, alone, unindexed, IsIndexOf, index_in, all_slots, block_len, direct}
 use Rattle.plain_tree.specs.Steps.{is_file}
 use Rattle.inode_machine.specs.World as above
-use Rattle.inode_machine.specs.Rules as rules
 use Rattle.inodes_on_blocks.proofs.Basics.{alone_keeps, alone_laws, lasts_done, HasBlocks, blocks_start, blocks_end, extra, named_room, one_of, below_laws, lock_range, seen_dinode, both_more, record_spent, spent_stays, TakesStep, s-here, indexed_file, indexed_in}
 use Rattle.inodes_on_blocks.proofs.Changing.{Changing, changing_start}
 use Rattle.inodes_on_blocks.proofs.LocateSteps.{Between, Fits}
@@ -84,7 +84,7 @@ module _ (sizes : Super) (l : Labels) (laws : Laws (labelled l)) (keeps : Keeps 
   abbrev Todo : List l.Step → above.World → Type 0
   Todo = ToAct (labelled l) (below sizes) laws (below_laws sizes l keeps) h B op m C lasts
 
-  may_at : (fs : List l.Step) (g : above.World) → Todo fs g → Inv g → rules.May h op g
+  may_at : (fs : List l.Step) (g : above.World) → Todo fs g → Inv g → one.May h op g
   may_at fs g todo inv = may_act (labelled l) (below sizes) laws (below_laws sizes l keeps) h B op m C lasts fs g todo inv
 
   changes : (fs : List l.Step) (g : above.World) → Todo fs g → Inv g → IsChanging h n g
@@ -122,7 +122,7 @@ module _ (sizes : Super) (l : Labels) (laws : Laws (labelled l)) (keeps : Keeps 
   -- ---- from v on, where the lock is the hart's
 
   module _ (count : ℕ) (fs : List ℕ) (v : W) (gs : List l.Step) (todo : Todo gs v.seen) (shows : Shows v.real v.seen) (inv : Inv v.seen) (stands : Stands sizes h v.real v.seen c) (known : HasSpent sizes h s v.real) (there : v.seen.disk n ≡ Some (file count fs)) where
-    may : rules.May h op v.seen
+    may : one.May h op v.seen
     may = may_at gs v.seen todo inv
 
     mine : lock_holder n (tables_of v.real) ≡ Some h

@@ -1,14 +1,13 @@
 -- The end of a write: the inode's record is put unseen, and the operation acts where the lock is given up and the offset moves.
 use Rattle.inodes_on_blocks.proofs.Vocabulary.{◌≡◌, ◌≢◌, inl, inr, ℕ, suc, ◌+◌, ◌-◌, ◌<◌, ◌≤◌, ◌==◌, if◌then◌else◌, Bool, true, false, List, length, take, Option, Some, None, is_some, refl, sym, ◌∙◌, ap, subst, arith, option_map, IfSome, take_all, none-some, Dinode, Super, IsDinode, IsOutsideLog, holder_of, kept, has, HasRoom, largest_size, HoldsAt, Cause, Node, node_or, write_kind, put, hart_count, put_again, eq_is, eq_isnt, same_or, put_same, put_other, Ret, Do, bind, Ran, Machine, Laws, P, Wp, Both, Handover, joined, Below, Lasts, Acting, Here, Stable, ToAct, s-act, bind-assoc, Inode, unlock_inode, TablesState, file_named, lock_holder, Outside, fetch, seen_of, WriteResult, inode_block, put_inode, with_dinode, store_inode, Entry, Wrote, Whole, Stopped as Refused, Short, WriteFile, entry_at, offset_of, slot_at, unlocked, with_bytes, with_offset, with_record, write_at, write_if, wrote_in, marked, with_mark, HonestPiece, Idle, Inv, loaded, file_of, World, log_of, tables_of, disk_of, inode_in, exec, KeepsRoom, world_with, acts, in_hand, IsFetched, Apart, Base, Carry, Had, Has, InHand, IsLoaded, IsOpened, Keeps, Kept, Labels, NothingMore, Same, Stands, below, labelled, record_had, IsThrough, CanPut, IsChanging, log_with, Shows, give_written, deny_write, Loaded, IsIndexOf, index_in, recorded_had, block_len}
 use Rattle.std.proofs.lemmas.List.{length-take}
+use Rattle.inode_machine.specs.VersionOne as one
 use Rattle.inodes_on_blocks.proofs.Basics.{untouched, locks_are_given, file_is, offsets_are_moved, kept_then, buffer_seen, buffer_then, s-fetch, base_marked, below_laws, hand_then, kept_disk, lent_then, through_then, through_put, empty_hand, inode_place, marked_same, shows_marked, open_same, open_then, lock_range, node_then, inode_home, untaken, stored_long, stored_bytes, one_step_from, with_tables}
 use Rattle.fs_machine.specs.declared.files.OpenFile as files
 use Rattle.fs_machine.specs.Premises as premises
 use Rattle.fs_machine.specs.Steps as steps
 use Rattle.inode_machine.specs.World as above
-use Rattle.inode_machine.specs.Exec as above_exec
 use Rattle.inode_machine.specs.Exec.{entry_of, write_in}
-use Rattle.inode_machine.specs.Rules as rules
 use Rattle.inodes_on_blocks.specs.ShownTables as tables
 use Rattle.inodes_on_blocks.specs.Recording as recording
 use Rattle.inodes_on_blocks.proofs.Changing.{Changing, changing_then, left_but, left_same, others_put}
@@ -239,7 +238,7 @@ module _ (l : Labels) (laws : Laws (labelled l)) (keeps : Keeps l) (h : ℕ) (lt
         → Acting (labelled l) (below sizes) laws (below_laws sizes l keeps) h B op m C lasts y u (premises.MayWait h unlock u.real.state) (exec h x unlock u.real)
         (λ a z r g. (gs : List l.Step) → Inv g → C z gs g → Wp (joined (labelled l) (below sizes)) h B Q (answers b) 0 gs (record { real = r; seen = g })))
 
-    acts_there : (u : Both World above.World) → Shows u.real u.seen → Inv u.seen → rules.May h op u.seen → IsIt u → (log_of u.real).sizes ≡ sizes → (e : Entry) → entry_of u.seen h fd ≡ Some e → e.file.number ≡ n → e.file.offset ≡ offset
+    acts_there : (u : Both World above.World) → Shows u.real u.seen → Inv u.seen → one.May h op u.seen → IsIt u → (log_of u.real).sizes ≡ sizes → (e : Entry) → entry_of u.seen h fd ≡ Some e → e.file.number ≡ n → e.file.offset ≡ offset
         → (o : Option ℕ) → slot_at u.seen h fd ≡ o → Acts u
     unfolding steps.exec premises.May premises.MayWait premises.Honest
     acts_there u shows inv may written here e is number at None slot = absurd (none-some e (sym (ap (entry_at u.seen.files) slot) ∙ is))
@@ -257,7 +256,7 @@ module _ (l : Labels) (laws : Laws (labelled l)) (keeps : Keeps l) (h : ℕ) (lt
         let name : file_named h fd t ≡ Some (file_of e) = file_is h fd t g (loaded t) shows.tables inv runs ∙ ap (option_map file_of) is in
         let then_ : above.World = with_offset (unlocked n after_ (g.alone n)) (slot_at g h fd) e (length bs) in
         let was : node_or (g.disk n) ≡ node = ap node_or written.was in
-        let ran : above_exec.exec h y op g ≡ Ran b then_ = ap (write_at g (slot_at g h fd) n bytes y) is
+        let ran : one.exec h y op g ≡ Ran b then_ = ap (write_at g (slot_at g h fd) n bytes y) is
         ∙ ap (write_if g (slot_at g h fd) e n bytes y) ((λ z. write_kind (was z).kind (at z) bytes) ∙ allowed)
         ∙ goes g (slot_at g h fd) e
         ∙ (λ z. Ran b (with_offset (unlocked n (with_record g n (Some (with_bytes (at z) bs (was z)))) (g.alone n)) (slot_at g h fd) e (length bs))) in
@@ -348,7 +347,7 @@ module _ (l : Labels) (laws : Laws (labelled l)) (keeps : Keeps l) (h : ℕ) (lt
       let lock = may.1.0.0 in
       let still = (kept_disk h n w.seen v.seen kept stands.0.lent (stands.0.inodes n mine).keeps).1 in
       let stays : write_kind (node_or (v.seen.disk n)).kind may.1.1.entry.file.offset bytes ≡ Some why = (λ z. write_kind (node_or (still z)).kind ((ap offset_of (sym may.1.1.at) ∙ may.1.2) z) bytes) ∙ refused in
-      let ran : above_exec.exec h above.Room op v.seen ≡ Ran (Refused why) (unlocked n v.seen (v.seen.alone n)) = ap (write_at v.seen (slot_at v.seen h fd) n bytes above.Room) may.1.1.at ∙ ap (write_if v.seen (slot_at v.seen h fd) may.1.1.entry n bytes above.Room) stays in (
+      let ran : one.exec h above.Room op v.seen ≡ Ran (Refused why) (unlocked n v.seen (v.seen.alone n)) = ap (write_at v.seen (slot_at v.seen h fd) n bytes above.Room) may.1.1.at ∙ ap (write_if v.seen (slot_at v.seen h fd) may.1.1.entry n bytes above.Room) stays in (
         (sym (shows.tables.places.holders n) ∙ lock, tt),
         λ x t_.
             given_came l laws keeps h lt op n v c (Refused why) (unlock_inode h inode None t) (unlocked n v.seen (v.seen.alone n)) shows base lock may.0 ran

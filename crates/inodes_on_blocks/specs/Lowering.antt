@@ -1,5 +1,6 @@
 -- The machine below as a layer under the machine of whole inodes: what a hart has in it, and what the others leave of that.
 use Rattle.std.specs.Prelude.{◌≡◌, ◌≢◌, ℕ, ◌<◌, List, length, Bool, true, false, Option, Some, None, is_some, slice_get, slice_index_or}
+use Rattle.inode_machine.specs.VersionOne as one
 use Rattle.inodes_on_blocks.specs.Vocabulary.{Dinode, Loaded, Super, count_of, is_held_by, holder_of, kept, has, Phase, Node, DirectorySlot, Name, same_name, all_slots, hart_count, descriptor_count, is_free, Machine, LowerLayer, lock_holder, LogPart, Outside, seen_of, Entry, go, if_kept, is_hart, own_of, Idle, KeepsFiles, Inv}
 use Rattle.inodes_on_blocks.specs.Holds.{HoldsAt}
 use Rattle.inodes_on_blocks.specs.Indexes.{IsIndexOf}
@@ -197,7 +198,7 @@ labelled l =
       more = rules.more;
       Outside = above.Outside;
       Honest = rules.Honest;
-      May = rules.May;
+      May = one.May;
       go = go;
       places = l.places;
       tree = l.tree;

@@ -4,7 +4,7 @@ use Rattle.inodes_on_blocks.specs.Vocabulary.{option_map, Loaded, Tree, put, Ino
 use Rattle.fs_machine.specs.declared.slots.Given.TheVariants as given
 use Rattle.fs_machine.specs.declared.files.Refused.TheVariants as refused
 use Rattle.fs_machine.specs.declared.files.Want.TheVariants as want
-use Rattle.inode_machine.specs.Inodes.{seen_in}
+use Rattle.inode_machine.specs.VersionOne.{seen_in}
 use Rattle.inodes_on_blocks.specs.Basics.{loaded, BothCame, Runs, file_of, new_file, doubled_as, shut_as, given_as, refused_as}
 use Rattle.inodes_on_blocks.specs.ShownTables.{Shows}
 

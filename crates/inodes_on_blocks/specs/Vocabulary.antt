@@ -14,7 +14,8 @@ pub use Rattle.image_tree.specs.Checks.{IsData, IsGoodSuper, is_marked, largest_
 pub use Rattle.inode_machine.specs.Inodes.{AtEntries, AtName, AtNothing, Face, OfDevice, OfDirectory, OfFile, Query, Sight, InodeType}
 pub use Rattle.block_device.specs.Blocks.{HasBytes, HasWholeBlocks}
 pub use Rattle.fs_machine.specs.LogPart.{LogPart, Outside, put_block}
-pub use Rattle.inode_machine.specs.Rules.{Asks, Idle, Inv, KeepsFiles, if_kept, is_hart, more, own_of}
+pub use Rattle.inode_machine.specs.Rules.{Idle, Inv, KeepsFiles, if_kept, is_hart, more, own_of}
+pub use Rattle.inode_machine.specs.VersionOne.{Asks}
 pub use Rattle.fs_machine.specs.Shown.{seen_of}
 pub use Rattle.image_tree.specs.VersionOne.{IsWellFormed, UpToLog, node_of, slots_of, tree_in}
 unfoldable pub use Rattle.image_tree.specs.Trees.{node_of as node_by}
@@ -40,7 +41,8 @@ pub use Rattle.fs_machine.specs.declared.slots.Doubled.{Doubled}
 pub use Rattle.fs_machine.specs.declared.slots.Given.{Given}
 pub use Rattle.image_tree.specs.Lists.{IsOnce, times}
 pub use Rattle.inode_data.specs.Freeing.{free_indirect, free_numbers, freed, without_content}
-pub use Rattle.inode_machine.specs.Exec.{entry_of, exec, file_count, is_at, is_dead, read_refused, released, slot_at, start_number, with_offset, write_refused}
+pub use Rattle.inode_machine.specs.Exec.{entry_of, file_count, is_at, is_dead, read_refused, released, slot_at, start_number, with_offset, write_refused}
+pub use Rattle.inode_machine.specs.VersionOne.{exec}
 pub use Rattle.inode_machine.specs.Theory.{at_rest}
 pub use Rattle.plain_tree.specs.Explains.{IsNamedPart}
 pub use Rattle.atomic_programs.specs.Spending.{Budget}
@@ -65,7 +67,7 @@ pub use Rattle.inode_data.specs.Programs.{FilledMemory, blocks_between, read_fro
 pub use Rattle.inode_data.specs.Widths.{most_bytes}
 pub use Rattle.inode_data.specs.Writing.{grown}
 unfoldable pub use Rattle.inode_data.specs.Writing.{write_blocks}
-pub use Rattle.inode_machine.specs.Marks.{go}
+pub use Rattle.inode_machine.specs.VersionOne.{go}
 pub use Rattle.inode_table.specs.NewInodes.{free_in, inode_blocks, new_record}
 unfoldable pub use Rattle.tree_laws.specs.WellFormed.{raises}
 pub use Rattle.fs_layout.specs.declared.entry.Dirent.{Dirent}

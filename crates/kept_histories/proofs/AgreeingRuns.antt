@@ -9,7 +9,7 @@ use Rattle.hart_core.specs.Events.{event_of, said_of}
 use Rattle.hart_core.specs.Harts.{HartsOf, shared_of}
 use Rattle.hart_core.specs.declared.events.Came.{Came}
 use Rattle.hart_core.specs.declared.events.Event.{Event as HartEvent}
-use Rattle.inode_machine.specs.Kept.{kept, kept_on}
+use Rattle.inode_machine.specs.VersionOne.{kept, kept_on}
 use Rattle.plain_tree.specs.declared.call.Call.{Call}
 use Rattle.run_laws.specs.UnderWay.{StepsPlaceInTime, UnderWay}
 use Rattle.run_laws.specs.Vocabulary.{Outside}

@@ -4,11 +4,14 @@ use Rattle.calls_on_blocks.proofs.Vocabulary.{refl, inl, inr}
 use Rattle.atomic_programs.specs.Prog.{Ret, Do, unmarked}
 use Rattle.inode_machine.specs.Descriptors.{close_on, dup_on, joined_on, read_on, read_reply, stat_on, stat_reply, write_from, write_piece, write_program, write_reply, wrote_on}
 use Rattle.inode_machine.specs.Inodes.{Face, InodeType, face_or, is_directory_face, is_directory_type, is_live_face, open_refusal}
-use Rattle.inode_machine.specs.Moving.{chdir_at, chdir_program, inherit_end, lend_from, lend_on, lent_directory}
-use Rattle.inode_machine.specs.Naming.{bump_refused, clear_name, in_parent, link_at, link_found, link_in, link_name, link_program, link_raise, lower, mkdir_in, mkdir_on, mkdir_other, mkdir_refused, mkdir_with, name_directory, named_on, or_missing, unlink_child, unlink_dots, unlink_found, unlink_in, unlink_named, unlink_other}
-use Rattle.inode_machine.specs.Opening.{create_found, create_in, empties, entered_file, file_for, installed_on, installs, make_on, make_other, make_with, open_at, open_end, open_face, open_made, open_new, open_old, opened_reply, truncates, unmake}
+use Rattle.inode_machine.specs.Moving.{chdir_at, inherit_end, lend_from, lend_on, lent_directory}
+use Rattle.inode_machine.specs.VersionOne.{chdir_program}
+use Rattle.inode_machine.specs.Naming.{bump_refused, clear_name, in_parent, link_found, link_in, link_name, lower, mkdir_in, mkdir_on, mkdir_other, mkdir_refused, mkdir_with, name_directory, named_on, or_missing, unlink_child, unlink_dots, unlink_found, unlink_in, unlink_named, unlink_other}
+use Rattle.inode_machine.specs.VersionOne.{link_at, link_program, link_raise}
+use Rattle.inode_machine.specs.Opening.{create_found, create_in, empties, entered_file, file_for, installed_on, installs, make_on, make_other, make_with, open_at, open_end, open_face, open_made, open_new, opened_reply, truncates, unmake}
+use Rattle.inode_machine.specs.VersionOne.{open_old}
 use Rattle.inode_machine.specs.Parts.{P, done, drop, failed, full, give_up, own_step, say, stopped, tail}
-use Rattle.inode_machine.specs.Programs.{program}
+use Rattle.inode_machine.specs.VersionOne.{program}
 use Rattle.inode_machine.specs.Vocabulary.{descriptor_count}
 use Rattle.inode_machine.specs.World as above
 use Rattle.inode_machine.specs.World.Op.{Empty, Enter, Forget, Install, Join, Leave, Release, SetDirectory, Store}

@@ -23,11 +23,11 @@ use Rattle.fs_machine.specs.Steps as steps
 use Rattle.fs_machine.specs.Tables.{TablesState, is_unused, place_of, references_in, references_at}
 use Rattle.fs_machine.specs.declared.entries.Entry.{Entry}
 use Rattle.inode_machine.specs.Exec.{claimed, place_count, referenced}
-use Rattle.inode_machine.specs.Marks.{marked, with_mark}
+use Rattle.inode_machine.specs.VersionOne.{marked, with_mark}
 use Rattle.inode_machine.specs.Parts as programs
-use Rattle.inode_machine.specs.Programs.{program}
+use Rattle.inode_machine.specs.VersionOne.{program}
 use Rattle.inode_machine.specs.Rooms.{says_no_room}
-use Rattle.inode_machine.specs.Rules.{machine}
+use Rattle.inode_machine.specs.VersionOne.{machine}
 use Rattle.inode_machine.specs.World as above
 use Rattle.inode_machine.specs.World.Mark.{Fills, Frees, Makes, Mends, Orphans, Spoils}
 use Rattle.inode_machine.specs.World.Op.{Claim}

@@ -8,7 +8,8 @@ use Rattle.atomic_programs.specs.Calls.{Event, EventOutcome, Start, Started, Sta
 use Rattle.calls_on_blocks.specs.History.{block_moves}
 use Rattle.calls_on_blocks.specs.Theory.{block_calls}
 use Rattle.fs_layout.specs.declared.superblock.Super.{Super}
-use Rattle.inode_machine.specs.Kept.{kept_by, kept_on, kept_start, kept_step, nothing_yet}
+use Rattle.inode_machine.specs.Kept.{kept_by, kept_start, kept_step, nothing_yet}
+use Rattle.inode_machine.specs.VersionOne.{kept_on}
 use Rattle.plain_tree.specs.declared.answer.Reply.{Reply}
 use Rattle.plain_tree.specs.declared.call.Call.{Call}
 use Rattle.plain_tree.specs.declared.trace.Placed.{Placed}

@@ -5,7 +5,7 @@ use Rattle.calls_on_blocks.specs.History.{block_moves}
 use Rattle.calls_on_blocks.specs.Theory.{block_calls}
 use Rattle.fs_layout.specs.declared.superblock.Super.{Super}
 use Rattle.fs_machine.specs.LogPart.{Passes}
-use Rattle.inode_machine.specs.Making.{MakesItsMoves}
+use Rattle.inode_machine.specs.VersionOne.{MakesItsMoves}
 use Rattle.plain_tree.specs.Tree.{Tree}
 use Rattle.plain_tree.specs.declared.call.Call.{Call}
 use Rattle.run_laws.specs.UnderWay.{EventDoes, RunsAStep, UnderWay}

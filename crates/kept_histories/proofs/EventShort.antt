@@ -25,7 +25,8 @@ use Rattle.hart_core.specs.declared.events.Event.TheVariants as event
 use Rattle.hart_core.specs.declared.outcome.Outcome.TheVariants as outcome
 use Rattle.hart_core.specs.declared.outcome.Stop.TheVariants as stop
 use Rattle.inode_machine.specs.Rooms.{says_no_room}
-use Rattle.inode_machine.specs.Rules.{Inv, machine}
+use Rattle.inode_machine.specs.Rules.{Inv}
+use Rattle.inode_machine.specs.VersionOne.{machine}
 use Rattle.inode_machine.specs.Exec.{is_nothing}
 use Rattle.inode_machine.specs.Theory.{Busy, NoSuchHart, NotEmptyHart, Refusal, begin_call, call_wrong, has_descriptor, only_if, serving_world, why_not}
 use Rattle.inode_machine.specs.Vocabulary.{MoveStep}

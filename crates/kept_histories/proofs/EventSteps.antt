@@ -10,7 +10,8 @@ use Rattle.calls_on_blocks.specs.Theory.{block_calls, block_code}
 use Rattle.fs_layout.specs.declared.superblock.Super.{Super}
 use Rattle.hart_core.specs.Harts.{HartsOf}
 use Rattle.hart_core.specs.Worlds.{Makes, calls_of}
-use Rattle.inode_machine.specs.Kept.{kept_step, placed}
+use Rattle.inode_machine.specs.Kept.{kept_step}
+use Rattle.inode_machine.specs.VersionOne.{placed}
 use Rattle.inode_machine.specs.MoveCalls.{MoveMachine}
 use Rattle.plain_tree.specs.declared.answer.Reply.{Reply}
 use Rattle.plain_tree.specs.declared.call.Call.{Call}

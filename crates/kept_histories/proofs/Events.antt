@@ -17,8 +17,9 @@ use Rattle.hart_core.specs.declared.events.Event.{Event as HartEvent}
 use Rattle.hart_core.specs.declared.events.Event.TheVariants as event
 use Rattle.hart_core.specs.declared.outcome.Outcome.TheVariants as outcome
 use Rattle.hart_core.specs.declared.outcome.Stop.TheVariants as stop
-use Rattle.inode_machine.specs.Kept.{kept_on, kept_start, kept_step, placed, told_of}
-use Rattle.inode_machine.specs.Making.{MakesPlaced}
+use Rattle.inode_machine.specs.Kept.{kept_start, kept_step, told_of}
+use Rattle.inode_machine.specs.VersionOne.{kept_on, placed}
+use Rattle.inode_machine.specs.VersionOne.{MakesPlaced}
 use Rattle.inode_machine.specs.MoveCalls.{MoveMachine}
 use Rattle.inode_machine.specs.Vocabulary.{MoveStep}
 use Rattle.plain_tree.specs.Tree.{tree_of}

@@ -12,9 +12,10 @@ use Rattle.fs_layout.specs.declared.superblock.Super.{Super}
 use Rattle.fs_machine.specs.LogPart.{Passes}
 use Rattle.hart_core.specs.Harts.{HartsOf, shared_of}
 use Rattle.hart_core.specs.Telling.{RanAt, rest_of}
-use Rattle.inode_machine.specs.Exec.{exec}
+use Rattle.inode_machine.specs.VersionOne.{exec}
 use Rattle.inode_machine.specs.Inodes.{InodeType}
-use Rattle.inode_machine.specs.Marks.{go, made_by, new_id, roomy, with_mark}
+use Rattle.inode_machine.specs.Marks.{new_id, roomy}
+use Rattle.inode_machine.specs.VersionOne.{go, made_by, with_mark}
 use Rattle.inode_machine.specs.Rooms.{says_no_room}
 use Rattle.inode_machine.specs.Rules.{Inv}
 use Rattle.inode_machine.specs.World as above

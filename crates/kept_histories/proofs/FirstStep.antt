@@ -22,7 +22,8 @@ use Rattle.fs_machine.specs.declared.files.Want.TheVariants as want
 use Rattle.inode_machine.proofs.Vocabulary.{settle_alive, settle_or}
 use Rattle.inode_machine.specs.Exec.{entry_of, is_dead, read_refused}
 use Rattle.inode_machine.specs.Inodes.{Query, Sight, AtNothing, AtName, AtEntries}
-use Rattle.inode_machine.specs.Rules.{Inv, machine}
+use Rattle.inode_machine.specs.Rules.{Inv}
+use Rattle.inode_machine.specs.VersionOne.{machine}
 use Rattle.inode_machine.specs.World as above
 use Rattle.inode_machine.specs.World.Op.{LockFile, Take}
 use Rattle.inodes_on_blocks.proofs.Basics.{by_lock, descriptors_name_files, live_is, place_there, unkept_old, unlocked_holds}

@@ -10,9 +10,12 @@ use Rattle.atomic_programs.specs.Prog.{ExecResult, Waits, Ran, Stops, Ret, Do}
 use Rattle.calls_on_blocks.specs.History.{block_moves}
 use Rattle.calls_on_blocks.specs.Theory.{block_calls}
 use Rattle.fs_layout.specs.declared.superblock.Super.{Super}
-use Rattle.inode_machine.specs.Exec.{exec, first_from, is_nothing, or_zero}
-use Rattle.inode_machine.specs.Kept.{placed, told_of}
-use Rattle.inode_machine.specs.Marks.{go, made_by, marked, new_id, places, roomy, with_mark}
+use Rattle.inode_machine.specs.Exec.{first_from, is_nothing, or_zero}
+use Rattle.inode_machine.specs.VersionOne.{exec}
+use Rattle.inode_machine.specs.Kept.{told_of}
+use Rattle.inode_machine.specs.VersionOne.{placed}
+use Rattle.inode_machine.specs.Marks.{new_id, roomy}
+use Rattle.inode_machine.specs.VersionOne.{go, made_by, marked, places, with_mark}
 use Rattle.inode_machine.specs.Parts as programs
 use Rattle.inode_machine.specs.World as above
 use Rattle.inode_machine.specs.World.Mark.{Makes, Frees, Orphans, Fills, Mends, Spoils}

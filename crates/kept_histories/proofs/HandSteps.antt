@@ -16,10 +16,11 @@ use Rattle.calls_on_blocks.specs.Theory.{begins, block_calls, served_calls, serv
 use Rattle.fs_layout.specs.declared.superblock.Super.{Super}
 use Rattle.fs_machine.specs.Steps as steps
 use Rattle.inode_machine.specs.Exec.{has_place, up_if}
-use Rattle.inode_machine.specs.Marks.{with_mark}
+use Rattle.inode_machine.specs.VersionOne.{with_mark}
 use Rattle.inode_machine.specs.Parts as programs
-use Rattle.inode_machine.specs.Programs.{program}
-use Rattle.inode_machine.specs.Rules.{Found, Inv, Others, machine}
+use Rattle.inode_machine.specs.VersionOne.{program}
+use Rattle.inode_machine.specs.Rules.{Found, Inv, Others}
+use Rattle.inode_machine.specs.VersionOne.{machine}
 use Rattle.inode_machine.specs.Vocabulary.{Deed, look}
 use Rattle.inode_machine.specs.World as above
 use Rattle.inode_machine.specs.World.Op.{Up}

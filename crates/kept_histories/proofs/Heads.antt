@@ -3,7 +3,8 @@ use Rattle.std.specs.Prelude.{◌⊎◌, ℕ, Bool, true, false, List, [], ◌�
 use Rattle.calls_on_blocks.proofs.Vocabulary.{inl, inr}
 use Rattle.atomic_programs.specs.Prog.{Ret, Do}
 use Rattle.inode_machine.specs.Naming.{in_parent, link_name, mkdir_in, unlink_in as unlink_whole}
-use Rattle.inode_machine.specs.Opening.{mends_unless_new, open_new, open_old}
+use Rattle.inode_machine.specs.Opening.{mends_unless_new, open_new}
+use Rattle.inode_machine.specs.VersionOne.{open_old}
 use Rattle.inode_machine.specs.Parts as programs
 use Rattle.inode_machine.specs.World as above
 use Rattle.inode_machine.specs.World.Mark.{Makes}

@@ -3,9 +3,11 @@ use Rattle.std.specs.Prelude.{◌≡◌, ◌≢◌, ◌<◌, ◌≤◌, ℕ, ◌
 use Rattle.inode_machine.proofs.Vocabulary.{Node, folder, live_directory, refl, sym, ◌∙◌, ap, subst, inl, inr, arith, and_true, eq_is, eq_self, eq_not, same_or, put, put_same, put_other, hart_count, root, is_live, ExecResult, Waits, Ran, Stops, Tree, look_same, look_live, live_is, folder_dead}
 use Rattle.inode_machine.proofs.Frame.{has_inode, has_none, kept_here, two_refs, one_refs}
 use Rattle.inode_machine.specs.Exec.{changed_record, serving, counted_down, is_dead, with_count, counted_up, has_place, is_last, lock_if, locked, reserved, start_if, start_number, unlocked, up_if, walk_down_if, with_joined}
-use Rattle.inode_machine.specs.Inodes.{seen_in, type_of}
+use Rattle.inode_machine.specs.Inodes.{type_of}
+use Rattle.inode_machine.specs.VersionOne.{seen_in}
 use Rattle.inode_machine.specs.Vocabulary.{Own as OwnMove, lowest}
-use Rattle.inode_machine.specs.Marks.{Made, clear, go, made_by, marked, mended, new_id, spoiled, with_left, with_made, with_mark, with_noted, with_opened}
+use Rattle.inode_machine.specs.Marks.{Made, clear, mended, new_id, spoiled, with_left, with_made, with_noted, with_opened}
+use Rattle.inode_machine.specs.VersionOne.{go, made_by, marked, with_mark}
 use Rattle.inode_machine.specs.Rules.{Found, Held, Idle, Inv, Own, Others, own_of, view}
 use Rattle.inode_machine.specs.Theory.{Refusal, begin_call, begin_if, serving_world}
 use Rattle.inode_machine.proofs.Starts.{begun_same, inherit_begins, start_is}

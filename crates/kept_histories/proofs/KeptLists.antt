@@ -15,7 +15,8 @@ use Rattle.hart_core.specs.Worlds.{calls_of}
 use Rattle.hart_core.specs.declared.events.Came.{Came}
 use Rattle.hart_core.specs.declared.events.Event.{Event as HartEvent}
 use Rattle.image_tree.specs.VersionOne.{tree_in}
-use Rattle.inode_machine.specs.Kept.{kept, nothing_yet}
+use Rattle.inode_machine.specs.Kept.{nothing_yet}
+use Rattle.inode_machine.specs.VersionOne.{kept}
 use Rattle.plain_tree.specs.Tree.{tree_of}
 use Rattle.plain_tree.specs.TreeData.{TreeData}
 use Rattle.plain_tree.specs.declared.call.Call.{Call}

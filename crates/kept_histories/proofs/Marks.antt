@@ -3,14 +3,14 @@
 use Rattle.std.specs.Prelude.{◌≡◌, ◌⊎◌, ℕ, Bool, true, false, ◌||◌, List, [], ◌∷◌, Option, Some, None}
 use Rattle.std.specs.Option.{option_map}
 use Rattle.calls_on_blocks.proofs.Vocabulary.{refl, sym, ◌∙◌, ap, subst, inl, inr}
-use Rattle.inode_machine.specs.Marks.{places}
+use Rattle.inode_machine.specs.VersionOne.{places}
 use Rattle.inode_machine.specs.World as above
 use Rattle.inode_machine.specs.World.Mark.{Makes, Frees, Orphans, Fills, Mends, Spoils}
 use Rattle.path_walk.specs.Asks.{mark_in, marked_as}
 use Rattle.path_walk.specs.declared.asks.Mark.{Mark}
 use Rattle.path_walk.specs.declared.asks.Mark.TheVariants as mark
 use Rattle.plain_tree.specs.declared.step.Action.{Action}
-use Rattle.inode_machine.specs.Making.{MayMake}
+use Rattle.inode_machine.specs.VersionOne.{MayMake}
 use Rattle.run_laws.proofs.Telling.{spoils}
 use Rattle.tree_histories.specs.Keeping.{KeptTree, Under, hart_in, stage_of, walking}
 use Rattle.tree_histories.specs.Moving.{IsMoved, MovesByAny, SameCalls, makes_none, spoils as kept_spoils}

@@ -6,7 +6,8 @@ use Rattle.inode_machine.specs.Descriptors.{dups, refused_read, refused_to, writ
 use Rattle.inode_machine.specs.Inodes.{Face, Sight, face_or, is_directory_face, is_directory_type, is_live_face}
 use Rattle.inode_machine.specs.Moving.{lends}
 use Rattle.inode_machine.specs.Naming.{always, bump_refused, bumps_if, enters, in_parent, is_missing, is_refused, link_name, mkdir_in, mkdir_refused, unlink_in as unlink_whole}
-use Rattle.inode_machine.specs.Opening.{entered_file, installs, mends_unless_new, open_new, open_old, truncates}
+use Rattle.inode_machine.specs.Opening.{entered_file, installs, mends_unless_new, open_new, truncates}
+use Rattle.inode_machine.specs.VersionOne.{open_old}
 use Rattle.inode_machine.specs.Parts as programs
 use Rattle.inode_machine.specs.Parts.{begins_unless_full, looks_if, looks_or_quits, looks_where, makes, mends_if_full, own_step, quits_unless}
 use Rattle.inode_machine.specs.World as above

@@ -1,8 +1,9 @@
 -- The kept tree's stage and book go on by a step's move as the theory's stage and history do, and no step finds no room.
 use Rattle.std.specs.Prelude.{◌≡◌, ℕ, zero, suc, Bool, true, not, ◌||◌, List, [], ◌∷◌, Option, Some, None}
 use Rattle.calls_on_blocks.proofs.Vocabulary.{refl, sym, ◌∙◌, ap, subst, inl, inr}
-use Rattle.inode_machine.specs.Kept.{stage_by, told_by_move, told_of}
-use Rattle.inode_machine.specs.Making.{IsMade, MakesPlaced, MayMake, OpensLeast}
+use Rattle.inode_machine.specs.Kept.{told_of}
+use Rattle.inode_machine.specs.VersionOne.{stage_by, told_by_move}
+use Rattle.inode_machine.specs.VersionOne.{IsMade, MakesPlaced, MayMake, OpensLeast}
 use Rattle.inode_machine.specs.MoveCalls.{MoveMachine}
 use Rattle.inode_machine.specs.Marks.{roomy}
 use Rattle.inode_machine.specs.Vocabulary.{MoveStep}

@@ -21,7 +21,8 @@ use Rattle.hart_core.specs.Runs.{FoundRoom, IsHistory, IsMounted, outcomes_of}
 use Rattle.hart_core.specs.Worlds.{WorldOf, calls_of}
 use Rattle.hart_core.specs.declared.events.Came.{Came}
 use Rattle.hart_core.specs.declared.events.Event.{Event as HartEvent}
-use Rattle.inode_machine.specs.Kept.{kept, kept_on, kept_start, kept_step, nothing_yet, placed, placed_prog, placed_run, placed_tried, placed_unless, told_of}
+use Rattle.inode_machine.specs.Kept.{kept_start, kept_step, nothing_yet, placed_prog, placed_tried, placed_unless, told_of}
+use Rattle.inode_machine.specs.VersionOne.{kept, kept_on, placed, placed_run}
 use Rattle.inode_machine.specs.MoveCalls.{MoveMachine}
 use Rattle.inode_machine.specs.Vocabulary.{MoveStep}
 use Rattle.inodes_on_blocks.specs.Below as blocks

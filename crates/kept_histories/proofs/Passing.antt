@@ -12,7 +12,7 @@ use Rattle.fs_machine.specs.declared.hand.Hand.{Hand}
 use Rattle.hart_core.specs.Harts.{HartsOf}
 use Rattle.hart_core.specs.Telling.{SetsAt, StaysAt}
 use Rattle.hart_core.specs.Worlds.{calls_of}
-use Rattle.inode_machine.specs.Programs.{program}
+use Rattle.inode_machine.specs.VersionOne.{program}
 use Rattle.inode_parts.specs.Telling.{BeginsAsking}
 use Rattle.inode_parts.specs.declared.lowered.Lowered.{Lowered}
 use Rattle.inodes_on_blocks.specs.Lowering.{nothing}

@@ -1,5 +1,6 @@
 -- What holds at each place of a run of a mounted disk in which no step found no room.
 use Rattle.std.specs.Prelude.{◌≡◌, ℕ, true, List, [], ◌∷◌, ◌++◌, None}
+use Rattle.image_versions.specs.declared.version.Version.TheVariants.{One}
 use Rattle.calls_on_blocks.proofs.Vocabulary.{sym, subst, AllHonest, IsMoving, RunsFrom}
 use Rattle.calls_on_blocks.proofs.History.{makes_moves, moving, runs_from}
 use Rattle.atomic_programs.proofs.Explains.{sound_keeps}
@@ -11,7 +12,7 @@ use Rattle.run_laws.specs.Vocabulary.{sizes_of}
 use Rattle.fs_layout.specs.declared.superblock.Super.{Super}
 use Rattle.image_tree.specs.VersionOne.{tree_in}
 use Rattle.inode_machine.proofs.Kept.{clean_before}
-use Rattle.inode_machine.specs.Making.{MakesItsMoves}
+use Rattle.inode_machine.specs.VersionOne.{MakesItsMoves}
 use Rattle.inode_machine.specs.MoveCalls.{MoveMachine}
 use Rattle.plain_tree.specs.declared.call.Call.{Call}
 use Rattle.run_laws.specs.Vocabulary.{Outside}
@@ -52,7 +53,7 @@ module _ (disk : List (List ℕ)) (count : ℕ) where
       -- no step so far has found no room
       pub clean_at : (so_far es).world.seen.clean ≡ true
       clean_at =
-          clean_before N (moving sizes) rest (so_far es) sound_at honest.1
+          clean_before One N (moving sizes) rest (so_far es) sound_at honest.1
           (subst (λ (z : State L). z.world.seen.clean ≡ true) (run-append L es rest start)
           (subst (λ (z : List (Event Call Outside)). (run L z start).world.seen.clean ≡ true) (sym is) runs.clean))
 

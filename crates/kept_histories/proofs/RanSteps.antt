@@ -14,8 +14,9 @@ use Rattle.fs_machine.specs.LogPart.{Passes}
 use Rattle.hart_core.specs.Harts.{HartsOf, shared_of}
 use Rattle.hart_core.specs.Telling.{RanAt, SetsAt, rest_of}
 use Rattle.hart_core.specs.Worlds.{calls_of}
-use Rattle.inode_machine.specs.Kept.{placed, told_of}
-use Rattle.inode_machine.specs.Making.{MakesPlaced}
+use Rattle.inode_machine.specs.Kept.{told_of}
+use Rattle.inode_machine.specs.VersionOne.{placed}
+use Rattle.inode_machine.specs.VersionOne.{MakesPlaced}
 use Rattle.inode_machine.specs.Marks.{roomy}
 use Rattle.inode_machine.specs.MoveCalls.{MoveMachine}
 use Rattle.inode_parts.specs.Telling.{GoesOrEnds, part_of}

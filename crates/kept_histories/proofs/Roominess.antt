@@ -2,7 +2,8 @@
 use Rattle.std.specs.Prelude.{◌≡◌, ℕ, ◌<◌, true, false, List, [], ◌∷◌, Option, Some, None}
 use Rattle.inode_machine.proofs.Vocabulary.{inl, inr, refl, sym, ◌∙◌, ap, subst}
 use Rattle.inode_machine.proofs.Rules.{root_live}
-use Rattle.inode_machine.specs.Marks.{Made, act_answer, acts, begun, has_answer_room, look_made, looked, made_by, new_id, own_made, roomy}
+use Rattle.inode_machine.specs.Marks.{Made, has_answer_room, new_id, own_made, roomy}
+use Rattle.inode_machine.specs.VersionOne.{act_answer, acts, begun, look_made, looked, made_by}
 use Rattle.inode_machine.specs.Rules.{Inv}
 use Rattle.inode_machine.specs.World as above
 use Rattle.inode_machine.specs.World.{stage_of}

@@ -16,7 +16,7 @@ use Rattle.hart_core.specs.Telling.{some_lacks_place}
 use Rattle.hart_core.specs.declared.events.Came.{Came}
 use Rattle.hart_core.specs.declared.events.Event.{Event as HartEvent}
 use Rattle.image_tree.specs.VersionOne.{tree_in}
-use Rattle.inode_machine.specs.Kept.{kept_on}
+use Rattle.inode_machine.specs.VersionOne.{kept_on}
 use Rattle.inode_machine.specs.MoveCalls.{MoveMachine}
 use Rattle.inode_machine.specs.Rules.{Inv}
 use Rattle.inode_parts.specs.Calls.{LoweredReady}

@@ -15,9 +15,11 @@ use Rattle.fs_layout.specs.declared.superblock.Super.{Super}
 use Rattle.fs_machine.specs.Steps as steps
 use Rattle.inode_machine.proofs.Vocabulary.{look_live}
 use Rattle.inode_machine.specs.Exec.{entry_of, lock_at, lock_if, locked, read_refused}
-use Rattle.inode_machine.specs.Inodes.{AtEntries, AtName, AtNothing, Query, Sight, seen_in}
-use Rattle.inode_machine.specs.Marks.{go, with_mark}
-use Rattle.inode_machine.specs.Rules.{Inv, machine}
+use Rattle.inode_machine.specs.Inodes.{AtEntries, AtName, AtNothing, Query, Sight}
+use Rattle.inode_machine.specs.VersionOne.{seen_in}
+use Rattle.inode_machine.specs.VersionOne.{go, with_mark}
+use Rattle.inode_machine.specs.Rules.{Inv}
+use Rattle.inode_machine.specs.VersionOne.{machine}
 use Rattle.inode_machine.specs.World.{Answer, Entry, LockResult, LocksIt, Mark, NotLocked, Op, World}
 use Rattle.inode_machine.specs.World as above
 use Rattle.inode_machine.specs.World.Op.{LockFile, LockOpen, StatFile, Take}

@@ -9,8 +9,8 @@ use Rattle.atomic_programs.specs.Prog.{Ret, Do, asks}
 use Rattle.calls_on_blocks.specs.History.{block_moves}
 use Rattle.calls_on_blocks.specs.Theory.{block_calls}
 use Rattle.fs_layout.specs.declared.superblock.Super.{Super}
-use Rattle.inode_machine.specs.Kept.{placed}
-use Rattle.inode_machine.specs.Marks.{places}
+use Rattle.inode_machine.specs.VersionOne.{placed}
+use Rattle.inode_machine.specs.VersionOne.{places}
 use Rattle.inode_machine.specs.Parts as programs
 use Rattle.inode_machine.specs.Vocabulary.{MoveStep}
 use Rattle.inode_machine.specs.World as above

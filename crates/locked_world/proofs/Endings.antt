@@ -1,4 +1,5 @@
 -- Wherever a call's program ends, the reply hands the call back: of all calls but read.
+use Rattle.inode_machine.specs.VersionOne as one
 use Rattle.locked_world.proofs.Vocabulary.{◌≡◌, ℕ, zero, suc, ◌+◌, ◌-◌, ◌==◌, ◌||◌, Bool, true, false, List, [], ◌∷◌, Option, Some, None, if◌then◌else◌, refl, Reply, Cause, Call, Action, NoEntry, Name, elements, same_name, dot, dotdot, creates, descriptor_count, Prog, Ret, Do, bind, plain, unmarked, Machine, PartOf, LowerLayer, Handlers, lowered, Face, InodeType, is_directory_face, is_live_face, is_directory_type, face_or, Mark, ClaimResult, New, NoInode, NoPlace, EntryResult, InPlace, NoBlock, NoSlot, JoinResult, NotJoined, Joined, Wrote, Whole, Short, LoanResult, Lent, Moved, Store, Above as P, done, failed, say, give_up, free_all, tail, NotThere, NoMemory, stopped, leave_directory, with_last, walk_step, walk, see_parent, walk_parent, start_on, start, program}
 use Rattle.plain_tree.specs.declared.call.Call.TheVariants as calls
 use Rattle.plain_tree.specs.declared.step.Action.TheVariants as actions
@@ -158,7 +159,7 @@ module _ (path : List ℕ) (flags : ℕ) where
   at_ends : (n : ℕ) (ns : List ℕ) → Leaves OfOpen (opening.open_at path flags n ns)
   at_ends n ns = λ a. face_ends n ns _ _
 
-  old_ends : Leaves OfOpen (opening.open_old path flags)
+  old_ends : Leaves OfOpen (one.open_old path flags)
   old_ends = λ a. start_ends OfOpen (actions.Open path flags) path [] (λ d. walk (actions.Open path flags) d (elements path) [] (opening.open_at path flags) (lost (calls.Open path flags))) (lost (calls.Open path flags)) (λ d. walk_ends OfOpen (actions.Open path flags) d (elements path) [] (opening.open_at path flags) (lost (calls.Open path flags)) at_ends (lost_ends (calls.Open path flags))) (lost_ends (calls.Open path flags))
 
   unmake_ends : (n d : ℕ) (ns : List ℕ) (r : Reply) → OfOpen r → Leaves OfOpen (opening.unmake n d ns r)
@@ -185,7 +186,7 @@ module _ (path : List ℕ) (flags : ℕ) where
   new_ends [] = λ a. tail_ends OfOpen [] (failed (calls.Open path flags) NoEntry) refl
   new_ends (e ∷ es) = λ a. start_ends OfOpen (actions.Open path flags) path [] (λ d. walk_parent (actions.Open path flags) d e es [] (opening.create_in path flags) (lost (calls.Open path flags))) (lost (calls.Open path flags)) (λ d. parent_ends OfOpen (actions.Open path flags) d e es [] (opening.create_in path flags) (lost (calls.Open path flags)) create_ends (lost_ends (calls.Open path flags))) (lost_ends (calls.Open path flags))
 
-  open_ends : Leaves OfOpen (opening.open_program path flags)
+  open_ends : Leaves OfOpen (one.open_program path flags)
   open_ends = if_ends OfOpen (creates flags) _ _ (new_ends (elements path)) old_ends
 
 -- ---- unlink, mkdir, link
@@ -220,7 +221,7 @@ module _ (path : List ℕ) where
   unlink_in_ends : (d : ℕ) (e : Name) (ns : List ℕ) → Leaves OfUnlink (naming.unlink_in path d e ns)
   unlink_in_ends d e ns = if_ends OfUnlink (same_name e dot || same_name e dotdot) _ _ (λ a. refused_ends d ns _ refl) (λ a. unlinked_ends d e ns (face_or a.face) a.found)
 
-  unlink_ends : Leaves OfUnlink (naming.unlink_program path)
+  unlink_ends : Leaves OfUnlink (one.unlink_program path)
   unlink_ends = in_parent_ends (calls.Unlink path) (actions.Unlink path) path (naming.unlink_in path) (elements path) unlink_in_ends
 
   abbrev OfMkdir : Reply → Type 0
@@ -244,7 +245,7 @@ module _ (path : List ℕ) where
   mkdir_in_ends : (d : ℕ) (e : Name) (ns : List ℕ) → Leaves OfMkdir (naming.mkdir_in path d e ns)
   mkdir_in_ends d e ns = λ a. if_ends OfMkdir (is_live_face a.face) _ _ (mkdir_on_ends d e ns (face_or a.face) _) (give_up_ends OfMkdir d _ (tail_ends OfMkdir ns _ refl))
 
-  mkdir_ends : Leaves OfMkdir (naming.mkdir_program path)
+  mkdir_ends : Leaves OfMkdir (one.mkdir_program path)
   mkdir_ends = in_parent_ends (calls.Mkdir path) (actions.Mkdir path) path (naming.mkdir_in path) (elements path) mkdir_in_ends
 
   abbrev OfChdir : Reply → Type 0
@@ -253,7 +254,7 @@ module _ (path : List ℕ) where
   chdir_at_ends : (n : ℕ) (ns : List ℕ) → Leaves OfChdir (moving.chdir_at path n ns)
   chdir_at_ends n ns = λ a. if_ends OfChdir (is_directory_face a.face) _ _ (λ old. drop_ends OfChdir old _ (tail_ends OfChdir ns _ refl)) (give_up_ends OfChdir n _ (tail_ends OfChdir ns _ refl))
 
-  chdir_ends : Leaves OfChdir (moving.chdir_program path)
+  chdir_ends : Leaves OfChdir (one.chdir_program path)
   chdir_ends = λ a. start_ends OfChdir (actions.Chdir path) path [] (λ d. walk (actions.Chdir path) d (elements path) [] (moving.chdir_at path) (lost (calls.Chdir path))) (lost (calls.Chdir path)) (λ d. walk_ends OfChdir (actions.Chdir path) d (elements path) [] (moving.chdir_at path) (lost (calls.Chdir path)) chdir_at_ends (lost_ends (calls.Chdir path))) (lost_ends (calls.Chdir path))
 
 module _ (old new : List ℕ) where
@@ -285,15 +286,15 @@ module _ (old new : List ℕ) where
   link_name_ends n ns [] = λ a. lower_ends n _ ns refl
   link_name_ends n ns (e ∷ es) = λ a. start_ends OfLink (actions.Enter new) new ns (λ d. walk_parent (actions.Enter new) d e es ns (naming.link_in old new n) (link_lost n)) (link_lost n) (λ d. parent_ends OfLink (actions.Enter new) d e es ns (naming.link_in old new n) (link_lost n) (link_in_ends n) (link_lost_ends n)) (link_lost_ends n)
 
-  link_raise_ends : (n : ℕ) (ns : List ℕ) (f : Face) (o : Option Cause) → Leaves OfLink (naming.link_raise old new n ns f o)
+  link_raise_ends : (n : ℕ) (ns : List ℕ) (f : Face) (o : Option Cause) → Leaves OfLink (one.link_raise old new n ns f o)
   link_raise_ends n ns f (Some c) = give_up_ends OfLink n _ (tail_ends OfLink ns _ refl)
   link_raise_ends n ns f None = λ a. link_name_ends n ns (elements new)
 
-  link_at_ends : (n : ℕ) (ns : List ℕ) → Leaves OfLink (naming.link_at old new n ns)
+  link_at_ends : (n : ℕ) (ns : List ℕ) → Leaves OfLink (one.link_at old new n ns)
   link_at_ends n ns = λ a. if_ends OfLink (is_directory_type (face_or a.face).inode_type) _ _ (give_up_ends OfLink n _ (tail_ends OfLink ns _ refl)) (link_raise_ends n ns (face_or a.face) _)
 
-  link_ends : Leaves OfLink (naming.link_program old new)
-  link_ends = λ a. start_ends OfLink (actions.Find old) old [] (λ d. walk (actions.Find old) d (elements old) [] (naming.link_at old new) (lost (calls.Link old new))) (lost (calls.Link old new)) (λ d. walk_ends OfLink (actions.Find old) d (elements old) [] (naming.link_at old new) (lost (calls.Link old new)) link_at_ends (lost_ends (calls.Link old new))) (lost_ends (calls.Link old new))
+  link_ends : Leaves OfLink (one.link_program old new)
+  link_ends = λ a. start_ends OfLink (actions.Find old) old [] (λ d. walk (actions.Find old) d (elements old) [] (one.link_at old new) (lost (calls.Link old new))) (lost (calls.Link old new)) (λ d. walk_ends OfLink (actions.Find old) d (elements old) [] (one.link_at old new) (lost (calls.Link old new)) link_at_ends (lost_ends (calls.Link old new))) (lost_ends (calls.Link old new))
 
 -- ---- inherit
 

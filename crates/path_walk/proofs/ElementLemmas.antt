@@ -1,8 +1,9 @@
 -- An element that stands in a path.
+use Rattle.path_walk.specs.Vocabulary.{name_len}
 use Rattle.path_walk.proofs.Vocabulary.{◌≡◌, ◌≢◌, ℕ, suc, ◌+◌, ◌-◌, ◌<◌, ◌≤◌, min, Bool, true, ◌&&◌, nat_lt, nat_le, not, eqb, List, [], ◌∷◌, length, take, drop, get_or, refl, ap, ◌∙◌, arith, ⊎_elim, slice_range, All, list_all, cases_lt, and_from, not_from_false, ne_eqb, lt-ltb, le-leb, drop-drop, drop_all, take_all, get_or-take, get_or-drop, length-take-le, take-take, All-get_or, length-drop, is_name_byte, with_element, Name, elements, IsElement}
 
 -- bytes that are there are an element
-some_element : (bytes : List ℕ) (es : List Name) → 0 < length bytes → with_element bytes es ≡ take 14 bytes ∷ es
+some_element : (bytes : List ℕ) (es : List Name) → 0 < length bytes → with_element bytes es ≡ take name_len bytes ∷ es
 some_element [] es h = absurd (omega arith)
 some_element (x ∷ xs) es h = refl
 
@@ -22,16 +23,16 @@ module _ (path : List ℕ) (at len : ℕ) (some : 0 < len) (within : at + len �
   rest_at : ℕ
   rest_at = min (at + len + 1) (length path)
 
-  front : take 14 (take len (drop at path)) ≡ slice_range path at (at + min len 14)
+  front : take name_len (take len (drop at path)) ≡ slice_range path at (at + min len name_len)
   front =
       ⊎_elim
-      (λ (short : len < 14).
-      let e : len ≡ at + min len 14 - at = omega arith in
-      take_all 14 (take len (drop at path)) (omega (arith, length-take-le len (drop at path) (omega (arith, length-drop at path)))) ∙ ap (λ (n : ℕ). take n (drop at path)) e)
-      (λ (long : 14 ≤ len).
-      let e : at + min len 14 - at ≡ 14 = omega arith in
-      rw e (take-take 14 len (drop at path) long))
-      (cases_lt len 14)
+      (λ (short : len < name_len).
+      let e : len ≡ at + min len name_len - at = omega arith in
+      take_all name_len (take len (drop at path)) (omega (arith, length-take-le len (drop at path) (omega (arith, length-drop at path)))) ∙ ap (λ (n : ℕ). take n (drop at path)) e)
+      (λ (long : name_len ≤ len).
+      let e : at + min len name_len - at ≡ name_len = omega arith in
+      rw e (take-take name_len len (drop at path) long))
+      (cases_lt len name_len)
 
   behind : elements (drop (len + 1) (drop at path)) ≡ elements (drop rest_at path)
   unfolding rest_at
@@ -46,18 +47,18 @@ module _ (path : List ℕ) (at len : ℕ) (some : 0 < len) (within : at + len �
 
   -- it is the first element from there on
   pub element_here : elements (drop at path) ≡ with_element (take len (drop at path)) (elements (drop (len + 1) (drop at path)))
-      → elements (drop at path) ≡ slice_range path at (at + min len 14) ∷ elements (drop (min (at + len + 1) (length path)) path)
+      → elements (drop at path) ≡ slice_range path at (at + min len name_len) ∷ elements (drop (min (at + len + 1) (length path)) path)
   unfolding rest_at
   element_here cut =
       let here : 0 < length (take len (drop at path)) = omega (arith, length-take-le len (drop at path) (omega (arith, length-drop at path))) in
       cut ∙ some_element (take len (drop at path)) (elements (drop (len + 1) (drop at path))) here
-      ∙ ap (λ (e : Name). e ∷ elements (drop (len + 1) (drop at path))) front ∙ ap (λ (es : List Name). slice_range path at (at + min len 14) ∷ es) behind
+      ∙ ap (λ (e : Name). e ∷ elements (drop (len + 1) (drop at path))) front ∙ ap (λ (es : List Name). slice_range path at (at + min len name_len) ∷ es) behind
 
   -- and its name is one
   pub is_element : ((k : ℕ) → k < len → get_or (drop at path) k 0 ≢ 47) → All (λ b. b ≢ 0) path
-      → IsElement path (record { start = at; end = at + min len 14; rest = min (at + len + 1) (length path) })
+      → IsElement path (record { start = at; end = at + min len name_len; rest = min (at + len + 1) (length path) })
   is_element other nonzero =
-      let n : ℕ = at + min len 14 - at in
+      let n : ℕ = at + min len name_len - at in
       let bytes : List ℕ = take n (drop at path) in
       let long : length bytes ≡ n = length-take-le n (drop at path) (omega (arith, length-drop at path)) in
       let each : (k : ℕ) → k < length bytes → is_name_byte (get_or bytes k 0) ≡ true =
@@ -71,7 +72,7 @@ module _ (path : List ℕ) (at len : ℕ) (some : 0 < len) (within : at + len �
         ordered = omega arith;
         within = omega arith;
         rest = omega arith;
-        name = and_from (nat_lt 0 (length bytes) && nat_le (length bytes) 14) (list_all is_name_byte bytes)
-            (and_from (nat_lt 0 (length bytes)) (nat_le (length bytes) 14) (lt-ltb 0 (length bytes) (omega arith)) (le-leb (length bytes) 14 (omega arith)))
+        name = and_from (nat_lt 0 (length bytes) && nat_le (length bytes) name_len) (list_all is_name_byte bytes)
+            (and_from (nat_lt 0 (length bytes)) (nat_le (length bytes) name_len) (lt-ltb 0 (length bytes) (omega arith)) (le-leb (length bytes) name_len (omega arith)))
             (all_bytes is_name_byte bytes each);
       }

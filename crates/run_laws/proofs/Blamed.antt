@@ -1,4 +1,5 @@
 -- What a call has wanted when it ends for want of a room: while it goes on, one of its operations so far, or of those that are left.
+use Rattle.image_versions.specs.declared.version.Version.TheVariants.{One}
 use Rattle.run_laws.proofs.Vocabulary.{◌≡◌, ◌⊎◌, inl, inr, ℕ, List, [], ◌∷◌, Option, None, refl, subst, Full, Reply, In, Wp, onto, Ret, Do, MoveStep, counted_down, P, Inv, machine, Answer, Mark, Room, laws, HasWanted, IsRunOf, Operation}
 use Rattle.plain_tree.specs.declared.answer.Answer.TheVariants as answers
 use Rattle.inode_machine.specs.World.{World}
@@ -24,10 +25,10 @@ never_comes : (h : ℕ) (B : List MoveStep → Type 0) (Q : Reply → List MoveS
 never_comes h B Q i n p es w g inv runs =
     let u : World = counted_down h i w in
     let forgets = subst (λ (z : P Reply). Wp machine h B Q z n es w) g.forgets runs in
-    let first = forgets w [] (laws.same h w) inv in
+    let first = forgets w [] ((laws One).same h w) inv in
     let f = first.2 Room tt in
     let gives = subst (λ (z : P Reply). Wp machine h B Q z f.left es u) g.gives f.next in
-    let second = gives u [] (laws.same h u) f.inv in
+    let second = gives u [] ((laws One).same h u) f.inv in
     first.1.1.1 second.1.1
 
 -- ---- as a call goes on

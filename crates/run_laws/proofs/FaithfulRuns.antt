@@ -1,4 +1,5 @@
 -- In each run of a mounted world the calls go on as their operations acted.
+use Rattle.image_versions.specs.declared.version.Version.TheVariants.{One}
 use Rattle.run_laws.proofs.Vocabulary.{◌≡◌, ◌<◌, ◌∙◌, ℕ, true, List, refl, sym, subst, Option, None, Some, ap, Super, sizes_of, Call, put, hart_count, Theory, AllHonest, EventOf, Lawful, fresh, run, IsExplained, history, steps_of, ActOf, Both, placed_at, BeginsSome, IsStarted, Uses, own, placed_with, ExecResult, Waits, Ran, Stops, explains, Alone, own_one, Outside, AnswerBelow, Op, unspent, program, transactions_are_small, nothing, IsMountable, handlers, HasSpent, recorded_blocks, mounts_show_their_trees, affords, first, World, layer, shared_of, begins, block_calls, child_of, serves, first_holds, first_idle, served_is, begun_here, below_count, AllAnswer, IsHistory, WorldOf, all_honest, mountable, rests_erased, AreOf, AreOfFinished, CallsGoOnAsTheyActed, GoOnAsTheyActed, IsOperation, noted_inode_calls, Operation, inode_calls, lowered_inode_calls, operations, told_by, whole_inodes}
 use Rattle.inode_machine.specs.World as above
 use Rattle.run_laws.proofs.CallFits.{call_fits, most_written}
@@ -47,7 +48,7 @@ module _ (sizes : Super) where
   pub faithful : Lawful (faithful_calls inode_calls (layer sizes) (handlers sizes) (begins sizes) IsOperation)
   faithful =
       faithful_lawful inode_calls (layer sizes) (handlers sizes) (begins sizes) IsOperation whole_lawful (whole_lower_laws sizes) (whole_starts_both sizes) (lowered_lawful sizes) alone (λ w. tt) itself
-      (recorded_blocks operations) (λ h r s. HasSpent sizes h s r.blocks) unspent (λ call. affords operations (program call) unspent (transactions_are_small call)) none_spent uses
+      (recorded_blocks operations) (λ h r s. HasSpent sizes h s r.blocks) unspent (λ call. affords operations (program call) unspent (transactions_are_small One call)) none_spent uses
 
 module _ (disk : List (List ℕ)) (failures : ℕ) (events : List (EventOf Call Outside)) where
   abbrev sizes : Super

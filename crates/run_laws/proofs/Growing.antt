@@ -1,6 +1,7 @@
 -- The kept list of a run on a mounted disk, at each of the run's beginnings.
 use Rattle.run_laws.proofs.Vocabulary.{◌≡◌, ℕ, zero, suc, ◌≤◌, List, [], ◌∷◌, ◌++◌, length, take, refl, sym, ◌∙◌, ap, subst, arith, length-take-le, take-append-drop, take-take, sizes_of, tree_in, Call, Placed, Explains, IsNamedPart, Rises, Shown, trace_of, Tree, tree_of, IsMarked, RisesBy, beginning, before, Theory, EventOf as Event, Sound, State, AllHonest, fresh, makes, next, run, run-append, sound_run, Outside, MoveMachine, IsMoving, RunsFrom, shown_by, shows, theory_of, IsTheHistory, history_of, clean_before, history_grows, RunsOn, block_moves, first, block_calls, moving, runs_from, disk_after, marks_at, state_after, event_of, first_sound, AllStarted}
 use Rattle.std.proofs.Common.{drop}
+use Rattle.image_versions.specs.declared.version.Version.TheVariants.{One}
 use Rattle.tree_laws.proofs.History.{Apart}
 use Rattle.run_laws.proofs.Left.{HasTreeOf, Leaves, honest_first, left}
 use Rattle.run_laws.proofs.Listed.{kept_explains}
@@ -95,7 +96,7 @@ module _ (disk : List (List ℕ)) (failures : ℕ) where
     runs_to : (k : ℕ) → RunsFrom N (tree_in disk) (first disk failures) (take k events)
     runs_to k =
         let sound : Sound L (state k) = sound_run L (take k events) start (first_sound disk failures r.mountable) (honest_to k) in
-        let clean = clean_before N is_moving (drop k events) (state k) sound (honest_past k) (clean_past k) in
+        let clean = clean_before One N is_moving (drop k events) (state k) sound (honest_past k) (clean_past k) in
         runs_from disk failures (take k events) (record { mountable = r.mountable; honest = honest_to k; clean = clean })
 
     -- the list only grows
@@ -103,7 +104,7 @@ module _ (disk : List (List ℕ)) (failures : ℕ) where
     grows k le =
         ap (λ (n : ℕ). before n whole) (sym (length-take-le k events le))
         ∙ ap (λ (es : List (Event Call Outside)). before (length (take k events)) (list_on es)) (sym (take-append-drop k events))
-        ∙ history_grows N is_moving (tree_in disk) (first disk failures) (take k events) (drop k events) (runs_to k) (honest_past k)
+        ∙ history_grows One N is_moving (tree_in disk) (first disk failures) (take k events) (drop k events) (runs_to k) (honest_past k)
         (clean_past k)
 
     module _ (Ok : ℕ → Call → Type 0) (apart : Apart Ok) (all : AllStarted Ok (shows N events start)) where

@@ -1,8 +1,9 @@
 -- The list that is kept beside a run explains it, where each call that was started is one that its hart may make.
+use Rattle.image_versions.specs.declared.version.Version.TheVariants.{One}
 use Rattle.run_laws.proofs.Vocabulary.{◌≡◌, ℕ, List, [], ◌∷◌, ◌++◌, map, refl, sym, ◌∙◌, ap, subst, append_assoc, Call, Placed, Shown, Explains, trace_of, Tree, tree_of, TreeData, History, Stage, Told, Turn, Goings, opened, shown_of, Steps, Nothing, runs_more, runs_none, AllMayStart, opened_ok, run_explained, run_ok, Theory, EventOf as Event, Sound, State, AllHonest, fresh, makes, next, run, append_nil, sound_keeps, sound_fresh, sound_run, MoveMachine, IsMoving, RunsFrom, shows, theory_of, IsTheHistory, history_of, kept, kept_by, kept_on, nothing_yet, told_of, Beside, clean_before, event_turns, AllStarted}
 use Rattle.tree_laws.specs.Runs.Event.{Starts}
 use Rattle.tree_laws.proofs.History.{Apart}
-use Rattle.inode_machine.specs.Kept.{placed}
+use Rattle.inode_machine.specs.VersionOne.{placed}
 use Rattle.plain_tree.specs.VersionOne.{Chain}
 
 -- no other calls were started
@@ -25,11 +26,11 @@ module _ (N : MoveMachine) (moving : IsMoving N) where
     pub more : List Turn
     pub end : Told
     pub runs : Goings (opened base) (before ++ more) end
-    pub beside : Beside N moving (run L events s) end
+    pub beside : Beside One N moving (run L events s) end
     pub written : end.history ≡ kept N events s b
     pub shown : map shown_of more ≡ shows N events s
 
-  run_turns : (base : Tree) (events : Events) (s : State L) (t : Told) (before : List Turn) → Sound L s → Beside N moving s t
+  run_turns : (base : Tree) (events : Events) (s : State L) (t : Told) (before : List Turn) → Sound L s → Beside One N moving s t
       → Goings (opened base) before t → AllHonest L events s → N.Clean (run L events s).world → Turned base events s t.history before
   run_turns base [] s t before sound b runs honest clean = record {
     more = [];
@@ -42,9 +43,9 @@ module _ (N : MoveMachine) (moving : IsMoving N) where
   run_turns base (e ∷ es) s t before sound b runs honest clean =
       let u = next L e s in
       let after : Sound L u = sound_run L (e ∷ []) s sound (honest.0, tt) in
-      let so_far = clean_before N moving es u after honest.1 clean in
-      let x = event_turns N moving (N.tree sound.first) e s t (sound_keeps L moving.lawful s sound) b honest.0 so_far in
-      let longer = runs_more (opened base) t x.then_ before x.event runs x.happens in
+      let so_far = clean_before One N moving es u after honest.1 clean in
+      let x = event_turns One N moving (N.tree sound.first) e s t (sound_keeps L moving.lawful s sound) b honest.0 so_far in
+      let longer = runs_more One (opened base) t x.then_ before x.event runs x.happens in
       let y = run_turns base es u x.then_ (before ++ x.event ∷ []) after x.beside longer honest.1 clean in
       let d = told_of N (placed N e s) in
       let from_here : kept_by N e (makes L e s).came t.stage (N.tree u.world) d t.history ≡ kept_on N e s t.history =
@@ -60,7 +61,7 @@ module _ (N : MoveMachine) (moving : IsMoving N) where
 
   module _ (Ok : ℕ → Call → Type 0) (base : TreeData) (w : N.World) (events : List (Event Call N.Outside)) (r : RunsFrom N base w events)
       (apart : Apart Ok) (all : AllStarted Ok (shows N events (fresh (theory_of N) w))) where
-    start : Beside N moving (fresh L w) (opened (tree_of base))
+    start : Beside One N moving (fresh L w) (opened (tree_of base))
     start = record {
       stage = λ i. record { tree = sym r.tree i; walk = λ h. sym (moving.rests h w (r.idle h)) i };
       free = λ h q. refl;
@@ -71,7 +72,7 @@ module _ (N : MoveMachine) (moving : IsMoving N) where
     x : Turned (tree_of base) events (fresh L w) nothing_yet []
     x =
         run_turns (tree_of base) events (fresh L w) (opened (tree_of base)) [] (sound_fresh L w r.holds r.idle) start
-        (runs_none (opened (tree_of base))) r.honest r.clean
+        (runs_none One (opened (tree_of base))) r.honest r.clean
 
     same : x.end.history.list ≡ history_of N w events
     same = ap (λ (z : History). z.list) x.written
@@ -82,12 +83,12 @@ module _ (N : MoveMachine) (moving : IsMoving N) where
     explains : Explains base (trace_of (shows N events (fresh L w))) x.end.history.list
     explains =
         subst (λ (z : List Shown). Explains base (trace_of z) x.end.history.list) x.shown
-        (run_explained Ok base x.end x.more apart may r.well x.runs)
+        (run_explained One Ok base x.end x.more apart may r.well x.runs)
 
     leads : Chain (tree_of base) x.end.history.list (N.tree (run L events (fresh L w)).world).tree
     leads =
         subst (λ (z : Tree). Chain (tree_of base) x.end.history.list z) (ap (λ (z : Stage). z.tree) x.beside.stage)
-        (run_ok Ok (tree_of base) (opened (tree_of base)) x.end x.more apart may (opened_ok Ok (tree_of base) r.well) x.runs).book.chain
+        (run_ok One Ok (tree_of base) (opened (tree_of base)) x.end x.more apart may (opened_ok One Ok (tree_of base) r.well) x.runs).book.chain
 
     pub kept_explains : IsTheHistory N base w events
     kept_explains = record {

@@ -1,4 +1,5 @@
 -- The calls on whole inodes, run on the blocks, are right with that history too.
+use Rattle.image_versions.specs.declared.version.Version.TheVariants.{One}
 use Rattle.run_laws.proofs.Vocabulary.{◌≡◌, ◌<◌, ◌∙◌, ℕ, [], subst, arith, Super, Call, put, hart_count, Lawful, Both, LowerLaws, AllLift, IsStarted, StartsBoth, lift_within, lifted_lawful, unspent, program, transactions_are_small, start_is, log_of, nothing, HasInodes, handlers, HasSpent, recorded_blocks, affords, none_spent, World, layer, shared_of, begins, child_of, serves, served_is, begun_here, below_count, joined_same, lower_laws, starts_both, inode_calls, lowered_inode_calls, operations, whole_inodes}
 use Rattle.inode_machine.specs.World as above
 use Rattle.inodes_on_blocks.specs.Below.{World as Blocks}
@@ -35,7 +36,7 @@ all_lift sizes h call can B Q lasts n es w from todo base inv =
     let lt = below_count h b.hart in
     lift_within whole_inodes (layer sizes) (handlers sizes) whole_laws h (recorded_blocks operations) (λ r s. HasSpent sizes h s r.blocks) (program call)
     (all_within sizes h lt (has_inodes sizes w.real.blocks w.seen from.shows.0 base.1) (most_written call) (program call) (call_fits call (served_is call b.serves_it))) unspent
-    (affords operations (program call) unspent (transactions_are_small call)) nothing B Q lasts n es w (none_yet sizes h call w lt base.1 from) todo base inv
+    (affords operations (program call) unspent (transactions_are_small One call)) nothing B Q lasts n es w (none_yet sizes h call w lt base.1 from) todo base inv
 
 pub lowered_lawful : (sizes : Super) → Lawful (lowered_inode_calls sizes)
 lowered_lawful sizes = lifted_lawful inode_calls (layer sizes) (handlers sizes) (begins sizes) whole_lawful (whole_lower_laws sizes) (whole_starts_both sizes) (all_lift sizes)

@@ -1,6 +1,6 @@
 -- What a step places, by when its operation acts.
+use Rattle.inode_machine.specs.VersionOne as one
 use Rattle.run_laws.proofs.Vocabulary.{◌≡◌, ℕ, Bool, true, false, Option, Some, None, is_some, List, [], refl, sym, ◌∙◌, ap, subst, Super, Ret, Do, State, Made, Step, or_else, Handover, Outside, Carry, MoveStep, places, block_calls, block_moves, ActingTime, ActsThen, EndsAsActed, InFirst, InLast, InOne, IsMadeBy, RunsAStep, SeesTruly, UnderWay, is_at_end, none_ran, placed_by, time_of}
-use Rattle.inode_machine.specs.Kept as kept
 use Rattle.inode_machine.specs.World as above
 use Rattle.inodes_on_blocks.specs.Handlers.{P}
 use Rattle.run_laws.specs.UnderWay.{PlacesAt, StepsPlaceInTime}
@@ -10,7 +10,7 @@ module _ (sizes : Super) (h : ℕ) (x : Outside) (s : State (block_calls sizes))
   u = r.under
 
   abbrev Placed : List (ℕ × MoveStep) → Type 0
-  Placed ps = kept.placed (block_moves sizes) (Step h x) s ≡ ps
+  Placed ps = one.placed (block_moves sizes) (Step h x) s ≡ ps
 
   -- it acts, or doesn't
   acts : (o : Option (above.Answer u.op)) → r.acts ≡ o → is_some o ≡ true → IsMadeBy h u o s.world.seen made.after.world.seen → (a : above.Answer u.op) × Placed (places h u.op a (u.mark a) s.world.seen) × SeesTruly u.op a s.world.seen × (or_else r.acts u.acted ≡ Some a)

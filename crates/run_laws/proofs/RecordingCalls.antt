@@ -1,4 +1,5 @@
 -- What a call records in its transactions: at most ten blocks in each.
+use Rattle.image_versions.specs.declared.version.Version.TheVariants.{One}
 use Rattle.run_laws.proofs.Vocabulary.{◌≡◌, ◌≤◌, ◌+◌, ◌-◌, ℕ, zero, suc, true, List, [], ◌∷◌, Option, None, refl, sym, subst, arith, Super, Blocks, Reply, Call, Cause, piece, piece_count, one_if, AfterLeave, Ret, Do, unmarked, holding, lowered, after_leave, HasRoom, Spent, size, spent_after, unspent, with_bitmap, with_contents, with_record, checked_reply, joined_on, refused_to, write_from, write_piece, write_program, write_reply, writes, wrote_on, P as Above, failed, full, own_step, say, program, machine, JoinResult, Joined, NotJoined, Refused, Short, Whole, Wrote, Take, UnlockInode, UpStart, Up, WalkDown, Down, Free, Forget, Claim, Store, Fill, Enter, Clear, Empty, Slot, Install, StatFile, LockFile, ReadFile, CheckFile, JoinFile, LockOpen, WriteFile, Double, Shut, SetDirectory, Lend, LendDirectory, Release, Join, Leave, Say, transactions_are_small, join, join_file, leave, Carry, nothing, handlers, layer, is_served, AreAtMostTen, recorded_after}
 use Rattle.plain_tree.specs.declared.call.Call.TheVariants as calls
 use Rattle.plain_tree.specs.declared.step.Action.TheVariants as actions
@@ -154,7 +155,7 @@ module _ (sizes : Super) where
   other_small : (call : Call) → is_served call ≡ true → most_written call ≡ 0 → IsSmall None nothing (program call)
   other_small call served none =
       program_small (program call) nothing unspent None (subst (λ (k : ℕ). AllFitUpTo k (program call)) none (call_fits call served))
-      (transactions_are_small call) few_at_first tt
+      (transactions_are_small One call) few_at_first tt
 
   pub call_small : (call : Call) → is_served call ≡ true → IsSmall None nothing (program call)
   call_small (calls.Open path flags) served = other_small (calls.Open path flags) served refl

@@ -1,7 +1,7 @@
 -- Beside a run of the calls on blocks stands what is under way in each hart's call, and the same run with its notes: one step of both.
+use Rattle.inode_machine.specs.VersionOne as one
 use Rattle.run_laws.proofs.Vocabulary.{◌≡◌, ◌≢◌, ℕ, Bool, true, false, nat_eq, if◌then◌else◌, Option, Some, None, is_some, List, [], ◌∷◌, ◌++◌, refl, sym, ◌∙◌, ap, subst, eqb-false, ne_eqb, Super, Reply, Prog, Ret, Do, bind, Ran, own, own_one, onto, or_else, Theory, Run, State, Made, Step, changed, told, moved, act_places, Handover, lowered, Outside, AnswerBelow, HasInodes, Carry, handlers, layer, machine, Mark, block_calls, block_moves, lowered_inode_calls, whole_inodes, IsAtEnd, IsFaithful, IsOperation, Notes, AreOf, EndsAsActed, HasActed, IsMadeBy, LeadTo, RunsAStep, StepDoes, UnderWay, at_beginning, gone_on, none_ran, is_at_end, time_of, call_outcome, step_outcome}
 use Rattle.fs_machine.specs.Steps as steps
-use Rattle.inode_machine.specs.Kept as kept
 use Rattle.inode_machine.specs.World as above
 use Rattle.inodes_on_blocks.specs.Handlers.{Acts, P}
 use Rattle.run_laws.proofs.FaithfulCalls.{telling}
@@ -82,7 +82,7 @@ module _ (sizes : Super) where
             subst (λ (zs : List O.M.Step). InCalls (told L (own j (act_places machine h (m b) s.world.seen)) (s.running j)) (told O zs (t.running j)) (under j)) (sym (own_none j h note ne))
             (told_beside (own j (act_places machine h (m b) s.world.seen)) (s.running j) (t.running j) (under j) (beside.calls j))
 
-        module _ (ran : L.M.go h x op m s.world ≡ Ran b w) (places : kept.placed (block_moves sizes) (Step h x) s ≡ act_places machine h (m b) s.world.seen) (t_ : Turned sizes h x q.call q.done u op m k b s.world w u.acted) where
+        module _ (ran : L.M.go h x op m s.world ≡ Ran b w) (places : one.placed (block_moves sizes) (Step h x) s ≡ act_places machine h (m b) s.world.seen) (t_ : Turned sizes h x q.call q.done u op m k b s.world w u.acted) where
           abbrev acted : Option (above.Answer u.op)
           acted = or_else t_.acts u.acted
 

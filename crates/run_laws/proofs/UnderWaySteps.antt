@@ -1,4 +1,5 @@
 -- An event of a run of the calls on blocks, with what is under way in each hart's call: it goes on as its operations act.
+use Rattle.inode_machine.specs.VersionOne as one
 use Rattle.run_laws.proofs.Vocabulary.{◌≡◌, ℕ, Bool, true, false, Option, Some, None, List, [], ◌∷◌, refl, sym, ◌∙◌, ap, subst, inl, inr, Super, Reply, Call, Prog, Ret, Do, bind, ExecResult, Waits, Ran, Stops, Machine, own, own_one, onto, placed_with, Good, Grown, Wp, Theory, Began, Refuses, Begins, Begun, Ends, Lawful, Run, State, EventOf as Event, Start, Step, Made, WasIdle, WasStopped, WasRefused as Refused, begun, busy_in, is_called, changed, start_run, makes, next, tried, unchanged, asks, OfNext, HonestStep, IsHonest, act_places, Handover, lowered, Outside, AnswerBelow, HasInodes, Carry, handlers, layer, machine, Mark, program, nothing, block_calls, block_moves, lowered_inode_calls, whole_inodes, IsAtEnd, IsFaithful, IsOperation, Notes, AreOf, EventDoes, InFirst, LeadTo, UnderWay, at_beginning, none_ran, time_of}
 use Rattle.fs_machine.specs.Steps as steps
 use Rattle.inode_machine.specs.Kept as kept
@@ -107,7 +108,7 @@ module _ (sizes : Super) where
                 (tried_is L h s x r op m (λ y. bind (k y) here) s.world d a off asks_here refl came)
                 (tried_is O h t x q op m (λ y. bind (bind (k y) there) some) s.world d c (beside.stopped ∙ off) asks_there beside.world (came_there d came)) does
 
-            places : (d : ExecResult (AnswerBelow op) W) → L.M.go h x op m s.world ≡ d → kept.placed (block_moves sizes) (Step h x) s ≡ kept.placed_tried (block_moves sizes) (λ y. act_places machine h (m y) s.world.seen) d
+            places : (d : ExecResult (AnswerBelow op) W) → L.M.go h x op m s.world ≡ d → one.placed (block_moves sizes) (Step h x) s ≡ kept.placed_tried (block_moves sizes) (λ y. act_places machine h (m y) s.world.seen) d
             places d came = tried_places (block_moves sizes) h x s r op m (λ y. bind (k y) here) d a off asks_here came
 
             at_first_step : time_of u.op ≡ InFirst → none_ran u.ran ≡ true → ActsAtOnce sizes h s.world (Do op m k)

@@ -1,4 +1,5 @@
 -- The calls on whole inodes are right, with the history that is their own operations.
+use Rattle.image_versions.specs.declared.version.Version.TheVariants.{One}
 use Rattle.run_laws.proofs.Vocabulary.{◌≡◌, ◌≢◌, ℕ, Option, List, [], ◌∷◌, ◌++◌, refl, sym, ◌∙◌, ap, subst, inl, inr, ne_eqb, Full, Reply, Call, Ret, Do, ExecResult, Waits, Ran, Stops, PartOf as P, own, onto, oldest_first, placed_with, Good, Wp, Laws, Begun, Ends, Lawful, onto_rest, own_one, Wp-weaker, MoveStep, exec, go, marked, places, with_mark, limit, program, Honest, Idle, Inv, May, MayWait, Others, machine, more, Answer, Mark, laws, served_calls, served_lawful, keeps, IsRunOf, IsRunOfCall, Operation, inode_calls, operations, told_by, unreserved, whole_inodes}
 use Rattle.inode_machine.specs.World.{Op, Outside, World}
 use Rattle.inodes_on_blocks.specs.Lowering.{Keeps}
@@ -10,10 +11,10 @@ use Rattle.run_laws.proofs.WantsCalls.{call_b}
 pub whole_laws : Laws whole_inodes
 whole_laws =
     record {
-      same = λ h w. (refl, laws.same h w);
-      trans = λ h u v w xs ys a b. (rw (a.0, b.0) refl, laws.trans h u v w [] [] a.1 b.1);
+      same = λ h w. (refl, (laws One).same h w);
+      trans = λ h u v w xs ys a b. (rw (a.0, b.0) refl, (laws One).trans h u v w [] [] a.1 b.1);
       idle_none = λ h v w xs o i. o.0;
-      idle_stays = λ h v w xs o i. laws.idle_stays h v w [] o.1 i;
+      idle_stays = λ h v w xs o i. (laws One).idle_stays h v w [] o.1 i;
       clean_before = λ h v w xs o y. tt;
     }
 

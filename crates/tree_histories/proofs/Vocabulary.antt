@@ -17,7 +17,8 @@ pub use Rattle.tree_histories.specs.Moving.{ActedOn, FindsRoom, HaveFallen, IsAc
 pub use Rattle.tree_histories.specs.Ordered.{IsDue, IsOrdered, StandsFrom}
 pub use Rattle.tree_histories.specs.declared.ends.Due.{Due}
 pub use Rattle.tree_histories.specs.declared.position.Position.{Position}
-pub use Rattle.inode_machine.specs.Marks.{Made, act_all, act_answer, act_entered, acts, begun, look_made, looked, made_by, own_made, roomy}
+pub use Rattle.inode_machine.specs.Marks.{Made, act_entered, own_made, roomy}
+pub use Rattle.inode_machine.specs.VersionOne.{act_all, act_answer, acts, begun, look_made, looked, made_by}
 pub use Rattle.std.proofs.Math.ListN.{get_or-append}
 pub use Rattle.std.proofs.lemmas.Bool.{cases_lt}
 pub use Rattle.std.proofs.lemmas.Option.{get_or_from_slice_get, slice_get-get_or, slice_get_cases, slice_get_past, slice_get_read, slice_get_within}
@@ -29,7 +30,7 @@ pub use Rattle.tree_histories.specs.declared.standing.Walk.{Walk}
 pub use Rattle.tree_laws.specs.History.{replies, starts, tells, tells_any, writes, writes_any}
 pub use Rattle.tree_laws.specs.Moves.{fail}
 pub use Rattle.inode_machine.specs.Kept.{nothing_yet}
-pub use Rattle.inode_machine.specs.Making.{ActsSo, MayBegin, MayLook, MayLookOn, MayMake, OpensLeast}
+pub use Rattle.inode_machine.specs.VersionOne.{ActsSo, MayBegin, MayLook, MayLookOn, MayMake, OpensLeast}
 pub use Rattle.path_walk.specs.Asks.{op_in}
 pub use Rattle.path_walk.specs.declared.elements.Element.{Element}
 pub use Rattle.plain_tree.proofs.TreeLemmas.{put_back, set_put}

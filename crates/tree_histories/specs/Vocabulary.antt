@@ -26,11 +26,12 @@ pub use Rattle.tree_laws.specs.History.{HartStanding, History, entry_of}
 pub use Rattle.whole_calls.specs.Wholes.{WholeFits, action_in, call_in, text_in, whole_of}
 pub use Rattle.whole_calls.specs.declared.whole.Whole.{Whole}
 pub use Rattle.atomic_programs.specs.Prog.{Ret}
-pub use Rattle.inode_machine.specs.Inodes.{empty_in, face_of as face_seen, found_in, is_empty_kind, seen_in, type_of_kind}
-pub use Rattle.inode_machine.specs.Kept.{stage_by, told_by_move}
-pub use Rattle.inode_machine.specs.Making.{MayMake, OpensLeast}
+pub use Rattle.inode_machine.specs.Inodes.{empty_in, found_in, is_empty_kind, type_of_kind}
+pub use Rattle.inode_machine.specs.VersionOne.{face_of as face_seen, seen_in}
+pub use Rattle.inode_machine.specs.VersionOne.{stage_by, told_by_move}
+pub use Rattle.inode_machine.specs.VersionOne.{MayMake, OpensLeast}
 pub use Rattle.inode_machine.specs.Marks.{roomy}
-pub use Rattle.inode_machine.specs.Programs.{program}
+pub use Rattle.inode_machine.specs.VersionOne.{program}
 pub use Rattle.inode_machine.specs.World.{Op}
 pub use Rattle.inode_machine.specs.World.Mark.{Makes}
 pub use Rattle.inode_machine.specs.World.Op.{LockFile, LockOpen, StatFile, Take}

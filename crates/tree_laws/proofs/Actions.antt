@@ -1,12 +1,13 @@
 -- What each action makes of a tree: by its definition.
+use Rattle.image_versions.specs.declared.version.Version.{Version}
 use Rattle.tree_laws.proofs.Vocabulary.{◌≡◌, effect_by, answer_by, ActionsAreTold}
 
 it : {A : Type 0} {x : A} → x ≡ x
 it {A} {x} = λ _. x
 
-pub told : ActionsAreTold
+pub told : (version : Version) → ActionsAreTold version
 unfolding effect_by answer_by
-told = record {
+told version = record {
   opens = λ path flags t h res par new id. (it, it);
   truncate = λ fd t h res par new id. (it, it);
   read = λ fd n t h res par new id. (it, it);

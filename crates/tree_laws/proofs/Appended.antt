@@ -1,24 +1,25 @@
 -- Runs one after the other, as a crate above builds them event by event.
+use Rattle.image_versions.specs.declared.version.Version.{Version}
 use Rattle.tree_laws.proofs.Vocabulary.{◌≡◌, ℕ, refl, sym, subst, List, [], ◌∷◌, ◌++◌, false, World, Event, Happens, Runs, climbing, NoneClimbs, IsStartBy, Alone}
 
 -- a run, and a run from where it ended
-pub runs_append : (w mid w' : World) (es later : List Event) → Runs w es mid → Runs mid later w' → Runs w (es ++ later) w'
+pub runs_append : (version : Version) (w mid w' : World) (es later : List Event) → Runs version w es mid → Runs version mid later w' → Runs version w (es ++ later) w'
 unfolding Runs
-runs_append w mid w' [] later r s = subst (λ (z : World). Runs z later w') (sym r) s
-runs_append w mid w' (e ∷ es) later r s = (r.0, r.1, runs_append r.0 mid w' es later r.2 s)
+runs_append version w mid w' [] later r s = subst (λ (z : World). Runs version z later w') (sym r) s
+runs_append version w mid w' (e ∷ es) later r s = (r.0, r.1, runs_append version r.0 mid w' es later r.2 s)
 
 -- a run of one event
-pub runs_one : (w w' : World) (e : Event) → Happens w e w' → Runs w (e ∷ []) w'
+pub runs_one : (version : Version) (w w' : World) (e : Event) → Happens version w e w' → Runs version w (e ∷ []) w'
 unfolding Runs
-runs_one w w' e o = (w', o, refl)
+runs_one version w w' e o = (w', o, refl)
 
 -- one event more
-pub runs_more : (w mid w' : World) (es : List Event) (e : Event) → Runs w es mid → Happens mid e w' → Runs w (es ++ e ∷ []) w'
-runs_more w mid w' es e r o = runs_append w mid w' es (e ∷ []) r (runs_one mid w' e o)
+pub runs_more : (version : Version) (w mid w' : World) (es : List Event) (e : Event) → Runs version w es mid → Happens version mid e w' → Runs version w (es ++ e ∷ []) w'
+runs_more version w mid w' es e r o = runs_append version w mid w' es (e ∷ []) r (runs_one version mid w' e o)
 
-pub runs_none : (w : World) → Runs w [] w
+pub runs_none : (version : Version) (w : World) → Runs version w [] w
 unfolding Runs
-runs_none w = refl
+runs_none version w = refl
 
 pub calm_append : (es later : List Event) → NoneClimbs es → NoneClimbs later → NoneClimbs (es ++ later)
 unfolding NoneClimbs

@@ -1,4 +1,5 @@
 -- The history, for all calls: what starting, writing, telling and replying keep true. Nothing here knows the moves or what a tree step does.
+use Rattle.image_versions.specs.declared.version.Version.{Version}
 use Rattle.tree_laws.proofs.Vocabulary.{◌≡◌, ◌≢◌, ℕ, ◌+◌, ◌<◌, ◌≤◌, Bool, true, ◌&&◌, ◌==◌, inl, inr, refl, sym, ◌∙◌, ap, subst, arith, List, [], ◌∷◌, ◌++◌, append_assoc, append-nil, length, Option, Some, None, slice_get, Reply, Call, Trace, TracedCall, Placed, TreeData, Tree, tree_of, put, Step, is_nothing, Act, next_of, Follows, IsWhole, noted, ends_at, Chain, ChainBy, act_in, acts_of, IsWritten, IsInTime, Belongs, Rises, AllBelong, Explains, Started, Replied, Deed, MayEnd, HartStanding, History, writes, tells, entry_of, starts, replies, passes, Free, Busy}
 use Rattle.tree_laws.proofs.Maps.{either, eq_self, eq_not, eq_is, same_or, put_same, put_other, put_is, and_true}
 use Rattle.tree_laws.proofs.Lists.{get_left, get_last, get_more, get_past, get_map, map_get}
@@ -13,10 +14,10 @@ AllBelow now [] = Unit {0}
 AllBelow now (e ∷ es) = (e.event < now) × AllBelow now es
 
 -- now: the number of the event at hand, or the one after it once something acted at it
-pub record BookOk (base t : Tree) (late : ℕ → List Act) (now : ℕ) (b : History) : Type 0 where
+pub record BookOk (version : Version) (base t : Tree) (late : ℕ → List Act) (now : ℕ) (b : History) : Type 0 where
   pub rises : Rises 0 b.list
   pub below : AllBelow now b.list
-  pub chain : Chain base b.list t
+  pub chain : Chain version base b.list t
   pub busy : (h id : ℕ) (c : Call) (x : List Act) → b.calls h ≡ Busy id c x → (start : ℕ) × (slice_get b.trace.calls id ≡ Some (record { hart = h; start = start; call = c; finished = None }))
   pub told : (id : ℕ) (s : TracedCall) → slice_get b.trace.calls id ≡ Some s → IsAccountedFor late b id s s.finished
   pub early : (id : ℕ) (s : TracedCall) → slice_get b.trace.calls id ≡ Some s → s.start < now
@@ -37,10 +38,10 @@ unfolding AllBelow
 below_later now later [] le b = tt
 below_later now later (x ∷ xs) le b = (omega (arith, b.0), below_later now later xs le b.1)
 
-chain_more : (base t t' : Tree) (xs : List Placed) (e : Placed) → Chain base xs t → Step t e.step e.answer t' → Chain base (xs ++ e ∷ []) t'
+chain_more : (version : Version) (base t t' : Tree) (xs : List Placed) (e : Placed) → Chain version base xs t → Step version t e.step e.answer t' → Chain version base (xs ++ e ∷ []) t'
 unfolding ChainBy
-chain_more base t t' [] e c s = (t', subst (λ (z : Tree). Step z e.step e.answer t') (sym c) s, refl)
-chain_more base t t' (x ∷ xs) e c s = (c.0, c.1, chain_more c.0 t t' xs e c.2 s)
+chain_more version base t t' [] e c s = (t', subst (λ (z : Tree). Step version z e.step e.answer t') (sym c) s, refl)
+chain_more version base t t' (x ∷ xs) e c s = (c.0, c.1, chain_more version c.0 t t' xs e c.2 s)
 
 acts_more : (id : ℕ) (xs : List Placed) (e : Placed) → e.call ≡ id → acts_of id (xs ++ e ∷ []) ≡ acts_of id xs ++ act_in e ∷ []
 unfolding acts_of
@@ -93,8 +94,8 @@ unfolding Follows
 follows_more c before [] a f is = (subst (λ (z : List Act). next_of c z ≡ Some a.step) (append-nil before) is, tt)
 follows_more c before (y ∷ ys) a f is = (f.0, follows_more c (before ++ y ∷ []) ys a f.1 (subst (λ (z : List Act). next_of c z ≡ Some a.step) (sym (append_assoc before (y ∷ []) ys)) is))
 
-pub later_ok : (base t : Tree) (late : ℕ → List Act) (now later : ℕ) (b : History) → now ≤ later → BookOk base t late now b → BookOk base t late later b
-later_ok base t late now later b le k =
+pub later_ok : (version : Version) (base t : Tree) (late : ℕ → List Act) (now later : ℕ) (b : History) → now ≤ later → BookOk version base t late now b → BookOk version base t late later b
+later_ok version base t late now later b le k =
     let low : AllBelow later b.list = below_later now later b.list le k.below in
     record {
       rises = k.rises;
@@ -122,9 +123,9 @@ abbrev pub going : ℕ → ℕ → Call → TracedCall
 going h start c = record { hart = h; start = start; call = c; finished = None }
 
 -- the call's next step is written
-pub write_ok : (base t t' : Tree) (late : ℕ → List Act) (b : History) (h id : ℕ) (c : Call) (x : List Act) (d : Deed) → BookOk base t late (b.trace.events + 1) b → b.calls h ≡ Busy id c x → late h ≡ [] → next_of c x ≡ Some d.act.step → Step t (record { hart = h; new = d.new; action = d.act.step }) d.act.answer t'
-    → BookOk base t' (put late h (d.act ∷ [])) (b.trace.events + 1) (writes (Busy id c x) b h d)
-write_ok base t t' late b h id c x d k is none next step =
+pub write_ok : (version : Version) (base t t' : Tree) (late : ℕ → List Act) (b : History) (h id : ℕ) (c : Call) (x : List Act) (d : Deed) → BookOk version base t late (b.trace.events + 1) b → b.calls h ≡ Busy id c x → late h ≡ [] → next_of c x ≡ Some d.act.step → Step version t (record { hart = h; new = d.new; action = d.act.step }) d.act.answer t'
+    → BookOk version base t' (put late h (d.act ∷ [])) (b.trace.events + 1) (writes (Busy id c x) b h d)
+write_ok version base t t' late b h id c x d k is none next step =
     let n : ℕ = b.trace.events in
     let e : Placed = entry_of n id h d in
     let said = k.busy h id c x is in
@@ -132,7 +133,7 @@ write_ok base t t' late b h id c x d k is none next step =
     record {
       rises = rises_more 0 n b.list e k.rises k.below (omega arith) refl;
       below = below_more (n + 1) b.list e k.below (omega arith);
-      chain = chain_more base t t' b.list e k.chain step;
+      chain = chain_more version base t t' b.list e k.chain step;
       busy = k.busy;
       told = λ id' s q. elim (same_or id' id) [
         | inl w ↦
@@ -171,9 +172,9 @@ write_ok base t t' late b h id c x d k is none next step =
     others id' s ne (Some r) w = subst (λ (z : List Act). IsWhole s.call z r.1) (sym (acts_same id' b.list (entry_of b.trace.events id h d) ne)) w
 
 -- the call is told what stands in the list
-pub tell_ok : (base t : Tree) (late : ℕ → List Act) (now : ℕ) (b : History) (h id : ℕ) (c : Call) (x : List Act) (d : Deed) → BookOk base t late now b → b.calls h ≡ Busy id c x → late h ≡ d.act ∷ []
-    → BookOk base t (put late h []) now (tells (Busy id c x) b h d)
-tell_ok base t late now b h id c x d k is one =
+pub tell_ok : (version : Version) (base t : Tree) (late : ℕ → List Act) (now : ℕ) (b : History) (h id : ℕ) (c : Call) (x : List Act) (d : Deed) → BookOk version base t late now b → b.calls h ≡ Busy id c x → late h ≡ d.act ∷ []
+    → BookOk version base t (put late h []) now (tells (Busy id c x) b h d)
+tell_ok version base t late now b h id c x d k is one =
     let said = k.busy h id c x is in
     record {
       rises = k.rises;
@@ -227,15 +228,15 @@ tell_ok base t late now b h id c x d k is one =
     ]
 
 -- what the list has of a call under way
-pub list_has : (base t : Tree) (late : ℕ → List Act) (now : ℕ) (b : History) (h id : ℕ) (c : Call) (x : List Act) → BookOk base t late now b → b.calls h ≡ Busy id c x → acts_of id b.list ≡ x ++ late h
-list_has base t late now b h id c x k is =
+pub list_has : (version : Version) (base t : Tree) (late : ℕ → List Act) (now : ℕ) (b : History) (h id : ℕ) (c : Call) (x : List Act) → BookOk version base t late now b → b.calls h ≡ Busy id c x → acts_of id b.list ≡ x ++ late h
+list_has version base t late now b h id c x k is =
     let said = k.busy h id c x is in
     let w = k.told id (going h said.0 c) said.1 in
     w.2 ∙ ap (λ (z : List Act). z ++ late h) (same_acts id id c c w.0 x (b.calls h) w.1 is)
 
 -- a call starts
-pub start_ok : (base t : Tree) (late : ℕ → List Act) (b : History) (h : ℕ) (c : Call) → BookOk base t late b.trace.events b → b.calls h ≡ Free → late h ≡ [] → BookOk base t late (b.trace.events + 1) (starts b h c)
-start_ok base t late b h c k free none =
+pub start_ok : (version : Version) (base t : Tree) (late : ℕ → List Act) (b : History) (h : ℕ) (c : Call) → BookOk version base t late b.trace.events b → b.calls h ≡ Free → late h ≡ [] → BookOk version base t late (b.trace.events + 1) (starts b h c)
+start_ok version base t late b h c k free none =
     let n : ℕ = b.trace.events in
     let i : ℕ = length b.trace.calls in
     let said : TracedCall = going h n c in
@@ -303,8 +304,8 @@ ends_is h r now v = elim (either ((v.hart == h) && is_nothing v.finished)) [
     both a b p q = grind arith
 
 -- a call replies
-pub reply_ok : (base t : Tree) (late : ℕ → List Act) (b : History) (h id : ℕ) (c : Call) (x : List Act) (r : Reply) → BookOk base t late (b.trace.events + 1) b → b.calls h ≡ Busy id c x → late h ≡ [] → MayEnd c x r → BookOk base t late (b.trace.events + 1) (replies b h r)
-reply_ok base t late b h id c x r k is none may =
+pub reply_ok : (version : Version) (base t : Tree) (late : ℕ → List Act) (b : History) (h id : ℕ) (c : Call) (x : List Act) (r : Reply) → BookOk version base t late (b.trace.events + 1) b → b.calls h ≡ Busy id c x → late h ≡ [] → MayEnd c x r → BookOk version base t late (b.trace.events + 1) (replies b h r)
+reply_ok version base t late b h id c x r k is none may =
     let n : ℕ = b.trace.events in
     record {
       rises = k.rises;
@@ -368,12 +369,12 @@ reply_ok base t late b h id c x r k is none may =
     }
 
 -- an event that neither starts nor replies
-pub passes_ok : (base t : Tree) (late : ℕ → List Act) (b : History) → BookOk base t late (b.trace.events + 1) b → BookOk base t late (b.trace.events + 1) (passes b)
-passes_ok base t late b k = record { rises = k.rises; below = k.below; chain = k.chain; busy = k.busy; told = k.told; early = k.early; belongs = k.belongs }
+pub passes_ok : (version : Version) (base t : Tree) (late : ℕ → List Act) (b : History) → BookOk version base t late (b.trace.events + 1) b → BookOk version base t late (b.trace.events + 1) (passes b)
+passes_ok version base t late b k = record { rises = k.rises; below = k.below; chain = k.chain; busy = k.busy; told = k.told; early = k.early; belongs = k.belongs }
 
 -- The kept list explains the trace.
-pub explained : (base : TreeData) (t : Tree) (late : ℕ → List Act) (b : History) → BookOk (tree_of base) t late b.trace.events b → Explains base b.trace b.list
-explained base t late b k = record {
+pub explained : (version : Version) (base : TreeData) (t : Tree) (late : ℕ → List Act) (b : History) → BookOk version (tree_of base) t late b.trace.events b → Explains version base b.trace b.list
+explained version base t late b k = record {
   rises = k.rises;
   end = t;
   chain = k.chain;

@@ -1,4 +1,5 @@
 -- What a tree step does to the live directories: nothing, or one of four changes.
+use Rattle.image_versions.specs.declared.version.Version.{Version}
 use Rattle.tree_laws.proofs.Vocabulary.{◌≡◌, ◌≢◌, ℕ, ◌-◌, ◌<◌, ◌≤◌, Bool, true, false, ◌&&◌, ◌||◌, inl, inr, refl, sym, ◌∙◌, ap, subst, arith, List, [], ◌∷◌, drop, length, Option, Some, None, nat_lt, if◌then◌else◌, DotName, Node, NodeKind, OpenFile, Hold, Action, Open, Truncate, Read, WritePart, Find, Bump, Enter, Unbump, Unlink, Mkdir, Chdir, Dup, Close, Fstat, Inherit, StepAnswer, Opened, Bytes, Status, NewFd, Done, Failed, NoRoom, hart_count, Name, Tree, put, same_name, dot, dotdot, is_directory, live_directory, all_slots, first_slot, look, settle, node_or, node_at, file_at, is_open_file, has_room, creates, enter_refusal, child_refusal, unlink_refusal, mkdir_refusal, not_empty, any_used, first_free, cleared, refusal_with, refusal_by, place_of, IsInPlace, effect_with, effect_by, refused, new_file, new_directory, raised, lowered, emptied, truncated, written_kind, written, moved, wrote, held, at_hold, enter_hold, drop_hold, removed, removed_child, made, opened_at, opened_in, opened_new, at_dir, with_file, is_absent, is_nothing, makes_node, IsNewNode, MayChoose, StepWith, Slots, Folders, folder, folders_of, links_in, raises, up_in, NamesOnce, IsWellFormed, names_change, IsFound}
 use Rattle.tree_laws.proofs.Basics.{either, put_same, put_other, or_none, Dots, plain_or, folder_live, folder_dead, folder_some, folder_links, linked_live, folders_put, put_self, settle_folders, look_in, counted_folders, entered_folders, new_folders, new_apart, not_folder, with_new}
 use Rattle.tree_laws.proofs.Facts.{entry_found, entry_linked}
@@ -167,30 +168,30 @@ removed_change m t new (Some q) k live ref = elim (either (same_name q.1 dot || 
     go a b None is h = absurd cc
     go a b (Some n) is h = gone_change m t q.0 n new q.1 k (live q refl) a b is h
 
-effect_change : (t : Tree) (h : ℕ) (s : Action) (res : Option ℕ) (par : Option (ℕ × Name)) (new id : ℕ) → IsWellFormed t → h < hart_count → place_of t h s ≡ true → LiveParent t par
-    → refusal_with t h s res par ≡ None → MayChoose t h s par new id → Change (folders_of t.nodes) (folders_of (effect_with t h s res par new id).nodes) (names_change s) (makes_node t s par) par new
+effect_change : (version : Version) (t : Tree) (h : ℕ) (s : Action) (res : Option ℕ) (par : Option (ℕ × Name)) (new id : ℕ) → IsWellFormed t → h < hart_count → place_of t h s ≡ true → LiveParent t par
+    → refusal_with version t h s res par ≡ None → MayChoose t h s par new id → Change (folders_of t.nodes) (folders_of (effect_with version t h s res par new id).nodes) (names_change s) (makes_node t s par) par new
 unfolding effect_by refusal_by place_of
-effect_change t h (Open path flags) res par new id k lt place live ref may = elim (either (creates flags)) [
+effect_change version t h (Open path flags) res par new id k lt place live ref may = elim (either (creates flags)) [
   | inl y ↦ rw y (opened_new_change (true && is_absent t par) t h id flags new par live (λ e. may.node (both (creates flags) (is_absent t par) y e)))
   | inr y ↦ rw y (same_nodes t.nodes _ false (false && is_absent t par) par new (opened_nodes t h id flags new res))
 ]
   where
     both : (a b : Bool) → a ≡ true → b ≡ true → (a && b) ≡ true
     both a b p q = grind arith
-effect_change t h (Truncate fd) res par new id k lt place live ref may = Same (truncated_folders t h fd (file_at t h fd) k lt refl place)
-effect_change t h (Read fd n) res par new id k lt place live ref may = same_nodes t.nodes _ false false par new (moved_nodes t (t.fds h fd) _)
-effect_change t h (WritePart fd b) res par new id k lt place live ref may = Same (wrote_folders t h fd b k lt)
-effect_change t h (Find old) res par new id k lt place live ref may = same_nodes t.nodes _ false false par new (held_nodes t h res)
-effect_change t h Bump res par new id k lt place live ref may = Same (held_folders t h (t.holds h) raised k lt refl (λ v. refl))
-effect_change t h (Enter name) res par new id k lt place live ref may = entered_change false t h new par (t.holds h) live ref
-effect_change t h Unbump res par new id k lt place live ref may = Same (held_folders t h (t.holds h) lowered k lt refl (λ v. refl))
-effect_change t h (Unlink path) res par new id k lt place live ref may = removed_change false t new par k live ref
-effect_change t h (Mkdir path) res par new id k lt place live ref may = made_change t par new live ref (may.node refl)
-effect_change t h (Chdir path) res par new id k lt place live ref may = same_nodes t.nodes _ false false par new (dir_nodes t h res)
-effect_change t h (Dup fd) res par new id k lt place live ref may = Same refl
-effect_change t h (Close fd) res par new id k lt place live ref may = Same refl
-effect_change t h (Fstat fd) res par new id k lt place live ref may = Same refl
-effect_change t h (Inherit child) res par new id k lt place live ref may = Same refl
+effect_change version t h (Truncate fd) res par new id k lt place live ref may = Same (truncated_folders t h fd (file_at t h fd) k lt refl place)
+effect_change version t h (Read fd n) res par new id k lt place live ref may = same_nodes t.nodes _ false false par new (moved_nodes t (t.fds h fd) _)
+effect_change version t h (WritePart fd b) res par new id k lt place live ref may = Same (wrote_folders t h fd b k lt)
+effect_change version t h (Find old) res par new id k lt place live ref may = same_nodes t.nodes _ false false par new (held_nodes t h res)
+effect_change version t h Bump res par new id k lt place live ref may = Same (held_folders t h (t.holds h) raised k lt refl (λ v. refl))
+effect_change version t h (Enter name) res par new id k lt place live ref may = entered_change false t h new par (t.holds h) live ref
+effect_change version t h Unbump res par new id k lt place live ref may = Same (held_folders t h (t.holds h) lowered k lt refl (λ v. refl))
+effect_change version t h (Unlink path) res par new id k lt place live ref may = removed_change false t new par k live ref
+effect_change version t h (Mkdir path) res par new id k lt place live ref may = made_change t par new live ref (may.node refl)
+effect_change version t h (Chdir path) res par new id k lt place live ref may = same_nodes t.nodes _ false false par new (dir_nodes t h res)
+effect_change version t h (Dup fd) res par new id k lt place live ref may = Same refl
+effect_change version t h (Close fd) res par new id k lt place live ref may = Same refl
+effect_change version t h (Fstat fd) res par new id k lt place live ref may = Same refl
+effect_change version t h (Inherit child) res par new id k lt place live ref may = Same refl
 
 pub refused_folders : (t : Tree) (h : ℕ) (s : Action) → folders_of (refused t h s).nodes ≡ folders_of t.nodes
 refused_folders t h Bump = settle_folders (drop_hold t h)
@@ -210,19 +211,19 @@ refused_folders t h (Fstat fd) = refl
 refused_folders t h (Inherit child) = refl
 
 -- what a step does to the live directories
-pub step_change : (t t' : Tree) (h : ℕ) (s : Action) (res : Option ℕ) (par : Option (ℕ × Name)) (a : StepAnswer) (new id : ℕ) → IsWellFormed t → IsFound t res par → StepWith t h s res par a new id t' → Change (folders_of t.nodes) (folders_of t'.nodes) (names_change s) (makes_node t s par) par new
-step_change t t' h s res par a new id k found = go a
+pub step_change : (version : Version) (t t' : Tree) (h : ℕ) (s : Action) (res : Option ℕ) (par : Option (ℕ × Name)) (a : StepAnswer) (new id : ℕ) → IsWellFormed t → IsFound t res par → StepWith version t h s res par a new id t' → Change (folders_of t.nodes) (folders_of t'.nodes) (names_change s) (makes_node t s par) par new
+step_change version t t' h s res par a new id k found = go a
   where
-    done : refusal_with t h s res par ≡ None → MayChoose t h s par new id → t' ≡ settle (effect_with t h s res par new id) → IsInPlace t h s
+    done : refusal_with version t h s res par ≡ None → MayChoose t h s par new id → t' ≡ settle (effect_with version t h s res par new id) → IsInPlace t h s
         → Change (folders_of t.nodes) (folders_of t'.nodes) (names_change s) (makes_node t s par) par new
     done ref may is place =
         let two = in_place t h s place in
-        let u : Tree = effect_with t h s res par new id in
+        let u : Tree = effect_with version t h s res par new id in
         let e : folders_of t'.nodes ≡ folders_of u.nodes = ap (λ (z : Tree). folders_of z.nodes) is ∙ settle_folders u in
         subst (λ (G : Folders). Change (folders_of t.nodes) G (names_change s) (makes_node t s par) par new) (sym e)
-        (effect_change t h s res par new id k two.0 two.1 found.directory ref may)
+        (effect_change version t h s res par new id k two.0 two.1 found.directory ref may)
 
-    go : (a : StepAnswer) → StepWith t h s res par a new id t' → Change (folders_of t.nodes) (folders_of t'.nodes) (names_change s) (makes_node t s par) par new
+    go : (a : StepAnswer) → StepWith version t h s res par a new id t' → Change (folders_of t.nodes) (folders_of t'.nodes) (names_change s) (makes_node t s par) par new
     go (Failed c) o = Same (ap (λ (z : Tree). folders_of z.nodes) o.1 ∙ refused_folders t h s)
     go (Opened fd j f) o = done o.0 o.2 o.3 o.4
     go (Bytes b) o = done o.0 o.2 o.3 o.4

@@ -1,4 +1,5 @@
 -- The entries up to a moment are the list as it stood then.
+use Rattle.image_versions.specs.declared.version.Version.{Version}
 use Rattle.tree_laws.proofs.Vocabulary.{◌≡◌, ℕ, zero, suc, ◌+◌, ◌<◌, ◌≤◌, true, false, refl, sym, ◌∙◌, ap, subst, arith, List, [], ◌∷◌, ◌++◌, append_assoc, append-nil, length, inl, inr, Option, Some, None, nat_lt, nat_tests, Reply, Trace, Placed, hart_count, Tree, noted, Shown, Started, Replied, Other, Deed, Stage, HartStanding, History, writes, writes_any, tells_any, entry_of, Free, Busy, World, Event, lost_of, unless, falls, all_fall, moves_on, finishes, Happens, Runs, opened, shown_of, Starts, Steps, Nothing, before}
 use Rattle.tree_laws.proofs.Basics.{either, AllBelow, below_later}
 use Rattle.tree_laws.proofs.History.{tells_list, falls_trace, own_trace, happens_trace}
@@ -67,30 +68,30 @@ noted_events t (Started h c) = refl
 noted_events t (Replied h r) = refl
 noted_events t Other = refl
 
-happens_now : (w w' : World) (e : Event) → Happens w e w' → w'.history.trace.events ≡ w.history.trace.events + 1
-happens_now w w' e o = ap (λ (z : Trace). z.events) (happens_trace w w' e o) ∙ noted_events w.history.trace (shown_of e)
+happens_now : (version : Version) (w w' : World) (e : Event) → Happens version w e w' → w'.history.trace.events ≡ w.history.trace.events + 1
+happens_now version w w' e o = ap (λ (z : Trace). z.events) (happens_trace version w w' e o) ∙ noted_events w.history.trace (shown_of e)
 
 -- one event
-event_grew : (w w' : World) (e : Event) → Happens w e w' → Grew w.history.trace.events w.history.list w'.history.list
-event_grew w w' Nothing o = subst (λ (z : World). Grew w.history.trace.events w.history.list z.history.list) (sym o) (grew_same w.history.trace.events w.history.list)
-event_grew w w' (Starts h c) o = subst (λ (z : World). Grew w.history.trace.events w.history.list z.history.list) (sym o.world) (grew_same w.history.trace.events w.history.list)
-event_grew w w' (Steps h v r) o =
+event_grew : (version : Version) (w w' : World) (e : Event) → Happens version w e w' → Grew w.history.trace.events w.history.list w'.history.list
+event_grew version w w' Nothing o = subst (λ (z : World). Grew w.history.trace.events w.history.list z.history.list) (sym o) (grew_same w.history.trace.events w.history.list)
+event_grew version w w' (Starts h c) o = subst (λ (z : World). Grew w.history.trace.events w.history.list z.history.list) (sym o.world) (grew_same w.history.trace.events w.history.list)
+event_grew version w w' (Steps h v r) o =
     subst (λ (z : World). Grew w.history.trace.events w.history.list z.history.list) (sym o.world)
     (subst (λ (z : List Placed). Grew w.history.trace.events w.history.list z) (sym (finish_list r (moves_on w.stage o.stage h o.told w.history) h)) (moves_grew w.stage o.stage h o.told w.history))
 
 -- The list at a moment begins the list at the end; the rest has numbers from that moment on.
-pub run_grew : (w w' : World) (es : List Event) → Runs w es w' → Grew w.history.trace.events w.history.list w'.history.list
+pub run_grew : (version : Version) (w w' : World) (es : List Event) → Runs version w es w' → Grew w.history.trace.events w.history.list w'.history.list
 unfolding Runs
-run_grew w w' [] r = subst (λ (z : World). Grew w.history.trace.events w.history.list z.history.list) r (grew_same w.history.trace.events w.history.list)
-run_grew w w' (e ∷ es) r =
-    let one = event_grew w r.0 e r.1 in
-    let now = happens_now w r.0 e r.1 in
-    grew_on w.history.trace.events r.0.history.trace.events w.history.list r.0.history.list w'.history.list (omega (arith, now)) one (run_grew r.0 w' es r.2)
+run_grew version w w' [] r = subst (λ (z : World). Grew w.history.trace.events w.history.list z.history.list) r (grew_same w.history.trace.events w.history.list)
+run_grew version w w' (e ∷ es) r =
+    let one = event_grew version w r.0 e r.1 in
+    let now = happens_now version w r.0 e r.1 in
+    grew_on w.history.trace.events r.0.history.trace.events w.history.list r.0.history.list w'.history.list (omega (arith, now)) one (run_grew version r.0 w' es r.2)
 
-run_now : (w w' : World) (es : List Event) → Runs w es w' → w'.history.trace.events ≡ w.history.trace.events + length es
+run_now : (version : Version) (w w' : World) (es : List Event) → Runs version w es w' → w'.history.trace.events ≡ w.history.trace.events + length es
 unfolding Runs
-run_now w w' [] r = let e : w.history.trace.events ≡ w'.history.trace.events = ap (λ (z : World). z.history.trace.events) r in omega (arith, e)
-run_now w w' (e ∷ es) r = let one = happens_now w r.0 e r.1 in let ih = run_now r.0 w' es r.2 in omega (arith, one, ih)
+run_now version w w' [] r = let e : w.history.trace.events ≡ w'.history.trace.events = ap (λ (z : World). z.history.trace.events) r in omega (arith, e)
+run_now version w w' (e ∷ es) r = let one = happens_now version w r.0 e r.1 in let ih = run_now version r.0 w' es r.2 in omega (arith, one, ih)
 
 below_append : (n : ℕ) (xs ys : List Placed) → AllBelow n xs → AllBelow n ys → AllBelow n (xs ++ ys)
 unfolding AllBelow
@@ -154,34 +155,34 @@ moves_below m m' h a b k =
     let low : AllBelow (b.trace.events + 1) b2.list = subst (λ (z : List Placed). AllBelow (b.trace.events + 1) z) (sym (tells_list a h b1)) (writes_below (unless (lost_of m h) a) b h k) in
     subst (λ (z : ℕ). AllBelow (z + 1) (all_fall m m' hart_count b2).list) now (falls_below m m' hart_count b2 (subst (λ (z : ℕ). AllBelow (z + 1) b2.list) (sym now) low))
 
-event_below : (w w' : World) (e : Event) → Happens w e w' → AllBelow w.history.trace.events w.history.list → AllBelow w'.history.trace.events w'.history.list
-event_below w w' e o k = subst (λ (n : ℕ). AllBelow n w'.history.list) (sym (happens_now w w' e o)) (go e o)
+event_below : (version : Version) (w w' : World) (e : Event) → Happens version w e w' → AllBelow w.history.trace.events w.history.list → AllBelow w'.history.trace.events w'.history.list
+event_below version w w' e o k = subst (λ (n : ℕ). AllBelow n w'.history.list) (sym (happens_now version w w' e o)) (go e o)
   where
     up : AllBelow (w.history.trace.events + 1) w.history.list
     up = below_later w.history.trace.events (w.history.trace.events + 1) w.history.list (omega arith) k
 
-    go : (e : Event) → Happens w e w' → AllBelow (w.history.trace.events + 1) w'.history.list
+    go : (e : Event) → Happens version w e w' → AllBelow (w.history.trace.events + 1) w'.history.list
     go Nothing o = subst (λ (z : World). AllBelow (w.history.trace.events + 1) z.history.list) (sym o) up
     go (Starts h c) o = subst (λ (z : World). AllBelow (w.history.trace.events + 1) z.history.list) (sym o.world) up
     go (Steps h v r) o =
         subst (λ (z : World). AllBelow (w.history.trace.events + 1) z.history.list) (sym o.world)
         (subst (λ (z : List Placed). AllBelow (w.history.trace.events + 1) z) (sym (finish_list r (moves_on w.stage o.stage h o.told w.history) h)) (moves_below w.stage o.stage h o.told w.history up))
 
-pub run_below : (w w' : World) (es : List Event) → Runs w es w' → AllBelow w.history.trace.events w.history.list → AllBelow w'.history.trace.events w'.history.list
+pub run_below : (version : Version) (w w' : World) (es : List Event) → Runs version w es w' → AllBelow w.history.trace.events w.history.list → AllBelow w'.history.trace.events w'.history.list
 unfolding Runs
-run_below w w' [] r k = subst (λ (z : World). AllBelow z.history.trace.events z.history.list) r k
-run_below w w' (e ∷ es) r k = run_below r.0 w' es r.2 (event_below w r.0 e r.1 k)
+run_below version w w' [] r k = subst (λ (z : World). AllBelow z.history.trace.events z.history.list) r k
+run_below version w w' (e ∷ es) r k = run_below version r.0 w' es r.2 (event_below version w r.0 e r.1 k)
 
 nothing_below : (t : Tree) → AllBelow (opened t).history.trace.events (opened t).history.list
 unfolding AllBelow
 nothing_below t = tt
 
 -- the law
-pub grows : (t : Tree) (w w' : World) (es later : List Event) → Runs (opened t) es w → Runs w later w' → before (length es) w'.history.list ≡ w.history.list
-grows t w w' es later r s =
-    let n : w.history.trace.events ≡ length es = (let e = run_now (opened t) w es r in omega (arith, e)) in
-    let g = run_grew w w' later s in
-    let low = run_below (opened t) w es r (nothing_below t) in
+pub grows : (version : Version) (t : Tree) (w w' : World) (es later : List Event) → Runs version (opened t) es w → Runs version w later w' → before (length es) w'.history.list ≡ w.history.list
+grows version t w w' es later r s =
+    let n : w.history.trace.events ≡ length es = (let e = run_now version (opened t) w es r in omega (arith, e)) in
+    let g = run_grew version w w' later s in
+    let low = run_below version (opened t) w es r (nothing_below t) in
     subst (λ (k : ℕ). before k w'.history.list ≡ w.history.list) n
     (ap (λ (z : List Placed). before w.history.trace.events z) g.is
     ∙ (before_append w.history.trace.events w.history.list g.more

@@ -1,4 +1,5 @@
 -- What well-formedness says of a name that is found.
+use Rattle.image_versions.specs.declared.version.Version.{Version}
 use Rattle.tree_laws.proofs.Vocabulary.{◌≡◌, ◌≢◌, ℕ, ◌+◌, ◌<◌, ◌≤◌, true, false, inl, inr, refl, sym, ◌∙◌, ap, subst, arith, List, [], ◌∷◌, drop, Option, Some, None, Node, hart_count, root, Name, Tree, same_name, dot, dotdot, live_directory, is_live, all_slots, is_absolute, first_slot, look, follow, parent_from, parent_of, resolve, parent, start_of, elements, node_or, Slots, Folders, folder, folders_of, links_in, up_in, past, count_in, mentions, raises, IsForest, IsWellFormed}
 use Rattle.tree_laws.proofs.Basics.{either, same_or, first_dots, first_dot, first_dotdot, first_counts, mentions_part, mentions_two, plain_or, folder_live, linked_live, live_some, look_in, look_good, first_found, follow_end, parent_here, parent_bad, parent_step, parent_stop}
 
@@ -109,8 +110,8 @@ start_map t h path lt k = elim (either (is_absolute path)) [
   | inr y ↦ rw y (let th = k.directories h lt in in_map t.nodes (t.cwd h) th.node th.is)
 ]
 
-pub resolve_map : (t : Tree) (h n : ℕ) (path : List ℕ) → h < hart_count → IsWellFormed t → resolve t h path ≡ Some n → InMap t.nodes n
-resolve_map t h n path lt k r = follow_map t (start_of t h path) n (elements path) k (start_map t h path lt k) r
+pub resolve_map : (version : Version) (t : Tree) (h n : ℕ) (path : List ℕ) → h < hart_count → IsWellFormed t → resolve version t h path ≡ Some n → InMap t.nodes n
+resolve_map version t h n path lt k r = follow_map t (start_of t h path) n (elements version path) k (start_map t h path lt k) r
 
 parent_from_live : (ns : ℕ → Option Node) (s : ℕ) (e : Name) (w : List Name) (q : ℕ × Name) → parent_from ns s e w ≡ Some q → live_directory (ns q.0) ≡ true
 parent_from_live ns s e [] q h = elim (either (live_directory (ns s))) [
@@ -132,5 +133,5 @@ parent_of_live ns s [] q h = absurd cc
 parent_of_live ns s (e ∷ w) q h = parent_from_live ns s e w q h
 
 -- a path's parent is a live directory
-pub parent_live : (t : Tree) (h : ℕ) (path : List ℕ) (q : ℕ × Name) → parent t h path ≡ Some q → live_directory (t.nodes q.0) ≡ true
-parent_live t h path q is = parent_of_live t.nodes (start_of t h path) (elements path) q is
+pub parent_live : (version : Version) (t : Tree) (h : ℕ) (path : List ℕ) (q : ℕ × Name) → parent version t h path ≡ Some q → live_directory (t.nodes q.0) ≡ true
+parent_live version t h path q is = parent_of_live t.nodes (start_of t h path) (elements version path) q is

@@ -1,4 +1,5 @@
 -- What a tree step leaves, from what it does to the live directories.
+use Rattle.image_versions.specs.declared.version.Version.{Version}
 use Rattle.tree_laws.proofs.Vocabulary.{◌≡◌, ◌≢◌, ℕ, Bool, true, false, ◌||◌, ◌⊎◌, inl, inr, refl, sym, ◌∙◌, ap, subst, arith, List, [], ◌∷◌, drop, length, Option, Some, None, Slot, Node, OpenFile, Hold, Action, Open, Truncate, Read, WritePart, Find, Bump, Enter, Unbump, Unlink, Mkdir, Chdir, Dup, Close, Fstat, Inherit, StepAnswer, Opened, Bytes, Status, NewFd, Done, Failed, NoRoom, hart_count, descriptor_count, Name, Tree, put, same_name, dot, dotdot, climbs_in, live_directory, is_live, all_slots, first_slot, look, follow, settle, is_named, hold_names, fd_names, file_names, new_file, has_room, creates, any_used, first_free, cleared, refusal_with, effect_with, effect_by, refused, truncated, written, wrote, moved, file_at, held, at_hold, enter_hold, drop_hold, removed, removed_child, made, raise_hold, opened_at, opened_in, opened_new, at_dir, with_file, makes_node, StepWith, Slots, Folders, folder, folders_of, up_in, NamesOnce, IsWellFormed, names_change, IsFound, LeavesFinding, Frame, IsNobodys}
 use Rattle.tree_laws.proofs.Basics.{either, same_or, eq_not, put_is, put_same, put_other, none_any, same_is, same_self, entered_other, cleared_other, cleared_gone, first_dots, first_dot, first_unused, Dots, folder_live, folder_dead, folder_some, folder_none, look_bad, look_in, look_good, first_found, follow_end, follow_step, Removes, after_removal, with_new}
 use Rattle.tree_laws.proofs.Facts.{look_live}
@@ -228,14 +229,14 @@ change_gone ns ns' b m par new (Removed d n e ss ds bt pt dn is once found dis s
 ]
 
 -- where the step makes no node of this number, it becomes no live directory
-step_dead : (t t' : Tree) (h : ℕ) (s : Action) (res : Option ℕ) (par : Option (ℕ × Name)) (a : StepAnswer) (new id : ℕ) → IsWellFormed t → IsFound t res par → StepWith t h s res par a new id t'
-    → (n : ℕ) → (refusal_with t h s res par ≡ None → makes_node t s par ≡ true → n ≢ new) → live_directory (t.nodes n) ≡ false → live_directory (t'.nodes n) ≡ false
-step_dead t t' h s res par a new id k found o n ne dead = folder_none (t'.nodes n) (go a o)
+step_dead : (version : Version) (t t' : Tree) (h : ℕ) (s : Action) (res : Option ℕ) (par : Option (ℕ × Name)) (a : StepAnswer) (new id : ℕ) → IsWellFormed t → IsFound t res par → StepWith version t h s res par a new id t'
+    → (n : ℕ) → (refusal_with version t h s res par ≡ None → makes_node t s par ≡ true → n ≢ new) → live_directory (t.nodes n) ≡ false → live_directory (t'.nodes n) ≡ false
+step_dead version t t' h s res par a new id k found o n ne dead = folder_none (t'.nodes n) (go a o)
   where
-    done : (a : StepAnswer) → StepWith t h s res par a new id t' → refusal_with t h s res par ≡ None → folder (t'.nodes n) ≡ None
-    done a o ref = change_dead t.nodes t'.nodes (names_change s) (makes_node t s par) par new (step_change t t' h s res par a new id k found o) n (ne ref) (folder_dead (t.nodes n) dead)
+    done : (a : StepAnswer) → StepWith version t h s res par a new id t' → refusal_with version t h s res par ≡ None → folder (t'.nodes n) ≡ None
+    done a o ref = change_dead t.nodes t'.nodes (names_change s) (makes_node t s par) par new (step_change version t t' h s res par a new id k found o) n (ne ref) (folder_dead (t.nodes n) dead)
 
-    go : (a : StepAnswer) → StepWith t h s res par a new id t' → folder (t'.nodes n) ≡ None
+    go : (a : StepAnswer) → StepWith version t h s res par a new id t' → folder (t'.nodes n) ≡ None
     go (Failed c) o = ap (λ (z : Tree). folders_of z.nodes n) o.1 ∙ (ap (λ (G : Folders). G n) (refused_folders t h s) ∙ folder_dead (t.nodes n) dead)
     go (Opened fd j f) o = done (Opened fd j f) o o.0
     go (Bytes b) o = done (Bytes b) o o.0
@@ -244,13 +245,13 @@ step_dead t t' h s res par a new id k found o n ne dead = folder_none (t'.nodes 
     go Done o = done Done o o.0
     go (NoRoom f) o = done (NoRoom f) o o.0
 
-pub step_finds : (t t' : Tree) (h : ℕ) (s : Action) (res : Option ℕ) (par : Option (ℕ × Name)) (a : StepAnswer) (new id : ℕ) → IsWellFormed t → IsFound t res par → StepWith t h s res par a new id t' → LeavesFinding t h s res par new t'
-step_finds t t' h s res par a new id k found o =
-    let c = step_change t t' h s res par a new id k found o in
+pub step_finds : (version : Version) (t t' : Tree) (h : ℕ) (s : Action) (res : Option ℕ) (par : Option (ℕ × Name)) (a : StepAnswer) (new id : ℕ) → IsWellFormed t → IsFound t res par → StepWith version t h s res par a new id t' → LeavesFinding version t h s res par new t'
+step_finds version t t' h s res par a new id k found o =
+    let c = step_change version t t' h s res par a new id k found o in
     record {
       finds = λ d e live live' other. change_finds t.nodes t'.nodes (names_change s) (makes_node t s par) par new c d e live live' other;
       gone = λ d live dead. change_gone t.nodes t'.nodes (names_change s) (makes_node t s par) par new c d (all_slots (t.nodes d)) (folder_live (t.nodes d) live) (folder_dead (t'.nodes d) dead);
-      dead = step_dead t t' h s res par a new id k found o;
+      dead = step_dead version t t' h s res par a new id k found o;
     }
 
 -- Current directories of the other harts.
@@ -318,26 +319,26 @@ dir_cwd t h g (Some n) ne = put_other t.cwd h n g ne
 at_hart : (f f' : ℕ → ℕ) (g : ℕ) → f' ≡ f → f' g ≡ f g
 at_hart f f' g e = ap (λ (z : ℕ → ℕ). z g) e
 
-effect_cwd : (t : Tree) (h g : ℕ) (s : Action) (res : Option ℕ) (par : Option (ℕ × Name)) (new id : ℕ) → g ≢ h → (s ≡ Inherit g → ⊥) → (effect_with t h s res par new id).cwd g ≡ t.cwd g
+effect_cwd : (version : Version) (t : Tree) (h g : ℕ) (s : Action) (res : Option ℕ) (par : Option (ℕ × Name)) (new id : ℕ) → g ≢ h → (s ≡ Inherit g → ⊥) → (effect_with version t h s res par new id).cwd g ≡ t.cwd g
 unfolding effect_by
-effect_cwd t h g (Open path flags) res par new id ne other = elim (either (creates flags)) [
+effect_cwd version t h g (Open path flags) res par new id ne other = elim (either (creates flags)) [
   | inl y ↦ rw y (at_hart t.cwd _ g (opened_new_cwd t h id flags new par))
   | inr y ↦ rw y (at_hart t.cwd _ g (opened_cwd t h id flags new res))
 ]
-effect_cwd t h g (Truncate fd) res par new id ne other = at_hart t.cwd _ g (truncated_cwd t (file_at t h fd))
-effect_cwd t h g (Read fd n) res par new id ne other = at_hart t.cwd _ g (moved_cwd t (t.fds h fd) _)
-effect_cwd t h g (WritePart fd b) res par new id ne other = at_hart t.cwd _ g (wrote_cwd t h fd b)
-effect_cwd t h g (Find old) res par new id ne other = at_hart t.cwd _ g (held_cwd t h res)
-effect_cwd t h g Bump res par new id ne other = at_hart t.cwd _ g (hold_cwd t (t.holds h) _)
-effect_cwd t h g (Enter name) res par new id ne other = at_hart t.cwd _ g (enter_cwd t par (t.holds h))
-effect_cwd t h g Unbump res par new id ne other = at_hart t.cwd _ g (hold_cwd t (t.holds h) _)
-effect_cwd t h g (Unlink path) res par new id ne other = at_hart t.cwd _ g (removed_cwd t par)
-effect_cwd t h g (Mkdir path) res par new id ne other = at_hart t.cwd _ g (made_cwd t par new)
-effect_cwd t h g (Chdir path) res par new id ne other = dir_cwd t h g res ne
-effect_cwd t h g (Dup fd) res par new id ne other = refl
-effect_cwd t h g (Close fd) res par new id ne other = refl
-effect_cwd t h g (Fstat fd) res par new id ne other = refl
-effect_cwd t h g (Inherit child) res par new id ne other = put_other t.cwd child (t.cwd h) g (λ q. other (ap (λ (z : ℕ). Inherit z) (sym q)))
+effect_cwd version t h g (Truncate fd) res par new id ne other = at_hart t.cwd _ g (truncated_cwd t (file_at t h fd))
+effect_cwd version t h g (Read fd n) res par new id ne other = at_hart t.cwd _ g (moved_cwd t (t.fds h fd) _)
+effect_cwd version t h g (WritePart fd b) res par new id ne other = at_hart t.cwd _ g (wrote_cwd t h fd b)
+effect_cwd version t h g (Find old) res par new id ne other = at_hart t.cwd _ g (held_cwd t h res)
+effect_cwd version t h g Bump res par new id ne other = at_hart t.cwd _ g (hold_cwd t (t.holds h) _)
+effect_cwd version t h g (Enter name) res par new id ne other = at_hart t.cwd _ g (enter_cwd t par (t.holds h))
+effect_cwd version t h g Unbump res par new id ne other = at_hart t.cwd _ g (hold_cwd t (t.holds h) _)
+effect_cwd version t h g (Unlink path) res par new id ne other = at_hart t.cwd _ g (removed_cwd t par)
+effect_cwd version t h g (Mkdir path) res par new id ne other = at_hart t.cwd _ g (made_cwd t par new)
+effect_cwd version t h g (Chdir path) res par new id ne other = dir_cwd t h g res ne
+effect_cwd version t h g (Dup fd) res par new id ne other = refl
+effect_cwd version t h g (Close fd) res par new id ne other = refl
+effect_cwd version t h g (Fstat fd) res par new id ne other = refl
+effect_cwd version t h g (Inherit child) res par new id ne other = put_other t.cwd child (t.cwd h) g (λ q. other (ap (λ (z : ℕ). Inherit z) (sym q)))
 
 settled_cwd : (t : Tree) → (settle t).cwd ≡ t.cwd
 unfolding settle
@@ -360,14 +361,14 @@ refused_cwd t h g (Close fd) = refl
 refused_cwd t h g (Fstat fd) = refl
 refused_cwd t h g (Inherit child) = refl
 
-step_cwd : (t t' : Tree) (h g : ℕ) (s : Action) (a : StepAnswer) (new id : ℕ) (res : Option ℕ) (par : Option (ℕ × Name)) → StepWith t h s res par a new id t' → g ≢ h → (s ≡ Inherit g → ⊥) → t'.cwd g ≡ t.cwd g
-step_cwd t t' h g s (Failed c) new id res par o ne other = ap (λ (z : Tree). z.cwd g) o.1 ∙ refused_cwd t h g s
-step_cwd t t' h g s (Opened fd j f) new id res par o ne other = ap (λ (z : Tree). z.cwd g) o.3 ∙ (at_hart _ _ g (settled_cwd _) ∙ effect_cwd t h g s res par new id ne other)
-step_cwd t t' h g s (Bytes b) new id res par o ne other = ap (λ (z : Tree). z.cwd g) o.3 ∙ (at_hart _ _ g (settled_cwd _) ∙ effect_cwd t h g s res par new id ne other)
-step_cwd t t' h g s (Status x) new id res par o ne other = ap (λ (z : Tree). z.cwd g) o.3 ∙ (at_hart _ _ g (settled_cwd _) ∙ effect_cwd t h g s res par new id ne other)
-step_cwd t t' h g s (NewFd fd) new id res par o ne other = ap (λ (z : Tree). z.cwd g) o.3 ∙ (at_hart _ _ g (settled_cwd _) ∙ effect_cwd t h g s res par new id ne other)
-step_cwd t t' h g s Done new id res par o ne other = ap (λ (z : Tree). z.cwd g) o.3 ∙ (at_hart _ _ g (settled_cwd _) ∙ effect_cwd t h g s res par new id ne other)
-step_cwd t t' h g s (NoRoom f) new id res par o ne other = ap (λ (z : Tree). z.cwd g) o.3 ∙ (at_hart _ _ g (settled_cwd _) ∙ effect_cwd t h g s res par new id ne other)
+step_cwd : (version : Version) (t t' : Tree) (h g : ℕ) (s : Action) (a : StepAnswer) (new id : ℕ) (res : Option ℕ) (par : Option (ℕ × Name)) → StepWith version t h s res par a new id t' → g ≢ h → (s ≡ Inherit g → ⊥) → t'.cwd g ≡ t.cwd g
+step_cwd version t t' h g s (Failed c) new id res par o ne other = ap (λ (z : Tree). z.cwd g) o.1 ∙ refused_cwd t h g s
+step_cwd version t t' h g s (Opened fd j f) new id res par o ne other = ap (λ (z : Tree). z.cwd g) o.3 ∙ (at_hart _ _ g (settled_cwd _) ∙ effect_cwd version t h g s res par new id ne other)
+step_cwd version t t' h g s (Bytes b) new id res par o ne other = ap (λ (z : Tree). z.cwd g) o.3 ∙ (at_hart _ _ g (settled_cwd _) ∙ effect_cwd version t h g s res par new id ne other)
+step_cwd version t t' h g s (Status x) new id res par o ne other = ap (λ (z : Tree). z.cwd g) o.3 ∙ (at_hart _ _ g (settled_cwd _) ∙ effect_cwd version t h g s res par new id ne other)
+step_cwd version t t' h g s (NewFd fd) new id res par o ne other = ap (λ (z : Tree). z.cwd g) o.3 ∙ (at_hart _ _ g (settled_cwd _) ∙ effect_cwd version t h g s res par new id ne other)
+step_cwd version t t' h g s Done new id res par o ne other = ap (λ (z : Tree). z.cwd g) o.3 ∙ (at_hart _ _ g (settled_cwd _) ∙ effect_cwd version t h g s res par new id ne other)
+step_cwd version t t' h g s (NoRoom f) new id res par o ne other = ap (λ (z : Tree). z.cwd g) o.3 ∙ (at_hart _ _ g (settled_cwd _) ∙ effect_cwd version t h g s res par new id ne other)
 
 -- Holds of the other harts.
 
@@ -434,26 +435,26 @@ dir_holds t h (Some n) = refl
 of_hart : (f f' : ℕ → Option Hold) (g : ℕ) → f' ≡ f → f' g ≡ f g
 of_hart f f' g e = ap (λ (z : ℕ → Option Hold). z g) e
 
-effect_holds : (t : Tree) (h g : ℕ) (s : Action) (res : Option ℕ) (par : Option (ℕ × Name)) (new id : ℕ) → g ≢ h → (effect_with t h s res par new id).holds g ≡ t.holds g
+effect_holds : (version : Version) (t : Tree) (h g : ℕ) (s : Action) (res : Option ℕ) (par : Option (ℕ × Name)) (new id : ℕ) → g ≢ h → (effect_with version t h s res par new id).holds g ≡ t.holds g
 unfolding effect_by
-effect_holds t h g (Open path flags) res par new id ne = elim (either (creates flags)) [
+effect_holds version t h g (Open path flags) res par new id ne = elim (either (creates flags)) [
   | inl y ↦ rw y (of_hart t.holds _ g (opened_new_holds t h id flags new par))
   | inr y ↦ rw y (of_hart t.holds _ g (opened_holds t h id flags new res))
 ]
-effect_holds t h g (Truncate fd) res par new id ne = of_hart t.holds _ g (truncated_holds t (file_at t h fd))
-effect_holds t h g (Read fd n) res par new id ne = of_hart t.holds _ g (moved_holds t (t.fds h fd) _)
-effect_holds t h g (WritePart fd b) res par new id ne = of_hart t.holds _ g (wrote_holds t h fd b)
-effect_holds t h g (Find old) res par new id ne = held_holds t h g res ne
-effect_holds t h g Bump res par new id ne = put_other t.holds h (raise_hold (t.holds h)) g ne
-effect_holds t h g (Enter name) res par new id ne = put_other _ h None g ne ∙ of_hart t.holds _ g (enter_holds t par (t.holds h))
-effect_holds t h g Unbump res par new id ne = put_other _ h None g ne ∙ of_hart t.holds _ g (hold_holds t (t.holds h) _)
-effect_holds t h g (Unlink path) res par new id ne = of_hart t.holds _ g (removed_holds t par)
-effect_holds t h g (Mkdir path) res par new id ne = of_hart t.holds _ g (made_holds t par new)
-effect_holds t h g (Chdir path) res par new id ne = of_hart t.holds _ g (dir_holds t h res)
-effect_holds t h g (Dup fd) res par new id ne = refl
-effect_holds t h g (Close fd) res par new id ne = refl
-effect_holds t h g (Fstat fd) res par new id ne = refl
-effect_holds t h g (Inherit child) res par new id ne = refl
+effect_holds version t h g (Truncate fd) res par new id ne = of_hart t.holds _ g (truncated_holds t (file_at t h fd))
+effect_holds version t h g (Read fd n) res par new id ne = of_hart t.holds _ g (moved_holds t (t.fds h fd) _)
+effect_holds version t h g (WritePart fd b) res par new id ne = of_hart t.holds _ g (wrote_holds t h fd b)
+effect_holds version t h g (Find old) res par new id ne = held_holds t h g res ne
+effect_holds version t h g Bump res par new id ne = put_other t.holds h (raise_hold (t.holds h)) g ne
+effect_holds version t h g (Enter name) res par new id ne = put_other _ h None g ne ∙ of_hart t.holds _ g (enter_holds t par (t.holds h))
+effect_holds version t h g Unbump res par new id ne = put_other _ h None g ne ∙ of_hart t.holds _ g (hold_holds t (t.holds h) _)
+effect_holds version t h g (Unlink path) res par new id ne = of_hart t.holds _ g (removed_holds t par)
+effect_holds version t h g (Mkdir path) res par new id ne = of_hart t.holds _ g (made_holds t par new)
+effect_holds version t h g (Chdir path) res par new id ne = of_hart t.holds _ g (dir_holds t h res)
+effect_holds version t h g (Dup fd) res par new id ne = refl
+effect_holds version t h g (Close fd) res par new id ne = refl
+effect_holds version t h g (Fstat fd) res par new id ne = refl
+effect_holds version t h g (Inherit child) res par new id ne = refl
 
 settled_holds : (t : Tree) → (settle t).holds ≡ t.holds
 unfolding settle
@@ -476,22 +477,22 @@ refused_holds t h g (Close fd) ne = refl
 refused_holds t h g (Fstat fd) ne = refl
 refused_holds t h g (Inherit child) ne = refl
 
-step_holds : (t t' : Tree) (h g : ℕ) (s : Action) (a : StepAnswer) (new id : ℕ) (res : Option ℕ) (par : Option (ℕ × Name)) → StepWith t h s res par a new id t' → g ≢ h → t'.holds g ≡ t.holds g
-step_holds t t' h g s (Failed c) new id res par o ne = ap (λ (z : Tree). z.holds g) o.1 ∙ refused_holds t h g s ne
-step_holds t t' h g s (Opened fd j f) new id res par o ne = ap (λ (z : Tree). z.holds g) o.3 ∙ (of_hart _ _ g (settled_holds _) ∙ effect_holds t h g s res par new id ne)
-step_holds t t' h g s (Bytes b) new id res par o ne = ap (λ (z : Tree). z.holds g) o.3 ∙ (of_hart _ _ g (settled_holds _) ∙ effect_holds t h g s res par new id ne)
-step_holds t t' h g s (Status x) new id res par o ne = ap (λ (z : Tree). z.holds g) o.3 ∙ (of_hart _ _ g (settled_holds _) ∙ effect_holds t h g s res par new id ne)
-step_holds t t' h g s (NewFd fd) new id res par o ne = ap (λ (z : Tree). z.holds g) o.3 ∙ (of_hart _ _ g (settled_holds _) ∙ effect_holds t h g s res par new id ne)
-step_holds t t' h g s Done new id res par o ne = ap (λ (z : Tree). z.holds g) o.3 ∙ (of_hart _ _ g (settled_holds _) ∙ effect_holds t h g s res par new id ne)
-step_holds t t' h g s (NoRoom f) new id res par o ne = ap (λ (z : Tree). z.holds g) o.3 ∙ (of_hart _ _ g (settled_holds _) ∙ effect_holds t h g s res par new id ne)
+step_holds : (version : Version) (t t' : Tree) (h g : ℕ) (s : Action) (a : StepAnswer) (new id : ℕ) (res : Option ℕ) (par : Option (ℕ × Name)) → StepWith version t h s res par a new id t' → g ≢ h → t'.holds g ≡ t.holds g
+step_holds version t t' h g s (Failed c) new id res par o ne = ap (λ (z : Tree). z.holds g) o.1 ∙ refused_holds t h g s ne
+step_holds version t t' h g s (Opened fd j f) new id res par o ne = ap (λ (z : Tree). z.holds g) o.3 ∙ (of_hart _ _ g (settled_holds _) ∙ effect_holds version t h g s res par new id ne)
+step_holds version t t' h g s (Bytes b) new id res par o ne = ap (λ (z : Tree). z.holds g) o.3 ∙ (of_hart _ _ g (settled_holds _) ∙ effect_holds version t h g s res par new id ne)
+step_holds version t t' h g s (Status x) new id res par o ne = ap (λ (z : Tree). z.holds g) o.3 ∙ (of_hart _ _ g (settled_holds _) ∙ effect_holds version t h g s res par new id ne)
+step_holds version t t' h g s (NewFd fd) new id res par o ne = ap (λ (z : Tree). z.holds g) o.3 ∙ (of_hart _ _ g (settled_holds _) ∙ effect_holds version t h g s res par new id ne)
+step_holds version t t' h g s Done new id res par o ne = ap (λ (z : Tree). z.holds g) o.3 ∙ (of_hart _ _ g (settled_holds _) ∙ effect_holds version t h g s res par new id ne)
+step_holds version t t' h g s (NoRoom f) new id res par o ne = ap (λ (z : Tree). z.holds g) o.3 ∙ (of_hart _ _ g (settled_holds _) ∙ effect_holds version t h g s res par new id ne)
 
 -- What a tree step leaves to the walks of the other harts.
-pub step_frame : (t t' : Tree) (h : ℕ) (s : Action) (res : Option ℕ) (par : Option (ℕ × Name)) (a : StepAnswer) (new id : ℕ) → IsWellFormed t → IsFound t res par → StepWith t h s res par a new id t' → Frame t h s res par new t'
-step_frame t t' h s res par a new id k found o = record {
-  paths = change_leads t.nodes t'.nodes (names_change s) (makes_node t s par) par new (step_change t t' h s res par a new id k found o);
-  dead = step_dead t t' h s res par a new id k found o;
-  holds = λ g ne. step_holds t t' h g s a new id res par o ne;
-  cwds = λ g ne other. step_cwd t t' h g s a new id res par o ne other;
+pub step_frame : (version : Version) (t t' : Tree) (h : ℕ) (s : Action) (res : Option ℕ) (par : Option (ℕ × Name)) (a : StepAnswer) (new id : ℕ) → IsWellFormed t → IsFound t res par → StepWith version t h s res par a new id t' → Frame version t h s res par new t'
+step_frame version t t' h s res par a new id k found o = record {
+  paths = change_leads t.nodes t'.nodes (names_change s) (makes_node t s par) par new (step_change version t t' h s res par a new id k found o);
+  dead = step_dead version t t' h s res par a new id k found o;
+  holds = λ g ne. step_holds version t t' h g s a new id res par o ne;
+  cwds = λ g ne other. step_cwd version t t' h g s a new id res par o ne other;
 }
 
 -- A number that isn't in the tree is nobody's.

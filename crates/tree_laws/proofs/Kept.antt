@@ -1,4 +1,5 @@
 -- Every tree step keeps a tree well formed.
+use Rattle.image_versions.specs.declared.version.Version.{Version}
 use Rattle.tree_laws.proofs.Vocabulary.{◌≡◌, ◌≢◌, ℕ, ◌<◌, Bool, true, false, ◌&&◌, ◌||◌, not, ◌==◌, inl, inr, refl, sym, ◌∙◌, ap, subst, arith, List, [], ◌∷◌, length, Option, Some, None, nat_lt, if◌then◌else◌, nat_tests, Cause, DotName, Node, NodeKind, Directory, File, Device, OpenFile, Hold, Action, Open, Truncate, Read, WritePart, Find, Bump, Enter, Unbump, Unlink, Mkdir, Chdir, Dup, Close, Fstat, Inherit, StepAnswer, Opened, Bytes, Status, NewFd, Done, Failed, NoRoom, hart_count, Name, Tree, put, same_name, dot, dotdot, is_directory, live_directory, all_slots, first_slot, look, resolve, parent, settle, node_or, node_at, file_at, is_file, is_open_file, holds_raised, has_room, creates, find_refusal, enter_refusal, name_taken, or_else, child_refusal, unlink_refusal, mkdir_refusal, chdir_refusal, fd_refusal, refusal_with, refusal_by, place_of, IsInPlace, effect_with, effect_by, refused, new_file, raised, lowered, emptied, truncated, written_kind, written, wrote, held, at_hold, raise_hold, enter_hold, drop_hold, removed, removed_child, made, opened_at, opened_in, opened_new, at_dir, is_absent, is_nothing, IsNewNode, MayChoose, StepWith, folder, links_of, links_in, raised_at, one_if, IsThere, IsWellFormed, IsFound}
 use Rattle.tree_laws.proofs.Basics.{either, eq_self, eq_not, put_same, and_true, or_none, one_yes, one_no, live_some, settled_well, look_in, well_content, well_same, well_counted, well_entered, well_file, not_folder, not_raised, is_raised, raises_part, with_new}
 use Rattle.tree_laws.proofs.Facts.{InMap, in_map, look_live, resolve_map, parent_live}
@@ -188,36 +189,36 @@ changed_well : (t : Tree) (h : ℕ) (res : Option ℕ) → IsWellFormed t → ch
 changed_well t h None k ref = k
 changed_well t h (Some n) k ref = well_chdir t h n k (if_some _ _ ref)
 
-dup_well : (t : Tree) (h fd : ℕ) (o : Option OpenFile) → IsWellFormed t → h < hart_count → file_at t h fd ≡ o → fd_refusal o ≡ None → IsWellFormed (effect_with t h (Dup fd) None None 0 0)
+dup_well : (version : Version) (t : Tree) (h fd : ℕ) (o : Option OpenFile) → IsWellFormed t → h < hart_count → file_at t h fd ≡ o → fd_refusal o ≡ None → IsWellFormed (effect_with version t h (Dup fd) None None 0 0)
 unfolding effect_by
-dup_well t h fd None k lt is ref = absurd cc
-dup_well t h fd (Some f) k lt is ref = well_dup t h fd f k lt is
+dup_well version t h fd None k lt is ref = absurd cc
+dup_well version t h fd (Some f) k lt is ref = well_dup t h fd f k lt is
 
 -- A step that isn't refused. map, live: what the path's results are.
-pub effect_well : (t : Tree) (h : ℕ) (s : Action) (res : Option ℕ) (par : Option (ℕ × Name)) (new id : ℕ) → IsWellFormed t → h < hart_count → place_of t h s ≡ true → ((n : ℕ) → res ≡ Some n → InMap t.nodes n) → LiveParent t par
-    → refusal_with t h s res par ≡ None → MayChoose t h s par new id → IsWellFormed (effect_with t h s res par new id)
+pub effect_well : (version : Version) (t : Tree) (h : ℕ) (s : Action) (res : Option ℕ) (par : Option (ℕ × Name)) (new id : ℕ) → IsWellFormed t → h < hart_count → place_of t h s ≡ true → ((n : ℕ) → res ≡ Some n → InMap t.nodes n) → LiveParent t par
+    → refusal_with version t h s res par ≡ None → MayChoose t h s par new id → IsWellFormed (effect_with version t h s res par new id)
 unfolding effect_by refusal_by place_of
-effect_well t h (Open path flags) res par new id k lt place map live ref may = elim (either (creates flags)) [
+effect_well version t h (Open path flags) res par new id k lt place map live ref may = elim (either (creates flags)) [
   | inl y ↦ rw y (opened_new_well t h id flags new par k live (λ e. may.node (both (creates flags) (is_absent t par) y e)) (λ o. (may.file o).unused))
   | inr y ↦ rw y (opened_well t h id flags new res k map (λ o. (may.file o).unused))
 ]
   where
     both : (a b : Bool) → a ≡ true → b ≡ true → (a && b) ≡ true
     both a b p q = grind arith
-effect_well t h (Truncate fd) res par new id k lt place map live ref may = truncated_well t h fd (file_at t h fd) k lt refl place
-effect_well t h (Read fd n) res par new id k lt place map live ref may = well_moved t (t.fds h fd) _ k
-effect_well t h (WritePart fd b) res par new id k lt place map live ref may = wrote_well t h fd b k lt
-effect_well t h (Find old) res par new id k lt place map live ref may = held_well t h res k lt map ref place
-effect_well t h Bump res par new id k lt place map live ref may = bumped_well t h (t.holds h) k lt refl place
-effect_well t h (Enter name) res par new id k lt place map live ref may = entered_well t h par (t.holds h) k lt live ref refl place
-effect_well t h Unbump res par new id k lt place map live ref may = unbumped_well t h (t.holds h) k lt refl place
-effect_well t h (Unlink path) res par new id k lt place map live ref may = removed_well t par k live ref
-effect_well t h (Mkdir path) res par new id k lt place map live ref may = made_well t par new k live ref (may.node refl)
-effect_well t h (Chdir path) res par new id k lt place map live ref may = changed_well t h res k ref
-effect_well t h (Dup fd) res par new id k lt place map live ref may = dup_well t h fd (file_at t h fd) k lt refl ref
-effect_well t h (Close fd) res par new id k lt place map live ref may = well_closed t h fd k
-effect_well t h (Fstat fd) res par new id k lt place map live ref may = k
-effect_well t h (Inherit child) res par new id k lt place map live ref may = well_inherit t h child k lt
+effect_well version t h (Truncate fd) res par new id k lt place map live ref may = truncated_well t h fd (file_at t h fd) k lt refl place
+effect_well version t h (Read fd n) res par new id k lt place map live ref may = well_moved t (t.fds h fd) _ k
+effect_well version t h (WritePart fd b) res par new id k lt place map live ref may = wrote_well t h fd b k lt
+effect_well version t h (Find old) res par new id k lt place map live ref may = held_well t h res k lt map ref place
+effect_well version t h Bump res par new id k lt place map live ref may = bumped_well t h (t.holds h) k lt refl place
+effect_well version t h (Enter name) res par new id k lt place map live ref may = entered_well t h par (t.holds h) k lt live ref refl place
+effect_well version t h Unbump res par new id k lt place map live ref may = unbumped_well t h (t.holds h) k lt refl place
+effect_well version t h (Unlink path) res par new id k lt place map live ref may = removed_well t par k live ref
+effect_well version t h (Mkdir path) res par new id k lt place map live ref may = made_well t par new k live ref (may.node refl)
+effect_well version t h (Chdir path) res par new id k lt place map live ref may = changed_well t h res k ref
+effect_well version t h (Dup fd) res par new id k lt place map live ref may = dup_well version t h fd (file_at t h fd) k lt refl ref
+effect_well version t h (Close fd) res par new id k lt place map live ref may = well_closed t h fd k
+effect_well version t h (Fstat fd) res par new id k lt place map live ref may = k
+effect_well version t h (Inherit child) res par new id k lt place map live ref may = well_inherit t h child k lt
 
 dropped_well : (t : Tree) (h : ℕ) (o : Option Hold) → IsWellFormed t → h < hart_count → t.holds h ≡ o → holds_raised false o ≡ true → IsWellFormed (drop_hold t h)
 dropped_well t h None k lt is place = absurd cc
@@ -256,16 +257,16 @@ found_map t res par f n e = there (t.nodes n) (f.node n e)
     there (Some v) ne = refl
 
 -- Every tree step keeps a tree well formed.
-pub step_well : (t t' : Tree) (h : ℕ) (s : Action) (res : Option ℕ) (par : Option (ℕ × Name)) (a : StepAnswer) (new id : ℕ) → IsWellFormed t → IsFound t res par → StepWith t h s res par a new id t' → IsWellFormed t'
-step_well t t' h s res par a new id k found = go a
+pub step_well : (version : Version) (t t' : Tree) (h : ℕ) (s : Action) (res : Option ℕ) (par : Option (ℕ × Name)) (a : StepAnswer) (new id : ℕ) → IsWellFormed t → IsFound t res par → StepWith version t h s res par a new id t' → IsWellFormed t'
+step_well version t t' h s res par a new id k found = go a
   where
-    done : (u : Tree) → refusal_with t h s res par ≡ None → MayChoose t h s par new id → u ≡ settle (effect_with t h s res par new id) → IsInPlace t h s → IsWellFormed u
+    done : (u : Tree) → refusal_with version t h s res par ≡ None → MayChoose t h s par new id → u ≡ settle (effect_with version t h s res par new id) → IsInPlace t h s → IsWellFormed u
     done u ref may is place =
         let two = in_place t h s place in
         subst (λ (z : Tree). IsWellFormed z) (sym is)
-        (settled_well (effect_with t h s res par new id) (effect_well t h s res par new id k two.0 two.1 (found_map t res par found) found.directory ref may))
+        (settled_well (effect_with version t h s res par new id) (effect_well version t h s res par new id k two.0 two.1 (found_map t res par found) found.directory ref may))
 
-    go : (a : StepAnswer) → StepWith t h s res par a new id t' → IsWellFormed t'
+    go : (a : StepAnswer) → StepWith version t h s res par a new id t' → IsWellFormed t'
     go (Failed c) o = let two = in_place t h s o.2 in subst (λ (z : Tree). IsWellFormed z) (sym o.1) (refused_well t h s k two.0 two.1)
     go (Opened fd j f) o = done t' o.0 o.2 o.3 o.4
     go (Bytes b) o = done t' o.0 o.2 o.3 o.4
@@ -274,18 +275,18 @@ step_well t t' h s res par a new id k found = go a
     go Done o = done t' o.0 o.2 o.3 o.4
     go (NoRoom f) o = done t' o.0 o.2 o.3 o.4
 
-pub step_hart : (t t' : Tree) (h : ℕ) (s : Action) (res : Option ℕ) (par : Option (ℕ × Name)) (a : StepAnswer) (new id : ℕ) → StepWith t h s res par a new id t' → h < hart_count
-step_hart t t' h s res par (Failed c) new id o = (in_place t h s o.2).0
-step_hart t t' h s res par (Opened fd j f) new id o = (in_place t h s o.4).0
-step_hart t t' h s res par (Bytes b) new id o = (in_place t h s o.4).0
-step_hart t t' h s res par (Status x) new id o = (in_place t h s o.4).0
-step_hart t t' h s res par (NewFd fd) new id o = (in_place t h s o.4).0
-step_hart t t' h s res par Done new id o = (in_place t h s o.4).0
-step_hart t t' h s res par (NoRoom f) new id o = (in_place t h s o.4).0
+pub step_hart : (version : Version) (t t' : Tree) (h : ℕ) (s : Action) (res : Option ℕ) (par : Option (ℕ × Name)) (a : StepAnswer) (new id : ℕ) → StepWith version t h s res par a new id t' → h < hart_count
+step_hart version t t' h s res par (Failed c) new id o = (in_place t h s o.2).0
+step_hart version t t' h s res par (Opened fd j f) new id o = (in_place t h s o.4).0
+step_hart version t t' h s res par (Bytes b) new id o = (in_place t h s o.4).0
+step_hart version t t' h s res par (Status x) new id o = (in_place t h s o.4).0
+step_hart version t t' h s res par (NewFd fd) new id o = (in_place t h s o.4).0
+step_hart version t t' h s res par Done new id o = (in_place t h s o.4).0
+step_hart version t t' h s res par (NoRoom f) new id o = (in_place t h s o.4).0
 
 -- what a whole path leads to
-pub path_found : (t : Tree) (h : ℕ) (path : List ℕ) → h < hart_count → IsWellFormed t → IsFound t (resolve t h path) (parent t h path)
-path_found t h path lt k = record {
-  node = λ n e none. let there : InMap t.nodes n = resolve_map t h n path lt k e in absurd (cc (there, none));
-  directory = λ q e. parent_live t h path q e;
+pub path_found : (version : Version) (t : Tree) (h : ℕ) (path : List ℕ) → h < hart_count → IsWellFormed t → IsFound t (resolve version t h path) (parent version t h path)
+path_found version t h path lt k = record {
+  node = λ n e none. let there : InMap t.nodes n = resolve_map version t h n path lt k e in absurd (cc (there, none));
+  directory = λ q e. parent_live version t h path q e;
 }

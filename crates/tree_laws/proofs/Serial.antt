@@ -1,4 +1,5 @@
 -- Where one hart alone makes calls, the list is its calls' sequences one after the other.
+use Rattle.image_versions.specs.declared.version.Version.{Version}
 use Rattle.tree_laws.proofs.Vocabulary.{◌≡◌, ◌≢◌, ℕ, zero, suc, ◌<◌, ◌≤◌, ◌==◌, inl, inr, refl, sym, ◌∙◌, ap, subst, arith, List, [], ◌∷◌, ◌++◌, append_assoc, append-nil, map, length, Option, Some, None, Reply, Call, Trace, TracedCall, Placed, TreeData, hart_count, Tree, tree_of, put, Act, trace_of, ends_at, IsWellFormed, Deed, Stage, HartStanding, History, writes, writes_any, tells, tells_any, entry_of, Free, Busy, World, Event, lost_of, unless, falls, all_fall, moves_on, finishes, Happens, Runs, Alone, IsStartBy, opened, shown_of, Starts, Steps, Nothing, of_call, in_turn}
 use Rattle.tree_laws.proofs.Basics.{either, same_or, eq_self, eq_not, put_same, map_length, more_length}
 use Rattle.tree_laws.proofs.History.{Inv, OwnOk, IsHart, apart_alone, start_alone, happens_ok, opened_ok, run_trace, writes_calls, tells_there, falls_calls}
@@ -65,15 +66,15 @@ pub record Turn (k : ℕ) (b : History) : Type 0 where
   pub known : AllKnown (length b.trace.calls) b.list
 
 -- the other harts have no call
-idle_others : (k : ℕ) (base : Tree) (w : World) → Inv (IsHart k) base w → (g : ℕ) → g < hart_count → g ≢ k → w.history.calls g ≡ Free
-idle_others k base w inv g lt ne = go (w.history.calls g) refl (inv.harts g lt)
+idle_others : (version : Version) (k : ℕ) (base : Tree) (w : World) → Inv version (IsHart k) base w → (g : ℕ) → g < hart_count → g ≢ k → w.history.calls g ≡ Free
+idle_others version k base w inv g lt ne = go (w.history.calls g) refl (inv.harts g lt)
   where
-    go : (s : HartStanding) → w.history.calls g ≡ s → OwnOk (IsHart k) w.stage.tree g s (w.stage.walk g) → w.history.calls g ≡ Free
+    go : (s : HartStanding) → w.history.calls g ≡ s → OwnOk version (IsHart k) w.stage.tree g s (w.stage.walk g) → w.history.calls g ≡ Free
     go Free is o = is
     go (Busy id c x) is o = absurd (ne o.0)
 
-mover_is : (k : ℕ) (base : Tree) (w : World) (h id : ℕ) (c : Call) (x : List Act) → Inv (IsHart k) base w → h < hart_count → w.history.calls h ≡ Busy id c x → h ≡ k
-mover_is k base w h id c x inv lt is = (subst (λ (s : HartStanding). OwnOk (IsHart k) w.stage.tree h s (w.stage.walk h)) is (inv.harts h lt)).0
+mover_is : (version : Version) (k : ℕ) (base : Tree) (w : World) (h id : ℕ) (c : Call) (x : List Act) → Inv version (IsHart k) base w → h < hart_count → w.history.calls h ≡ Busy id c x → h ≡ k
+mover_is version k base w h id c x inv lt is = (subst (λ (s : HartStanding). OwnOk version (IsHart k) w.stage.tree h s (w.stage.walk h)) is (inv.harts h lt)).0
 
 write_turn : (k : ℕ) (b : History) (d : Deed) (s : HartStanding) → b.calls k ≡ s → Turn k b → Turn k (writes s b k d)
 write_turn k b d Free is t = t
@@ -132,9 +133,9 @@ finish_turn k b (Some r) t =
       known = subst (λ (z : ℕ). AllKnown z b.list) (sym n) t.known;
     }
 
-happens_turn : (k : ℕ) (base : Tree) (w w' : World) (e : Event) → Inv (IsHart k) base w → IsStartBy k e → Happens w e w' → Turn k w.history → Turn k w'.history
-happens_turn k base w w' Nothing inv by o t = subst (λ (z : World). Turn k z.history) (sym o) (record { list = t.list; last = t.last; known = t.known })
-happens_turn k base w w' (Starts h c) inv by o t =
+happens_turn : (version : Version) (k : ℕ) (base : Tree) (w w' : World) (e : Event) → Inv version (IsHart k) base w → IsStartBy k e → Happens version w e w' → Turn k w.history → Turn k w'.history
+happens_turn version k base w w' Nothing inv by o t = subst (λ (z : World). Turn k z.history) (sym o) (record { list = t.list; last = t.last; known = t.known })
+happens_turn version k base w w' (Starts h c) inv by o t =
     let calls = w.history.trace.calls in
     let said : TracedCall = record { hart = h; start = w.history.trace.events; call = c; finished = None } in
     let n : length (calls ++ said ∷ []) ≡ suc (length calls) = more_length calls said in
@@ -146,27 +147,27 @@ happens_turn k base w w' (Starts h c) inv by o t =
           ap (λ (z : ℕ). suc z) (sym i) ∙ sym n;
       known = subst (λ (z : ℕ). AllKnown z w.history.list) (sym n) (known_later (length calls) (suc (length calls)) w.history.list (omega arith) t.known);
     })
-happens_turn k base w w' (Steps h v r) inv by o t =
-    let mine : h ≡ k = mover_is k base w h o.id o.c o.acts inv o.hart o.busy in
+happens_turn version k base w w' (Steps h v r) inv by o t =
+    let mine : h ≡ k = mover_is version k base w h o.id o.c o.acts inv o.hart o.busy in
     let told : Option Deed = unless (lost_of w.stage k) o.told in
     let b1 : History = writes_any told k w.history in
-    let others : (g : ℕ) → g < hart_count → g ≢ k → (tells_any o.told k b1).calls g ≡ Free = (λ g l ne. tells_there o.told k g b1 ne ∙ (ap (λ (f : ℕ → HartStanding). f g) (writes_calls told k w.history) ∙ idle_others k base w inv g l ne)) in
+    let others : (g : ℕ) → g < hart_count → g ≢ k → (tells_any o.told k b1).calls g ≡ Free = (λ g l ne. tells_there o.told k g b1 ne ∙ (ap (λ (f : ℕ → HartStanding). f g) (writes_calls told k w.history) ∙ idle_others version k base w inv g l ne)) in
     subst (λ (z : World). Turn k z.history) (sym o.world)
     (subst (λ (z : ℕ). Turn k (finishes r z (moves_on w.stage o.stage z o.told w.history))) (sym mine)
     (finish_turn k (moves_on w.stage o.stage k o.told w.history) r (falls_turn k w.stage o.stage hart_count (tells_any o.told k b1) others (tells_turn k b1 o.told (writes_turn k w.history told t)))))
 
-run_turn : (k : ℕ) (base : Tree) (w w' : World) (es : List Event) → Inv (IsHart k) base w → Alone k es → Runs w es w' → Turn k w.history → Turn k w'.history
+run_turn : (version : Version) (k : ℕ) (base : Tree) (w w' : World) (es : List Event) → Inv version (IsHart k) base w → Alone k es → Runs version w es w' → Turn k w.history → Turn k w'.history
 unfolding Runs Alone
-run_turn k base w w' [] inv by r t = subst (λ (z : World). Turn k z.history) r t
-run_turn k base w w' (e ∷ es) inv by r t =
-    run_turn k base r.0 w' es (happens_ok (IsHart k) base w r.0 e (apart_alone k) (start_alone k e by.0) inv r.1) by.1 r.2
-    (happens_turn k base w r.0 e inv by.0 r.1 t)
+run_turn version k base w w' [] inv by r t = subst (λ (z : World). Turn k z.history) r t
+run_turn version k base w w' (e ∷ es) inv by r t =
+    run_turn version k base r.0 w' es (happens_ok version (IsHart k) base w r.0 e (apart_alone k) (start_alone k e by.0) inv r.1) by.1 r.2
+    (happens_turn version k base w r.0 e inv by.0 r.1 t)
 
 nothing_turn : (k : ℕ) (t : Tree) → Turn k (opened t).history
 unfolding in_turn AllKnown
 nothing_turn k t = record { list = refl; last = λ id c x q. absurd cc; known = tt }
 
-pub serial : (base : TreeData) (w : World) (h : ℕ) (es : List Event) → IsWellFormed (tree_of base) → Alone h es → Runs (opened (tree_of base)) es w → w.history.list ≡ in_turn (length (trace_of (map shown_of es)).calls) w.history.list
-serial base w h es k by r =
-    let t = run_turn h (tree_of base) (opened (tree_of base)) w es (opened_ok (IsHart h) (tree_of base) k) by r (nothing_turn h (tree_of base)) in
-    subst (λ (z : Trace). w.history.list ≡ in_turn (length z.calls) w.history.list) (run_trace (opened (tree_of base)) w es r) t.list
+pub serial : (version : Version) (base : TreeData) (w : World) (h : ℕ) (es : List Event) → IsWellFormed (tree_of base) → Alone h es → Runs version (opened (tree_of base)) es w → w.history.list ≡ in_turn (length (trace_of (map shown_of es)).calls) w.history.list
+serial version base w h es k by r =
+    let t = run_turn version h (tree_of base) (opened (tree_of base)) w es (opened_ok version (IsHart h) (tree_of base) k) by r (nothing_turn h (tree_of base)) in
+    subst (λ (z : Trace). w.history.list ≡ in_turn (length z.calls) w.history.list) (run_trace version (opened (tree_of base)) w es r) t.list

@@ -1,4 +1,5 @@
 -- What calls are told: the failing step of a lost walk when it is given up, everything else at once.
+use Rattle.image_versions.specs.declared.version.Version.{Version}
 use Rattle.tree_laws.proofs.Vocabulary.{◌≡◌, ℕ, ◌<◌, refl, ◌∙◌, ap, List, [], ◌∷◌, ◌++◌, append-nil, Option, Some, None, Reply, Call, hart_count, Tree, Act, acts_of, Deed, Stage, MoveStep as Step, begins, IsNext, after, MayEnd, IsPlayed, told_by, HartStanding, History, writes_any, tells_any, Busy, World, lost_of, unless, moves_on, Tells}
 use Rattle.tree_laws.proofs.Basics.{list_has}
 use Rattle.tree_laws.proofs.History.{Inv, lately, writes_calls, tells_here, tells_there, falls_calls, finish_here, finish_there}
@@ -7,8 +8,8 @@ with_late : (o : Option Deed) (x : List Act) → x ++ lately o ≡ after o x
 with_late None x = append-nil x
 with_late (Some d) x = refl
 
-pub told_late : (Ok : ℕ → Call → Type 0) (base : Tree) (w : World) (h id : ℕ) (c : Call) (x : List Act) → Inv Ok base w → h < hart_count → w.history.calls h ≡ Busy id c x → acts_of id w.history.list ≡ after (lost_of w.stage h) x
-told_late Ok base w h id c x k lt is = list_has base w.stage.tree k.late w.history.trace.events w.history h id c x k.book is ∙ (ap (λ (z : List Act). x ++ z) (k.lost h lt) ∙ with_late (lost_of w.stage h) x)
+pub told_late : (version : Version) (Ok : ℕ → Call → Type 0) (base : Tree) (w : World) (h id : ℕ) (c : Call) (x : List Act) → Inv version Ok base w → h < hart_count → w.history.calls h ≡ Busy id c x → acts_of id w.history.list ≡ after (lost_of w.stage h) x
+told_late version Ok base w h id c x k lt is = list_has version base w.stage.tree k.late w.history.trace.events w.history h id c x k.book is ∙ (ap (λ (z : List Act). x ++ z) (k.lost h lt) ∙ with_late (lost_of w.stage h) x)
 
 pub played_next : (c : Call) (acts : List Act) (es rest : List Step) (e : Step) (r : Reply) → IsPlayed c acts (es ++ e ∷ rest) r → IsNext c (told_by acts es) (begins e.move)
 played_next c acts [] rest e r k = k.0

@@ -42,4 +42,7 @@ pub use Rattle.plain_tree.specs.declared.trace.Trace.{Trace}
 pub use Rattle.plain_tree.specs.declared.tree.Hart.{Hart}
 pub use Rattle.plain_tree.specs.declared.tree.Hold.{Hold}
 pub use Rattle.plain_tree.specs.declared.tree.OpenFile.{OpenFile}
-pub use Rattle.plain_tree.specs.VersionOne.{Step, StepWith, elements, parent, resolve, Chain, answer_with, effect_with, entries, refusal_with, fresh_root, fresh_slots}
+pub use Rattle.plain_tree.specs.Steps.{Step, StepWith, answer_with, effect_with, entries, refusal_with}
+pub use Rattle.plain_tree.specs.Tree.{elements, parent, resolve}
+pub use Rattle.plain_tree.specs.Explains.{Chain}
+pub use Rattle.plain_tree.specs.Fresh.{fresh_root, fresh_slots}

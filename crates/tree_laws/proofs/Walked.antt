@@ -1,12 +1,14 @@
 -- A walk's path so far leads to its node while that is a live directory; when another hart's step kills it the walk fails just then.
+use Rattle.image_versions.specs.declared.version.Version.{Version}
 use Rattle.tree_laws.proofs.Vocabulary.{◌≡◌, ℕ, Bool, true, false, ◌&&◌, not, ◌⊎◌, inl, inr, refl, sym, ◌∙◌, ap, subst, List, [], ◌∷◌, ◌++◌, length, Option, Some, None, nat_lt, Cause, NoEntry, Call, OpenCall, ReadCall, WriteCall, LinkCall, UnlinkCall, MkdirCall, ChdirCall, DupCall, FstatCall, CloseCall, InheritCall, Action, Open, Truncate, Read, WritePart, Find, Bump, Enter, Unbump, Unlink, Mkdir, Chdir, Dup, Close, Fstat, Inherit, StepAnswer, Opened, Bytes, Status, NewFd, Done, Failed, NoRoom, Hold, hart_count, Name, Tree, elements, climbs, climbs_in, pieces, live_directory, follow, start_of, resolve, parent, parent_of, path_of, follows_path, refusal_with, refusal_by, refused, place_of, holds_raised, IsInPlace, Step, creates, has, empty_it, Act, next_of, call_climbs, last_cause, next_piece, once, to_truncate, if_done, if_failed, piece, piece_count, Deed, Walk, fail}
 use Rattle.tree_laws.proofs.Maps.{either, or_none}
+use Rattle.plain_tree.proofs.Lemmas.{climbs_the_same}
 use Rattle.tree_laws.proofs.Walks.{follow_on, follow_off, follow_stop, look_bad, parent_on, parent_off, parent_bad, climbs_front}
 
 -- The call's next step is the walk's, and while the walk's node is a live directory the path so far leads to it.
-pub record WalkOk (t : Tree) (h : ℕ) (c : Call) (x : List Act) (w : Walk) : Type 0 where
+pub record WalkOk (version : Version) (t : Tree) (h : ℕ) (c : Call) (x : List Act) (w : Walk) : Type 0 where
   pub done : List Name
-  pub path : elements (path_of w.step) ≡ done ++ w.next ∷ w.rest
+  pub path : elements version (path_of w.step) ≡ done ++ w.next ∷ w.rest
   pub follows : follows_path w.step ≡ true
   pub place : IsInPlace t h w.step
   pub next : next_of c x ≡ Some w.step
@@ -48,23 +50,23 @@ place_kept t t' h s f e is = ap (λ (b : Bool). nat_lt h hart_count && b) (place
 
 -- A path that leads nowhere is refused, as a name that isn't there.
 
-none_refused : (t : Tree) (h : ℕ) (s : Action) → follows_path s ≡ true → refusal_with t h s None None ≡ Some NoEntry
+none_refused : (version : Version) (t : Tree) (h : ℕ) (s : Action) → follows_path s ≡ true → refusal_with version t h s None None ≡ Some NoEntry
 unfolding refusal_by
-none_refused t h (Open path flags) f = elim (either (creates flags)) [ inl y ↦ rw y refl | inr y ↦ rw y refl ]
-none_refused t h (Find old) f = refl
-none_refused t h (Enter new) f = refl
-none_refused t h (Unlink path) f = refl
-none_refused t h (Mkdir path) f = refl
-none_refused t h (Chdir path) f = refl
-none_refused t h (Truncate fd) f = absurd cc
-none_refused t h (Read fd n) f = absurd cc
-none_refused t h (WritePart fd b) f = absurd cc
-none_refused t h Bump f = absurd cc
-none_refused t h Unbump f = absurd cc
-none_refused t h (Dup fd) f = absurd cc
-none_refused t h (Close fd) f = absurd cc
-none_refused t h (Fstat fd) f = absurd cc
-none_refused t h (Inherit child) f = absurd cc
+none_refused version t h (Open path flags) f = elim (either (creates flags)) [ inl y ↦ rw y refl | inr y ↦ rw y refl ]
+none_refused version t h (Find old) f = refl
+none_refused version t h (Enter new) f = refl
+none_refused version t h (Unlink path) f = refl
+none_refused version t h (Mkdir path) f = refl
+none_refused version t h (Chdir path) f = refl
+none_refused version t h (Truncate fd) f = absurd cc
+none_refused version t h (Read fd n) f = absurd cc
+none_refused version t h (WritePart fd b) f = absurd cc
+none_refused version t h Bump f = absurd cc
+none_refused version t h Unbump f = absurd cc
+none_refused version t h (Dup fd) f = absurd cc
+none_refused version t h (Close fd) f = absurd cc
+none_refused version t h (Fstat fd) f = absurd cc
+none_refused version t h (Inherit child) f = absurd cc
 
 refused_same : (t : Tree) (h : ℕ) (s : Action) → follows_path s ≡ true → refused t h s ≡ t
 refused_same t h (Open path flags) f = refl
@@ -84,24 +86,24 @@ refused_same t h (Fstat fd) f = refl
 refused_same t h (Inherit child) f = refl
 
 -- the step by a hart
-abbrev pub StepBy : Tree → ℕ → Deed → Tree → Type 0
-StepBy t h d t' = Step t (record { hart = h; new = d.new; action = d.act.step }) d.act.answer t'
+abbrev pub StepBy : Version → Tree → ℕ → Deed → Tree → Type 0
+StepBy version t h d t' = Step version t (record { hart = h; new = d.new; action = d.act.step }) d.act.answer t'
 
-fails : (t : Tree) (h : ℕ) (s : Action) → follows_path s ≡ true → IsInPlace t h s → resolve t h (path_of s) ≡ None → parent t h (path_of s) ≡ None → StepBy t h (fail s) t
-fails t h s f place r q = (0, (rw (r, q) (none_refused t h s f), sym (refused_same t h s f), place))
+fails : (version : Version) (t : Tree) (h : ℕ) (s : Action) → follows_path s ≡ true → IsInPlace t h s → resolve version t h (path_of s) ≡ None → parent version t h (path_of s) ≡ None → StepBy version t h (fail s) t
+fails version t h s f place r q = (0, (rw (r, q) (none_refused version t h s f), sym (refused_same t h s f), place))
 
 -- the path so far leads nowhere, or to no live directory
-pub lost_fails : (t : Tree) (h d : ℕ) (e : Name) (done rest : List Name) (s : Action) → follows_path s ≡ true → IsInPlace t h s → elements (path_of s) ≡ done ++ e ∷ rest
+pub lost_fails : (version : Version) (t : Tree) (h d : ℕ) (e : Name) (done rest : List Name) (s : Action) → follows_path s ≡ true → IsInPlace t h s → elements version (path_of s) ≡ done ++ e ∷ rest
     → ((follow t.nodes (start_of t h (path_of s)) done ≡ Some d) × (live_directory (t.nodes d) ≡ false)) ⊎ (follow t.nodes (start_of t h (path_of s)) done ≡ None)
-    → StepBy t h (fail s) t
-lost_fails t h d e done rest s f place path (inl w) =
+    → StepBy version t h (fail s) t
+lost_fails version t h d e done rest s f place path (inl w) =
     let a : ℕ = start_of t h (path_of s) in
-    fails t h s f place
+    fails version t h s f place
     (subst (λ (z : List Name). follow t.nodes a z ≡ None) (sym path) (follow_on t.nodes a d done (e ∷ rest) w.0 ∙ follow_stop t.nodes d e rest (look_bad t.nodes d e w.1)))
     (subst (λ (z : List Name). parent_of t.nodes a z ≡ None) (sym path) (parent_on t.nodes a d e done rest w.0 ∙ parent_bad t.nodes d e rest w.1))
-lost_fails t h d e done rest s f place path (inr w) =
+lost_fails version t h d e done rest s f place path (inr w) =
     let a : ℕ = start_of t h (path_of s) in
-    fails t h s f place
+    fails version t h s f place
     (subst (λ (z : List Name). follow t.nodes a z ≡ None) (sym path) (follow_off t.nodes a done (e ∷ rest) w))
     (subst (λ (z : List Name). parent_of t.nodes a z ≡ None) (sym path) (parent_off t.nodes a e done rest w))
 
@@ -175,31 +177,31 @@ calm_step (InheritCall child) x s calm h = subst (λ (z : Action). climbs (path_
 
 -- Another hart's event.
 
-calm_done : (t : Tree) (h : ℕ) (c : Call) (x : List Act) (w : Walk) → (k : WalkOk t h c x w) → climbs (path_of w.step) ≡ false → climbs_in k.done ≡ false
-calm_done t h c x w k calm = climbs_front k.done (w.next ∷ w.rest) (subst (λ (z : List Name). climbs_in z ≡ false) k.path calm)
+calm_done : (version : Version) (t : Tree) (h : ℕ) (c : Call) (x : List Act) (w : Walk) → (k : WalkOk version t h c x w) → climbs (path_of w.step) ≡ false → climbs_in k.done ≡ false
+calm_done version t h c x w k calm = climbs_front k.done (w.next ∷ w.rest) (subst (λ (z : List Name). climbs_in z ≡ false) k.path (climbs_the_same version (path_of w.step) ∙ calm))
 
 -- where the path so far leads in the tree that the event leaves
-still_at : (t t' : Tree) (g : ℕ) (c : Call) (x : List Act) (w : Walk) → call_climbs c ≡ false → (k : WalkOk t g c x w) → LeavesWalk t t' g w.at → live_directory (t.nodes w.at) ≡ true
+still_at : (version : Version) (t t' : Tree) (g : ℕ) (c : Call) (x : List Act) (w : Walk) → call_climbs c ≡ false → (k : WalkOk version t g c x w) → LeavesWalk t t' g w.at → live_directory (t.nodes w.at) ≡ true
     → (follow t'.nodes (start_of t' g (path_of w.step)) k.done ≡ Some w.at) ⊎ ((live_directory (t'.nodes w.at) ≡ false) × (follow t'.nodes (start_of t' g (path_of w.step)) k.done ≡ None))
-still_at t t' g c x w calm k f good =
+still_at version t t' g c x w calm k f good =
     let at : follow t.nodes (start_of t' g (path_of w.step)) k.done ≡ Some w.at = subst (λ (z : ℕ). follow t.nodes z k.done ≡ Some w.at) (sym (start_same t t' g (path_of w.step) f.cwd)) (k.here good) in
-    f.paths (start_of t' g (path_of w.step)) w.at k.done (calm_done t g c x w k (calm_step c x w.step calm k.next)) at
+    f.paths (start_of t' g (path_of w.step)) w.at k.done (calm_done version t g c x w k (calm_step c x w.step calm k.next)) at
 
 -- a walk whose directory died fails just now
-pub walk_falls : (t t' : Tree) (g : ℕ) (c : Call) (x : List Act) (w : Walk) → call_climbs c ≡ false → WalkOk t g c x w → LeavesWalk t t' g w.at → live_directory (t.nodes w.at) ≡ true → live_directory (t'.nodes w.at) ≡ false → StepBy t' g (fail w.step) t'
-walk_falls t t' g c x w calm k f good bad =
-    lost_fails t' g w.at w.next k.done w.rest w.step k.follows (place_kept t t' g w.step k.follows f.hold k.place) k.path (elim (still_at t t' g c x w calm k f good) [ inl p ↦ inl (p, bad) | inr p ↦ inr p.1 ])
+pub walk_falls : (version : Version) (t t' : Tree) (g : ℕ) (c : Call) (x : List Act) (w : Walk) → call_climbs c ≡ false → WalkOk version t g c x w → LeavesWalk t t' g w.at → live_directory (t.nodes w.at) ≡ true → live_directory (t'.nodes w.at) ≡ false → StepBy version t' g (fail w.step) t'
+walk_falls version t t' g c x w calm k f good bad =
+    lost_fails version t' g w.at w.next k.done w.rest w.step k.follows (place_kept t t' g w.step k.follows f.hold k.place) k.path (elim (still_at version t t' g c x w calm k f good) [ inl p ↦ inl (p, bad) | inr p ↦ inr p.1 ])
 
 -- the walk stays right
-pub walk_kept : (t t' : Tree) (g : ℕ) (c : Call) (x : List Act) (w : Walk) → call_climbs c ≡ false → WalkOk t g c x w → LeavesWalk t t' g w.at → WalkOk t' g c x w
-walk_kept t t' g c x w calm k f = record {
+pub walk_kept : (version : Version) (t t' : Tree) (g : ℕ) (c : Call) (x : List Act) (w : Walk) → call_climbs c ≡ false → WalkOk version t g c x w → LeavesWalk t t' g w.at → WalkOk version t' g c x w
+walk_kept version t t' g c x w calm k f = record {
   done = k.done;
   path = k.path;
   follows = k.follows;
   place = place_kept t t' g w.step k.follows f.hold k.place;
   next = k.next;
   here = λ live. elim (either (live_directory (t.nodes w.at))) [
-    | inl good ↦ elim (still_at t t' g c x w calm k f good) [ inl p ↦ p | inr p ↦ let dead : live_directory (t'.nodes w.at) ≡ false = p.0 in absurd (cc (live, dead)) ]
+    | inl good ↦ elim (still_at version t t' g c x w calm k f good) [ inl p ↦ p | inr p ↦ let dead : live_directory (t'.nodes w.at) ≡ false = p.0 in absurd (cc (live, dead)) ]
     | inr bad ↦ let dead : live_directory (t'.nodes w.at) ≡ false = f.dead bad in absurd (cc (live, dead))
   ];
 }

@@ -1,5 +1,6 @@
 -- Runs: one in which each call finishes, and three in which a walk is lost: twice its directory is removed under it.
 use Rattle.std.specs.Prelude.{◌≡◌, ℕ, true, List, [], ◌∷◌, ◌++◌, Some, None, codes}
+use Rattle.image_versions.specs.declared.version.Version.TheVariants.{One}
 use Rattle.tree_laws.specs.Vocabulary.{Answer, Fd, Count, Stated, Finished, Refused, NoEntry, AFile, Call, OpenCall as Open, ReadCall as Read, Write, Link, UnlinkCall as Unlink, MkdirCall as Mkdir, ChdirCall as Chdir, DupCall as Dup, FstatCall as Fstat, CloseCall as Close, InheritCall as Inherit, Action, Open as OpenStep, Read as ReadStep, WritePart, Find, Bump, Enter, Unlink as UnlinkStep, Mkdir as MkdirStep, Chdir as ChdirStep, Dup as DupStep, Close as CloseStep, Fstat as FstatStep, Inherit as InheritStep, StepAnswer, Opened, Bytes, Status, NewFd, Done, Failed, Placed, tree_of, fresh}
 use Rattle.tree_laws.specs.Moves.{Move}
 use Rattle.tree_laws.specs.Moves.Move.{Begin, Look, GiveUpWalk, Own}
@@ -8,7 +9,7 @@ use Rattle.tree_laws.specs.Runs.Event.{Starts, Steps}
 
 -- from a fresh tree of 200 numbers these events are a run that keeps this list
 abbrev pub IsRun : List Event → List Placed → Type 0
-IsRun events list = (w : World) × Runs (opened (tree_of (fresh 200))) events w × (w.history.list ≡ list)
+IsRun events list = (w : World) × Runs One (opened (tree_of (fresh One 200))) events w × (w.history.list ≡ list)
 
 abbrev pub goes : ℕ → Move → Event
 goes h v = Steps h (Some v) None

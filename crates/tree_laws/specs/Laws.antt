@@ -1,34 +1,35 @@
 -- The laws of the plain tree.
 use Rattle.std.specs.Prelude.{◌≡◌, ℕ, ◌<◌, ◌≤◌, true, false, List, Option, None}
+use Rattle.image_versions.specs.declared.version.Version.{Version}
 use Rattle.tree_laws.specs.Vocabulary.{Action, StepAnswer, hart_count, Name, Tree, tree_of, put, is_live, is_named, resolve, parent, refusal_with, IsInPlace, MayChoose, effect_with, StepWith, IsReached, fresh}
 use Rattle.tree_laws.specs.WellFormed.{raises, IsWellFormed}
 use Rattle.tree_laws.specs.Leaves.{IsFound, LeavesFinding, Frame, IsNobodys}
 
 -- Every tree step, also a refused one, keeps a tree well formed, whatever was found for its path.
-abbrev pub StepsKeepWellFormed : Type 0
-StepsKeepWellFormed = (t t' : Tree) (h : ℕ) (s : Action) (res : Option ℕ) (par : Option (ℕ × Name)) (a : StepAnswer) (new id : ℕ)
-    → IsWellFormed t → IsFound t res par → StepWith t h s res par a new id t' → IsWellFormed t'
+abbrev pub StepsKeepWellFormed : Version → Type 0
+StepsKeepWellFormed version = (t t' : Tree) (h : ℕ) (s : Action) (res : Option ℕ) (par : Option (ℕ × Name)) (a : StepAnswer) (new id : ℕ)
+    → IsWellFormed t → IsFound t res par → StepWith version t h s res par a new id t' → IsWellFormed t'
 
 -- Before the nodes that nothing keeps leave it the tree is well formed too.
-abbrev pub EffectsKeepWellFormed : Type 0
-EffectsKeepWellFormed = (t : Tree) (h : ℕ) (s : Action) (res : Option ℕ) (par : Option (ℕ × Name)) (new id : ℕ) → IsWellFormed t
-    → IsFound t res par → IsInPlace t h s → refusal_with t h s res par ≡ None → MayChoose t h s par new id
-    → IsWellFormed (effect_with t h s res par new id)
+abbrev pub EffectsKeepWellFormed : Version → Type 0
+EffectsKeepWellFormed version = (t : Tree) (h : ℕ) (s : Action) (res : Option ℕ) (par : Option (ℕ × Name)) (new id : ℕ) → IsWellFormed t
+    → IsFound t res par → IsInPlace t h s → refusal_with version t h s res par ≡ None → MayChoose t h s par new id
+    → IsWellFormed (effect_with version t h s res par new id)
 
 -- What live directories find changes at the step's own name alone.
-abbrev pub StepsLeaveFinding : Type 0
-StepsLeaveFinding = (t t' : Tree) (h : ℕ) (s : Action) (res : Option ℕ) (par : Option (ℕ × Name)) (a : StepAnswer) (new id : ℕ)
-    → IsWellFormed t → IsFound t res par → StepWith t h s res par a new id t' → LeavesFinding t h s res par new t'
+abbrev pub StepsLeaveFinding : Version → Type 0
+StepsLeaveFinding version = (t t' : Tree) (h : ℕ) (s : Action) (res : Option ℕ) (par : Option (ℕ × Name)) (a : StepAnswer) (new id : ℕ)
+    → IsWellFormed t → IsFound t res par → StepWith version t h s res par a new id t' → LeavesFinding version t h s res par new t'
 
 -- A path without ".." leads where it led, or led to what the step removed.
-abbrev pub StepsLeavePaths : Type 0
-StepsLeavePaths = (t t' : Tree) (h : ℕ) (s : Action) (res : Option ℕ) (par : Option (ℕ × Name)) (a : StepAnswer) (new id : ℕ)
-    → IsWellFormed t → IsFound t res par → StepWith t h s res par a new id t' → Frame t h s res par new t'
+abbrev pub StepsLeavePaths : Version → Type 0
+StepsLeavePaths version = (t t' : Tree) (h : ℕ) (s : Action) (res : Option ℕ) (par : Option (ℕ × Name)) (a : StepAnswer) (new id : ℕ)
+    → IsWellFormed t → IsFound t res par → StepWith version t h s res par a new id t' → Frame version t h s res par new t'
 
 -- What a whole path leads to is found.
-abbrev pub PathsLeadToWhatIsFound : Type 0
-PathsLeadToWhatIsFound =
-    (t : Tree) (h : ℕ) (path : List ℕ) → h < hart_count → IsWellFormed t → IsFound t (resolve t h path) (parent t h path)
+abbrev pub PathsLeadToWhatIsFound : Version → Type 0
+PathsLeadToWhatIsFound version =
+    (t : Tree) (h : ℕ) (path : List ℕ) → h < hart_count → IsWellFormed t → IsFound t (resolve version t h path) (parent version t h path)
 
 -- A dead node that nothing names may leave.
 abbrev pub DeadNodesMayLeave : Type 0
@@ -40,8 +41,8 @@ abbrev pub NewNumbersAreNobodys : Type 0
 NewNumbersAreNobodys = (t : Tree) (n : ℕ) → IsWellFormed t → t.nodes n ≡ None → IsNobodys t n
 
 -- A tree with a root alone is well formed.
-abbrev pub FreshTreesAreWellFormed : Type 0
-FreshTreesAreWellFormed = (ninodes : ℕ) → 2 ≤ ninodes → IsWellFormed (tree_of (fresh ninodes))
+abbrev pub FreshTreesAreWellFormed : Version → Type 0
+FreshTreesAreWellFormed version = (ninodes : ℕ) → 2 ≤ ninodes → IsWellFormed (tree_of (fresh version ninodes))
 
 -- What is live has a path from the root, but for a node that a link has raised and not yet named.
 abbrev pub LiveNodesAreReached : Type 0

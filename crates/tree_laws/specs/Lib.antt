@@ -8,3 +8,4 @@ pub mod History
 pub mod Runs
 pub mod MoveLaws
 pub mod Examples
+pub mod VersionOne

@@ -1,5 +1,6 @@
 -- Every run of moves is explained by the list that is kept.
 use Rattle.std.specs.Prelude.{◌≡◌, ◌≢◌, ℕ, zero, suc, ◌<◌, List, [], ◌∷◌, ◌++◌, map, filter, length, nat_lt, ◌==◌, Option, Some, None}
+use Rattle.image_versions.specs.declared.version.Version.{Version}
 use Rattle.tree_laws.specs.Vocabulary.{Reply, Call, Placed, TreeData, hart_count, Tree, tree_of, Act, Chain, acts_of, trace_of, Explains}
 use Rattle.tree_laws.specs.WellFormed.{IsWellFormed}
 use Rattle.tree_laws.specs.Moves.{Deed, Stage, Step, begins, IsNext, after, MayEnd, IsWholeCall, told_by}
@@ -7,22 +8,22 @@ use Rattle.tree_laws.specs.History.HartStanding.{Free, Busy}
 use Rattle.tree_laws.specs.Runs.{World, Event, lost_of, stepped, Runs, NoneClimbs, Alone, opened, shown_of}
 
 -- From a well-formed tree with idle harts, where no path climbs.
-abbrev pub RunsAreExplained : Type 0
-RunsAreExplained = (base : TreeData) (w : World) (events : List Event) → IsWellFormed (tree_of base) → NoneClimbs events
-    → Runs (opened (tree_of base)) events w → Explains base (trace_of (map shown_of events)) w.history.list
+abbrev pub RunsAreExplained : Version → Type 0
+RunsAreExplained version = (base : TreeData) (w : World) (events : List Event) → IsWellFormed (tree_of base) → NoneClimbs events
+    → Runs version (opened (tree_of base)) events w → Explains version base (trace_of (map shown_of events)) w.history.list
 
 -- The list leads from the beginning to the tree as it stands, which is well formed.
-abbrev pub ListsLeadToTheTree : Type 0
-ListsLeadToTheTree = (base : TreeData) (w : World) (events : List Event) → IsWellFormed (tree_of base) → NoneClimbs events
-    → Runs (opened (tree_of base)) events w → Chain (tree_of base) w.history.list w.stage.tree × IsWellFormed w.stage.tree
+abbrev pub ListsLeadToTheTree : Version → Type 0
+ListsLeadToTheTree version = (base : TreeData) (w : World) (events : List Event) → IsWellFormed (tree_of base) → NoneClimbs events
+    → Runs version (opened (tree_of base)) events w → Chain version (tree_of base) w.history.list w.stage.tree × IsWellFormed w.stage.tree
 
 -- the entries whose event is before this one
 abbrev pub before : ℕ → List Placed → List Placed
 before n list = filter (λ e. nat_lt e.event n) list
 
 -- The entries of the first events are the list as it stood after them.
-abbrev pub ListsGrow : Type 0
-ListsGrow = (t : Tree) (w w' : World) (events later : List Event) → Runs (opened t) events w → Runs w later w'
+abbrev pub ListsGrow : Version → Type 0
+ListsGrow version = (t : Tree) (w w' : World) (events later : List Event) → Runs version (opened t) events w → Runs version w later w'
     → before (length events) w'.history.list ≡ w.history.list
 
 abbrev pub of_call : ℕ → List Placed → List Placed
@@ -34,17 +35,18 @@ in_turn zero list = []
 in_turn (suc n) list = in_turn n list ++ of_call n list
 
 -- Where one hart alone makes calls, whether paths climb or not, the list is its calls' sequences one after the other.
-abbrev pub OneHartIsExplained : Type 0
-OneHartIsExplained = (base : TreeData) (w : World) (h : ℕ) (events : List Event) → IsWellFormed (tree_of base) → Alone h events
-    → Runs (opened (tree_of base)) events w
-    → Explains base (trace_of (map shown_of events)) w.history.list
+abbrev pub OneHartIsExplained : Version → Type 0
+OneHartIsExplained version = (base : TreeData) (w : World) (h : ℕ) (events : List Event) → IsWellFormed (tree_of base) → Alone h events
+    → Runs version (opened (tree_of base)) events w
+    → Explains version base (trace_of (map shown_of events)) w.history.list
     × (w.history.list ≡ in_turn (length (trace_of (map shown_of events)).calls) w.history.list)
 
 -- Of a call under way the list has what the call was told, and where its walk is lost also the failing step, of which it is told when it
 -- gives the walk up.
-abbrev pub CallsAreToldLate : Type 0
-CallsAreToldLate = (base : TreeData) (w : World) (events : List Event) (h id : ℕ) (c : Call) (told : List Act) → IsWellFormed (tree_of base)
-    → NoneClimbs events → Runs (opened (tree_of base)) events w → h < hart_count → w.history.calls h ≡ Busy id c told
+abbrev pub CallsAreToldLate : Version → Type 0
+CallsAreToldLate version =
+    (base : TreeData) (w : World) (events : List Event) (h id : ℕ) (c : Call) (told : List Act) → IsWellFormed (tree_of base)
+    → NoneClimbs events → Runs version (opened (tree_of base)) events w → h < hart_count → w.history.calls h ≡ Busy id c told
     → acts_of id w.history.list ≡ after (lost_of w.stage h) told
 
 -- Where a call's moves are written, each begins the step that is next for what the call was told so far, and after the last the call may
@@ -71,5 +73,6 @@ EventsTellTheirHart = (w : World) (h id : ℕ) (c : Call) (acts : List Act) (tol
     → w.history.calls h ≡ Busy id c acts → Tells w h id c acts told m
 
 -- A run and a run from where it ended are a run.
-abbrev pub RunsGoOn : Type 0
-RunsGoOn = (w mid w' : World) (events later : List Event) → Runs w events mid → Runs mid later w' → Runs w (events ++ later) w'
+abbrev pub RunsGoOn : Version → Type 0
+RunsGoOn version = (w mid w' : World) (events later : List Event) → Runs version w events mid → Runs version mid later w'
+    → Runs version w (events ++ later) w'

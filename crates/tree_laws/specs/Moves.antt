@@ -1,5 +1,6 @@
 -- The moves of calls on a tree, as a single hart sees them: walks, lookups, acts. A walk that was lost is told so when it is given up.
 use Rattle.std.specs.Prelude.{◌≡◌, ◌≢◌, ℕ, ◌<◌, true, false, List, [], ◌∷◌, ◌++◌, Option, Some, None}
+use Rattle.image_versions.specs.declared.version.Version.{Version}
 use Rattle.tree_laws.specs.Vocabulary.{NoEntry, Reply, Call, Action, Inherit, StepAnswer, Failed, hart_count, Name, Tree, put, elements, live_directory, look, start_of, resolve, parent, path_of, follows_path, makes_node, refusal_with, IsInPlace, StepWith, Act, next_of, reply_of, had_room}
 
 -- A step with its answer, and the number that it may give a new node.
@@ -35,15 +36,16 @@ walks_at None n = ⊥
 walks_at (Some w) n = w.at ≡ n
 
 -- The step acts by what was found for its path: res and par. The hart is told the deed, and the walk that led to it ends.
-pub record Acts (m : Stage) (h : ℕ) (s : Action) (res : Option ℕ) (par : Option (ℕ × Name)) (new : ℕ) (told : Option Deed)
+pub record Acts (version : Version) (m : Stage) (h : ℕ) (s : Action) (res : Option ℕ) (par : Option (ℕ × Name)) (new : ℕ)
+    (told : Option Deed)
     (m' : Stage) : Type 0 where
   pub answer : StepAnswer
   pub id : ℕ  -- of a new open file
   pub deed : told ≡ Some (record { act = record { step = s; answer = answer }; new = new })
-  pub step : StepWith m.tree h s res par answer new id m'.tree
+  pub step : StepWith version m.tree h s res par answer new id m'.tree
   pub walk : m'.walk ≡ put m.walk h None
   -- where it makes a node, no other hart's walk stands at the number
-  pub alone : refusal_with m.tree h s res par ≡ None → makes_node m.tree s par ≡ true → (g : ℕ) → g < hart_count → g ≢ h
+  pub alone : refusal_with version m.tree h s res par ≡ None → makes_node m.tree s par ≡ true → (g : ℕ) → g < hart_count → g ≢ h
       → walks_at (m.walk g) new → ⊥
   -- who inherits has no walk
   pub idle : (g : ℕ) → g < hart_count → s ≡ Inherit g → m.walk g ≡ None
@@ -53,27 +55,28 @@ abbrev pub GoesTo : Stage → ℕ → Walk → Option Deed → Stage → Type 0
 GoesTo m h w told m' = (told ≡ None) × (m' ≡ record { tree = m.tree; walk = put m.walk h (Some w) })
 
 -- a path without elements is found at its start
-abbrev pub StartLeadsTo : Stage → ℕ → Action → List Name → ℕ → Option Deed → Stage → Type 0
-StartLeadsTo m h s [] new told m' = Acts m h s (Some (start_of m.tree h (path_of s))) None new told m'
-StartLeadsTo m h s (e ∷ es) new told m' = GoesTo m h (record { step = s; at = start_of m.tree h (path_of s); next = e; rest = es }) told m'
+abbrev pub StartLeadsTo : Version → Stage → ℕ → Action → List Name → ℕ → Option Deed → Stage → Type 0
+StartLeadsTo version m h s [] new told m' = Acts version m h s (Some (start_of m.tree h (path_of s))) None new told m'
+StartLeadsTo version m h s (e ∷ es) new told m' =
+    GoesTo m h (record { step = s; at = start_of m.tree h (path_of s); next = e; rest = es }) told m'
 
 -- the step acts at the last lookup, or where nothing was found
-abbrev pub LookupLeadsTo : Stage → ℕ → Walk → List Name → Option ℕ → ℕ → Option Deed → Stage → Type 0
-LookupLeadsTo m h w [] found new told m' = Acts m h w.step found (Some (w.at, w.next)) new told m'
-LookupLeadsTo m h w (e ∷ es) None new told m' = Acts m h w.step None None new told m'
-LookupLeadsTo m h w (e ∷ es) (Some n) new told m' = GoesTo m h (record { step = w.step; at = n; next = e; rest = es }) told m'
+abbrev pub LookupLeadsTo : Version → Stage → ℕ → Walk → List Name → Option ℕ → ℕ → Option Deed → Stage → Type 0
+LookupLeadsTo version m h w [] found new told m' = Acts version m h w.step found (Some (w.at, w.next)) new told m'
+LookupLeadsTo version m h w (e ∷ es) None new told m' = Acts version m h w.step None None new told m'
+LookupLeadsTo version m h w (e ∷ es) (Some n) new told m' = GoesTo m h (record { step = w.step; at = n; next = e; rest = es }) told m'
 
-pub record BeginsWalk (m : Stage) (h : ℕ) (s : Action) (new : ℕ) (told : Option Deed) (m' : Stage) : Type 0 where
+pub record BeginsWalk (version : Version) (m : Stage) (h : ℕ) (s : Action) (new : ℕ) (told : Option Deed) (m' : Stage) : Type 0 where
   pub follows : follows_path s ≡ true
   pub rests : m.walk h ≡ None
   pub place : IsInPlace m.tree h s
-  pub begins : StartLeadsTo m h s (elements (path_of s)) new told m'
+  pub begins : StartLeadsTo version m h s (elements version (path_of s)) new told m'
 
-pub record LooksUp (m : Stage) (h : ℕ) (new : ℕ) (told : Option Deed) (m' : Stage) : Type 0 where
+pub record LooksUp (version : Version) (m : Stage) (h : ℕ) (new : ℕ) (told : Option Deed) (m' : Stage) : Type 0 where
   pub walk : Walk
   pub is : m.walk h ≡ Some walk
   pub live : live_directory (m.tree.nodes walk.at) ≡ true
-  pub looks : LookupLeadsTo m h walk walk.rest (look m.tree.nodes walk.at walk.next) new told m'
+  pub looks : LookupLeadsTo version m h walk walk.rest (look m.tree.nodes walk.at walk.next) new told m'
 
 pub record GivesUp (m : Stage) (h : ℕ) (s : Action) (told : Option Deed) (m' : Stage) : Type 0 where
   pub walk : Walk
@@ -83,25 +86,25 @@ pub record GivesUp (m : Stage) (h : ℕ) (s : Action) (told : Option Deed) (m' :
   pub deed : told ≡ Some (fail s)
   pub stage : m' ≡ record { tree = m.tree; walk = put m.walk h None }
 
-pub record ActsAtOnce (m : Stage) (h : ℕ) (s : Action) (new : ℕ) (told : Option Deed) (m' : Stage) : Type 0 where
+pub record ActsAtOnce (version : Version) (m : Stage) (h : ℕ) (s : Action) (new : ℕ) (told : Option Deed) (m' : Stage) : Type 0 where
   pub follows : follows_path s ≡ false
   pub rests : m.walk h ≡ None
-  pub acts : Acts m h s (resolve m.tree h (path_of s)) (parent m.tree h (path_of s)) new told m'
+  pub acts : Acts version m h s (resolve version m.tree h (path_of s)) (parent version m.tree h (path_of s)) new told m'
 
 -- the hart's move, and what its call is told
-abbrev pub Plays : Stage → ℕ → Move → Option Deed → Stage → Type 0
-Plays m h (Begin s new) told m' = BeginsWalk m h s new told m'
-Plays m h (Look new) told m' = LooksUp m h new told m'
-Plays m h (GiveUpWalk s) told m' = GivesUp m h s told m'
-Plays m h (Own s new) told m' = ActsAtOnce m h s new told m'
+abbrev pub Plays : Version → Stage → ℕ → Move → Option Deed → Stage → Type 0
+Plays version m h (Begin s new) told m' = BeginsWalk version m h s new told m'
+Plays version m h (Look new) told m' = LooksUp version m h new told m'
+Plays version m h (GiveUpWalk s) told m' = GivesUp m h s told m'
+Plays version m h (Own s new) told m' = ActsAtOnce version m h s new told m'
 
 -- a move with what it tells the call
 pub record Step : Type 0 where
   pub move : Move
   pub told : Option Deed
 
-abbrev pub PlaysStep : Stage → ℕ → Step → Stage → Type 0
-PlaysStep m h e m' = Plays m h e.move e.told m'
+abbrev pub PlaysStep : Version → Stage → ℕ → Step → Stage → Type 0
+PlaysStep version m h e m' = Plays version m h e.move e.told m'
 
 -- The calls whose moves these are.
 

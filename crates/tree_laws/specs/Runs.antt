@@ -1,5 +1,6 @@
 -- Runs: calls of many harts make their moves on one tree, and the history is written beside them.
 use Rattle.std.specs.Prelude.{◌≡◌, ℕ, zero, suc, ◌<◌, Bool, false, List, [], ◌∷◌, if◌then◌else◌, Option, Some, None}
+use Rattle.image_versions.specs.declared.version.Version.{Version}
 use Rattle.tree_laws.specs.Vocabulary.{Reply, Call, hart_count, Tree, live_directory, Act, call_climbs, Shown, no_calls, Started, Replied, Other}
 use Rattle.tree_laws.specs.Moves.{Deed, Walk, Stage, Move, fail, Plays, begins, IsNext, after, MayEnd}
 use Rattle.tree_laws.specs.History.{History, writes_any, tells_any, starts, replies, passes}
@@ -42,9 +43,9 @@ pub data Event : Type 0 where
   Nothing : Event  -- a refused start, a wait, an idle step
 
 -- an event may be no move
-abbrev pub PlaysAny : Stage → ℕ → Option Move → Option Deed → Stage → Type 0
-PlaysAny m h None told m' = (told ≡ None) × (m' ≡ m)
-PlaysAny m h (Some v) told m' = Plays m h v told m'
+abbrev pub PlaysAny : Version → Stage → ℕ → Option Move → Option Deed → Stage → Type 0
+PlaysAny version m h None told m' = (told ≡ None) × (m' ≡ m)
+PlaysAny version m h (Some v) told m' = Plays version m h v told m'
 
 abbrev pub BeginsNext : Call → List Act → Option Move → Type 0
 BeginsNext c acts None = Unit {0}
@@ -68,7 +69,7 @@ pub record HasStarted (w : World) (h : ℕ) (c : Call) (w' : World) : Type 0 whe
   pub world : w' ≡ record { stage = w.stage; history = starts w.history h c }
 
 -- The call c of hart h, which was told these acts, makes at most one move, is told of it, and may reply.
-pub record HasStepped (w : World) (h : ℕ) (v : Option Move) (r : Option Reply) (w' : World) : Type 0 where
+pub record HasStepped (version : Version) (w : World) (h : ℕ) (v : Option Move) (r : Option Reply) (w' : World) : Type 0 where
   pub hart : h < hart_count
   pub id : ℕ
   pub c : Call
@@ -77,19 +78,19 @@ pub record HasStepped (w : World) (h : ℕ) (v : Option Move) (r : Option Reply)
   pub next : BeginsNext c acts v
   pub told : Option Deed
   pub stage : Stage
-  pub plays : PlaysAny w.stage h v told stage
+  pub plays : PlaysAny version w.stage h v told stage
   pub reply : MayReply stage h c (after told acts) r
   pub world : w' ≡ stepped w h told stage r
 
 -- What may happen at an event.
-abbrev pub Happens : World → Event → World → Type 0
-Happens w (Starts h c) w' = HasStarted w h c w'
-Happens w (Steps h v r) w' = HasStepped w h v r w'
-Happens w Nothing w' = w' ≡ record { stage = w.stage; history = passes w.history }
+abbrev pub Happens : Version → World → Event → World → Type 0
+Happens version w (Starts h c) w' = HasStarted w h c w'
+Happens version w (Steps h v r) w' = HasStepped version w h v r w'
+Happens version w Nothing w' = w' ≡ record { stage = w.stage; history = passes w.history }
 
-unfoldable pub Runs : World → List Event → World → Type 0
-Runs w [] w' = w ≡ w'
-Runs w (e ∷ es) w' = (mid : World) × Happens w e mid × Runs mid es w'
+unfoldable pub Runs : Version → World → List Event → World → Type 0
+Runs version w [] w' = w ≡ w'
+Runs version w (e ∷ es) w' = (mid : World) × Happens version w e mid × Runs version mid es w'
 
 -- The beginning: no walks, no calls.
 abbrev pub opened : Tree → World

@@ -27,4 +27,7 @@ pub use Rattle.plain_tree.specs.declared.node.Slot.{Slot}
 pub use Rattle.plain_tree.specs.declared.trace.Trace.{Trace}
 pub use Rattle.plain_tree.specs.declared.tree.Hold.{Hold}
 pub use Rattle.plain_tree.specs.declared.tree.OpenFile.{OpenFile}
-pub use Rattle.plain_tree.specs.VersionOne.{elements, parent, resolve, StepWith, part, stat_answer, answer_with, effect_with, refusal_with, fresh, Explains, Chain}
+pub use Rattle.plain_tree.specs.Tree.{elements, parent, resolve}
+pub use Rattle.plain_tree.specs.Steps.{StepWith, part, stat_answer, answer_with, effect_with, refusal_with}
+pub use Rattle.plain_tree.specs.Fresh.{fresh}
+pub use Rattle.plain_tree.specs.Explains.{Explains, Chain}

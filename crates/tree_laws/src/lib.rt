@@ -6,6 +6,7 @@
 //! The functions do nothing: each carries a law.
 #![tactic(auto)]
 
+ghost use Rattle.image_versions.specs.declared.version.Version.{Version};
 ghost use Rattle.tree_laws.specs.Actions.{ActionsAreTold};
 ghost use Rattle.tree_laws.specs.Laws.{StepsKeepWellFormed, EffectsKeepWellFormed, StepsLeaveFinding, StepsLeavePaths, PathsLeadToWhatIsFound, DeadNodesMayLeave, NewNumbersAreNobodys, FreshTreesAreWellFormed, LiveNodesAreReached};
 ghost use Rattle.tree_laws.specs.Examples.{OpenFinishes, ReadFinishes, WriteFinishes, LinkFinishes, UnlinkFinishes, MkdirFinishes, ChdirFinishes, DupFinishes, FstatFinishes, CloseFinishes, InheritFinishes, WalkerFails, WalkerStaysFailed, WalkerFailsAtAFile};
@@ -14,28 +15,28 @@ ghost use Rattle.tree_laws.specs.MoveLaws.{RunsAreExplained, ListsLeadToTheTree,
 /// Each of the fifteen tree steps, refused or not, keeps a tree well formed, for any node that is there and any live
 /// directory that were found for its path.
 pub fn steps_keep_well_formed()
-    ensures { StepsKeepWellFormed }
+    ensures { (version : Version) → StepsKeepWellFormed version }
 {}
 
 /// The same of a step that isn't refused, with the nodes that nothing keeps still in the tree.
 pub fn effects_keep_well_formed()
-    ensures { EffectsKeepWellFormed }
+    ensures { (version : Version) → EffectsKeepWellFormed version }
 {}
 
 /// A step that enters or clears a name changes what directories find at that name alone, and any other step changes
 /// none of it. A directory that goes had no entries, and only a new number becomes a live directory.
 pub fn steps_leave_finding()
-    ensures { StepsLeaveFinding }
+    ensures { (version : Version) → StepsLeaveFinding version }
 {}
 
 /// A path without ".." that led somewhere leads there still, or led to what the step removed and leads nowhere.
 pub fn steps_leave_paths()
-    ensures { StepsLeavePaths }
+    ensures { (version : Version) → StepsLeavePaths version }
 {}
 
 /// What a path leads to is a node that is there, and its parent a live directory.
 pub fn paths_lead_to_what_is_found()
-    ensures { PathsLeadToWhatIsFound }
+    ensures { (version : Version) → PathsLeadToWhatIsFound version }
 {}
 
 /// A dead node that no current directory, hold or open file names may leave a well-formed tree.
@@ -50,7 +51,7 @@ pub fn new_numbers_are_nobodys()
 
 /// The tree that a fresh image holds is well formed.
 pub fn fresh_trees_are_well_formed()
-    ensures { FreshTreesAreWellFormed }
+    ensures { (version : Version) → FreshTreesAreWellFormed version }
 {}
 
 /// Going down from the root reaches each live node, but one that a link has raised and not yet named.
@@ -60,35 +61,35 @@ pub fn live_nodes_are_reached()
 
 /// What each of the fifteen actions makes of a tree before it settles, and what it answers, where it isn't refused.
 pub fn actions_are_told()
-    ensures { ActionsAreTold }
+    ensures { (version : Version) → ActionsAreTold version }
 {}
 
 /// The list that a run keeps, by appending alone, explains its trace: calls of many harts that walk, look up, enter
 /// and remove step by step act as one list of tree steps. No path has the element "..".
 pub fn explained()
-    ensures { RunsAreExplained }
+    ensures { (version : Version) → RunsAreExplained version }
 {}
 
 /// At each moment the list so far leads from the first tree to the tree as it stands then, which is well formed.
 pub fn lists_lead_to_the_tree()
-    ensures { ListsLeadToTheTree }
+    ensures { (version : Version) → ListsLeadToTheTree version }
 {}
 
 /// The entries of the events up to a moment are the list as it stood at that moment.
 pub fn lists_grow()
-    ensures { ListsGrow }
+    ensures { (version : Version) → ListsGrow version }
 {}
 
 /// Where one hart alone makes calls the same holds for any paths, and the list is the sequences of its calls one after
 /// the other.
 pub fn one_hart_is_explained()
-    ensures { OneHartIsExplained }
+    ensures { (version : Version) → OneHartIsExplained version }
 {}
 
 /// What the list has of a call under way is what the call was told; where its walk is lost, also the failing step, of
 /// which it is told when it gives the walk up.
 pub fn calls_are_told_late()
-    ensures { CallsAreToldLate }
+    ensures { (version : Version) → CallsAreToldLate version }
 {}
 
 /// A call whose moves are all written begins in each the step that its written sequence has next, and may reply after
@@ -106,7 +107,7 @@ pub fn events_tell_their_hart()
 
 /// A run and a run from where it ended are one run.
 pub fn runs_go_on()
-    ensures { RunsGoOn }
+    ensures { (version : Version) → RunsGoOn version }
 {}
 
 /// There are runs: for each of the eleven calls one in which it finishes.

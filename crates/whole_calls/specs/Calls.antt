@@ -1,5 +1,6 @@
 -- What is left of each call.
 use Rattle.std.specs.Prelude.{◌≡◌, ◌≤◌, ℕ, ◌+◌, ◌-◌, ◌||◌, Bool, List, [], length, Option, Some, None}
+use Rattle.inode_machine.specs.VersionOne as one
 use Rattle.whole_calls.specs.Vocabulary.{Name, elements, same_name, dot, dotdot, NoEntry, Reply, Do, unmarked, name_in, IsElement, Face, UnlockInode, Store, SetDirectory, Join, P, failed, done, drop, give_up, tail, say, stopped, dup_program, stat_program, chdir_at, face_of, reply_to, After, Stands, most_left, walk_of, Element, Walk}
 use Rattle.plain_tree.specs.declared.call.Call.TheVariants as calls
 use Rattle.plain_tree.specs.declared.step.Action.TheVariants as steps
@@ -83,7 +84,7 @@ abbrev pub cleared : List ℕ → ℕ → List ℕ → Face → ℕ → Face →
 cleared path d ns f n g = naming.lower_parent d f g (give_up d (gave_parent path ns n g))
 
 abbrev pub unlink_of : List ℕ → List ℕ → Unlink → P Reply
-unlink_of path ns unlink.Join = naming.unlink_program path
+unlink_of path ns unlink.Join = one.unlink_program path
 unlink_of path ns (unlink.Walks w) = walk_of (steps.Unlink path) path (unlink_after path) goal.Parent ns w
 unlink_of path ns (unlink.Dots d) = naming.unlink_dots path d ns
 unlink_of path ns (unlink.Look d e) = naming.unlink_named path d (name_in path e) ns

@@ -11,13 +11,16 @@ pub use Rattle.inode_machine.specs.World.Op.{Claim, Empty, Enter, Fill, Forget, 
 pub use Rattle.inode_machine.specs.Inodes.{AtNothing, Face, OfDirectory, OfFile, InodeType, is_directory_type, open_refusal, stat_of_face}
 pub use Rattle.path_walk.specs.declared.asks.Ask.{Ask}
 pub use Rattle.inode_machine.specs.Descriptors.{checked_reply, close_program, dup_program, joined_on, read_on, read_program, refused_to, stat_program, write_from, write_piece, write_program, write_reply, writes, wrote_on}
-pub use Rattle.inode_machine.specs.Moving.{chdir_at, chdir_program, inherit_end, inherit_program, lend_from, lend_on, lends, lent_directory}
-pub use Rattle.inode_machine.specs.Naming.{bump_refused, enters, link_at, link_found, link_in, link_name, link_program, link_raise, lower, mkdir_in, mkdir_on, mkdir_other, mkdir_program, mkdir_refused, mkdir_with, name_directory, named_on, unlink_found, unlink_program}
-pub use Rattle.inode_machine.specs.Opening.{create_found, create_in, empties, entered_file, installed_on, installs, make_on, make_other, make_with, mends_unless_new, open_at, open_end, open_face, open_made, open_program, take_descriptor, truncates, unmake}
+pub use Rattle.inode_machine.specs.Moving.{chdir_at, inherit_end, inherit_program, lend_from, lend_on, lends, lent_directory}
+pub use Rattle.inode_machine.specs.VersionOne.{chdir_program}
+pub use Rattle.inode_machine.specs.Naming.{bump_refused, enters, link_found, link_in, link_name, lower, mkdir_in, mkdir_on, mkdir_other, mkdir_refused, mkdir_with, name_directory, named_on, unlink_found}
+pub use Rattle.inode_machine.specs.VersionOne.{link_at, link_program, link_raise, mkdir_program, unlink_program}
+pub use Rattle.inode_machine.specs.Opening.{create_found, create_in, empties, entered_file, installed_on, installs, make_on, make_other, make_with, mends_unless_new, open_at, open_end, open_face, open_made, take_descriptor, truncates, unmake}
+pub use Rattle.inode_machine.specs.VersionOne.{open_program}
 pub use Rattle.inode_machine.specs.World.{LocksIt, Mark, Orphans}
 pub use Rattle.path_walk.specs.declared.elements.Element.{Element}
 pub use Rattle.path_walk.specs.declared.walk.Walk.{Walk}
-pub use Rattle.inode_machine.specs.Programs.{program}
+pub use Rattle.inode_machine.specs.VersionOne.{program}
 pub use Rattle.inode_machine.specs.World.Mark.{Frees}
 pub use Rattle.path_walk.specs.declared.walk.Goal.{Goal}
 pub use Rattle.plain_tree.specs.declared.answer.Answer.{Answer as CallAnswer}

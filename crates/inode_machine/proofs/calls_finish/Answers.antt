@@ -1,5 +1,5 @@
 -- Computed runs.
-use Rattle.inode_machine.proofs.Examples.{chdir_finishes, close_finishes, create_finishes, dup_finishes, mkdir_finishes, no_block_left, no_inode_left, open_finishes, read_finishes, stat_finishes, unlink_finishes, walker_fails, write_finishes, link_finishes, link_to_taken, link_below_nothing, link_to_no_name, link_of_nothing, link_of_directory, no_block_for_name, no_inode_for_file, no_block_for_file, no_block_for_directory, no_block_for_part, no_slot_for_directory, no_slot_for_file, no_slot_for_name, no_descriptor_to_double, no_descriptor_to_open, link_of_many, inherit_finishes, inherit_frees, inherit_moves, starts_refused}
+use Rattle.inode_machine.proofs.Examples.{long_names_are_told, chdir_finishes, close_finishes, create_finishes, dup_finishes, mkdir_finishes, no_block_left, no_inode_left, open_finishes, read_finishes, stat_finishes, unlink_finishes, walker_fails, write_finishes, link_finishes, link_to_taken, link_below_nothing, link_to_no_name, link_of_nothing, link_of_directory, no_block_for_name, no_inode_for_file, no_block_for_file, no_block_for_directory, no_block_for_part, no_slot_for_directory, no_slot_for_file, no_slot_for_name, no_descriptor_to_double, no_descriptor_to_open, link_of_many, inherit_finishes, inherit_frees, inherit_moves, starts_refused}
 use Rattle.inode_machine.proofs.Shortages.{no_open_file_for_new, no_open_file_left, no_place_left}
 use Rattle.inode_machine.proofs.calls_finish.Goals as goal
 
@@ -113,3 +113,6 @@ returns-clause-made c = no_open_file_for_new
 
 pub returns-clause-places : goal.returns-clause-places
 returns-clause-places c = no_place_left
+
+pub returns-clause-long_names : goal.returns-clause-long_names
+returns-clause-long_names c = long_names_are_told

@@ -4,4 +4,4 @@ use Rattle.inode_machine.proofs.Kept.{the_history}
 use Rattle.inode_machine.proofs.runs_have_the_history.Goals as goal
 
 pub returns : goal.returns
-returns c base w events r calm = the_history covered moving base w events r calm
+returns c version base w events r calm = the_history version (covered version) (moving version) base w events r calm

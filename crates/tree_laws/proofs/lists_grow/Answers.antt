@@ -2,4 +2,4 @@ use Rattle.tree_laws.proofs.Cut.{grows}
 use Rattle.tree_laws.proofs.lists_grow.Goals as goal
 
 pub returns : goal.returns
-returns c = λ t w w' es later r s. grows t w w' es later r s
+returns c = λ version t w w' es later r s. grows version t w w' es later r s

@@ -3,4 +3,4 @@ use Rattle.tree_laws.proofs.Serial.{serial}
 use Rattle.tree_laws.proofs.one_hart_is_explained.Goals as goal
 
 pub returns : goal.returns
-returns c = λ base w h es k alone r. (run_explained (IsHart h) base w es (apart_alone h) (starts_alone h es alone) k r, serial base w h es k alone r)
+returns c = λ version base w h es k alone r. (run_explained version (IsHart h) base w es (apart_alone h) (starts_alone h es alone) k r, serial version base w h es k alone r)
