@@ -2,7 +2,8 @@
 use Rattle.std.specs.Prelude.{ℕ, Bool, true, false, List, [], ◌++◌, take, Option, Some, None}
 use Rattle.path_walk.specs.Vocabulary.{option_map, Action, Cause, BadDescriptor, piece, Reply, CallAnswer, Call, Ret, Do, Op, Answer, P, file_for}
 use Rattle.plain_tree.specs.declared.step.Action.TheVariants as steps
-use Rattle.path_walk.specs.Elements.{name_in, IsElement, IsInOne}
+use Rattle.path_walk.specs.Elements.{name_in, IsInOne}
+use Rattle.path_walk.specs.VersionOne.{IsElement}
 use Rattle.inode_machine.specs.Inodes as whole
 use Rattle.tree_laws.specs.Moves as moves
 use Rattle.inode_machine.specs.World as world

@@ -1,5 +1,6 @@
 -- The elements of a path, where they stand in it.
 use Rattle.std.specs.Prelude.{ℕ, ◌+◌, ◌≤◌, ◌⊎◌, List, [], ◌∷◌, length, slice_range, Option, Some, None}
+use Rattle.image_versions.specs.declared.version.Version.{Version}
 use Rattle.path_walk.specs.Names.{IsName}
 use Rattle.path_walk.specs.Vocabulary.{Name}
 use Rattle.path_walk.specs.declared.elements.Element.{Element}
@@ -15,11 +16,11 @@ most_elements = 64
 abbrev pub name_in : List ℕ → Element → Name
 name_in path e = slice_range path e.start e.end
 
-pub record IsElement (path : List ℕ) (e : Element) : Type 0 where
+pub record IsElement (version : Version) (path : List ℕ) (e : Element) : Type 0 where
   pub ordered : e.start ≤ e.end
   pub within : e.end ≤ length path
   pub rest : e.rest ≤ length path
-  pub name : IsName (name_in path e)
+  pub name : IsName version (name_in path e)
 
 -- the same where so many bytes stand before its path
 abbrev pub shifted : ℕ → Element → Element

@@ -3,3 +3,4 @@ pub mod Asks
 pub mod Elements
 pub mod Names
 pub mod Walks
+pub mod VersionOne

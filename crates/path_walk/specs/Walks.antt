@@ -1,7 +1,8 @@
 -- What is left of a walk.
 use Rattle.std.specs.Prelude.{◌≤◌, ℕ, ◌+◌, List, [], ◌∷◌, drop, length, Option, Some, None, IfSome}
 use Rattle.path_walk.specs.Vocabulary.{option_map, Name, elements, Reply, Action, Do, unmarked, AtName, Take, UnlockInode, WalkDown, P, leave_directory, looks_or_quits, see_parent, start, walk, walk_parent, walk_step, with_last}
-use Rattle.path_walk.specs.Elements.{name_in, IsElement}
+use Rattle.path_walk.specs.Elements.{name_in}
+use Rattle.path_walk.specs.VersionOne.{IsElement}
 use Rattle.inode_machine.specs.Parts as parts
 use Rattle.path_walk.specs.declared.walk.Goal.{Goal}
 use Rattle.path_walk.specs.declared.walk.Goal.TheVariants as goal

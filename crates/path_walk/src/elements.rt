@@ -1,13 +1,16 @@
 //! The elements of a path, which stay where they are in it.
 ghost use Rattle.std.specs.Prelude.{◌≡◌, ◌≢◌, ◌+◌, ◌<◌, ◌≤◌, ◌^◌, ℕ, [], ◌∷◌, length, take, drop, slice_index, All, IfSome, MatchOption};
-ghost use Rattle.path_walk.specs.Vocabulary.{with_element, elements, is_absolute};
+ghost use Rattle.image_versions.specs.declared.version.Version.{Version};
+ghost use Rattle.plain_tree.specs.Code.{with_element};
+ghost use Rattle.plain_tree.specs.Tree.{elements};
+ghost use Rattle.path_walk.specs.Vocabulary.{is_absolute};
 ghost use Rattle.path_walk.specs.Elements.{name_in, shifted, IsElement};
 
-use image_versions::one::NAME_LEN;
+use image_versions::Version;
 
 const SLASH: u8 = b'/';
 
-/// An element of a path: where its name stands, cut to the longest name, and where the path goes on.
+/// An element of a path: where its name stands, cut to the longest name of the version, and where the path goes on.
 #[derive(Clone, Copy)]
 pub struct Element {
     pub start: usize,
@@ -42,7 +45,7 @@ pub fn is_absolute(path: &[u8]) -> bool
 fn name_len(path: &[u8]) -> usize
     ensures bound { result ≤ length path.now }
     ensures name { (k : ℕ) → k < result → slice_index path.now k ≢ SLASH }
-    ensures cut { elements path.now ≡ with_element (take result path.now) (elements (drop (result + 1) path.now)) }
+    ensures cut { (v : Version) → elements v path.now ≡ with_element v (take result path.now) (elements v (drop (result + 1) path.now)) }
 {
     for (i, byte) in path.iter().enumerate() {
         if *byte == SLASH {
@@ -52,13 +55,13 @@ fn name_len(path: &[u8]) -> usize
     path.len()
 }
 
-/// The first element from a place of a path on.
-pub fn next_element(path: &[u8], from: usize) -> Option<Element>
+/// The first element from a place of a path on, cut to the longest name of the version.
+pub fn next_element(version: Version, path: &[u8], from: usize) -> Option<Element>
     requires from { from ≤ length path.now }
     requires nonzero { All (λ b. b ≢ 0) path.now }
-    ensures element { MatchOption result (elements (drop from path.now) ≡ [])
-        (λ e. elements (drop from path.now) ≡ name_in path.now e ∷ elements (drop e.rest path.now)) }
-    ensures within { IfSome result (IsElement path.now) }
+    ensures element { MatchOption result (elements version (drop from path.now) ≡ [])
+        (λ e. elements version (drop from path.now) ≡ name_in path.now e ∷ elements version (drop e.rest path.now)) }
+    ensures within { IfSome result (IsElement version path.now) }
 {
     let mut at = from;
     while at < path.len() {
@@ -66,7 +69,7 @@ pub fn next_element(path: &[u8], from: usize) -> Option<Element>
         if len > 0 {
             return Some(Element {
                 start: at,
-                end: at + len.min(NAME_LEN),
+                end: at + len.min(version.name_len()),
                 rest: (at + len + 1).min(path.len()),
             });
         }

@@ -7,6 +7,7 @@ ghost use Rattle.path_walk.specs.Walks.{After, Stands, StandsAt, elements_from, 
 use crate::asks::{Ask, Face, Heard, InodeType, Mark, Query, Sight};
 use crate::elements::{Element, is_absolute, next_element};
 use crate::numbers::{MOST_LISTED, Numbers};
+use image_versions::Version;
 use plain_tree::{Answer, Cause, Full};
 
 /// What a path leads to: what it names, or the directory of its last element.
@@ -67,7 +68,7 @@ fn onward(walk: &mut Walk, goal: Goal, directory: u32, path: &[u8], rest: usize)
     ensures most { most_walked path.now walk.new result ≤ elements_from path.now rest }
     ensures stands { StandsAt path.now walk.new result }
 {
-    match (goal, next_element(path, rest)) {
+    match (goal, next_element(Version::One, path, rest)) {
         (Goal::Inside, None) => Walked::Reached(directory, None),
         (Goal::Inside, Some(element)) => {
             *walk = Walk::Look(directory, element);
@@ -75,7 +76,7 @@ fn onward(walk: &mut Walk, goal: Goal, directory: u32, path: &[u8], rest: usize)
         }
         (Goal::Parent, None) => Walked::Lost(Lost::NotThere),
         (Goal::Parent, Some(element)) => {
-            *walk = match next_element(path, element.rest) {
+            *walk = match next_element(Version::One, path, element.rest) {
                 None => Walk::See(directory, element),
                 Some(_) => Walk::Look(directory, element),
             };

@@ -35,7 +35,8 @@ pub use Rattle.inode_machine.specs.VersionOne.{program}
 pub use Rattle.inode_machine.specs.World.{Op}
 pub use Rattle.inode_machine.specs.World.Mark.{Makes}
 pub use Rattle.inode_machine.specs.World.Op.{LockFile, LockOpen, StatFile, Take}
-pub use Rattle.path_walk.specs.Elements.{IsElement, IsInOne, name_in}
+pub use Rattle.path_walk.specs.Elements.{IsInOne, name_in}
+pub use Rattle.path_walk.specs.VersionOne.{IsElement}
 pub use Rattle.path_walk.specs.declared.asks.Query.{Query}
 pub use Rattle.path_walk.specs.declared.asks.Sight.{Sight}
 pub use Rattle.plain_tree.specs.Progress.{next_where}

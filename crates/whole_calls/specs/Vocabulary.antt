@@ -4,7 +4,8 @@ pub use Rattle.inode_machine.specs.Vocabulary.{creates, dot, dotdot, has, piece_
 unfoldable pub use Rattle.inode_machine.specs.Vocabulary.{same_name}
 pub use Rattle.path_walk.specs.Asks.{IsNamed, IsNamedInTwo, asks, checked_in, claimed_of, count_in, entered_of, face_of, hears, joined_of, loan_of, mark_at, marked_as, op_in, reply_to, sight_of, type_of, stepped, wrote_of}
 pub use Rattle.inode_machine.specs.Parts.{done, drop, failed, free_all, free_listed, full, give_up, mends_if_full, own_step, say, tail}
-pub use Rattle.path_walk.specs.Elements.{IsElement, name_in}
+pub use Rattle.path_walk.specs.Elements.{name_in}
+pub use Rattle.path_walk.specs.VersionOne.{IsElement}
 pub use Rattle.path_walk.specs.Walks.{After, Stands, StandsAt, most_left, most_walked, walk_of, walked_to}
 pub use Rattle.path_walk.specs.declared.asks.Heard.{Heard}
 pub use Rattle.inode_machine.specs.World.Op.{Claim, Empty, Enter, Fill, Forget, Free, Install, Join, JoinFile, Leave, Lend, Release, SetDirectory, Store, Up, WriteFile}

@@ -7,6 +7,7 @@ ghost use Rattle.whole_calls.specs.declared.link.Link.TheVariants as linking;
 
 use crate::dropping::Dropping;
 use crate::ending::Ending;
+use image_versions::Version;
 use path_walk::{
     Ask, Element, Entered, Face, Goal, Heard, MOST_LISTED, Mark, Numbers, Query, Sight, Walk,
     Walked, face_or, is_directory, is_live, next_element, stopped,
@@ -76,7 +77,7 @@ fn gave(number: u32, new: &[u8]) -> Link
     ensures fits { (old list : List ℕ) → length list + length (elements new.now) ≤ MOST_LISTED
         → LinkFits old new.now list (link_stage result) }
 {
-    match next_element(new, 0) {
+    match next_element(Version::One, new, 0) {
         None => Link::TakeRaised(number, Answer::Failed(Cause::NoEntry)),
         Some(_) => Link::WalksNew(Walk::Start, number),
     }
@@ -238,7 +239,7 @@ impl Link {
             }
             Link::Raise(_, _) => Some(Mark::Bump),
             Link::UnlockInode(_) => {
-                if next_element(new, 0).is_none() {
+                if next_element(Version::One, new, 0).is_none() {
                     Some(Mark::Begin)
                 } else {
                     None

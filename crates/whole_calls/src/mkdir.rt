@@ -10,6 +10,7 @@ ghost use Rattle.whole_calls.specs.declared.mkdir.Mkdir.TheVariants as making;
 use crate::dropping::Dropping;
 use crate::ending::Ending;
 use crate::opens::NewName;
+use image_versions::Version;
 use path_walk::{
     Ask, Claimed, Element, Entered, Face, Goal, Heard, InodeType, MOST_LISTED, Mark, Numbers,
     Query, Sight, Walk, Walked, face_or, is_live, next_element, stopped,
@@ -47,7 +48,7 @@ fn begin(path: &[u8]) -> Mkdir
     ensures program { (text : List ℕ) (heard : Heard) → hears text (mkdir_of path.now [] making.Join) heard ≡ mkdir_of path.now [] result }
     ensures fits { length (elements path.now) ≤ MOST_LISTED → Fits path.now [] (mkdir_stage result) }
 {
-    match next_element(path, 0) {
+    match next_element(Version::One, path, 0) {
         None => Mkdir::Ends(Ending::Leaves(Answer::Failed(Cause::NoEntry))),
         Some(_) => Mkdir::Walks(Walk::Start),
     }
@@ -213,7 +214,7 @@ impl Mkdir {
     {
         match self {
             Mkdir::Join => {
-                if next_element(path, 0).is_none() {
+                if next_element(Version::One, path, 0).is_none() {
                     Some(Mark::Begin)
                 } else {
                     None

@@ -9,6 +9,7 @@ ghost use Rattle.whole_calls.specs.declared.opens.Open.TheVariants as opening;
 
 use crate::dropping::Dropping;
 use crate::ending::Ending;
+use image_versions::Version;
 use path_walk::{
     Ask, Claimed, Element, Entered, Goal, Heard, InodeType, MOST_LISTED, Mark, Numbers, Query,
     Sight, Walk, Walked, face_or, is_live, next_element, stopped,
@@ -133,7 +134,7 @@ fn begin(path: &[u8], flags: u32) -> Open
     if !has_flag(flags, CREATE) {
         return Open::Walks(Walk::Start);
     }
-    match next_element(path, 0) {
+    match next_element(Version::One, path, 0) {
         None => Open::Ends(Ending::Leaves(Answer::Failed(Cause::NoEntry))),
         Some(_) => Open::Walks(Walk::Start),
     }
@@ -359,7 +360,7 @@ impl Open {
     {
         match self {
             Open::Join => {
-                if has_flag(flags, CREATE) && next_element(path, 0).is_none() {
+                if has_flag(flags, CREATE) && next_element(Version::One, path, 0).is_none() {
                     Some(Mark::Begin)
                 } else {
                     None

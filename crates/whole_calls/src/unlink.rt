@@ -8,6 +8,7 @@ ghost use Rattle.whole_calls.specs.declared.unlink.Unlink.TheVariants as unlinki
 
 use crate::dropping::Dropping;
 use crate::ending::Ending;
+use image_versions::Version;
 use path_walk::{
     Ask, Element, Face, Goal, Heard, InodeType, MOST_LISTED, Mark, Numbers, Query, Sight, Walk,
     Walked, face_or, is_live, next_element, stopped,
@@ -214,7 +215,7 @@ impl Unlink {
     {
         match self {
             Unlink::Join => {
-                if next_element(path, 0).is_none() {
+                if next_element(Version::One, path, 0).is_none() {
                     Some(Mark::Begin)
                 } else {
                     None
@@ -261,7 +262,7 @@ fn begin(path: &[u8]) -> Unlink
         → hears text (unlink_of path.now [] unlinking.Join) heard ≡ unlink_of path.now [] result }
     ensures fits { length (elements path.now) ≤ MOST_LISTED → Fits path.now [] (unlink_stage result) }
 {
-    match next_element(path, 0) {
+    match next_element(Version::One, path, 0) {
         None => Unlink::Ends(Ending::Leaves(Answer::Failed(Cause::NoEntry))),
         Some(_) => Unlink::Walks(Walk::Start),
     }
