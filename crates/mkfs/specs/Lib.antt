@@ -5,5 +5,4 @@ pub mod Made
 pub mod Options
 pub mod Refusals
 pub mod Stated
-pub mod VersionOne
 pub mod Widths
