@@ -116,6 +116,7 @@ fn refusal(flags: u32, inode_type: InodeType) -> Option<Cause>
 }
 
 /// Gives an inode up, and answers this.
+#[inline(always)]
 fn refuse(number: u32, answer: Answer) -> Open
     ensures program { (path : List ℕ) (flags : ℕ) (list : List ℕ)
         → open_of path flags list result ≡ give_up number (tail list (reply_to (calls.Open path flags) answer)) }
@@ -125,105 +126,109 @@ fn refuse(number: u32, answer: Answer) -> Open
 }
 
 /// A transaction is joined.
-fn begin(path: &[u8], flags: u32) -> Open
+fn begin(at: &mut Open, path: &[u8], flags: u32)
     requires { All (λ b. b ≢ 0) path.now }
     ensures program { (text : List ℕ) (heard : Heard)
-        → hears text (open_of path.now flags [] opening.Join) heard ≡ open_of path.now flags [] result }
-    ensures fits { length (elements path.now) ≤ MOST_LISTED → Fits path.now [] (open_stage result) }
+        → hears text (open_of path.now flags [] opening.Join) heard ≡ open_of path.now flags [] at.new }
+    ensures fits { length (elements path.now) ≤ MOST_LISTED → Fits path.now [] (open_stage at.new) }
 {
-    if !has_flag(flags, CREATE) {
-        return Open::Walks(Walk::Start);
-    }
-    match next_element(Version::One, path, 0) {
-        None => Open::Ends(Ending::Leaves(Answer::Failed(Cause::NoEntry))),
-        Some(_) => Open::Walks(Walk::Start),
+    if has_flag(flags, CREATE) && next_element(Version::One, path, 0).is_none() {
+        *at = Open::Ends(Ending::Leaves(Answer::Failed(Cause::NoEntry)));
+    } else {
+        *at = Open::Walks(Walk::Start);
     }
 }
 
 /// What is there was taken.
-fn took(number: u32, flags: u32, sight: &Sight) -> Open
-    ensures program { (path list : List ℕ) → open_of path flags list result ≡
+#[inline(always)]
+fn took(at: &mut Open, number: u32, flags: u32, sight: &Sight)
+    ensures program { (path list : List ℕ) → open_of path flags list at.new ≡
         open_face path flags number list (face_or (sight_of sight.now).face).inode_type
         (open_refusal (flags == 0) (face_or (sight_of sight.now).face).inode_type) }
-    ensures past { open_stage result ≡ Past }
+    ensures past { open_stage at.new ≡ Past }
 {
     let inode_type = face_or(sight).inode_type;
     match refusal(flags, inode_type) {
-        Some(cause) => refuse(number, Answer::Failed(cause)),
-        None => Open::Slot(Found {
-            number,
-            inode_type,
-            made: false,
-        }),
+        Some(cause) => *at = refuse(number, Answer::Failed(cause)),
+        None => {
+            *at = Open::Slot(Found {
+                number,
+                inode_type,
+                made: false,
+            });
+        }
     }
 }
 
 /// A descriptor was wanted.
-fn installed(found: Found, flags: u32, fd: Option<u32>) -> Open
-    ensures program { (path list : List ℕ) → open_of path flags list result ≡ installed path flags list found fd }
-    ensures past { open_stage result ≡ Past }
+#[inline(always)]
+fn installed(at: &mut Open, found: Found, flags: u32, fd: Option<u32>)
+    ensures program { (path list : List ℕ) → open_of path flags list at.new ≡ installed path flags list found fd }
+    ensures past { open_stage at.new ≡ Past }
 {
     match fd {
-        None => refuse(found.number, Answer::Full(Full::Descriptors)),
+        None => *at = refuse(found.number, Answer::Full(Full::Descriptors)),
         Some(fd) => {
             if !found.made && is_emptied(flags, found.inode_type) {
-                Open::Empty(found.number, fd)
+                *at = Open::Empty(found.number, fd);
             } else {
-                Open::UnlockInode(found.number, fd)
+                *at = Open::UnlockInode(found.number, fd);
             }
         }
     }
 }
 
 /// What the directory has under the name.
-fn looked(directory: u32, element: Element, number: Option<u32>) -> Open
+#[inline(always)]
+fn looked(at: &mut Open, directory: u32, element: Element, number: Option<u32>)
     ensures program { (path : List ℕ) (flags : ℕ) (list : List ℕ)
-        → open_of path flags list result ≡ create_found path flags directory (name_in path element) list number }
-    ensures fits { (path list : List ℕ) → IsElement path element → Fits path list (open_stage result) }
+        → open_of path flags list at.new ≡ create_found path flags directory (name_in path element) list number }
+    ensures fits { (path list : List ℕ) → IsElement path element → Fits path list (open_stage at.new) }
 {
     match number {
-        None => Open::Claim(directory, element),
-        Some(number) => Open::Up(directory, number),
+        None => *at = Open::Claim(directory, element),
+        Some(number) => *at = Open::Up(directory, number),
     }
 }
 
 /// A new inode was wanted.
-fn claimed(directory: u32, element: Element, claimed: Claimed) -> Open
+#[inline(always)]
+fn claimed(at: &mut Open, directory: u32, element: Element, claimed: Claimed)
     ensures program { (path : List ℕ) (flags : ℕ) (list : List ℕ)
-        → open_of path flags list result ≡ make_with path flags directory (name_in path element) list (claimed_of claimed) }
-    ensures fits { (path list : List ℕ) → IsElement path element → Fits path list (open_stage result) }
+        → open_of path flags list at.new ≡ make_with path flags directory (name_in path element) list (claimed_of claimed) }
+    ensures fits { (path list : List ℕ) → IsElement path element → Fits path list (open_stage at.new) }
 {
     match claimed {
-        Claimed::NoInode => refuse(directory, Answer::Full(Full::DiskInodes)),
-        Claimed::NoPlace => refuse(directory, Answer::Full(Full::MemInodes)),
-        Claimed::New(number) if number == directory => Open::ForgetSame(directory),
-        Claimed::New(number) => Open::TakeNew(NewName {
-            directory,
-            element,
-            number,
-        }),
+        Claimed::NoInode => *at = refuse(directory, Answer::Full(Full::DiskInodes)),
+        Claimed::NoPlace => *at = refuse(directory, Answer::Full(Full::MemInodes)),
+        Claimed::New(number) if number == directory => *at = Open::ForgetSame(directory),
+        Claimed::New(number) => {
+            *at = Open::TakeNew(NewName {
+                directory,
+                element,
+                number,
+            });
+        }
     }
 }
 
 /// The name was to be entered.
-fn entered(name: NewName, inode_type: InodeType, entered: Entered) -> Open
+#[inline(always)]
+fn entered(at: &mut Open, name: NewName, inode_type: InodeType, entered: Entered)
     ensures program { (path : List ℕ) (flags : ℕ) (list : List ℕ)
-        → open_of path flags list result ≡ make_on path flags name.number (type_of inode_type) name.directory list (entered_of entered) }
-    ensures past { open_stage result ≡ Past }
+        → open_of path flags list at.new ≡ make_on path flags name.number (type_of inode_type) name.directory list (entered_of entered) }
+    ensures past { open_stage at.new ≡ Past }
 {
     match entered {
         Entered::InPlace => {
-            Open::GiveEntered(
-                Dropping::UnlockInode(name.directory),
-                name.number,
-                inode_type,
-            )
+            let dropping = Dropping::UnlockInode(name.directory);
+            *at = Open::GiveEntered(dropping, name.number, inode_type);
         }
         Entered::NoBlock => {
-            Open::Unmake(name.number, name.directory, Answer::Full(Full::Blocks))
+            *at = Open::Unmake(name.number, name.directory, Answer::Full(Full::Blocks));
         }
         Entered::NoSlot => {
-            Open::Unmake(name.number, name.directory, Answer::Full(Full::Directory))
+            *at = Open::Unmake(name.number, name.directory, Answer::Full(Full::Directory));
         }
     }
 }
@@ -281,7 +286,7 @@ impl Open {
         ensures fits { result ≡ false → Fits path.now list.new (open_stage self.new) }
     {
         match self {
-            Open::Join => *self = begin(path, flags),
+            Open::Join => begin(self, path, flags),
             Open::Walks(walk) => match walk.step(goal(flags), heard, path, list) {
                 Walked::Walks => {}
                 Walked::Reached(number, None) => *self = Open::Take(number),
@@ -290,31 +295,38 @@ impl Open {
                 }
                 Walked::Lost(why) => *self = Open::Ends(Ending::Leaves(stopped(why))),
             },
-            Open::Take(number) => *self = took(*number, flags, &heard.sight()),
-            Open::Slot(found) => {
-                *self = if heard.is() {
-                    Open::Install(*found)
-                } else {
-                    refuse(found.number, Answer::Full(Full::OpenFiles))
-                };
+            Open::Take(number) => {
+                let number = *number;
+                took(self, number, flags, &heard.sight());
             }
-            Open::Install(found) => *self = installed(*found, flags, heard.start()),
+            Open::Slot(found) => {
+                if heard.is() {
+                    *self = Open::Install(*found);
+                } else {
+                    *self = refuse(found.number, Answer::Full(Full::OpenFiles));
+                }
+            }
+            Open::Install(found) => {
+                let found = *found;
+                installed(self, found, flags, heard.start());
+            }
             Open::Empty(number, fd) => *self = Open::UnlockInode(*number, *fd),
             Open::UnlockInode(_, fd) => *self = Open::Ends(Ending::Leaves(Answer::Fd(*fd))),
             Open::Look(directory, element) => {
+                let (directory, element) = (*directory, *element);
                 let sight = heard.sight();
-                *self = if is_live(&sight) {
-                    looked(*directory, *element, sight.found)
+                if is_live(&sight) {
+                    looked(self, directory, element, sight.found);
                 } else {
-                    refuse(*directory, Answer::Failed(Cause::NoEntry))
-                };
+                    *self = refuse(directory, Answer::Failed(Cause::NoEntry));
+                }
             }
             Open::Up(directory, number) => {
-                *self = if heard.is() {
-                    Open::GiveParent(Dropping::UnlockInode(*directory), *number)
+                if heard.is() {
+                    *self = Open::GiveParent(Dropping::UnlockInode(*directory), *number);
                 } else {
-                    refuse(*directory, Answer::Full(Full::MemInodes))
-                };
+                    *self = refuse(*directory, Answer::Full(Full::MemInodes));
+                }
             }
             Open::GiveParent(dropping, number) => {
                 if dropping.step(heard) {
@@ -322,7 +334,8 @@ impl Open {
                 }
             }
             Open::Claim(directory, element) => {
-                *self = claimed(*directory, *element, heard.claimed());
+                let (directory, element) = (*directory, *element);
+                claimed(self, directory, element, heard.claimed());
             }
             Open::ForgetSame(directory) => {
                 *self = refuse(*directory, Answer::Full(Full::MemInodes));
@@ -332,7 +345,8 @@ impl Open {
             }
             Open::StoreNew(name, inode_type) => *self = Open::Enter(*name, *inode_type),
             Open::Enter(name, inode_type) => {
-                *self = entered(*name, *inode_type, heard.entered());
+                let (name, inode_type) = (*name, *inode_type);
+                entered(self, name, inode_type, heard.entered());
             }
             Open::GiveEntered(dropping, number, inode_type) => {
                 if dropping.step(heard) {

@@ -44,6 +44,7 @@ pub enum Unlink {
 }
 
 /// Gives the directory up, and answers this.
+#[inline(always)]
 fn refuse(directory: u32, answer: Answer) -> Unlink
     ensures program { (path list : List ℕ)
         → unlink_of path list result ≡ give_up directory (tail list (reply_to (calls.Unlink path) answer)) }
@@ -76,29 +77,31 @@ fn is_dots(name: &[u8]) -> bool
 }
 
 /// The parent is reached, with the name that is to go.
-fn reached(directory: u32, element: Element, path: &[u8]) -> Unlink
+#[inline(always)]
+fn reached(at: &mut Unlink, directory: u32, element: Element, path: &[u8])
     requires { IsElement path.now element }
     ensures program { (list : List ℕ)
-        → unlink_of path.now list result ≡ unlink_in path.now directory (Some (name_in path.now element)) list }
-    ensures fits { (list : List ℕ) → Fits path.now list (unlink_stage result) }
+        → unlink_of path.now list at.new ≡ unlink_in path.now directory (Some (name_in path.now element)) list }
+    ensures fits { (list : List ℕ) → Fits path.now list (unlink_stage at.new) }
 {
     if is_dots(&path[element.start..element.end]) {
-        Unlink::Dots(directory)
+        *at = Unlink::Dots(directory);
     } else {
-        Unlink::Look(directory, element)
+        *at = Unlink::Look(directory, element);
     }
 }
 
 /// Once the name is gone.
-fn cleared(name: Name, number: u32, face: Face) -> Unlink
+#[inline(always)]
+fn cleared(at: &mut Unlink, name: Name, number: u32, face: Face)
     ensures program { (path list : List ℕ)
-        → unlink_of path list result ≡ cleared path name.directory list (face_of name.face) number (face_of face) }
-    ensures past { unlink_stage result ≡ Past }
+        → unlink_of path list at.new ≡ cleared path name.directory list (face_of name.face) number (face_of face) }
+    ensures past { unlink_stage at.new ≡ Past }
 {
     if is_directory(&face) {
-        Unlink::LowerParent(name, number, face)
+        *at = Unlink::LowerParent(name, number, face);
     } else {
-        Unlink::GiveParent(Dropping::UnlockInode(name.directory), number, face)
+        *at = Unlink::GiveParent(Dropping::UnlockInode(name.directory), number, face);
     }
 }
 
@@ -152,11 +155,11 @@ impl Unlink {
         ensures fits { result ≡ false → Fits path.now list.new (unlink_stage self.new) }
     {
         match self {
-            Unlink::Join => *self = begin(path),
+            Unlink::Join => begin(self, path),
             Unlink::Walks(walk) => match walk.step(Goal::Parent, heard, path, list) {
                 Walked::Walks => {}
                 Walked::Reached(directory, Some(element)) => {
-                    *self = reached(directory, element, path);
+                    reached(self, directory, element, path);
                 }
                 Walked::Reached(_, None) => {
                     *self = Unlink::Ends(Ending::Leaves(Answer::Failed(Cause::NoEntry)));
@@ -164,32 +167,36 @@ impl Unlink {
                 Walked::Lost(why) => *self = Unlink::Ends(Ending::Leaves(stopped(why))),
             },
             Unlink::Dots(directory) => {
-                *self = if is_live(&heard.sight()) {
-                    refuse(*directory, Answer::Failed(Cause::DotName))
+                if is_live(&heard.sight()) {
+                    *self = refuse(*directory, Answer::Failed(Cause::DotName));
                 } else {
-                    refuse(*directory, Answer::Failed(Cause::NoEntry))
-                };
+                    *self = refuse(*directory, Answer::Failed(Cause::NoEntry));
+                }
             }
             Unlink::Look(directory, element) => {
-                *self = found(*directory, *element, &heard.sight());
+                let (directory, element) = (*directory, *element);
+                found(self, directory, element, &heard.sight());
             }
             Unlink::Up(name, number) => {
-                *self = if heard.is() {
-                    Unlink::Take(*name, *number)
+                if heard.is() {
+                    *self = Unlink::Take(*name, *number);
                 } else {
-                    refuse(name.directory, Answer::Full(Full::MemInodes))
-                };
+                    *self = refuse(name.directory, Answer::Full(Full::MemInodes));
+                }
             }
             Unlink::Take(name, number) => {
-                *self = if heard.sight().empty {
-                    Unlink::Clear(*name, *number, face_or(&heard.sight()))
+                if heard.sight().empty {
+                    *self = Unlink::Clear(*name, *number, face_or(&heard.sight()));
                 } else {
                     let dropping = Dropping::UnlockInode(*number);
                     let answer = Answer::Failed(Cause::NotEmpty);
-                    Unlink::Ends(Ending::GivesTwo(dropping, name.directory, answer))
-                };
+                    *self = Unlink::Ends(Ending::GivesTwo(dropping, name.directory, answer));
+                }
             }
-            Unlink::Clear(name, number, face) => *self = cleared(*name, *number, *face),
+            Unlink::Clear(name, number, face) => {
+                let (name, number, face) = (*name, *number, *face);
+                cleared(self, name, number, face);
+            }
             Unlink::LowerParent(name, number, face) => {
                 let dropping = Dropping::UnlockInode(name.directory);
                 *self = Unlink::GiveParent(dropping, *number, *face);
@@ -256,35 +263,38 @@ impl Unlink {
 }
 
 /// A transaction is joined.
-fn begin(path: &[u8]) -> Unlink
+fn begin(at: &mut Unlink, path: &[u8])
     requires { All (λ b. b ≢ 0) path.now }
     ensures program { (text : List ℕ) (heard : Heard)
-        → hears text (unlink_of path.now [] unlinking.Join) heard ≡ unlink_of path.now [] result }
-    ensures fits { length (elements path.now) ≤ MOST_LISTED → Fits path.now [] (unlink_stage result) }
+        → hears text (unlink_of path.now [] unlinking.Join) heard ≡ unlink_of path.now [] at.new }
+    ensures fits { length (elements path.now) ≤ MOST_LISTED → Fits path.now [] (unlink_stage at.new) }
 {
     match next_element(Version::One, path, 0) {
-        None => Unlink::Ends(Ending::Leaves(Answer::Failed(Cause::NoEntry))),
-        Some(_) => Unlink::Walks(Walk::Start),
+        None => *at = Unlink::Ends(Ending::Leaves(Answer::Failed(Cause::NoEntry))),
+        Some(_) => *at = Unlink::Walks(Walk::Start),
     }
 }
 
 /// What the directory has under the name.
-fn found(directory: u32, element: Element, sight: &Sight) -> Unlink
+#[inline(always)]
+fn found(at: &mut Unlink, directory: u32, element: Element, sight: &Sight)
     ensures program { (path list : List ℕ)
-        → unlink_of path list result
+        → unlink_of path list at.new
         ≡ unlink_found path directory (name_in path element) list (face_or (sight_of sight.now).face) sight.now.found }
-    ensures past { unlink_stage result ≡ Past }
+    ensures past { unlink_stage at.new ≡ Past }
 {
     match sight.found {
-        None => refuse(directory, Answer::Failed(Cause::NoEntry)),
-        Some(number) if number == directory => { refuse(directory, Answer::Failed(Cause::NoEntry)) }
+        None => *at = refuse(directory, Answer::Failed(Cause::NoEntry)),
+        Some(number) if number == directory => {
+            *at = refuse(directory, Answer::Failed(Cause::NoEntry));
+        }
         Some(number) => {
             let name = Name {
                 directory,
                 element,
                 face: face_or(sight),
             };
-            Unlink::Up(name, number)
+            *at = Unlink::Up(name, number);
         }
     }
 }
