@@ -33,6 +33,7 @@ pub enum Search {
 
 impl Search {
     /// Over all slots of the directory at a seat.
+    #[inline(always)]
     pub fn begin(hand: &Hand, seat: InodePlace, sought: Sought) -> Begun<Search, Option<Found>>
         requires loaded { IsLoadedAt seat hand.now }
         requires sought { IsSought sought }
@@ -52,6 +53,7 @@ impl Search {
     }
 
     /// For what the directory at a seat has under a name. Where it has no link, or is no directory, nothing is found and no block touched.
+    #[inline(always)]
     pub fn lookup(hand: &Hand, seat: InodePlace, name: &[u8]) -> Begun<Search, Option<Found>>
         requires loaded { IsLoadedAt seat hand.now }
         requires name { IsName name.now }

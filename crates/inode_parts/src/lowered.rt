@@ -131,6 +131,7 @@ fn take_call(call: &mut Whole) -> Whole
 }
 
 // A call's part goes on: true where it is over, with what is heard left in `heard`. A read's has the call's own buffer.
+#[inline(always)]
 fn part_next(
     part: &mut InodePart,
     call: &mut Whole,

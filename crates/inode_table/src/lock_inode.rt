@@ -75,6 +75,7 @@ impl Routine for LockInode {
         }
     }
 
+    #[inline(always)]
     fn next(&mut self, answer: &Answer, hand: &mut Hand) -> Option<InodePlace> {
         match self {
             LockInode::Lock(seat, inodestart) => {

@@ -59,6 +59,7 @@ pub enum Walked {
 }
 
 /// On from a directory, at this place of the path.
+#[inline(always)]
 fn onward(walk: &mut Walk, goal: Goal, directory: u32, path: &[u8], rest: usize) -> Walked
     requires rest { rest ≤ length path.now }
     requires nonzero { All (λ b. b ≢ 0) path.now }
@@ -149,27 +150,26 @@ impl Walk {
                 None => Walked::Lost(Lost::NoMemory),
             },
             Walk::Look(directory, element) => {
-                *self = match heard.sight().found {
-                    Some(number) => Walk::Up(*directory, number, element.rest),
-                    None => Walk::UnlockInode(*directory, Next::Quits(Lost::NotThere)),
-                };
+                match heard.sight().found {
+                    Some(number) => *self = Walk::Up(*directory, number, element.rest),
+                    None => *self = Walk::UnlockInode(*directory, Next::Quits(Lost::NotThere)),
+                }
                 Walked::Walks
             }
             Walk::See(directory, element) => {
-                *self = if is_directory(&heard.sight()) {
-                    Walk::Leave(*directory, *element)
+                if is_directory(&heard.sight()) {
+                    *self = Walk::Leave(*directory, *element);
                 } else {
-                    Walk::UnlockInode(*directory, Next::Quits(Lost::NotThere))
-                };
+                    *self = Walk::UnlockInode(*directory, Next::Quits(Lost::NotThere));
+                }
                 Walked::Walks
             }
             Walk::Up(directory, number, rest) => {
-                let next = if heard.is() {
-                    Next::Go(*number, *rest)
+                if heard.is() {
+                    *self = Walk::UnlockInode(*directory, Next::Go(*number, *rest));
                 } else {
-                    Next::Quits(Lost::NoMemory)
-                };
-                *self = Walk::UnlockInode(*directory, next);
+                    *self = Walk::UnlockInode(*directory, Next::Quits(Lost::NoMemory));
+                }
                 Walked::Walks
             }
             Walk::UnlockInode(directory, next) => {
