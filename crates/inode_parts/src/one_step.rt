@@ -111,6 +111,7 @@ impl OneStep {
     }
 
     /// What is heard after it is left in `heard`. Of an inode whose lock came into hand nothing is learned yet.
+    #[inline(always)]
     pub fn next(&self, notes: &mut Notes, answer: &Answer, hand: &Hand, heard: &mut Heard)
         requires came { (before : HandState) × StepReady self.now before × IsAfter (step_asked self.now) before answer.now hand.now }
         ensures goes { (path : List ℕ) (before : HandState) → StepReady self.now before
