@@ -1,5 +1,5 @@
 -- Contents written and directories searched: without marks the programs are the code's.
-use Rattle.inode_parts.proofs.Vocabulary.{◌≡◌, ℕ, zero, suc, ◌+◌, ◌-◌, ◌/◌, ◌≤◌, ◌==◌, nat_lt, Bool, true, false, if◌then◌else◌, List, length, drop, Option, Some, None, refl, ◌∙◌, ap, arith, slice_index, nat_tests, Dinode, Super, numbers_in, block_len, Ret, Do, bind, plain, unmarked, bind-assoc, plain-bind, fetch, marked_by, first_clear_below, give_zeros, take_first, zero_found, Address, Direct, InTable, address, table_of, fetch_block, direct, WriteResult, front_of, locate, locate_at, locate_in_table, located, look_up, name_direct, name_in_table, put_part, take_one, with_address, with_table, write_blocks, write_in, write_located, Found, Aim, Unused, block_count, found_in, look_at, or_next, search, search_from, slot_count, look_last, search_full, seek_free, seek_full, Acts, IndexState, Loaded, Searched, few_known, first_of, raised}
+use Rattle.inode_parts.proofs.Vocabulary.{◌≡◌, ℕ, zero, suc, ◌+◌, ◌-◌, ◌/◌, ◌≤◌, ◌==◌, nat_lt, Bool, true, false, if◌then◌else◌, List, length, drop, Option, Some, None, refl, ◌∙◌, ap, arith, slice_index, nat_tests, Dinode, Super, numbers_in, block_len, Ret, Do, bind, plain, unmarked, bind-assoc, plain-bind, fetch, marked_by, first_clear_below, give_zeros, take_first, zero_found, Address, Direct, InTable, address, table_of, fetch_block, direct, WriteResult, front_of, locate, locate_at, locate_in_table, located, look_up, name_direct, name_in_table, put_part, take_one, with_address, with_table, write_blocks, write_in, write_located, Found, Aim, Unused, block_count, found_in, look_at, or_next, search, search_from, slot_count, look_last, search_full, seek_free, seek_full, Acts, IndexState, Loaded, Searched, few_known, first_of, raised, most_slots}
 use Rattle.fs_machine.specs.Machines as code
 use Rattle.fs_machine.specs.Steps as steps
 use Rattle.inode_data.specs.Writing.{with_part}
@@ -112,7 +112,7 @@ plain_full mark (suc n) d k x =
     (λ f i. Do (steps.Put f.number None) unmarked (λ _. plain_or_next (found_in Unused d k f.bytes) (raised d k f.bytes x) (search_full mark n d (k + 1)) (search_from (suc n) Unused d (k + 1)) (plain_full mark n d (k + 1)) i))
 
 -- where all slots are there, and the index has none free, it has one block at most
-module _ (mark : Option Acts) (l : Loaded) (full : slot_count l.inode ≡ 17152) where
+module _ (mark : Option Acts) (l : Loaded) (full : slot_count l.inode ≡ most_slots) where
   abbrev b : ℕ
   b = l.index.blocks
 
@@ -125,10 +125,11 @@ module _ (mark : Option Acts) (l : Loaded) (full : slot_count l.inode ≡ 17152)
       plain_full mark (267 - b) l.inode b l.index ∙ ap (λ (n : ℕ). search_from n Unused l.inode b l.index) all
 
 pub plain_seek : (mark : Option Acts) (l : Loaded) → plain (seek_free mark l) ≡ search Unused l
-plain_seek mark l = by (nat_lt (slot_count l.inode) 17152) refl
+plain_seek mark l = by (nat_lt (slot_count l.inode) most_slots) refl
   where
-    by : (b : Bool) → nat_lt (slot_count l.inode) 17152 ≡ b → plain (if b then search Unused l else seek_full mark l) ≡ search Unused l
+    by : (b : Bool) → nat_lt (slot_count l.inode) most_slots ≡ b
+        → plain (if b then search Unused l else seek_full mark l) ≡ search Unused l
     by true room = plain_search Unused l
     by false full =
-        let many : 17152 ≤ slot_count l.inode = grind (arith, nat_tests, full) in
+        let many : most_slots ≤ slot_count l.inode = grind (arith, nat_tests, full) in
         plain_seek_full mark l (omega (arith, many)) (first_of Unused l.inode l.index) refl
