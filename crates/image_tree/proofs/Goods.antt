@@ -1,5 +1,5 @@
 -- What recovery's writes keep of the superblock and the log's head.
-use Rattle.image_tree.proofs.Vocabulary.{Version, ◌≡◌, ◌≢◌, ◌⊎◌, inl, inr, ℕ, ◌+◌, ◌-◌, ◌<◌, ◌≤◌, List, [], ◌∷◌, length, get_or, set, replicate, refl, sym, ◌∙◌, ap, subst, arith, All, length-set, Super, u32_at, block_at, sizes_of, logged, log_count, log_head_at, block_at-set_same, block_at-set_other, sizes_of-set, logged-set, IsOnce, IsGoodSuper, HasGoodLog, UpToLog}
+use Rattle.image_tree.proofs.Vocabulary.{Version, ◌≡◌, ◌≢◌, ◌⊎◌, inl, inr, ℕ, ◌+◌, ◌-◌, ◌<◌, ◌≤◌, List, [], ◌∷◌, length, get_or, set, replicate, refl, sym, ◌∙◌, ap, subst, arith, All, length-set, Super, u32_at, block_at, sizes_of, logged, log_count, log_head_at, block_at-set_same, block_at-set_other, sizes_of-set, logged-set, IsOnce, IsGoodSuper, HasGoodLog, UpToLog, block_len}
 use Rattle.image_tree.proofs.Layouts.{length-logged}
 use Rattle.image_tree.proofs.Installs.{Installed}
 
@@ -53,11 +53,11 @@ module _ (v : Version) (d : List (List ℕ)) (good : UpToLog v d) where
         once = subst (λ (l : List ℕ). IsOnce l) (sym named) good.1.once;
       })
 
-  pub clear_keeps : UpToLog v (set d (sizes_of d).logstart (replicate 1024 0))
+  pub clear_keeps : UpToLog v (set d (sizes_of d).logstart (replicate block_len 0))
   unfolding u32_at
   clear_keeps =
       let c = (sizes_of d).logstart in
-      let block : List ℕ = replicate 1024 0 in
+      let block : List ℕ = replicate block_len 0 in
       let ne : c ≢ 1 = (λ e. let b = behind in absurd (omega (arith, b, e))) in
       let same : sizes_of (set d c block) ≡ sizes_of d = sizes_of-set d c block ne in
       let on_disk : c < length d = (let f = front in let m = eleven in let w = within_disk in let g = good.0.0.1.1 in omega (arith, f, m, w, g.inodes, g.bitmap)) in
@@ -81,8 +81,8 @@ module _ (v : Version) (d e : List (List ℕ)) (sizes : Super) (f : ℕ → List
         subst (UpToLog v) (sym is) (home_keeps v d good (get_or blocks i 0) block bounds.0 bounds.1)
   ]
 
-  pub clear_good : (e ≡ d) ⊎ (e ≡ set d sizes.logstart (replicate 1024 0)) → UpToLog v e
+  pub clear_good : (e ≡ d) ⊎ (e ≡ set d sizes.logstart (replicate block_len 0)) → UpToLog v e
   clear_good may = elim may [
     | inl is ↦ subst (UpToLog v) (sym is) good
-    | inr is ↦ subst (UpToLog v) (sym (is ∙ ap (λ (s : Super). set d s.logstart (replicate 1024 0)) (sym at.sizes_are))) (clear_keeps v d good)
+    | inr is ↦ subst (UpToLog v) (sym (is ∙ ap (λ (s : Super). set d s.logstart (replicate block_len 0)) (sym at.sizes_are))) (clear_keeps v d good)
   ]

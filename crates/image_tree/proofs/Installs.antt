@@ -1,5 +1,5 @@
 -- Copies going home.
-use Rattle.image_tree.proofs.Vocabulary.{◌≡◌, ◌≢◌, ◌⊎◌, inl, inr, ℕ, ◌+◌, ◌<◌, ◌≤◌, ◌^◌, List, [], length, get_or, set, replicate, refl, sym, ◌∙◌, ap, subst, arith, cases_eq, length-set, Super, block_at, sizes_of, log_count, log_head_at, logged, recovered, IsOutsideLog, u32_at, block_at-set_same, block_at-set_other, sizes_of-set, logged-set, logged-empty, recovered-empty, recovered-copy, recovered-own, first_copy, IsFirstCopy, Layout, IsLayout}
+use Rattle.image_tree.proofs.Vocabulary.{◌≡◌, ◌≢◌, ◌⊎◌, inl, inr, ℕ, ◌+◌, ◌<◌, ◌≤◌, ◌^◌, List, [], length, get_or, set, replicate, refl, sym, ◌∙◌, ap, subst, arith, cases_eq, length-set, Super, block_at, sizes_of, log_count, log_head_at, logged, recovered, IsOutsideLog, u32_at, block_at-set_same, block_at-set_other, sizes_of-set, logged-set, logged-empty, recovered-empty, recovered-copy, recovered-own, first_copy, IsFirstCopy, Layout, IsLayout, block_len}
 use Rattle.image_tree.proofs.Layouts.{length-logged}
 
 -- the log lies on the disk and has room for the blocks that it names: blocks of the disk behind it, each once
@@ -51,7 +51,7 @@ installed_recovered d sizes f ks size i at b out = elim (first_copy (logged d) b
       ∙ at.clean b out (λ k le lt. subst (λ (l : List ℕ). (k : ℕ) → k < length l → get_or l k 0 ≢ b) at.head none k lt)
 ]
 
-no_numbers : (head : List ℕ) → head ≡ replicate 1024 0 → u32_at head 0 ≡ 0
+no_numbers : (head : List ℕ) → head ≡ replicate block_len 0 → u32_at head 0 ≡ 0
 unfolding u32_at
 no_numbers head e = ap (λ (b : List ℕ). u32_at b 0) e
 
@@ -90,13 +90,13 @@ module _ (d0 : List (List ℕ)) (sizes : Super) (ks : List ℕ) (ready : IsReady
     pub empty : logged e ≡ []
     pub home : (b : ℕ) → IsOutsideLog sizes b → block_at e b ≡ f b
 
-  pub cleared : (d e : List (List ℕ)) (i : ℕ) → length ks ≤ i → e ≡ set d sizes.logstart (replicate 1024 0) → Installed d sizes f ks (length d0) i → Cleared e
+  pub cleared : (d e : List (List ℕ)) (i : ℕ) → length ks ≤ i → e ≡ set d sizes.logstart (replicate block_len 0) → Installed d sizes f ks (length d0) i → Cleared e
   cleared d e i le is at =
       let c = sizes.logstart in
       let near = ready.behind in
       let w = ready.within in
       let some = ready.room in
-      let v : List ℕ = replicate 1024 0 in
+      let v : List ℕ = replicate block_len 0 in
       let on_disk : c < length d = (let l = at.long in omega (arith, l, w, some)) in
       let no_super : c ≢ 1 = (λ x. absurd (omega (arith, near, x))) in
       let sizes_are : sizes_of e ≡ sizes = ap sizes_of is ∙ sizes_of-set d c v no_super ∙ at.sizes_are in
@@ -119,7 +119,7 @@ module _ (d0 : List (List ℕ)) (sizes : Super) (ks : List ℕ) (ready : IsReady
     | inr is ↦ let next = installed_next d e i lt is at in (installed_recovered e sizes f ks (length d0) (i + 1) next, next.sizes_are)
   ]
 
-  pub stopped_clear : (d e : List (List ℕ)) (i : ℕ) → length ks ≤ i → Installed d sizes f ks (length d0) i → (e ≡ d) ⊎ (e ≡ set d sizes.logstart (replicate 1024 0))
+  pub stopped_clear : (d e : List (List ℕ)) (i : ℕ) → length ks ≤ i → Installed d sizes f ks (length d0) i → (e ≡ d) ⊎ (e ≡ set d sizes.logstart (replicate block_len 0))
       → ((b : ℕ) → IsOutsideLog sizes b → recovered e b ≡ f b) × (sizes_of e ≡ sizes)
   stopped_clear d e i le at may = elim may [
     | inl same ↦ (λ b out. ap (λ (x : List (List ℕ)). recovered x b) same ∙ installed_recovered d sizes f ks (length d0) i at b out, ap sizes_of same ∙ at.sizes_are)

@@ -1,5 +1,5 @@
 -- What a layout that passed the checks keeps in range.
-use Rattle.image_tree.proofs.Vocabulary.{◌≡◌, ℕ, ◌+◌, ◌/◌, ◌%◌, ◌<◌, ◌≤◌, cond, ltb, List, length, Some, None, refl, ap, ◌∙◌, ⊎_elim, arith, cases_lt, nat_tests, option_map_or, dinode_at, length-u32s_at, Layout, block_at, place_of, logged, log_count, sizes_of, recovered, inode_of, IsLayout}
+use Rattle.image_tree.proofs.Vocabulary.{◌≡◌, ℕ, ◌+◌, ◌/◌, ◌%◌, ◌<◌, ◌≤◌, cond, ltb, List, length, Some, None, refl, ap, ◌∙◌, ⊎_elim, arith, cases_lt, nat_tests, option_map_or, dinode_at, length-u32s_at, Layout, block_at, place_of, logged, log_count, sizes_of, recovered, inode_of, IsLayout, ◌-◌, inodes_per_block}
 
 pub length-logged : (disk : List (List ℕ)) → length (logged disk) ≡ log_count disk
 unfolding logged
@@ -16,7 +16,7 @@ place_below logstart b i n m low high =
 -- the numbers of a layout in order
 pub record InOrder (disk : List (List ℕ)) (layout : Layout) : Type 0 where
   pub log : layout.sizes.logstart + 1 + length layout.head.blocks.items ≤ layout.sizes.inodestart
-  pub inodes : layout.sizes.inodestart + (layout.sizes.ninodes + 15) / 16 ≤ layout.sizes.bmapstart
+  pub inodes : layout.sizes.inodestart + (layout.sizes.ninodes + (inodes_per_block - 1)) / inodes_per_block ≤ layout.sizes.bmapstart
   pub bitmap : layout.sizes.bmapstart < layout.sizes.size
   pub size : layout.sizes.size ≤ length disk
   pub small : layout.sizes.size ≤ 8191
@@ -50,6 +50,6 @@ unfolding recovered
 recovered_at disk layout b h = rw (h.sizes, h.blocks) refl
 
 pub inode_at : (disk : List (List ℕ)) (layout : Layout) (i : ℕ) → IsLayout disk layout
-    → inode_of disk i ≡ dinode_at (i % 16) (recovered disk (layout.sizes.inodestart + i / 16))
+    → inode_of disk i ≡ dinode_at (i % inodes_per_block) (recovered disk (layout.sizes.inodestart + i / inodes_per_block))
 unfolding inode_of
 inode_at disk layout i h = rw h.sizes refl

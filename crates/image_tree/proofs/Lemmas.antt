@@ -1,5 +1,5 @@
 -- What the proofs of this crate's functions use: its lemmas, and what they speak of.
-pub use Rattle.image_tree.proofs.Vocabulary.{All, AreGoodSlots, Bool, Contains, Err, HasGoodCounts, HasGoodLog, IsData, IsFreed, IsGoodCount, IsGoodSize, IsGoodSuper, IsGoodType, IsLayout, IsLinks, IsOnce, IsOneTree, IsOutsideLog, IsPut, IsTrue, IsViewOf, Layout, List, Marks, None, Ok, OnErr, OnOk, Result, Super, Tallies, UpToLog, Version, [], ap, append-nil, arith, bit_of, block_at, block_number, children_of, dinode_at, eqb, eqb-true, false, false≢true, filter, further_in, further_names_of, get_or, get_or_past, inl, inr, is_block, is_marked, is_orphan, last, length, log_count, map, named_by, named_in, names_of, nat_lt, not, parent_of, proper_in, recovered-empty, refl, replicate, set, slot_number, slot_numbers, slot_of, slots_of, subst, sym, take, take_more, true, up, ℕ, ◌%◌, ◌++◌, ◌+◌, ◌-◌, ◌/◌, ◌<◌, ◌^◌, ◌↔◌, ◌∙◌, ◌∷◌, ◌≡◌, ◌≢◌, ◌≤◌, ◌⊎◌}
+pub use Rattle.image_tree.proofs.Vocabulary.{All, AreGoodSlots, Bool, Contains, Err, HasGoodCounts, HasGoodLog, IsData, IsFreed, IsGoodCount, IsGoodSize, IsGoodSuper, IsGoodType, IsLayout, IsLinks, IsOnce, IsOneTree, IsOutsideLog, IsPut, IsTrue, IsViewOf, Layout, List, Marks, None, Ok, OnErr, OnOk, Result, Super, Tallies, UpToLog, Version, [], ap, append-nil, arith, bit_of, block_at, block_len, block_number, children_of, dinode_at, eqb, eqb-true, false, false≢true, filter, further_in, further_names_of, get_or, get_or_past, inl, inodes_per_block, inr, is_block, is_marked, is_orphan, last, length, log_count, map, named_by, named_in, names_of, nat_lt, not, parent_of, proper_in, recovered-empty, refl, replicate, set, slot_number, slot_numbers, slot_of, slots_of, subst, sym, take, take_more, true, up, ℕ, ◌%◌, ◌++◌, ◌+◌, ◌-◌, ◌/◌, ◌<◌, ◌^◌, ◌↔◌, ◌∙◌, ◌∷◌, ◌≡◌, ◌≢◌, ◌≤◌, ◌⊎◌}
 unfoldable pub use Rattle.image_tree.proofs.Vocabulary.{first_nodes, first_slots, front_blocks, gathered, inode_of, is_live_directory, is_node, logged, numbers_by, numbers_of, recovered, sizes_of, slots_in}
 pub use Rattle.fs_layout.proofs.Vocabulary.{eqb-false, length-take-le, to_z-of_z}
 pub use Rattle.block_device.specs.Calls.{ComesByCalls, none}

@@ -1,5 +1,5 @@
 -- What it is to be a node, or a live directory.
-use Rattle.image_tree.proofs.Vocabulary.{◌≡◌, ◌≢◌, ℕ, ◌<◌, ◌≤◌, Bool, true, false, not, List, length, slice_index, refl, sym, ap, subst, arith, ◌+◌, ⊎_elim, ◌&&◌, nat_lt, All, false≢true, cases_lt, nat_tests, Dinode, sizes_of, inode_of, is_free, is_directory, is_live, is_node, is_live_directory, numbers_of, numbers_by, HasGoodNumbers, IsData, Layout, IsLayout}
+use Rattle.image_tree.proofs.Vocabulary.{◌≡◌, ◌≢◌, ℕ, ◌<◌, ◌≤◌, Bool, true, false, not, List, length, slice_index, refl, sym, ap, subst, arith, ◌+◌, ⊎_elim, ◌&&◌, nat_lt, All, false≢true, cases_lt, nat_tests, Dinode, sizes_of, inode_of, is_free, is_directory, is_live, is_node, is_live_directory, numbers_of, numbers_by, HasGoodNumbers, IsData, Layout, IsLayout, addresses, direct}
 use Rattle.image_tree.proofs.NumberLists.{All-addrs, twelfth_within}
 
 pub both : (a b : Bool) → (a && b) ≡ true → (a ≡ true) × (b ≡ true)
@@ -69,7 +69,7 @@ numbers_by_node disk i h = rw h refl
 
 -- the indirect block of a node is a block of the disk
 pub twelfth_of_node : (disk : List (List ℕ)) (layout : Layout) (i : ℕ) (d : Dinode) → IsLayout disk layout → HasGoodNumbers disk
-    → 1 ≤ i → i < layout.sizes.ninodes → d ≡ inode_of disk i → is_free d ≡ false → length d.addrs ≡ 13 → slice_index d.addrs 12 < length disk
+    → 1 ≤ i → i < layout.sizes.ninodes → d ≡ inode_of disk i → is_free d ≡ false → length d.addrs ≡ addresses → slice_index d.addrs direct < length disk
 twelfth_of_node disk layout i d h good low bound e used l =
     let P : ℕ → Type 0 = λ b. b ≢ 0 → IsData (sizes_of disk) b in
     let own : All P (numbers_of disk (inode_of disk i)) =

@@ -1,31 +1,32 @@
 -- A node without a name, freed by a put of two blocks; and one such node after the other.
-use Rattle.image_tree.proofs.Vocabulary.{Version, ◌≡◌, ◌≢◌, ◌⊎◌, inl, inr, ℕ, ◌+◌, ◌/◌, ◌%◌, ◌<◌, ◌≤◌, ◌&&◌, not, nat_lt, pos, Bool, true, false, if◌then◌else◌, List, [], refl, sym, ◌∙◌, ap, subst, arith, All, cases_eq, and_parts, false≢true, Super, Dinode, bit_of, dinode_at, sizes_of, recovered, nat_tests, inode_of, is_free, is_live, is_node, numbers_by, numbers_of, HasGoodNumbers, IsData, is_marked, UpToLog, IsWellFormed, is_orphan, tree_in, IsViewOf, AreNamed, IsFreed, IsPut, IsReclaimed}
+use Rattle.image_tree.proofs.Vocabulary.{Version, ◌≡◌, ◌≢◌, ◌⊎◌, inl, inr, ℕ, ◌+◌, ◌/◌, ◌%◌, ◌<◌, ◌≤◌, ◌&&◌, not, nat_lt, pos, Bool, true, false, if◌then◌else◌, List, [], refl, sym, ◌∙◌, ap, subst, arith, All, cases_eq, and_parts, false≢true, Super, Dinode, bit_of, dinode_at, sizes_of, recovered, nat_tests, inode_of, is_free, is_live, is_node, numbers_by, numbers_of, HasGoodNumbers, IsData, is_marked, UpToLog, IsWellFormed, is_orphan, tree_in, IsViewOf, AreNamed, IsFreed, IsPut, IsReclaimed, ◌-◌, inodes_per_block}
 use Rattle.image_tree.proofs.Nodes.{both_from, node_is}
 use Rattle.image_tree.proofs.Views.{checks_see_recovered, trees_see_recovered, inode_same, node_same}
 use Rattle.image_tree.proofs.Contents.{pick, InRange, ranged, used_good, numbers_same}
 use Rattle.image_tree.proofs.Freed.{freed_nodes_leave_images, by_same, orphan_other, orphan_gone}
 use Rattle.image_tree.proofs.Puts.{good_super, behind_log}
 
-module _ (v : Version) (d e : List (List ℕ)) (i : ℕ) (bitmap inodes : List ℕ) (put : IsPut v d e ((sizes_of d).inodestart + i / 16) bitmap inodes) (good : UpToLog v d) (bound : i < (sizes_of d).ninodes) where
+module _ (v : Version) (d e : List (List ℕ)) (i : ℕ) (bitmap inodes : List ℕ) (put : IsPut v d e ((sizes_of d).inodestart + i / inodes_per_block) bitmap inodes) (good : UpToLog v d) (bound : i < (sizes_of d).ninodes) where
   home : ℕ
-  home = (sizes_of d).inodestart + i / 16
+  home = (sizes_of d).inodestart + i / inodes_per_block
 
-  kept_inode : (j : ℕ) → ((q : ℕ) → q < 16 → q ≢ i % 16 → dinode_at q inodes ≡ dinode_at q (recovered d ((sizes_of d).inodestart + i / 16)))
+  kept_inode : (j : ℕ) → ((q : ℕ) → q < inodes_per_block → q ≢ i % inodes_per_block → dinode_at q inodes ≡ dinode_at q (recovered d ((sizes_of d).inodestart + i / inodes_per_block)))
       → j ≢ i → j < (sizes_of d).ninodes → inode_of e j ≡ inode_of d j
   unfolding inode_of
   kept_inode j others ne lt =
       let g = good_super v d good in let n = g.inodes in
-      ap (λ (s : Super). dinode_at (j % 16) (recovered e (s.inodestart + j / 16))) put.sizes
-      ∙ elim (cases_eq (j / 16) (i / 16)) [
+      ap (λ (s : Super). dinode_at (j % inodes_per_block) (recovered e (s.inodestart + j / inodes_per_block))) put.sizes
+      ∙ elim (cases_eq (j / inodes_per_block) (i / inodes_per_block)) [
         | inl q ↦
-            let block : (sizes_of d).inodestart + j / 16 ≡ (sizes_of d).inodestart + i / 16 = ap (λ (k : ℕ). (sizes_of d).inodestart + k) q in
-            ap (λ (b : ℕ). dinode_at (j % 16) (recovered e b)) block
-            ∙ ap (λ (bytes : List ℕ). dinode_at (j % 16) bytes) put.inodes_are
-            ∙ others (j % 16) (omega arith) (λ r. ne (omega (arith, q, r)))
-            ∙ ap (λ (b : ℕ). dinode_at (j % 16) (recovered d b)) (sym block)
+            let block : (sizes_of d).inodestart + j / inodes_per_block ≡ (sizes_of d).inodestart + i / inodes_per_block = ap (λ (k : ℕ). (sizes_of d).inodestart + k) q in
+            ap (λ (b : ℕ). dinode_at (j % inodes_per_block) (recovered e b)) block
+            ∙ ap (λ (bytes : List ℕ). dinode_at (j % inodes_per_block) bytes) put.inodes_are
+            ∙ others (j % inodes_per_block) (omega arith) (λ r. ne (omega (arith, q, r)))
+            ∙ ap (λ (b : ℕ). dinode_at (j % inodes_per_block) (recovered d b)) (sym block)
         | inr apart ↦
-            ap (λ (bytes : List ℕ). dinode_at (j % 16) bytes)
-            (put.others ((sizes_of d).inodestart + j / 16) (behind_log v d ((sizes_of d).inodestart + j / 16) good (omega arith))
+            ap (λ (bytes : List ℕ). dinode_at (j % inodes_per_block) bytes)
+            (put.others ((sizes_of d).inodestart + j / inodes_per_block)
+            (behind_log v d ((sizes_of d).inodestart + j / inodes_per_block) good (omega arith))
             (λ x. absurd (omega (arith, x, n, lt))) (λ x. apart (omega (arith, x))))
       ]
 
@@ -42,12 +43,13 @@ module _ (v : Version) (d e : List (List ℕ)) (i : ℕ) (bitmap inodes : List �
   marked_by : (b : ℕ) → is_marked e b ≡ bit_of bitmap b
   marked_by b = ap (λ (s : Super). bit_of (recovered e s.bmapstart) b) put.sizes ∙ ap (λ (bytes : List ℕ). bit_of bytes b) put.bitmap_is
 
-  kind_in : (inode_of e i).kind ≡ (dinode_at (i % 16) inodes).kind
+  kind_in : (inode_of e i).kind ≡ (dinode_at (i % inodes_per_block) inodes).kind
   unfolding inode_of
-  kind_in = ap (λ (s : Super). (dinode_at (i % 16) (recovered e (s.inodestart + i / 16))).kind) put.sizes ∙ ap (λ (bytes : List ℕ). (dinode_at (i % 16) bytes).kind) put.inodes_are
+  kind_in = ap (λ (s : Super). (dinode_at (i % inodes_per_block) (recovered e (s.inodestart + i / inodes_per_block))).kind) put.sizes ∙ ap (λ (bytes : List ℕ). (dinode_at (i % inodes_per_block) bytes).kind) put.inodes_are
 
-  pub freed_put : (dinode_at (i % 16) inodes).kind ≡ pos 0
-      → ((q : ℕ) → q < 16 → q ≢ i % 16 → dinode_at q inodes ≡ dinode_at q (recovered d ((sizes_of d).inodestart + i / 16)))
+  pub freed_put : (dinode_at (i % inodes_per_block) inodes).kind ≡ pos 0
+      → ((q : ℕ) → q < inodes_per_block → q ≢ i % inodes_per_block
+      → dinode_at q inodes ≡ dinode_at q (recovered d ((sizes_of d).inodestart + i / inodes_per_block)))
       → All (λ b. b ≢ 0 → bit_of bitmap b ≡ false) (numbers_by d i)
       → ((b : ℕ) → All (λ c. c ≢ 0 → c ≢ b) (numbers_by d i) → bit_of bitmap b ≡ is_marked d b)
       → ((b : ℕ) → is_marked d b ≡ false → bit_of bitmap b ≡ false) → IsFreed v d e i
@@ -138,28 +140,30 @@ orphan_is d i x e low high =
     ∙ sym (ap (λ (t : Bool). (t && not (is_free (inode_of d i))) && not (is_live (inode_of d i))) (both_from (nat_lt 0 i) (nat_lt i (sizes_of d).ninodes) a b))
 
 -- a block of inodes lies between the first one and the bitmap
-pub home_low : (v : Version) (d : List (List ℕ)) (s : Super) (i : ℕ) → UpToLog v d → s ≡ sizes_of d → i < s.ninodes → s.inodestart + i / 16 < s.bmapstart
+pub home_low : (v : Version) (d : List (List ℕ)) (s : Super) (i : ℕ) → UpToLog v d → s ≡ sizes_of d → i < s.ninodes → s.inodestart + i / inodes_per_block < s.bmapstart
 home_low v d s i good is lt =
-    let g : (sizes_of d).inodestart + ((sizes_of d).ninodes + 15) / 16 ≤ (sizes_of d).bmapstart = (good_super v d good).inodes in
-    let n : s.inodestart + (s.ninodes + 15) / 16 ≤ s.bmapstart = subst (λ (z : Super). z.inodestart + (z.ninodes + 15) / 16 ≤ z.bmapstart) (sym is) g in
+    let g : (sizes_of d).inodestart + ((sizes_of d).ninodes + (inodes_per_block - 1)) / inodes_per_block ≤ (sizes_of d).bmapstart =
+    (good_super v d good).inodes in
+    let n : s.inodestart + (s.ninodes + (inodes_per_block - 1)) / inodes_per_block ≤ s.bmapstart = subst (λ (z : Super). z.inodestart + (z.ninodes + (inodes_per_block - 1)) / inodes_per_block ≤ z.bmapstart) (sym is) g in
     omega (arith, n, lt)
 
 -- what the code put, after reads that left the disk
 pub freed_by : (v : Version) (d d1 d2 d3 e : List (List ℕ)) (s : Super) (i : ℕ) (bitmap inodes shown numbers : List ℕ) → d1 ≡ d → d2 ≡ d1 → d3 ≡ d2 → s ≡ sizes_of d → UpToLog v d → i < s.ninodes
-    → shown ≡ numbers → numbers ≡ numbers_by d i → (dinode_at (i % 16) inodes).kind ≡ pos 0
-    → ((q : ℕ) → q < 16 → q ≢ i % 16 → dinode_at q inodes ≡ dinode_at q (recovered d2 ((sizes_of d2).inodestart + i / 16)))
+    → shown ≡ numbers → numbers ≡ numbers_by d i → (dinode_at (i % inodes_per_block) inodes).kind ≡ pos 0
+    → ((q : ℕ) → q < inodes_per_block → q ≢ i % inodes_per_block
+    → dinode_at q inodes ≡ dinode_at q (recovered d2 ((sizes_of d2).inodestart + i / inodes_per_block)))
     → All (λ b. b ≢ 0 → bit_of bitmap b ≡ false) shown
     → ((b : ℕ) → All (λ c. c ≢ 0 → c ≢ b) shown → bit_of bitmap b ≡ is_marked d1 b)
     → ((b : ℕ) → is_marked d1 b ≡ false → bit_of bitmap b ≡ false)
-    → IsPut v d3 e (s.inodestart + i / 16) bitmap inodes → IsFreed v d e i
+    → IsPut v d3 e (s.inodestart + i / inodes_per_block) bitmap inodes → IsFreed v d e i
 freed_by v d d1 d2 d3 e s i bitmap inodes shown numbers same1 same2 same3 is good bound view named kind others cleared kept fewer put =
     let two : d2 ≡ d = same2 ∙ same1 in
     let three : d3 ≡ d = same3 ∙ two in
     let all : shown ≡ numbers_by d i = view ∙ named in
-    let at_d : IsPut v d e ((sizes_of d).inodestart + i / 16) bitmap inodes =
-    subst (λ (z : Super). IsPut v d e (z.inodestart + i / 16) bitmap inodes) is (subst (λ (z : List (List ℕ)). IsPut v z e (s.inodestart + i / 16) bitmap inodes) three put) in
+    let at_d : IsPut v d e ((sizes_of d).inodestart + i / inodes_per_block) bitmap inodes =
+    subst (λ (z : Super). IsPut v d e (z.inodestart + i / inodes_per_block) bitmap inodes) is (subst (λ (z : List (List ℕ)). IsPut v z e (s.inodestart + i / inodes_per_block) bitmap inodes) three put) in
     freed_put v d e i bitmap inodes at_d good (subst (λ (z : Super). i < z.ninodes) is bound) kind
-    (subst (λ (z : List (List ℕ)). (q : ℕ) → q < 16 → q ≢ i % 16 → dinode_at q inodes ≡ dinode_at q (recovered z ((sizes_of z).inodestart + i / 16))) two others)
+    (subst (λ (z : List (List ℕ)). (q : ℕ) → q < inodes_per_block → q ≢ i % inodes_per_block → dinode_at q inodes ≡ dinode_at q (recovered z ((sizes_of z).inodestart + i / inodes_per_block))) two others)
     (subst (λ (l : List ℕ). All (λ b. b ≢ 0 → bit_of bitmap b ≡ false) l) all cleared)
     (subst (λ (l : List ℕ). (b : ℕ) → All (λ c. c ≢ 0 → c ≢ b) l → bit_of bitmap b ≡ is_marked d b) all
     (subst (λ (z : List (List ℕ)). (b : ℕ) → All (λ c. c ≢ 0 → c ≢ b) shown → bit_of bitmap b ≡ is_marked z b) same1 kept))

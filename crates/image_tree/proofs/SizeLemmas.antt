@@ -1,5 +1,5 @@
 -- What the parts of the check of a size say of the whole.
-use Rattle.image_tree.proofs.Vocabulary.{Version, ◌≡◌, ◌≢◌, ◌↔◌, ◌∙◌, sym, subst, ℕ, ◌<◌, ◌≤◌, ◌*◌, List, Bool, true, false, IsTrue, false≢true, Dinode, inode_of, is_free, is_node, numbers_of, block_number, IsFittingSize, IsGoodSize, Layout, IsLayout}
+use Rattle.image_tree.proofs.Vocabulary.{Version, ◌≡◌, ◌≢◌, ◌↔◌, ◌∙◌, sym, subst, ℕ, ◌<◌, ◌≤◌, ◌*◌, List, Bool, true, false, IsTrue, false≢true, Dinode, inode_of, is_free, is_node, numbers_of, block_number, IsFittingSize, IsGoodSize, Layout, IsLayout, block_len}
 use Rattle.image_tree.proofs.Nodes.{node_is, node_from}
 
 pub free_no_size : (v : Version) (disk : List (List ℕ)) (i : ℕ) (d : Dinode) → d ≡ inode_of disk i → is_free d ≡ true
@@ -17,7 +17,7 @@ unfit_no_size disk layout i d h low bound e used bad good =
 
 pub size_told : (disk : List (List ℕ)) (layout : Layout) (i : ℕ) (d : Dinode) → IsLayout disk layout → 1 ≤ i → i < layout.sizes.ninodes
     → d ≡ inode_of disk i → is_free d ≡ false → IsFittingSize layout.version d → (told : Bool) (numbers : List ℕ) → numbers ≡ numbers_of disk d
-    → (IsTrue told ↔ ((k : ℕ) → 1024 * k < d.size → block_number numbers k ≢ 0))
+    → (IsTrue told ↔ ((k : ℕ) → block_len * k < d.size → block_number numbers k ≢ 0))
     → IsTrue told ↔ (is_node disk i ≡ true → IsGoodSize layout.version disk (inode_of disk i))
 size_told disk layout i d h low bound e used fits told numbers is says = (
   λ yes _. subst (IsGoodSize layout.version disk) e (record { fits = fits; named = rw (← is) (says.0 yes) }),

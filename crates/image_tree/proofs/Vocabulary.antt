@@ -1,7 +1,7 @@
 -- What this crate's proofs speak of: its own definitions, and what the crates below and the library call things.
 pub use Rattle.fs_layout.proofs.Vocabulary.{AllByRecursion, Bool, List, None, Option, Some, [], and_parts, ap, append-nil, append_assoc, arith, bit_of, block_at, block_at-set_other, block_at-set_same, cases_eq, cases_lt, cond, dinode_at, dirent_at, drop, drop_all, drop_more, eq-eqb, eqb, eqb-true, false, flat_map, get_or, get_or-set_other, get_or-set_same, inl, inr, length, length-append, length-replicate, list_all, log_count, log_head_at, log_head_of, nat_le, nat_lt, nat_tests, ne_eqb, negsuc, not, numbers_in, option_map_or, overwrite, place_of, pos, refl, replicate, set, spell_log_head, suc, super_fields, super_of, sym, take, take-append-drop, true, zero, ℕ, ℤ, ⊎_elim, ◌%◌, ◌&&◌, ◌*◌, ◌++◌, ◌+◌, ◌-◌, ◌/◌, ◌<◌, ◌==◌, ◌^◌, ◌∙◌, ◌∷◌, ◌≡◌, ◌≢◌, ◌≤◌, ◌⊎◌}
 unfoldable pub use Rattle.fs_layout.proofs.Vocabulary.{logged, recovered, sizes_of, u32_at, u32s_at}
-pub use Rattle.image_tree.specs.Vocabulary.{AllPairs, Device, Directory, File, IsOutsideLog, NodeKind, Node, One, Slot, Version, at_rest, dirent_len_of, dirents_per_block_of, inodes_per_block, magic_of, unwrap_or, version_of_magic}
+pub use Rattle.image_tree.specs.Vocabulary.{AllPairs, Device, Directory, File, IsOutsideLog, NodeKind, Node, One, Slot, Version, at_rest, block_len, dirent_len_of, dirents_per_block_of, inodes_per_block, magic_of, unwrap_or, version_of_magic}
 pub use Rattle.plain_tree.proofs.Vocabulary.{Err, IsTrue, Ok, Result, add-one, filter, if◌then◌else◌, length-set, map, subst, take_more, ◌↔◌}
 pub use Rattle.std.specs.List.{All, list_any}
 pub use Rattle.image_tree.specs.Inodes.{block_number, blocks_for, content_of, direct, is_block, is_directory, is_free, is_live, is_number, is_positive, last, named_by, slots_of}
@@ -39,6 +39,7 @@ pub use Rattle.std.proofs.lemmas.Map.Steps.{length-le_from_distinct_below}
 pub use Rattle.std.specs.List.Sorted.{IsPermutation}
 pub use Rattle.std.specs.Prelude.{Vec}
 pub use Rattle.std.specs.Vec.{with_items}
+pub use Rattle.fs_layout.specs.Widths.{addresses, numbers_per_block}
 pub use Rattle.fs_layout.specs.declared.entry.Dirent.{Dirent}
 pub use Rattle.fs_layout.specs.declared.entry.Dirent.TheVariants.{Free, Used}
 pub use Rattle.fs_layout.specs.declared.inode.Dinode.{Dinode}

@@ -1,6 +1,6 @@
 //! Nodes without a name are freed, one after the other.
 ghost use Rattle.std.specs.Prelude.{◌≡◌, ◌≢◌, ◌⊎◌, ◌+◌, ◌/◌, ◌%◌, ◌<◌, ◌≤◌, ◌&&◌, not, ℕ, [], true, false, pos, All, IfOk, OnOk};
-ghost use Rattle.image_tree.specs.Vocabulary.{faults_after, ComesByCalls, bit_of, dinode_at, logged, recovered, sizes_of};
+ghost use Rattle.image_tree.specs.Vocabulary.{faults_after, ComesByCalls, bit_of, dinode_at, logged, recovered, sizes_of, inodes_per_block};
 ghost use Rattle.image_tree.specs.Checks.{is_marked};
 ghost use Rattle.image_tree.specs.Damage.{IsWellFormed};
 ghost use Rattle.image_tree.specs.Inodes.{is_free, is_live, numbers_by};
@@ -176,9 +176,10 @@ fn clear_all(bitmap: &mut Block, numbers: &[u32])
 fn freed_inodes<D: Device>(device: &mut D, layout: &Layout, i: u32) -> Result<Block, Fault>
     requires layout { IsLayout (D.contents device.old) layout.now }
     requires bound { i < layout.now.sizes.ninodes }
-    ensures kind { IfOk result (λ inodes. (dinode_at (i % 16) inodes).kind ≡ pos 0) }
-    ensures others { IfOk result (λ inodes. (q : ℕ) → q < 16 → q ≢ i % 16
-        → dinode_at q inodes ≡ dinode_at q (recovered (D.contents device.old) ((sizes_of (D.contents device.old)).inodestart + i / 16))) }
+    ensures kind { IfOk result (λ inodes. (dinode_at (i % inodes_per_block) inodes).kind ≡ pos 0) }
+    ensures others { IfOk result (λ inodes. (q : ℕ) → q < inodes_per_block → q ≢ i % inodes_per_block
+        → dinode_at q inodes
+        ≡ dinode_at q (recovered (D.contents device.old) ((sizes_of (D.contents device.old)).inodestart + i / inodes_per_block))) }
     ensures device { OnlyReads D.contents D.failures (faults_after result) device.old device.new }
     ensures calls { ComesByCalls D.Called device.old device.new }
 {

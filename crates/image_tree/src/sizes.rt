@@ -1,6 +1,6 @@
 //! That nodes have sizes that their blocks can hold.
 ghost use Rattle.std.specs.Prelude.{◌≡◌, ◌≢◌, ◌+◌, ◌*◌, ◌<◌, ◌≤◌, ◌^◌, ◌↔◌, ℕ, Bool, true, length, IfOk, IsTrue};
-ghost use Rattle.image_tree.specs.Vocabulary.{faults_after, ComesByCalls};
+ghost use Rattle.image_tree.specs.Vocabulary.{faults_after, ComesByCalls, block_len};
 ghost use Rattle.image_tree.specs.Checks.{HasGoodNumbers, HasGoodSizes, IsFittingSize, IsGoodSize};
 ghost use Rattle.image_tree.specs.Inodes.{block_number, inode_of, is_node};
 ghost use Rattle.image_tree.specs.Layout.{IsLayout};
@@ -31,7 +31,7 @@ pub fn block_number(numbers: &[u32], k: usize) -> u32
 /// Whether each block inside the size is there.
 fn has_blocks(numbers: &[u32], size: u32) -> bool
     requires { size ≤ LARGEST_SIZE }
-    ensures { IsTrue result ↔ ((k : ℕ) → 1024 * k < size → block_number numbers.now k ≢ 0) }
+    ensures { IsTrue result ↔ ((k : ℕ) → block_len * k < size → block_number numbers.now k ≢ 0) }
 {
     for k in 0..(size as usize).div_ceil(BLOCK_LEN) {
         if block_number(numbers, k) == 0 {

@@ -1,4 +1,4 @@
-use Rattle.image_tree.proofs.Lemmas.{◌≡◌, ◌⊎◌, ◌∙◌, inr, ap, sym, subst, refl, ℕ, List, [], ◌∷◌, ◌+◌, ◌<◌, ◌≤◌, length, get_or, set, replicate, arith, Result, Ok, Err, OnOk, OnErr, eqb-true, no_call, calls_after, Super, block_at, logged, recovered, sizes_of, IsOutsideLog, recovered-empty, Layout, IsLayout, Installed, ready_of, installed_first, installed_next, stopped_copy, stopped_clear, cleared, copy_good, clear_good}
+use Rattle.image_tree.proofs.Lemmas.{◌≡◌, ◌⊎◌, ◌∙◌, inr, ap, sym, subst, refl, ℕ, List, [], ◌∷◌, ◌+◌, ◌<◌, ◌≤◌, length, get_or, set, replicate, arith, Result, Ok, Err, OnOk, OnErr, eqb-true, no_call, calls_after, Super, block_at, logged, recovered, sizes_of, IsOutsideLog, recovered-empty, Layout, IsLayout, Installed, ready_of, installed_first, installed_next, stopped_copy, stopped_clear, cleared, copy_good, clear_good, block_len}
 use Rattle.image_tree.proofs.recovery.install.Goals as goal
 
 nothing_logged : (d : List (List ℕ)) (layout : Layout) → IsLayout d layout → length layout.head.blocks.items ≡ 0 → logged d ≡ []
@@ -54,15 +54,15 @@ module _ (d0 d e : List (List ℕ)) (layout : Layout) (is : IsLayout d0 layout) 
   past : length blocks ≤ i → length layout.head.blocks.items ≤ i
   past le = subst (λ (l : List ℕ). length l ≤ i) same le
 
-  after_clear : length blocks ≤ i → (e ≡ d) ⊎ (e ≡ set d layout.sizes.logstart (replicate 1024 0)) → ((b : ℕ) → IsOutsideLog (sizes_of d0) b → recovered e b ≡ recovered d0 b) × (sizes_of e ≡ sizes_of d0)
+  after_clear : length blocks ≤ i → (e ≡ d) ⊎ (e ≡ set d layout.sizes.logstart (replicate block_len 0)) → ((b : ℕ) → IsOutsideLog (sizes_of d0) b → recovered e b ≡ recovered d0 b) × (sizes_of e ≡ sizes_of d0)
   after_clear le may =
       let kept = stopped_clear d0 layout.sizes layout.head.blocks.items (ready_of d0 layout is) (recovered d0) d e i (past le) at may in
       (λ b out. kept.0 b (out_of b out), kept.1 ∙ is.sizes)
 
-  all_clear : length blocks ≤ i → e ≡ set d layout.sizes.logstart (replicate 1024 0) → logged e ≡ []
+  all_clear : length blocks ≤ i → e ≡ set d layout.sizes.logstart (replicate block_len 0) → logged e ≡ []
   all_clear le new = (cleared d0 layout.sizes layout.head.blocks.items (ready_of d0 layout is) (recovered d0) d e i (past le) new at).empty
 
-  all_home : length blocks ≤ i → e ≡ set d layout.sizes.logstart (replicate 1024 0) → (b : ℕ) → IsOutsideLog (sizes_of d0) b → block_at e b ≡ recovered d0 b
+  all_home : length blocks ≤ i → e ≡ set d layout.sizes.logstart (replicate block_len 0) → (b : ℕ) → IsOutsideLog (sizes_of d0) b → block_at e b ≡ recovered d0 b
   all_home le new b out = (cleared d0 layout.sizes layout.head.blocks.items (ready_of d0 layout is) (recovered d0) d e i (past le) new at).home b (out_of b out)
 
 either_way : {T E : Type 0} (r : Result T E) (e d : List (List ℕ)) (c : ℕ) (v w : List ℕ) → v ≡ w → OnOk r (e ≡ set d c v) → OnErr r ((e ≡ d) ⊎ (e ≡ set d c v)) → (e ≡ d) ⊎ (e ≡ set d c w)
@@ -93,7 +93,7 @@ returns-clause-good g c =
     let d = g.D.Device.contents c.loop-i.device in
     let e = g.D.Device.contents c.write.new.self in
     clear_good c.args.layout.now.version d e c.args.layout.now.sizes (recovered (g.D.Device.contents c.args.device.now)) c.args.layout.now.head.blocks.items (length (g.D.Device.contents c.args.device.now)) c.loop-i.i
-    c.loop-i.invariant.at c.loop-i.invariant.good (either_way c.write.result e d c.args.layout.now.sizes.logstart c.zeros.result (replicate 1024 0) c.zeros.ensures c.write.ensures.ok c.write.ensures.err)
+    c.loop-i.invariant.at c.loop-i.invariant.good (either_way c.write.result e d c.args.layout.now.sizes.logstart c.zeros.result (replicate block_len 0) c.zeros.ensures c.write.ensures.ok c.write.ensures.err)
 
 pub returns-in_err-copy-clause-kept : goal.returns-in_err-copy-clause-kept
 returns-in_err-copy-clause-kept g c =
@@ -110,14 +110,14 @@ returns-clause-kept g c =
     let d = g.D.Device.contents c.loop-i.device in
     let e = g.D.Device.contents c.write.new.self in
     (after_clear (g.D.Device.contents c.args.device.now) d e c.args.layout.now c.requires c.as_slice-blocks.result.now c.as_slice-blocks.ensures.value c.loop-i.i
-    c.loop-i.invariant.at c.loop-i-test.false (either_way c.write.result e d c.args.layout.now.sizes.logstart c.zeros.result (replicate 1024 0) c.zeros.ensures c.write.ensures.ok c.write.ensures.err)).0
+    c.loop-i.invariant.at c.loop-i-test.false (either_way c.write.result e d c.args.layout.now.sizes.logstart c.zeros.result (replicate block_len 0) c.zeros.ensures c.write.ensures.ok c.write.ensures.err)).0
 
 pub returns-clause-sizes : goal.returns-clause-sizes
 returns-clause-sizes g c =
     let d = g.D.Device.contents c.loop-i.device in
     let e = g.D.Device.contents c.write.new.self in
     (after_clear (g.D.Device.contents c.args.device.now) d e c.args.layout.now c.requires c.as_slice-blocks.result.now c.as_slice-blocks.ensures.value c.loop-i.i
-    c.loop-i.invariant.at c.loop-i-test.false (either_way c.write.result e d c.args.layout.now.sizes.logstart c.zeros.result (replicate 1024 0) c.zeros.ensures c.write.ensures.ok c.write.ensures.err)).1
+    c.loop-i.invariant.at c.loop-i-test.false (either_way c.write.result e d c.args.layout.now.sizes.logstart c.zeros.result (replicate block_len 0) c.zeros.ensures c.write.ensures.ok c.write.ensures.err)).1
 
 pub returns-clause-cleared : goal.returns-clause-cleared
 returns-clause-cleared g c =
