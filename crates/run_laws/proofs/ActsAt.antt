@@ -1,5 +1,5 @@
 -- Each operation's program is marked at its first step or at its last one.
-use Rattle.run_laws.proofs.Vocabulary.{◌≡◌, ◌⊎◌, inl, inr, ◌<◌, ◌+◌, ◌-◌, ◌*◌, ◌/◌, ◌≤◌, ◌==◌, min, nat_lt, if◌then◌else◌, ℕ, zero, suc, Bool, true, false, is_some, Option, Some, None, List, [], ◌∷◌, length, take, slice_index, refl, subst, arith, option_map, nat_tests, Dinode, IndexState, Loaded, no_index, Used, Super, dirent_at, spell_dirent, numbers_in, Cause, Name, same_name, Handover, Ret, Do, bind, unmarked, AfterLeave, first_below, first_clear_below, clear_bit, free_block, take_first, zero_found, FirstIs, first_is, LockedState, Locks, after_leave, commit_unless, commits, fetch, read_unless, inode_blocks, give_back, inode_block, load_unless, put_inode, store, Address, Direct, InTable, address, table_of, free_in_table, free_indirect, free_numbers, free_table, FilledMemory, blocks_between, end_of, fetch_at, fetch_block, fetch_named, fetch_number, filled_with, give_fetched, next_block, part_of, read_blocks, read_from, read_part, direct, WriteResult, front_of, locate, locate_at, locate_in_table, located, look_up, name_direct, name_in_table, put_part, store_written, take_one, with_address, with_table, write_blocks, write_in, write_part, Query, AtNothing, AtName, AtEntries, InodeType, ClaimResult, EntryResult, Wrote, Take, UnlockInode, UpStart, Up, WalkDown, Down, Free, Forget, Claim, Store, Fill, Enter, Clear, Empty, Slot, Install, StatFile, LockFile, ReadFile, CheckFile, JoinFile, LockOpen, WriteFile, Double, Shut, SetDirectory, Lend, LendDirectory, Release, Join, Leave, Say, give_content, dots, enter_in, entered_to, filled_to, if_none, look_last, put_grown, search_full, seek_full, Acts, acts, Apart, Carry, Emptied, Finds, Had, Has, NothingMore, Opened, HasInodes, claim_at, claim_from, clear_in, clear_slot, slot_found, slot_of, looked, number_found, learned, search_entries, seen_record, stat_loaded, stat_locked, file_locked, give_read, handlers, put_record, loaded_in, record_in, with_index, give_written, refused_in, write_unless, Found, Searched, slot_for, Aim, Named, Unused, block_count, found_at, found_in, is_directory, is_live_directory, look_at, lookup, most_slots, or_next, search, search_from, slot_count, slots_in, first_gap, first_of, free_below, index_room, index_raised, slots_known, with_entry, is_free, IsAtEnd, MarksLast, MarksNone, MarksOne, OperationsActFirstOrLast}
+use Rattle.run_laws.proofs.Vocabulary.{◌≡◌, ◌⊎◌, inl, inr, ◌<◌, ◌+◌, ◌-◌, ◌*◌, ◌/◌, ◌≤◌, ◌==◌, min, nat_lt, if◌then◌else◌, ℕ, zero, suc, Bool, true, false, is_some, Option, Some, None, List, [], ◌∷◌, length, take, slice_index, refl, subst, arith, option_map, nat_tests, Dinode, IndexState, Loaded, no_index, Used, Super, dirent_at, spell_dirent, numbers_in, Cause, Name, same_name, Handover, Ret, Do, bind, unmarked, AfterLeave, first_below, first_clear_below, clear_bit, free_block, take_first, zero_found, FirstIs, first_is, LockedState, Locks, after_leave, commit_unless, commits, fetch, read_unless, inode_blocks, give_back, inode_block, load_unless, put_inode, store, Address, Direct, InTable, address, table_of, free_in_table, free_indirect, free_numbers, free_table, FilledMemory, blocks_between, end_of, fetch_at, fetch_block, fetch_named, fetch_number, filled_with, give_fetched, next_block, part_of, read_blocks, read_from, read_part, direct, WriteResult, front_of, locate, locate_at, locate_in_table, located, look_up, name_direct, name_in_table, put_part, store_written, take_one, with_address, with_table, write_blocks, write_in, write_part, Query, AtNothing, AtName, AtEntries, InodeType, ClaimResult, EntryResult, Wrote, Take, UnlockInode, UpStart, Up, WalkDown, Down, Free, Forget, Claim, Store, Fill, Enter, Clear, Empty, Slot, Install, StatFile, LockFile, ReadFile, CheckFile, JoinFile, LockOpen, WriteFile, Double, Shut, SetDirectory, Lend, LendDirectory, Release, Join, Leave, Say, give_content, dots, enter_in, entered_to, filled_to, if_none, look_last, put_grown, search_full, seek_full, Acts, acts, Apart, Carry, Emptied, Finds, Had, Has, NothingMore, Opened, HasInodes, claim_at, claim_from, clear_in, clear_slot, slot_found, slot_of, looked, number_found, learned, search_entries, seen_record, stat_loaded, stat_locked, file_locked, give_read, handlers, put_record, loaded_in, record_in, with_index, give_written, refused_in, write_unless, Found, Searched, slot_for, Aim, Named, Unused, block_count, found_at, found_in, is_directory, is_live_directory, look_at, lookup, most_slots, or_next, search, search_from, slot_count, slots_in, first_gap, first_of, free_below, index_room, index_raised, slots_known, with_entry, is_free, IsAtEnd, MarksLast, MarksNone, MarksOne, OperationsActFirstOrLast, block_len, dirent_len, dirents_per_block}
 use Rattle.group_log.specs.declared.log.AfterLeave.TheVariants as left
 use Rattle.fs_machine.specs.Inodes.{Refuses}
 use Rattle.fs_machine.specs.Steps as steps
@@ -79,7 +79,7 @@ reads_none : (n : ℕ) (d : Dinode) (from upto : ℕ) (m : FilledMemory) → Mar
 unfolding read_blocks
 reads_none zero d from upto m = tt
 reads_none (suc n) d from upto m =
-    none_bind (fetch_block d (from / 1024)) (read_part (read_blocks n d (next_block from) upto) from upto m) (block_none d (from / 1024)) (λ f a. (refl, reads_none n d (next_block from) upto (filled_with m (part_of from upto f.bytes))))
+    none_bind (fetch_block d (from / block_len)) (read_part (read_blocks n d (next_block from) upto) from upto m) (block_none d (from / block_len)) (λ f a. (refl, reads_none n d (next_block from) upto (filled_with m (part_of from upto f.bytes))))
 
 found_none : (o : Option ℕ) → MarksNone (zero_found {M = Acts} o)
 found_none None = tt
@@ -122,7 +122,7 @@ writes_none : (n : ℕ) (sizes : Super) (at : ℕ) (bytes : List ℕ) (d : Dinod
 unfolding write_blocks
 writes_none zero sizes at bytes d = tt
 writes_none (suc n) sizes at bytes d =
-    none_bind (locate sizes d (at / 1024)) _ (locate_none sizes d (address (at / 1024)))
+    none_bind (locate sizes d (at / block_len)) _ (locate_none sizes d (address (at / block_len)))
     (λ l. write_none (write_blocks n sizes (at + length (front_of at bytes)) _) (writes_none n sizes (at + length (front_of at bytes)) _) at bytes l.inode l.number)
 
 part_none : (sizes : Super) (n : ℕ) (d : Dinode) (offset : ℕ) (bytes : List ℕ) → MarksNone (write_part {M = Acts} sizes n d offset bytes)
@@ -220,21 +220,21 @@ found_below d k block f is = at (first_below (λ p. is_free (dirent_at p block))
     at : (o : Option ℕ) → FirstIs (λ p. is_free (dirent_at p block)) (slots_in d k) o → option_map (found_at k block) o ≡ Some f → f.slot < most_slots
     at None first e = absurd (let z : ◌≡◌ {A = Option Found} None (Some f) = e in cc)
     at (Some p) first e =
-        let below : 64 * k + p < 17152 = omega (arith, first.0) in
+        let below : dirents_per_block * k + p < most_slots = omega (arith, first.0) in
         subst (λ (z : Found). z.slot < most_slots) (let z : found_at k block p ≡ f = cc in z) below
 
 -- so is one that the index has
 known_below : (d : Dinode) (x : IndexState) (f : Found) → first_of Unused d x ≡ Some f → f.slot < most_slots
 unfolding first_of
-known_below d x f is = at (min (slots_known x) (slot_count d)) (first_gap 0 (take index_room x.slots)) (let z : min (slots_known x) (slot_count d) ≤ 17152 = omega arith in z) is
+known_below d x f is = at (min (slots_known x) (slot_count d)) (first_gap 0 (take index_room x.slots)) (let z : min (slots_known x) (slot_count d) ≤ most_slots = omega arith in z) is
   where
-    at : (limit s : ℕ) → limit ≤ 17152 → free_below limit s ≡ Some f → f.slot < most_slots
+    at : (limit s : ℕ) → limit ≤ most_slots → free_below limit s ≡ Some f → f.slot < most_slots
     at limit s few e = by (nat_lt s limit) refl e
       where
         by : (b : Bool) → nat_lt s limit ≡ b → (if b then Some (record { slot = s; number = 0 }) else None) ≡ Some f → f.slot < most_slots
         by false q z = absurd (let z : ◌≡◌ {A = Option Found} None (Some f) = z in cc)
         by true q z =
-            let below : s < 17152 = grind (arith, nat_tests, q, few) in
+            let below : s < most_slots = grind (arith, nat_tests, q, few) in
             subst (λ (z : Found). z.slot < most_slots) (let z : record { slot = s; number = 0 } ≡ f = cc in z) below
 
 -- the slot of a new name, where that is below the most
@@ -288,13 +288,13 @@ module _ (sizes : Super) (c : Carry) where
       where
         writes : P (Handover EntryResult Carry)
         writes =
-            bind (write_blocks (blocks_between (16 * slot) (16 * slot + length (spell_dirent (Used n e)))) sizes (16 * slot) (spell_dirent (Used n e)) (record_in c d)) (entered_to sizes d e n c m x slot)
+            bind (write_blocks (blocks_between (dirent_len * slot) (dirent_len * slot + length (spell_dirent (Used n e)))) sizes (dirent_len * slot) (spell_dirent (Used n e)) (record_in c d)) (entered_to sizes d e n c m x slot)
 
         last : MarksLast writes
         last =
-            last_bind (write_blocks (blocks_between (16 * slot) (16 * slot + length (spell_dirent (Used n e)))) sizes (16 * slot) (spell_dirent (Used n e)) (record_in c d)) (entered_to sizes d e n c m x slot)
-            (writes_none (blocks_between (16 * slot) (16 * slot + length (spell_dirent (Used n e)))) sizes (16 * slot) (spell_dirent (Used n e)) (record_in c d))
-            (λ w. last_if (w.upto == 16 * (slot + 1)) (put_grown (Enter d e n) above.Room m above.InPlace sizes d c (with_entry slot (spell_dirent (Used n e)) x) w)
+            last_bind (write_blocks (blocks_between (dirent_len * slot) (dirent_len * slot + length (spell_dirent (Used n e)))) sizes (dirent_len * slot) (spell_dirent (Used n e)) (record_in c d)) (entered_to sizes d e n c m x slot)
+            (writes_none (blocks_between (dirent_len * slot) (dirent_len * slot + length (spell_dirent (Used n e)))) sizes (dirent_len * slot) (spell_dirent (Used n e)) (record_in c d))
+            (λ w. last_if (w.upto == dirent_len * (slot + 1)) (put_grown (Enter d e n) above.Room m above.InPlace sizes d c (with_entry slot (spell_dirent (Used n e)) x) w)
             (put_grown (Enter d e n) (above.RoomFor 0) m above.NoBlock sizes d c x w)
             (grown_last (Enter d e n) above.Room m above.InPlace sizes d c (with_entry slot (spell_dirent (Used n e)) x) w) (grown_last (Enter d e n) (above.RoomFor 0) m above.NoBlock sizes d c x w))
 
@@ -326,13 +326,14 @@ module _ (sizes : Super) (c : Carry) where
   fills_last : (n d : ℕ) (m : Bool → Option above.Mark) → MarksLast (handlers sizes c (Fill n d) m)
   fills_last n d m =
       last_bind (write_blocks (blocks_between 0 (0 + length (dots n d))) sizes 0 (dots n d) (record_in c n)) (filled_to sizes n d c m) (writes_none (blocks_between 0 (0 + length (dots n d))) sizes 0 (dots n d) (record_in c n))
-      (λ w. last_if (w.upto == 32) (put_grown (Fill n d) above.Room m true sizes n c no_index w) (put_grown (Fill n d) (above.RoomFor 0) m false sizes n c no_index w)
+      (λ w. last_if (w.upto == 2 * dirent_len) (put_grown (Fill n d) above.Room m true sizes n c no_index w) (put_grown (Fill n d) (above.RoomFor 0) m false sizes n c no_index w)
       (grown_last (Fill n d) above.Room m true sizes n c no_index w) (grown_last (Fill n d) (above.RoomFor 0) m false sizes n c no_index w))
 
   clears_last : (n : ℕ) (e : Name) (m : above.Answer (Clear n e) → Option above.Mark) → MarksLast (handlers sizes c (Clear n e) m)
   clears_last n e m =
       last_bind (slot_of (c n) e) (clear_slot sizes n e c m) (slot_none (c n) e)
-      (λ s. last_bind (fetch_block (record_in c n) (s.0 / 64)) (clear_in sizes n e c m s) (block_none (record_in c n) (s.0 / 64))
+      (λ s. last_bind (fetch_block (record_in c n) (s.0 / dirents_per_block)) (clear_in sizes n e c m s)
+      (block_none (record_in c n) (s.0 / dirents_per_block))
       (λ f a. inr (refl, last_bind (fetch (inode_block sizes.inodestart n)) _ (fetch_none (inode_block sizes.inodestart n)) (λ block b. inl (refl, tt)))))
 
   writes_last : (fd n offset : ℕ) (bytes : List ℕ) (m : Wrote → Option above.Mark) (o : Option Cause) → MarksLast (write_unless sizes fd n offset bytes m c o)

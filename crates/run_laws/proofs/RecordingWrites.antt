@@ -1,5 +1,5 @@
 -- What the programs record that write: two blocks for each block that they write to, beside the bitmap and the inode's record.
-use Rattle.run_laws.proofs.Vocabulary.{◌≡◌, ◌⊎◌, ⊎_elim, inl, inr, ◌<◌, ◌≤◌, ◌+◌, ◌-◌, ◌*◌, ◌/◌, ℕ, zero, suc, ◌==◌, nat_lt, Bool, true, false, if◌then◌else◌, List, length, Option, Some, None, refl, sym, subst, arith, slice_index, cases_lt, Used, Dinode, IndexState, Loaded, no_index, Super, spell_dirent, numbers_in, block_len, Cause, Name, Ret, Do, bind, unmarked, marked_by, first_clear_below, give_zeros, take_first, zero_found, slot_for, Unused, first_of, found_in, look_at, most_slots, index_raised, search, slot_count, with_entry, fetch, read_unless, Put, Address, Direct, InTable, Located, address, table_of, blocks_between, fetch_block, direct, most_blocks, WriteResult, front_of, grown, locate, locate_at, located, look_up, name_direct, name_in_table, put_part, store_written, take_one, with_address, with_table, write_blocks, write_in, write_located, write_part, store, Spent, size, with_bitmap, with_contents, with_record, EntryResult, Wrote, Enter, Fill, IsSpent, dots, enter, enter_in, entered_to, fill, filled_to, look_last, put_grown, search_full, seek_free, seek_full, Acts, acts, Carry, NoMore, loaded_in, record_in, with_index, give_written, refused_in, write_file, write_unless, many_between, none_there, record_spent, AreAtMostTen}
+use Rattle.run_laws.proofs.Vocabulary.{◌≡◌, ◌⊎◌, ⊎_elim, inl, inr, ◌<◌, ◌≤◌, ◌+◌, ◌-◌, ◌*◌, ◌/◌, ℕ, zero, suc, ◌==◌, nat_lt, Bool, true, false, if◌then◌else◌, List, length, Option, Some, None, refl, sym, subst, arith, slice_index, cases_lt, Used, Dinode, IndexState, Loaded, no_index, Super, spell_dirent, numbers_in, block_len, Cause, Name, Ret, Do, bind, unmarked, marked_by, first_clear_below, give_zeros, take_first, zero_found, slot_for, Unused, first_of, found_in, look_at, most_slots, index_raised, search, slot_count, with_entry, fetch, read_unless, Put, Address, Direct, InTable, Located, address, table_of, blocks_between, fetch_block, direct, most_blocks, WriteResult, front_of, grown, locate, locate_at, located, look_up, name_direct, name_in_table, put_part, store_written, take_one, with_address, with_table, write_blocks, write_in, write_located, write_part, store, Spent, size, with_bitmap, with_contents, with_record, EntryResult, Wrote, Enter, Fill, IsSpent, dots, enter, enter_in, entered_to, fill, filled_to, look_last, put_grown, search_full, seek_free, seek_full, Acts, acts, Carry, NoMore, loaded_in, record_in, with_index, give_written, refused_in, write_file, write_unless, many_between, none_there, record_spent, AreAtMostTen, dirent_len, name_len}
 use Rattle.std.proofs.Common.{drop}
 use Rattle.inode_machine.specs.World as above
 use Rattle.inodes_on_blocks.specs.Handlers.{P}
@@ -11,8 +11,8 @@ use Rattle.run_laws.proofs.SearchEnds.{dots_spelled, spelled}
 -- ---- how many blocks
 
 -- a slot's bytes lie in one
-slot_block : (slot : ℕ) → blocks_between (16 * slot) (16 * slot + 16) ≤ 1
-slot_block slot = let many = many_between (16 * slot) (16 * slot + 16) (omega arith) in omega (arith, many)
+slot_block : (slot : ℕ) → blocks_between (dirent_len * slot) (dirent_len * slot + dirent_len) ≤ 1
+slot_block slot = let many = many_between (dirent_len * slot) (dirent_len * slot + dirent_len) (omega arith) in omega (arith, many)
 
 -- and a piece's in four
 piece_blocks : (at upto : ℕ) → upto ≤ at + 3072 → blocks_between at upto ≤ 4
@@ -262,7 +262,7 @@ module _ (sizes : Super) where
         (no_next sizes s few (first_of Unused l.inode l.index) l.index (search_full mark (most_blocks - 1 - l.index.blocks) l.inode l.index.blocks)
         (no_full mark (most_blocks - 1 - l.index.blocks) l.inode l.index.blocks))
 
-  pub enters : (d : ℕ) (e : Name) (n : ℕ) (c : Carry) (m : EntryResult → Option above.Mark) (s : Spent) → length e ≤ 14
+  pub enters : (d : ℕ) (e : Name) (n : ℕ) (c : Carry) (m : EntryResult → Option above.Mark) (s : Spent) → length e ≤ name_len
       → size (with_record d (with_bitmap (with_contents 2 s))) ≤ 10
       → Within sizes s (enter sizes d e n c m) (with_record d (with_bitmap (with_contents 2 s)))
   enters d e n c m s short few =
@@ -282,20 +282,21 @@ module _ (sizes : Super) where
       put : (x : IndexState) (slot : ℕ) (w : WriteResult) → Within sizes (with_contents 2 b) (entered_to sizes d e n c m x slot w) (with_contents 2 b)
       put x slot w =
           let y : IndexState = with_entry slot (spell_dirent (Used n e)) x in
-          either_way sizes (w.upto == 16 * (slot + 1)) (put_grown (Enter d e n) above.Room m above.InPlace sizes d c y w)
+          either_way sizes (w.upto == dirent_len * (slot + 1)) (put_grown (Enter d e n) above.Room m above.InPlace sizes d c y w)
           (put_grown (Enter d e n) (above.RoomFor 0) m above.NoBlock sizes d c x w)
           (grows (Enter d e n) m d c 2 s above.Room above.InPlace y w few) (grows (Enter d e n) m d c 2 s (above.RoomFor 0) above.NoBlock x w few)
 
-      count : (slot : ℕ) → blocks_between (16 * slot) (16 * slot + length (spell_dirent (Used n e))) ≤ 1
-      count slot = subst (λ (k : ℕ). blocks_between (16 * slot) (16 * slot + k) ≤ 1) (sym (spelled n e short)) (slot_block slot)
+      count : (slot : ℕ) → blocks_between (dirent_len * slot) (dirent_len * slot + length (spell_dirent (Used n e))) ≤ 1
+      count slot = subst (λ (k : ℕ). blocks_between (dirent_len * slot) (dirent_len * slot + k) ≤ 1)
+          (sym (spelled n e short)) (slot_block slot)
 
       entered : (x : IndexState) (slot : ℕ) → Within sizes b (enter_in sizes d e n c m x slot) (with_contents 2 b)
       entered x slot =
           either_way sizes (nat_lt slot most_slots)
-          (bind (write_blocks (blocks_between (16 * slot) (16 * slot + length bytes)) sizes (16 * slot) bytes (record_in c d)) (entered_to sizes d e n c m x slot))
+          (bind (write_blocks (blocks_between (dirent_len * slot) (dirent_len * slot + length bytes)) sizes (dirent_len * slot) bytes (record_in c d)) (entered_to sizes d e n c m x slot))
           (Ret (record { answer = above.NoSlot; carry = with_index c d x }))
-          (then_ sizes (write_blocks (blocks_between (16 * slot) (16 * slot + length bytes)) sizes (16 * slot) bytes (record_in c d)) (entered_to sizes d e n c m x slot)
-          (writes_few (blocks_between (16 * slot) (16 * slot + length bytes)) 1 (16 * slot) bytes (record_in c d) b (inr (refl, refl)) (count slot) (omega (arith, few)))
+          (then_ sizes (write_blocks (blocks_between (dirent_len * slot) (dirent_len * slot + length bytes)) sizes (dirent_len * slot) bytes (record_in c d)) (entered_to sizes d e n c m x slot)
+          (writes_few (blocks_between (dirent_len * slot) (dirent_len * slot + length bytes)) 1 (dirent_len * slot) bytes (record_in c d) b (inr (refl, refl)) (count slot) (omega (arith, few)))
           (λ w. put x slot w))
           (ended_with sizes (no_contents 2 b))
 
@@ -313,7 +314,7 @@ module _ (sizes : Super) where
 
       put : (w : WriteResult) → Within sizes (with_contents 1 b) (filled_to sizes n d c m w) (with_contents 1 b)
       put w =
-          either_way sizes (w.upto == 32) (put_grown (Fill n d) above.Room m true sizes n c no_index w) (put_grown (Fill n d) (above.RoomFor 0) m false sizes n c no_index w)
+          either_way sizes (w.upto == 2 * dirent_len) (put_grown (Fill n d) above.Room m true sizes n c no_index w) (put_grown (Fill n d) (above.RoomFor 0) m false sizes n c no_index w)
           (grows (Fill n d) m n c 1 s above.Room true no_index w few) (grows (Fill n d) m n c 1 s (above.RoomFor 0) false no_index w few)
 
   -- ---- a piece of a file

@@ -1,5 +1,5 @@
 -- What each operation on whole inodes has seen whose program ends without room.
-use Rattle.run_laws.proofs.Vocabulary.{◌≡◌, ◌⊎◌, inl, inr, ◌<◌, ◌≤◌, ◌+◌, ◌-◌, ◌*◌, ◌/◌, ◌%◌, ℕ, zero, suc, ◌==◌, Bool, true, false, ◌&&◌, nat_lt, if◌then◌else◌, List, [], ◌∷◌, ◌++◌, length, Option, Some, None, IsSome, is_some, is_none, find, refl, sym, ◌∙◌, ap, subst, arith, length-append, nat_tests, length-replicate, Used, Dinode, IndexState, Loaded, no_index, Searched, Super, spell_dirent, with_entry, dinode_at, length-u16_bytes, Cause, Full, Blocks, Descriptors, Directory, DiskInodes, MemInodes, OpenFiles, Name, dot, dotdot, eq_self, same_or, In, Handover, Ret, ExecResult, Ran, Stops, Waits, bind, first_free, is_unreferenced, up_inode, place_in_memory, fetch, AnswerBelow as Answer, Op, claim_first, claims, in_tables, blocks_between, WriteResult, grown, store_written, write_blocks, write_part, free_among, free_in, inode_blocks, is_free_in, is_zero, inode_block, place_of, store, InodeType, ClaimResult, EntryResult, Wrote, Take, UnlockInode, UpStart, Up, WalkDown, Down, Free, Forget, Claim, Store, Fill, Enter, Clear, Empty, Slot, Install, StatFile, LockFile, ReadFile, CheckFile, JoinFile, LockOpen, WriteFile, Double, Shut, SetDirectory, Lend, LendDirectory, Release, Join, Leave, Say, dots, enter_in, entered_to, filled_to, put_grown, seek_free, Acts, acts, Carry, claim_at, claim_from, claim_in, put_named, handlers, loaded_in, record_in, with_index, give_written, refused_in, write_unless, kind_of, slot_for, most_slots, AnsweredStep, ClaimsFindReferences, ComesTo, HasRead, SawInUse, SawNoBlock, SawNoInode, SawNone, SearchesSeeAll, wanted_to_claim, wanted_to_double, wanted_to_enter, wanted_to_write, wanted_unless, wanted_without}
+use Rattle.run_laws.proofs.Vocabulary.{◌≡◌, ◌⊎◌, inl, inr, ◌<◌, ◌≤◌, ◌+◌, ◌-◌, ◌*◌, ◌/◌, ◌%◌, ℕ, zero, suc, ◌==◌, Bool, true, false, ◌&&◌, nat_lt, if◌then◌else◌, List, [], ◌∷◌, ◌++◌, length, Option, Some, None, IsSome, is_some, is_none, find, refl, sym, ◌∙◌, ap, subst, arith, length-append, nat_tests, length-replicate, Used, Dinode, IndexState, Loaded, no_index, Searched, Super, spell_dirent, with_entry, dinode_at, length-u16_bytes, Cause, Full, Blocks, Descriptors, Directory, DiskInodes, MemInodes, OpenFiles, Name, dot, dotdot, eq_self, same_or, In, Handover, Ret, ExecResult, Ran, Stops, Waits, bind, first_free, is_unreferenced, up_inode, place_in_memory, fetch, AnswerBelow as Answer, Op, claim_first, claims, in_tables, blocks_between, WriteResult, grown, store_written, write_blocks, write_part, free_among, free_in, inode_blocks, is_free_in, is_zero, inode_block, place_of, store, InodeType, ClaimResult, EntryResult, Wrote, Take, UnlockInode, UpStart, Up, WalkDown, Down, Free, Forget, Claim, Store, Fill, Enter, Clear, Empty, Slot, Install, StatFile, LockFile, ReadFile, CheckFile, JoinFile, LockOpen, WriteFile, Double, Shut, SetDirectory, Lend, LendDirectory, Release, Join, Leave, Say, dots, enter_in, entered_to, filled_to, put_grown, seek_free, Acts, acts, Carry, claim_at, claim_from, claim_in, put_named, handlers, loaded_in, record_in, with_index, give_written, refused_in, write_unless, kind_of, slot_for, most_slots, AnsweredStep, ClaimsFindReferences, ComesTo, HasRead, SawInUse, SawNoBlock, SawNoInode, SawNone, SearchesSeeAll, wanted_to_claim, wanted_to_double, wanted_to_enter, wanted_to_write, wanted_unless, wanted_without, dirent_len, inodes_per_block, name_len}
 use Rattle.fs_machine.specs.Steps as steps
 use Rattle.fs_machine.specs.Steps.{State, exec}
 use Rattle.inode_machine.specs.World as above
@@ -8,10 +8,10 @@ use Rattle.run_laws.proofs.Searches.{fetched, in_back, in_front, read_back, read
 
 -- ---- names
 
-pub spelled : (n : ℕ) (e : Name) → length e ≤ 14 → length (spell_dirent (Used n e)) ≡ 16
+pub spelled : (n : ℕ) (e : Name) → length e ≤ name_len → length (spell_dirent (Used n e)) ≡ dirent_len
 spelled n e fits = simp (length-append, length-u16_bytes, length-replicate) (omega (arith, fits))
 
-pub dots_spelled : (n d : ℕ) → length (dots n d) ≡ 32
+pub dots_spelled : (n d : ℕ) → length (dots n d) ≡ 2 * dirent_len
 dots_spelled n d =
     length-append (spell_dirent (Used n dot)) (spell_dirent (Used d dotdot))
     ∙ (λ i. spelled n dot (omega arith) i + spelled d dotdot (omega arith) i)
@@ -89,23 +89,23 @@ module _ (sizes : Super) where
 
   -- ---- names
 
-  module _ (d : ℕ) (e : Name) (n : ℕ) (fits : length e ≤ 14) (c : Carry) (m : EntryResult → Option above.Mark) where
+  module _ (d : ℕ) (e : Name) (n : ℕ) (fits : length e ≤ name_len) (c : Carry) (m : EntryResult → Option above.Mark) where
     abbrev entry : List ℕ
     entry = spell_dirent (Used n e)
 
     -- all of it was written, or no block was seen
     entered_sees : (es ys : List AnsweredStep) (x : IndexState) (slot : ℕ) (w : WriteResult) (r : Handover EntryResult Carry)
-        → SawNoBlock sizes es ⊎ (w.upto ≡ 16 * slot + length (spell_dirent (Used n e))) → ComesTo (entered_to sizes d e n c m x slot w) ys r
+        → SawNoBlock sizes es ⊎ (w.upto ≡ dirent_len * slot + length (spell_dirent (Used n e))) → ComesTo (entered_to sizes d e n c m x slot w) ys r
         → (room : Full) → wanted_to_enter r.answer ≡ Some room → SawNone sizes es room
-    entered_sees es ys x slot w r saw q room want = at (w.upto == 16 * (slot + 1)) refl q
+    entered_sees es ys x slot w r saw q room want = at (w.upto == dirent_len * (slot + 1)) refl q
       where
-        whole : w.upto ≡ 16 * slot + length (spell_dirent (Used n e)) → (w.upto == 16 * (slot + 1)) ≡ true
+        whole : w.upto ≡ dirent_len * slot + length (spell_dirent (Used n e)) → (w.upto == dirent_len * (slot + 1)) ≡ true
         whole upto =
             let long = spelled n e fits in
-            let all : w.upto ≡ 16 * (slot + 1) = omega (arith, upto, long) in
-            ap (λ (z : ℕ). z == 16 * (slot + 1)) all ∙ eq_self (16 * (slot + 1))
+            let all : w.upto ≡ dirent_len * (slot + 1) = omega (arith, upto, long) in
+            ap (λ (z : ℕ). z == dirent_len * (slot + 1)) all ∙ eq_self (dirent_len * (slot + 1))
 
-        at : (b : Bool) → (w.upto == 16 * (slot + 1)) ≡ b
+        at : (b : Bool) → (w.upto == dirent_len * (slot + 1)) ≡ b
             → ComesTo (if b then put_grown (Enter d e n) above.Room m above.InPlace sizes d c (with_entry slot entry x) w else put_grown
             (Enter d e n) (above.RoomFor 0) m above.NoBlock sizes d c x w) ys r
             → SawNone sizes es room
@@ -124,20 +124,20 @@ module _ (sizes : Super) where
     enter_in_sees es x slot r q room want = at (nat_lt slot most_slots) es q
       where
         count : ℕ
-        count = blocks_between (16 * slot) (16 * slot + length (spell_dirent (Used n e)))
+        count = blocks_between (dirent_len * slot) (dirent_len * slot + length (spell_dirent (Used n e)))
 
         full : P (Handover EntryResult Carry)
         full = Ret (record { answer = above.NoSlot; carry = with_index c d x })
 
         at : (b : Bool) (es : List AnsweredStep)
-            → ComesTo (if b then bind (write_blocks count sizes (16 * slot) (spell_dirent (Used n e)) (record_in c d))
+            → ComesTo (if b then bind (write_blocks count sizes (dirent_len * slot) (spell_dirent (Used n e)) (record_in c d))
             (entered_to sizes d e n c m x slot) else full) es r
             → SawNone sizes es room
         at true es p =
-            let s = split (write_blocks count sizes (16 * slot) (spell_dirent (Used n e)) (record_in c d))
+            let s = split (write_blocks count sizes (dirent_len * slot) (spell_dirent (Used n e)) (record_in c d))
             (entered_to sizes d e n c m x slot) es r p in
-            let w = written sizes count (16 * slot) (spell_dirent (Used n e)) (record_in c d) s.front s.value refl s.first in
-            let long : ℕ = 16 * slot + length (spell_dirent (Used n e)) in
+            let w = written sizes count (dirent_len * slot) (spell_dirent (Used n e)) (record_in c d) s.front s.value refl s.first in
+            let long : ℕ = dirent_len * slot + length (spell_dirent (Used n e)) in
             entered_sees es s.back x slot s.value r (none_or es s.front s.back s.is s.value long w) s.then_ room want
         at false [] p = of_kind [] Directory tt room (ap (λ (z : Handover EntryResult Carry). wanted_to_enter z.answer) p ∙ want)
         at false (y ∷ es) p = absurd p
@@ -156,15 +156,15 @@ module _ (sizes : Super) where
     filled_sees : (es ys : List AnsweredStep) (w : WriteResult) (r : Handover Bool Carry)
         → SawNoBlock sizes es ⊎ (w.upto ≡ 0 + length (dots n d))
         → ComesTo (filled_to sizes n d c m w) ys r → (room : Full) → wanted_unless Blocks r.answer ≡ Some room → SawNone sizes es room
-    filled_sees es ys w r saw q room want = at (w.upto == 32) refl q
+    filled_sees es ys w r saw q room want = at (w.upto == 2 * dirent_len) refl q
       where
-        whole : w.upto ≡ 0 + length (dots n d) → (w.upto == 32) ≡ true
+        whole : w.upto ≡ 0 + length (dots n d) → (w.upto == 2 * dirent_len) ≡ true
         whole upto =
             let long = dots_spelled n d in
-            let all : w.upto ≡ 32 = omega (arith, upto, long) in
-            ap (λ (z : ℕ). z == 32) all
+            let all : w.upto ≡ 2 * dirent_len = omega (arith, upto, long) in
+            ap (λ (z : ℕ). z == 2 * dirent_len) all
 
-        at : (b : Bool) → (w.upto == 32) ≡ b
+        at : (b : Bool) → (w.upto == 2 * dirent_len) ≡ b
             → ComesTo (if b then put_grown (Fill n d) above.Room m true sizes n c no_index w else put_grown (Fill n d)
             (above.RoomFor 0) m false sizes n c no_index w) ys r
             → SawNone sizes es room
@@ -347,13 +347,14 @@ module _ (sizes : Super) where
     claim_sees : (es : List AnsweredStep) (r : Made) → ComesTo (handlers sizes c (Claim inode_type) m) es r
         → wanted_to_claim r.answer ≡ Some DiskInodes → SawNoInode sizes es
     claim_sees es r q want n some below =
-        let at : n / 16 < inode_blocks sizes.ninodes = omega (arith, below) in
-        let same : 0 + n / 16 ≡ n / 16 = omega arith in
-        let p = subst (λ (z : ℕ). PassedBlock es z) same (claim_passes (inode_blocks sizes.ninodes) 0 es r want q (n / 16) at) in
+        let at : n / inodes_per_block < inode_blocks sizes.ninodes = omega (arith, below) in
+        let same : 0 + n / inodes_per_block ≡ n / inodes_per_block = omega arith in
+        let p = subst (λ (z : ℕ). PassedBlock es z) same
+        (claim_passes (inode_blocks sizes.ninodes) 0 es r want q (n / inodes_per_block) at) in
         record {
           block = p.block;
           read = p.read;
-          candidates = free_in sizes.ninodes (n / 16) p.block;
+          candidates = free_in sizes.ninodes (n / inodes_per_block) p.block;
           claims = p.claims;
           used = by p.block (is_zero (dinode_at (place_of n) p.block).kind) refl;
         }
@@ -361,16 +362,17 @@ module _ (sizes : Super) where
         numbers : (nat_lt 0 n && nat_lt n sizes.ninodes) ≡ true
         numbers = grind (arith, nat_tests, some, below)
 
-        place : 16 * (n / 16) + n % 16 ≡ n
+        place : inodes_per_block * (n / inodes_per_block) + n % inodes_per_block ≡ n
         place = omega arith
 
         by : (block : List ℕ) (b : Bool) → is_zero (dinode_at (place_of n) block).kind ≡ b
-            → (is_zero (dinode_at (place_of n) block).kind ≡ false) ⊎ In n (free_in sizes.ninodes (n / 16) block)
+            → (is_zero (dinode_at (place_of n) block).kind ≡ false) ⊎ In n (free_in sizes.ninodes (n / inodes_per_block) block)
         by block false e = inl e
         by block true e =
             let free : is_free_in sizes.ninodes block n ≡ true = (λ i. numbers i && e i) in
-            inr (subst (λ (z : ℕ). In z (free_in sizes.ninodes (n / 16) block)) place
-            (is_among (16 * (n / 16)) block 16 (n % 16) (omega arith) (ap (is_free_in sizes.ninodes block) place ∙ free)))
+            inr (subst (λ (z : ℕ). In z (free_in sizes.ninodes (n / inodes_per_block) block)) place
+            (is_among (inodes_per_block * (n / inodes_per_block)) block inodes_per_block (n % inodes_per_block) (omega arith)
+            (ap (is_free_in sizes.ninodes block) place ∙ free)))
 
     claim_ends : (es : List AnsweredStep) (r : Made) → ComesTo (handlers sizes c (Claim inode_type) m) es r
         → (room : Full) → wanted_to_claim r.answer ≡ Some room → SawNone sizes es room

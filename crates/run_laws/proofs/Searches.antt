@@ -1,5 +1,5 @@
 -- What the search for a block saw that ends without one.
-use Rattle.run_laws.proofs.Vocabulary.{◌≡◌, ◌⊎◌, inl, inr, ◌<◌, ◌≤◌, ◌+◌, ◌-◌, ◌/◌, ◌%◌, min, ℕ, zero, suc, ◌==◌, Bool, true, false, not, if◌then◌else◌, List, [], ◌∷◌, ◌++◌, length, Option, Some, None, refl, sym, ◌∙◌, ap, subst, arith, slice_index, ⊎_elim, cases_lt, length-drop, length-take, Dinode, Super, bit_of, numbers_in, In, Prog, Ret, Do, bind, unmarked, first_below, first_clear_below, give_zeros, take_first, zero_found, FirstIs, first_is, fetch, read_unless, AnswerBelow as Answer, Get, Op, Put, Read, Address, Direct, InTable, Located, address, table_of, blocks_between, direct, WriteResult, front_of, locate, locate_at, located, look_up, name_direct, name_in_table, put_part, take_one, with_address, with_table, write_blocks, write_in, write_located, Acts, none_between, some_between, many_between, none_there, AnsweredStep, ComesTo, HasRead, SawNoBlock}
+use Rattle.run_laws.proofs.Vocabulary.{◌≡◌, ◌⊎◌, inl, inr, ◌<◌, ◌≤◌, ◌+◌, ◌-◌, ◌/◌, ◌%◌, min, ℕ, zero, suc, ◌==◌, Bool, true, false, not, if◌then◌else◌, List, [], ◌∷◌, ◌++◌, length, Option, Some, None, refl, sym, ◌∙◌, ap, subst, arith, slice_index, ⊎_elim, cases_lt, length-drop, length-take, Dinode, Super, bit_of, numbers_in, In, Prog, Ret, Do, bind, unmarked, first_below, first_clear_below, give_zeros, take_first, zero_found, FirstIs, first_is, fetch, read_unless, AnswerBelow as Answer, Get, Op, Put, Read, Address, Direct, InTable, Located, address, table_of, blocks_between, direct, WriteResult, front_of, locate, locate_at, located, look_up, name_direct, name_in_table, put_part, take_one, with_address, with_table, write_blocks, write_in, write_located, Acts, none_between, some_between, many_between, none_there, AnsweredStep, ComesTo, HasRead, SawNoBlock, block_len}
 use Rattle.std.proofs.Common.{drop}
 
 -- ---- one program after the other
@@ -182,19 +182,19 @@ module _ (sizes : Super) where
 
   -- ---- bytes written
 
-  next_count : (n at len f : ℕ) → suc n ≡ blocks_between at (at + len) → f ≡ min (1024 - at % 1024) len
+  next_count : (n at len f : ℕ) → suc n ≡ blocks_between at (at + len) → f ≡ min (block_len - at % block_len) len
       → n ≡ blocks_between (at + f) ((at + f) + (len - f))
   next_count n at len f is part =
       let lt : at < at + len = some_between n at (at + len) is in
-      let here : suc n ≡ ((at + len - 1) / 1024 + 1) - at / 1024 = is ∙ many_between at (at + len) lt in
+      let here : suc n ≡ ((at + len - 1) / block_len + 1) - at / block_len = is ∙ many_between at (at + len) lt in
       ⊎_elim
-      (λ (l : len < 1024 - at % 1024 + 1).
+      (λ (l : len < block_len - at % block_len + 1).
       let none : n ≡ 0 = omega (arith, here, l, lt) in
       none ∙ sym (none_there (at + f) ((at + f) + (len - f)) (omega (arith, part, l))))
-      (λ (m : 1024 - at % 1024 + 1 ≤ len).
-      let some : n ≡ (((at + f) + (len - f) - 1) / 1024 + 1) - (at + f) / 1024 = omega (arith, here, m, part, lt) in
+      (λ (m : block_len - at % block_len + 1 ≤ len).
+      let some : n ≡ (((at + f) + (len - f) - 1) / block_len + 1) - (at + f) / block_len = omega (arith, here, m, part, lt) in
       some ∙ sym (many_between (at + f) ((at + f) + (len - f)) (omega (arith, part, m))))
-      (cases_lt len (1024 - at % 1024 + 1))
+      (cases_lt len (block_len - at % block_len + 1))
 
   -- all bytes were written, or the search for a block has seen none
   pub written : (n at : ℕ) (bytes : List ℕ) (d : Dinode) (es : List AnsweredStep) (w : WriteResult)
@@ -207,9 +207,9 @@ module _ (sizes : Super) where
       sym (ap (λ (z : WriteResult). z.upto) c) ∙ all)
   written zero at bytes d (e ∷ es) w is c = absurd c
   written (suc n) at bytes d es w is c =
-      let s = split (locate sizes d (at / 1024)) (write_located more at bytes) es w c in
+      let s = split (locate sizes d (at / block_len)) (write_located more at bytes) es w c in
       by (λ x ys. written n (at + f) (drop f bytes) x ys w counts) s.value.inode s.value.number s.front s.back
-      (at_lacks d (address (at / 1024)) s.front s.value s.first) s.is s.then_
+      (at_lacks d (address (at / block_len)) s.front s.value s.first) s.is s.then_
     where
       f : ℕ
       f = length (front_of at bytes)
@@ -217,8 +217,8 @@ module _ (sizes : Super) where
       more : Dinode → Prog Op Answer Acts WriteResult
       more = write_blocks n sizes (at + length (front_of at bytes)) (drop (length (front_of at bytes)) bytes)
 
-      part : f ≡ min (1024 - at % 1024) (length bytes)
-      part = length-take (1024 - at % 1024) bytes
+      part : f ≡ min (block_len - at % block_len) (length bytes)
+      part = length-take (block_len - at % block_len) bytes
 
       rest : length (drop f bytes) ≡ length bytes - f
       rest = length-drop f bytes
