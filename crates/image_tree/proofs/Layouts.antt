@@ -1,4 +1,5 @@
 -- What a layout that passed the checks keeps in range.
+use Rattle.image_versions.specs.Shared.{most_disk_blocks}
 use Rattle.image_tree.proofs.Vocabulary.{◌≡◌, ℕ, ◌+◌, ◌/◌, ◌%◌, ◌<◌, ◌≤◌, cond, ltb, List, length, Some, None, refl, ap, ◌∙◌, ⊎_elim, arith, cases_lt, nat_tests, option_map_or, dinode_at, length-u32s_at, Layout, block_at, place_of, logged, log_count, sizes_of, recovered, inode_of, IsLayout, ◌-◌, inodes_per_block}
 
 pub length-logged : (disk : List (List ℕ)) → length (logged disk) ≡ log_count disk
@@ -19,7 +20,7 @@ pub record InOrder (disk : List (List ℕ)) (layout : Layout) : Type 0 where
   pub inodes : layout.sizes.inodestart + (layout.sizes.ninodes + (inodes_per_block - 1)) / inodes_per_block ≤ layout.sizes.bmapstart
   pub bitmap : layout.sizes.bmapstart < layout.sizes.size
   pub size : layout.sizes.size ≤ length disk
-  pub small : layout.sizes.size ≤ 8191
+  pub small : layout.sizes.size ≤ most_disk_blocks
   pub two : 2 ≤ layout.sizes.ninodes
 
 pub in_order : (disk : List (List ℕ)) (layout : Layout) → IsLayout disk layout → InOrder disk layout

@@ -1,4 +1,5 @@
 -- The numbers that an inode has.
+use Rattle.image_versions.specs.Shared.{most_disk_blocks}
 use Rattle.image_tree.proofs.Vocabulary.{true, ◌≡◌, ◌≢◌, ℕ, ◌<◌, ◌≤◌, false, List, [], ◌++◌, length, get_or, slice_index, refl, arith, length-append, subst, ⊎_elim, append-nil, get_or_append_left, ne_eqb, cases_eq, All, Dinode, u32s_at, numbers_of, numbers_by, inode_of, is_free, recovered, sizes_of, IsData, Layout, IsLayout, addresses, direct, numbers_per_block}
 
 pub numbers_without : (disk : List (List ℕ)) (d : Dinode) → slice_index d.addrs direct ≡ 0 → numbers_of disk d ≡ d.addrs
@@ -40,7 +41,7 @@ twelfth_within disk layout d h l good =
     (λ (n : slice_index d.addrs direct ≡ 0 → ⊥). let p = good direct 0 (omega arith) n in omega arith)
     (cases_eq (slice_index d.addrs direct) 0)
 
-pub small_numbers : (disk : List (List ℕ)) (xs : List ℕ) → (sizes_of disk).size ≤ 8191
+pub small_numbers : (disk : List (List ℕ)) (xs : List ℕ) → (sizes_of disk).size ≤ most_disk_blocks
     → All (λ b. b ≢ 0 → IsData (sizes_of disk) b) xs → All (λ b. b < 8192) xs
 small_numbers disk xs size good =
     λ k d l.

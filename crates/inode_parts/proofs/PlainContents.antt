@@ -1,4 +1,5 @@
 -- Contents written and directories searched: without marks the programs are the code's.
+use Rattle.inode_data.specs.Widths.{most_blocks}
 use Rattle.inode_parts.proofs.Vocabulary.{◌≡◌, ℕ, zero, suc, ◌+◌, ◌-◌, ◌/◌, ◌≤◌, ◌==◌, nat_lt, Bool, true, false, if◌then◌else◌, List, length, drop, Option, Some, None, refl, ◌∙◌, ap, arith, slice_index, nat_tests, Dinode, Super, numbers_in, block_len, Ret, Do, bind, plain, unmarked, bind-assoc, plain-bind, fetch, marked_by, first_clear_below, give_zeros, take_first, zero_found, Address, Direct, InTable, address, table_of, fetch_block, direct, WriteResult, front_of, locate, locate_at, locate_in_table, located, look_up, name_direct, name_in_table, put_part, take_one, with_address, with_table, write_blocks, write_in, write_located, Found, Aim, Unused, block_count, found_in, look_at, or_next, search, search_from, slot_count, look_last, search_full, seek_free, seek_full, Acts, IndexState, Loaded, Searched, few_known, first_of, raised, most_slots}
 use Rattle.fs_machine.specs.Machines as code
 use Rattle.fs_machine.specs.Steps as steps
@@ -117,12 +118,12 @@ module _ (mark : Option Acts) (l : Loaded) (full : slot_count l.inode ≡ most_s
   b = l.index.blocks
 
   plain_seek_full : (o : Option Found) → first_of Unused l.inode l.index ≡ o
-      → plain (or_next o l.index (search_full mark (267 - b) l.inode b)) ≡ or_next o l.index (search_from (block_count l.inode - b) Unused l.inode b)
+      → plain (or_next o l.index (search_full mark (most_blocks - 1 - b) l.inode b)) ≡ or_next o l.index (search_from (block_count l.inode - b) Unused l.inode b)
   plain_seek_full (Some f) is = refl
   plain_seek_full None is =
       let few : b ≤ 1 = few_known l full is in
-      let all : suc (267 - b) ≡ block_count l.inode - b = omega (arith, few, full) in
-      plain_full mark (267 - b) l.inode b l.index ∙ ap (λ (n : ℕ). search_from n Unused l.inode b l.index) all
+      let all : suc (most_blocks - 1 - b) ≡ block_count l.inode - b = omega (arith, few, full) in
+      plain_full mark (most_blocks - 1 - b) l.inode b l.index ∙ ap (λ (n : ℕ). search_from n Unused l.inode b l.index) all
 
 pub plain_seek : (mark : Option Acts) (l : Loaded) → plain (seek_free mark l) ≡ search Unused l
 plain_seek mark l = by (nat_lt (slot_count l.inode) most_slots) refl

@@ -151,9 +151,9 @@ module _ (sizes : Super) (l : Labels) (laws : Laws (labelled l)) (keeps : Keeps 
   seek_takes : (x : Loaded) (t : Bool) → nat_lt (slot_count x.inode) most_slots ≡ t → TakesStep sizes l laws keeps h lt B (bind (if t then search Unused x else seek_full act x) (goes x.inode))
   seek_takes x false isnt = by (first_of Unused x.inode x.index) refl
     where
-      by : (o : Option Found) → first_of Unused x.inode x.index ≡ o → TakesStep sizes l laws keeps h lt B (bind (or_next o x.index (search_full act (267 - x.index.blocks) x.inode x.index.blocks)) (goes x.inode))
+      by : (o : Option Found) → first_of Unused x.inode x.index ≡ o → TakesStep sizes l laws keeps h lt B (bind (or_next o x.index (search_full act (most_blocks - 1 - x.index.blocks) x.inode x.index.blocks)) (goes x.inode))
       by (Some f) is = in_takes x.inode x.index f.slot (low_slot x f is)
-      by None is = full_takes x.inode (267 - x.index.blocks) x.index.blocks x.index
+      by None is = full_takes x.inode (most_blocks - 1 - x.index.blocks) x.index.blocks x.index
   seek_takes x true room_ = by (first_of Unused x.inode x.index) refl
     where
       by : (o : Option Found) → first_of Unused x.inode x.index ≡ o
@@ -394,7 +394,7 @@ module _ (sizes : Super) (l : Labels) (laws : Laws (labelled l)) (keeps : Keeps 
           stays = λ z u kept asked. ap (enter_if n e q u.seen above.Room) (still z u kept);
         }
 
-        by : (o : Option Found) → first_of Unused d known ≡ o → Wp M h B Q (bind (or_next o known (search_full act (267 - known.blocks) d known.blocks)) (goes d)) 1641 fs v
+        by : (o : Option Found) → first_of Unused d known ≡ o → Wp M h B Q (bind (or_next o known (search_full act (most_blocks - 1 - known.blocks) d known.blocks)) (goes d)) 1641 fs v
         by (Some f) z =
             let there : found.found ≡ Some f = ap (λ (o : Option Found). (else_searched o known (searched_from (block_count d - known.blocks) Unused d content known.blocks)).found) z in
             let is_first = subst (IsFirst Unused read (length slots)) there first in
@@ -402,11 +402,11 @@ module _ (sizes : Super) (l : Labels) (laws : Laws (labelled l)) (keeps : Keeps 
             (here_goes (Some f) known right_known is_first (let below_ = is_first.0 in omega (arith, below_, size_is, limit)) v fs ((below_laws sizes l keeps).same h v.real) (kept_same h v.seen) todo)
         by None z =
             let few : known.blocks ≤ 1 = few_known (record { inode = d; index = known }) (omega (arith, size_is, all, limit)) z in
-            let many : block_count d - known.blocks ≡ suc (267 - known.blocks) = omega (arith, blocks_are, few) in
-            let there : found ≡ searched_from (suc (267 - known.blocks)) Unused d content known.blocks known =
+            let many : block_count d - known.blocks ≡ suc (most_blocks - 1 - known.blocks) = omega (arith, blocks_are, few) in
+            let there : found ≡ searched_from (suc (most_blocks - 1 - known.blocks)) Unused d content known.blocks known =
             ap (λ (o : Option Found). else_searched o known (searched_from (block_count d - known.blocks) Unused d content known.blocks)) z ∙ ap (λ (k : ℕ). searched_from k Unused d content known.blocks known) many in
-            Wp-more M h (bind (search_full act (267 - known.blocks) d known.blocks known) (goes d)) B Q (touches (suc (267 - known.blocks)) 21) 1641 fs v (let steps_ = touches_are (suc (267 - known.blocks)) 21 in omega (arith, steps_))
-            (s-full sizes l laws keeps h lt B (Enter n e q) m C lasts above.Room above.NoSlot (λ y. tt) Q n (Some node) (goes d) 21 v holds used mine stands.0.free (267 - known.blocks) known.blocks known v fs
+            Wp-more M h (bind (search_full act (most_blocks - 1 - known.blocks) d known.blocks known) (goes d)) B Q (touches (suc (most_blocks - 1 - known.blocks)) 21) 1641 fs v (let steps_ = touches_are (suc (most_blocks - 1 - known.blocks)) 21 in omega (arith, steps_))
+            (s-full sizes l laws keeps h lt B (Enter n e q) m C lasts above.Room above.NoSlot (λ y. tt) Q n (Some node) (goes d) 21 v holds used mine stands.0.free (most_blocks - 1 - known.blocks) known.blocks known v fs
             ((below_laws sizes l keeps).same h v.real) (kept_same h v.seen) todo (λ k low. omega (arith, size_is, all, low, few))
             (subst (Rests sizes l laws keeps h lt B (Enter n e q) m C lasts above.Room above.NoSlot (λ y. tt) Q n (Some node) (goes d) 21 v holds used mine stands.0.free) there rests))
 

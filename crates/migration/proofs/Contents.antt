@@ -3,6 +3,7 @@ use Rattle.std.proofs.Common.{◌≡◌, ◌↔◌, ◌∙◌, IsTrue, sym, refl
 use Rattle.std.proofs.lemmas.List.{length-map, length-replicate, length-take}
 use Rattle.std.proofs.lemmas.List.Elements.{All-append, All-cons, All-nil}
 use Rattle.std.specs.Prelude.{All}
+use Rattle.image_versions.specs.Shared.{largest_size}
 use Rattle.image_versions.specs.declared.version.Version.{Version}
 use Rattle.image_versions.proofs.Places.{most_fit}
 use Rattle.fs_layout.proofs.Entries.{name_parts}
@@ -39,7 +40,7 @@ slot_count w disk d zero = refl
 slot_count w disk d (suc n) = length-append (first_slots w disk d n) _ ∙ (let k = slot_count w disk d n in omega arith)
 
 small_directory : (w v : Version) (disk : List (List ℕ)) (d : Dinode) → IsLater w v → d.size / dirent_len_of w ≤ most_slots_of v
-    → length (spell_slots v (slots_of w disk d)) ≤ 274432
+    → length (spell_slots v (slots_of w disk d)) ≤ largest_size
 small_directory w v disk d later few =
     let n : ℕ = d.size / dirent_len_of w in
     let long : length (spell_slots v (slots_of w disk d)) ≡ dirent_len_of v * n =
@@ -49,20 +50,20 @@ small_directory w v disk d later few =
 
 -- ---- each node
 
-small_content : (w v : Version) (disk : List (List ℕ)) (d : Dinode) (is : Bool) → is_directory d ≡ is → IsLater w v → d.size ≤ 274432
-    → (is_directory d ≡ true → d.size / dirent_len_of w ≤ most_slots_of v) → length (content_as w v disk d) ≤ 274432
+small_content : (w v : Version) (disk : List (List ℕ)) (d : Dinode) (is : Bool) → is_directory d ≡ is → IsLater w v → d.size ≤ largest_size
+    → (is_directory d ≡ true → d.size / dirent_len_of w ≤ most_slots_of v) → length (content_as w v disk d) ≤ largest_size
 small_content w v disk d true e later small few = rw e (small_directory w v disk d later (few e))
 small_content w v disk d false e later small few = rw e (omega (arith, small, length-take d.size (front_blocks disk d ((d.size + 1023) / 1024))))
 
 small_node : (w v : Version) (disk : List (List ℕ)) (i : ℕ) (is : Bool) → (is_node disk i && is_live (inode_of disk i)) ≡ is → IsWellFormed w disk → IsLater w v
-    → HasGoodDirectories w v disk → length (new_node w v disk i).content ≤ 274432
+    → HasGoodDirectories w v disk → length (new_node w v disk i).content ≤ largest_size
 unfolding new_node
 small_node w v disk i false e well later few = rw e (omega arith)
 small_node w v disk i true e well later few =
     let parts = both (is_node disk i) (is_live (inode_of disk i)) e in
     let node = node_is disk i parts.0 in
     let d : Dinode = inode_of disk i in
-    let small : d.size ≤ 274432 = (well.0.0.0.1 i parts.0).fits.limit in
+    let small : d.size ≤ largest_size = (well.0.0.0.1 i parts.0).fits.limit in
     rw e
     (small_content w v disk d (is_directory d) refl later small
     (λ directory. few i (directory_from disk i (record { low = node.low; bound = node.bound; directory = directory; live = parts.1 }))))
@@ -70,11 +71,11 @@ small_node w v disk i true e well later few =
 -- ---- all nodes
 
 small_upto : (w v : Version) (disk : List (List ℕ)) (n : ℕ) → IsWellFormed w disk → IsLater w v → HasGoodDirectories w v disk
-    → All (λ (node : Node). length node.content ≤ 274432) (nodes_upto w v disk n)
+    → All (λ (node : Node). length node.content ≤ largest_size) (nodes_upto w v disk n)
 unfolding nodes_upto
-small_upto w v disk zero well later few = All-nil (λ (node : Node). length node.content ≤ 274432)
+small_upto w v disk zero well later few = All-nil (λ (node : Node). length node.content ≤ largest_size)
 small_upto w v disk (suc n) well later few =
-    let Small : Node → Type 0 = λ node. length node.content ≤ 274432 in
+    let Small : Node → Type 0 = λ node. length node.content ≤ largest_size in
     All-append Small (nodes_upto w v disk n) (new_node w v disk (suc n) ∷ []) (small_upto w v disk n well later few)
     (All-cons Small (new_node w v disk (suc n)) [] (small_node w v disk (suc n) _ refl well later few) (All-nil Small))
 

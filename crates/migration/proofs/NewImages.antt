@@ -1,6 +1,7 @@
 -- A migrated image has the live nodes of the old one, each with its number.
 use Rattle.std.proofs.Common.{◌≡◌, ◌≢◌, ◌∙◌, sym, refl, ap, subst, arith, true, false, ◌&&◌, ℕ, ℤ, pos, ◌+◌, ◌*◌, ◌%◌, ◌<◌, ◌≤◌, ◌<ℤ◌, ◌≤ℤ◌, List, length, get_or, map, Option, All}
 use Rattle.std.proofs.lemmas.Bool.{false_from_ne_true, false≢true}
+use Rattle.image_versions.specs.Shared.{largest_size}
 use Rattle.image_versions.specs.declared.version.Version.{Version}
 use Rattle.image_versions.proofs.Places.{count_slots, lie_apart}
 use Rattle.fs_layout.specs.declared.superblock.Super.{Super}
@@ -102,9 +103,9 @@ module _ (w v : Version) (size : ℕ) (disk : List (List ℕ)) (whole : HasWhole
   old_counts : HasGoodCounts w disk
   old_counts = well.1
 
-  small_at : (j : ℕ) → j < length (new_nodes w v disk) → length (new_node w v disk (j + 1)).content ≤ 274432
+  small_at : (j : ℕ) → j < length (new_nodes w v disk) → length (new_node w v disk (j + 1)).content ≤ largest_size
   small_at j l =
-      subst (λ (node : Node). length node.content ≤ 274432) (node_at w v disk (last disk) j free_node (omega (arith, l, node_count w v disk (last disk))))
+      subst (λ (node : Node). length node.content ≤ largest_size) (node_at w v disk (last disk) j free_node (omega (arith, l, node_count w v disk (last disk))))
       ((have_contents w v disk well later can.0.1).each j free_node l)
 
   pub laid : IsLaid size (sizes_of disk).ninodes (new_nodes w v disk)
@@ -316,11 +317,11 @@ module _ (w v : Version) (size : ℕ) (disk : List (List ℕ)) (whole : HasWhole
       let here = node_is made i is in
       let content : List ℕ = content_as w v disk (inode_of disk i) in
       let all = new_is i here.low here.bound in
-      let small : length (new_node w v disk i).content ≤ 274432 =
-      each-inode v size (sizes_of disk).ninodes (new_nodes w v disk) laid (λ k. length (new_node w v disk k).content ≤ 274432) small_at i here.low here.bound in
+      let small : length (new_node w v disk i).content ≤ largest_size =
+      each-inode v size (sizes_of disk).ninodes (new_nodes w v disk) laid (λ k. length (new_node w v disk k).content ≤ largest_size) small_at i here.low here.bound in
       record {
         fits = record {
-          limit = subst (λ (n : ℕ). n ≤ 274432) (sym all.says.size) small;
+          limit = subst (λ (n : ℕ). n ≤ largest_size) (sym all.says.size) small;
           slots = λ directory live.
               slots_fit i (directory_from disk i (record { low = old.low; bound = old.bound; directory = sym (ap (is_number 1) new.says.kind) ∙ directory; live = was.1 }));
         };

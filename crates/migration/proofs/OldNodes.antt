@@ -5,6 +5,7 @@ use Rattle.std.proofs.lemmas.List.{get_or_append_left, get_or_at, get_or_default
 use Rattle.std.proofs.Math.Facts.{Fits-of_lt, sfits_to_z}
 use Rattle.std.proofs.Math.Nat.{div-add-mod}
 use Rattle.std.specs.Prelude.{All}
+use Rattle.image_versions.specs.Shared.{largest_size}
 use Rattle.image_versions.specs.declared.version.Version.{Version}
 use Rattle.image_versions.proofs.Places.{in_range, lie_apart}
 use Rattle.fs_layout.specs.Bytes.{IsBytes, i16_at, u16_at}
@@ -93,7 +94,7 @@ free_sound = record {
   none = λ _. refl;
 }
 
-pub node_sound : (w v : Version) (disk : List (List ℕ)) (i : ℕ) → HasBytes disk → length (new_node w v disk i).content ≤ 274432 → IsSound (new_node w v disk i)
+pub node_sound : (w v : Version) (disk : List (List ℕ)) (i : ℕ) → HasBytes disk → length (new_node w v disk i).content ≤ largest_size → IsSound (new_node w v disk i)
 node_sound w v disk i are small =
     pick (is_node disk i && is_live (inode_of disk i)) (λ t. (is_node disk i && is_live (inode_of disk i)) ≡ t → IsSound (new_node w v disk i))
     (λ _ yes.
@@ -101,7 +102,7 @@ node_sound w v disk i are small =
     let is = is_new w v disk i parts.0 parts.1 in
     let fields = inode_fields disk i are in
     let used : is_free (inode_of disk i) ≡ false = (node_is disk i parts.0).used in
-    let size : length (content_as w v disk (inode_of disk i)) ≤ 274432 = subst (λ (node : Node). length node.content ≤ 274432) is small in
+    let size : length (content_as w v disk (inode_of disk i)) ≤ largest_size = subst (λ (node : Node). length node.content ≤ largest_size) is small in
     subst IsSound (sym is) (record {
       kind = fields.kind;
       major = fields.major;

@@ -4,6 +4,7 @@ use Rattle.std.proofs.lemmas.List.{get_or-map, length-map}
 use Rattle.std.proofs.lemmas.List.Elements.{All-map}
 use Rattle.std.proofs.lemmas.List.Sums.{sum_by-cons}
 use Rattle.std.specs.Prelude.{All}
+use Rattle.image_versions.specs.Shared.{largest_size}
 use Rattle.image_tree.specs.Inodes.{is_number}
 use Rattle.mkfs.specs.Image.{Node as File, blocks_of_node as blocks_of_file, data_from as files_from, used_by as used_by_files, file_node}
 use Rattle.mkfs.proofs.Lengths.{Fits}
@@ -28,7 +29,7 @@ pub record IsSound (node : Node) : Type 0 where
   pub major : FitsSigned w16 node.major
   pub minor : FitsSigned w16 node.minor
   pub nlink : FitsSigned w16 node.nlink
-  pub size : length node.content ≤ 274432
+  pub size : length node.content ≤ largest_size
   pub none : is_number 0 node.kind ≡ true → node.content ≡ []
 
 -- they fit, and each inode but the first is one's
@@ -68,7 +69,7 @@ pub plains-fit : (size ninodes : ℕ) (nodes : List Node) → IsLaid size ninode
 plains-fit size ninodes nodes h = record {
   few = h.few;
   inodes = omega (arith, plain-count nodes, h.count);
-  contents = All-map (λ (file : File). length file.content ≤ 274432) plain nodes (λ i d l. (h.each i d l).size);
+  contents = All-map (λ (file : File). length file.content ≤ largest_size) plain nodes (λ i d l. (h.each i d l).size);
   room = subst (λ (n : ℕ). n ≤ size) (sym (used-same (data_start ninodes) nodes)) h.room;
 }
 

@@ -4,6 +4,7 @@ use Rattle.std.proofs.lemmas.List.{drop_more, get_or-map, length-map}
 use Rattle.std.proofs.lemmas.List.Sums.{sum_by-cons}
 use Rattle.std.proofs.lemmas.List.FromFn.{length-range_with_len}
 use Rattle.std.specs.Prelude.{min, sum_by}
+use Rattle.image_versions.specs.Shared.{largest_size}
 use Rattle.mkfs.proofs.Padding.{length-padded}
 use Rattle.fs_layout.specs.Vocabulary.{flat_map}
 use Rattle.image_versions.specs.declared.version.Version.{Version}
@@ -38,10 +39,10 @@ used-next nodes i node l e =
 
 -- none is too large
 pub size-at : (nodes : List NewNode) (i : ℕ) (node : NewNode) → HaveContents (map node_of nodes) → i < length nodes → node ≡ get_or nodes i node
-    → length node.content.items ≤ 274432
+    → length node.content.items ≤ largest_size
 size-at nodes i node h l e =
     let many : i < length (map node_of nodes) = omega (arith, length-map nodes node_of) in
-    subst (λ (n : Node). length n.content ≤ 274432) (get_or-map node_of nodes i node (node_of node) l ∙ ap node_of (sym e)) (h.each i (node_of node) many)
+    subst (λ (n : Node). length n.content ≤ largest_size) (get_or-map node_of nodes i node (node_of node) l ∙ ap node_of (sym e)) (h.each i (node_of node) many)
 
 pub few-nodes : (nodes : List NewNode) → HaveContents (map node_of nodes) → length nodes < 65536
 few-nodes nodes h = let few = h.few in omega (arith, length-map nodes node_of)

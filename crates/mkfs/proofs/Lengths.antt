@@ -1,4 +1,5 @@
 -- How long the parts of an image are.
+use Rattle.image_versions.specs.Shared.{largest_size}
 use Rattle.mkfs.proofs.Vocabulary.{Version, ◌≡◌, ℕ, suc, ◌+◌, ◌-◌, ◌*◌, ◌/◌, ◌<◌, ◌≤◌, ◌^◌, ◌%◌, Bool, false, cond, nat_lt, List, [], ◌∷◌, ◌++◌, length, take, drop, replicate, sum_by, get_or, ap, ◌∙◌, sym, refl, ⊎_elim, arith, length-append, length-drop, All, flat_map, range_with_len, length-replicate, length-take-le, All-cons, All-nil, length-range_with_len, sum_by-cons, cases_lt, le-ltb, lt-ltb, Dinode, spell_dinode, spell_super, super_numbers, magic_of, length-u32s_bytes, length-spell_dinode, blocks_for, node_blocks, inode_blocks, data_start, super_for, Node, padded, whole, front, inode_for, inodes_from, inode_table, bitmap, data_from, used_by, image_with, node_bytes, indirect_block, blocks_of_node}
 use Rattle.mkfs.proofs.Pieces.{AreLong, length-records, record-there}
 use Rattle.mkfs.proofs.Padding.{length-padded, length-whole, length-addrs, node_bytes-small, node_bytes-large}
@@ -62,13 +63,13 @@ blocks-large size h =
     let many : 12 < blocks_for size = omega arith in
     ap (λ (b : Bool). blocks_for size + cond b 1 0) (lt-ltb 12 (blocks_for size) many)
 
-pub length-indirect_block : (first size : ℕ) → size ≤ 274432 → length (indirect_block first size) ≡ 1024
+pub length-indirect_block : (first size : ℕ) → size ≤ largest_size → length (indirect_block first size) ≡ 1024
 length-indirect_block first size h =
     let numbers : List ℕ = range_with_len (first + 13) (blocks_for size - 12) in
     let few : length numbers ≤ 256 = omega (arith, length-range_with_len (first + 13) (blocks_for size - 12)) in
     omega (arith, length-u32s_bytes (padded 256 numbers), length-padded 256 numbers few)
 
-pub length-node : (first : ℕ) (content : List ℕ) → length content ≤ 274432 → length (node_bytes first content) ≡ 1024 * node_blocks (length content)
+pub length-node : (first : ℕ) (content : List ℕ) → length content ≤ largest_size → length (node_bytes first content) ≡ 1024 * node_blocks (length content)
 length-node first content h =
     let size : ℕ = length content in
     ⊎_elim
@@ -87,7 +88,7 @@ length-node first content h =
     (cases_lt 12288 size)
 
 abbrev pub AreNodes : List Node → Type 0
-AreNodes nodes = All (λ node. length node.content ≤ 274432) nodes
+AreNodes nodes = All (λ node. length node.content ≤ largest_size) nodes
 
 pub length-data : (first : ℕ) (nodes : List Node) → AreNodes nodes → length (data_from first nodes) ≡ 1024 * sum_by blocks_of_node nodes
 length-data first [] h = refl

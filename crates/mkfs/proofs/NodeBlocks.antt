@@ -1,4 +1,5 @@
 -- The blocks of a node, one by one.
+use Rattle.image_versions.specs.Shared.{largest_size}
 use Rattle.mkfs.proofs.Vocabulary.{Version, ◌≡◌, ℕ, ◌+◌, ◌-◌, ◌*◌, ◌<◌, ◌≤◌, Bool, cond, nat_lt, List, ◌++◌, length, take, drop, replicate, get_or, ap, ◌∙◌, sym, ⊎_elim, arith, append_assoc, length-append, length-drop, cases_lt, lt-ltb, le-ltb, take_at, drop_at, drop-drop, take-append-le, drop-append-le, take-append-drop, length-take-le, sum_by_more_le, recovered, blocks_for, data_start, Node, padded, whole, image_with, node_bytes, indirect_block, blocks_before, blocks_of_node}
 use Rattle.mkfs.proofs.Basics.{node_bytes-small, node_bytes-large, part-of-part, Fits, length-indirect_block, disk_of, block-at, recovered-there}
 use Rattle.mkfs.proofs.DataBlocks.{node-there}
@@ -48,7 +49,7 @@ block-behind a rest n k h =
     ap (λ (i : ℕ). take 1024 (drop i (a ++ rest))) place
     ∙ ap (take 1024) (sym (drop-drop (1024 * k) (1024 * n) (a ++ rest)) ∙ ap (drop (1024 * k)) (drop_at a rest (1024 * n) h))
 
-pub block-of-numbers : (first : ℕ) (content : List ℕ) → 12288 < length content → length content ≤ 274432
+pub block-of-numbers : (first : ℕ) (content : List ℕ) → 12288 < length content → length content ≤ largest_size
     → take 1024 (drop 12288 (node_bytes first content)) ≡ indirect_block first (length content)
 block-of-numbers first content h few =
     let a : List ℕ = take 12288 content in
@@ -91,7 +92,7 @@ large-block-below first content k h low =
     ∙ sym (block-before a c k within)
     ∙ ap (λ (xs : List ℕ). take 1024 (drop (1024 * k) xs)) (sym (whole-parts content (omega arith)))
 
-large-block-behind : (first : ℕ) (content : List ℕ) (k : ℕ) → 12288 < length content → length content ≤ 274432 → 12 ≤ k
+large-block-behind : (first : ℕ) (content : List ℕ) (k : ℕ) → 12288 < length content → length content ≤ largest_size → 12 ≤ k
     → take 1024 (drop (1024 * place k) (node_bytes first content)) ≡ take 1024 (drop (1024 * k) (whole content))
 large-block-behind first content k h few high =
     let a : List ℕ = take 12288 content in
@@ -109,7 +110,7 @@ large-block-behind first content k h few high =
     ∙ ap (λ (n : ℕ). take 1024 (drop (1024 * n) (a ++ c))) there
     ∙ ap (λ (xs : List ℕ). take 1024 (drop (1024 * k) xs)) (sym (whole-parts content (omega arith)))
 
-pub block-of-content : (first : ℕ) (content : List ℕ) (k : ℕ) → 1024 * k < length content → length content ≤ 274432
+pub block-of-content : (first : ℕ) (content : List ℕ) (k : ℕ) → 1024 * k < length content → length content ≤ largest_size
     → take 1024 (drop (1024 * place k) (node_bytes first content)) ≡ take 1024 (drop (1024 * k) (whole content))
 block-of-content first content k h few =
     ⊎_elim

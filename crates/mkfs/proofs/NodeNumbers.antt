@@ -1,4 +1,5 @@
 -- The numbers of a node's blocks, as its inode and the block of its numbers have them.
+use Rattle.image_versions.specs.Shared.{largest_size}
 use Rattle.mkfs.proofs.Vocabulary.{Version, ◌≡◌, ℕ, zero, suc, ◌+◌, ◌-◌, ◌<◌, ◌≤◌, ◌^◌, eqb, min, Bool, false, cond, List, [], ◌∷◌, ◌++◌, length, take, replicate, get_or, ap, ◌∙◌, sym, ⊎_elim, arith, append_assoc, All, range_with_len, cases_lt, ne_eqb, append-nil, get_or-append_right, get_or_append_left, get_or-replicate, length-range_with_len, get_or-range_with_len, sum_by-cons, sum_by_more_le, Dinode, numbers_in, spell_numbers, recovered, numbers_in-spell, inode_of, numbers_of, blocks_for, data_start, Node, padded, inode_for, inodes_from, blocks_before, blocks_of_node}
 use Rattle.mkfs.proofs.Basics.{length-padded, Fits, blocks-small, blocks-large, disk_of, IsRange, range-append}
 use Rattle.mkfs.proofs.Records.{IsNode, all-append, all-range, all-zeros}
@@ -112,7 +113,7 @@ numbers-there v size ninodes nodes j n few h all l =
     let node : Node = get_or nodes j n in
     let bytes : ℕ = length node.content in
     let count : ℕ = blocks_of_node node in
-    let most : bytes ≤ 274432 = h.contents j n l in
+    let most : bytes ≤ largest_size = h.contents j n l in
     let room : first + count ≤ size = omega (arith, h.room, sum_by_more_le blocks_of_node nodes j n l) in
     let inode = inode-for-there v size ninodes nodes j n few h all l in
     ⊎_elim

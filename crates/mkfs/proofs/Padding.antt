@@ -1,4 +1,5 @@
 -- Zeros behind numbers, and numbers that rise.
+use Rattle.image_versions.specs.Shared.{largest_size}
 use Rattle.mkfs.proofs.Vocabulary.{◌≡◌, ℕ, zero, suc, ◌+◌, ◌-◌, ◌*◌, ◌/◌, ◌%◌, ◌<◌, ◌≤◌, List, [], ◌∷◌, ◌++◌, length, take, drop, replicate, refl, sym, ap, ◌∙◌, arith, length-append, append_assoc, set, get_or, ◌^◌, Bool, true, false, if◌then◌else◌, nat_lt, min, append-nil, drop-replicate, length-replicate, length-take-le, take_at, set_at, drop_more, length-range_with_len, range_with_len, overwrite, pow-lt, le-ltb, lt-ltb, Node, inode_for, padded, whole, bitmap, node_bytes, indirect_block, blocks_for, node_blocks}
 
 -- written over zeros
@@ -92,7 +93,7 @@ pub node_bytes-large : (first : ℕ) (content : List ℕ) → 12288 < length con
 unfolding node_bytes
 node_bytes-large first content h = rw (lt-ltb 12288 (length content) h) refl
 
-pub node_blocks-few : (size : ℕ) → size ≤ 274432 → node_blocks size ≤ 269
+pub node_blocks-few : (size : ℕ) → size ≤ largest_size → node_blocks size ≤ 269
 node_blocks-few size h =
     let one : (b : Bool) → (if b then 1 else 0) ≤ 1 = λ b. elim b as (λ v. (if v then 1 else 0) ≤ 1) [ true ↦ omega arith | false ↦ omega arith ] in
     let blocks : blocks_for size ≤ 268 = omega arith in

@@ -1,4 +1,5 @@
 -- The inodes of an image.
+use Rattle.image_versions.specs.Shared.{largest_size}
 use Rattle.mkfs.proofs.Vocabulary.{Version, ◌≡◌, ℕ, zero, suc, ◌+◌, ◌-◌, ◌*◌, ◌/◌, ◌%◌, ◌^◌, ◌<◌, ◌≤◌, min, w16, FitsSigned, List, [], ◌∷◌, ◌++◌, length, take, drop, map, replicate, get_or, sum_by, ap, ◌∙◌, sym, subst, arith, rules, append_assoc, length-append, All, AllByRecursion, flat_map, range_with_len, drop_at, drop-drop, length-map, get_or-map, sum_by-cons, Dinode, record_at, dinode_at, dinode_of, spell_dinode, IsDinode, block_at, dinode_of-spell, data_start, inode_blocks, Node, padded, front, inode_for, inodes_from, inode_table, bitmap, data_from, used_by, image_with, blocks_of_node, nodes_with, file_node}
 use Rattle.mkfs.proofs.Basics.{length-addrs, AreNodes, Fits, length-front, length-zeros, inode-spelled, part-of-part, disk_of, block-at}
 
@@ -22,7 +23,7 @@ all-zeros (suc n) = (omega arith, all-zeros n)
 -- what a node's inode can say
 pub record IsNode (node : Node) : Type 0 where
   pub kind : FitsSigned w16 node.kind
-  pub size : length node.content ≤ 274432
+  pub size : length node.content ≤ largest_size
 
 good-inode : (first : ℕ) (node : Node) → first < 2 ^ 31 → IsNode node → IsDinode (inode_for first node)
 unfolding inode_for padded
@@ -89,6 +90,6 @@ are-nodes root contents h (suc i) d l =
     let within : i < length contents = omega (arith, length-map contents file_node) in
     let none : List ℕ = [] in
     let is : file_node (get_or contents i none) ≡ get_or (map file_node contents) i d = sym (get_or-map file_node contents i none d within) in
-    let size : length (get_or (map file_node contents) i d).content ≤ 274432 = h (suc i) d l in
+    let size : length (get_or (map file_node contents) i d).content ≤ largest_size = h (suc i) d l in
     let same : length (get_or contents i none) ≡ length (get_or (map file_node contents) i d).content = ap (λ (node : Node). length node.content) is in
     subst IsNode is (record { kind = first_of (omega arith, search rules); size = omega arith })

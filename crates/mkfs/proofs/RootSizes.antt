@@ -1,4 +1,5 @@
 -- How large the root is that names so many files.
+use Rattle.image_versions.specs.Shared.{largest_size}
 use Rattle.mkfs.proofs.Vocabulary.{◌≡◌, ℕ, ◌+◌, ◌-◌, ◌*◌, ◌/◌, ◌%◌, ◌^◌, ◌<◌, ◌≤◌, arith, blocks_for, root_size, Version, dirent_len_of, most_slots_of}
 use Rattle.image_versions.proofs.Places.{in_range, lie_apart, hold_entries, most_fit}
 
@@ -6,7 +7,7 @@ use Rattle.image_versions.proofs.Places.{in_range, lie_apart, hold_entries, most
 blocks-hold : (bytes : ℕ) → bytes ≤ 1024 * blocks_for bytes
 blocks-hold bytes = omega arith
 
-blocks-few : (bytes : ℕ) → bytes ≤ 274432 → 1024 * blocks_for bytes ≤ 274432
+blocks-few : (bytes : ℕ) → bytes ≤ largest_size → 1024 * blocks_for bytes ≤ largest_size
 blocks-few bytes h = omega arith
 
 -- its slots: its entries, and free ones
@@ -30,7 +31,7 @@ module _ (v : Version) (files : ℕ) where
       at-least : (a b c : ℕ) → a * 1 + a ≤ b → b ≤ c → 2 * a ≤ c
       at-least a b c h l = omega arith
 
-  pub few-bytes : 2 + files ≤ most_slots_of v → root_size v files ≤ 274432
+  pub few-bytes : 2 + files ≤ most_slots_of v → root_size v files ≤ largest_size
   few-bytes few = blocks-few (dirent_len_of v * (2 + files)) (most_fit v (2 + files) few)
 
 pub some-slots : (v : Version) → 2 ≤ most_slots_of v

@@ -1,4 +1,5 @@
 -- The check of sizes passes.
+use Rattle.image_versions.specs.Shared.{largest_size}
 use Rattle.mkfs.proofs.Vocabulary.{Version, dirent_len_of, ◌≡◌, ◌≢◌, ℕ, zero, suc, ◌+◌, ◌*◌, ◌%◌, ◌<◌, ◌≤◌, true, false, List, [], length, get_or, ap, ◌∙◌, sym, refl, subst, arith, All, false≢true, Super, Dinode, sizes_of, inode_of, is_number, is_free, numbers_of, block_number, IsFittingSize, IsGoodSize, HasGoodSizes, node_is, data_start, node_blocks, root_size, Node, root_node, nodes_with, inode_for, blocks_before}
 use Rattle.mkfs.proofs.RootSizes.{first-two, whole-slots}
 use Rattle.mkfs.proofs.Basics.{AreNodes, in-range, Shows, IsRange}
@@ -17,7 +18,7 @@ have-slots v root contents files h (suc j) n l =
     let is = file-at contents j n (omega arith) in
     subst (HasSlots v) (sym is) (record { slots = λ e. absurd (false≢true e) })
 
-fitting : (v : Version) (first : ℕ) (node : Node) → length node.content ≤ 274432 → HasSlots v node → IsFittingSize v (inode_for first node)
+fitting : (v : Version) (first : ℕ) (node : Node) → length node.content ≤ largest_size → HasSlots v node → IsFittingSize v (inode_for first node)
 unfolding inode_for
 fitting v first node few h = record { limit = few; slots = λ e _. h.slots e }
 

@@ -1,4 +1,5 @@
 -- Appending one part after another.
+use Rattle.image_versions.specs.Shared.{largest_size}
 use Rattle.mkfs.proofs.Vocabulary.{Version, ◌≡◌, ℕ, ◌+◌, ◌-◌, ◌<◌, ◌≤◌, List, [], ◌∷◌, ◌++◌, length, take, drop, map, get_or, sym, subst, ap, if◌then◌else◌, is_ok, Ok, Err, Result, OnOk, ◌∙◌, arith, append_assoc, All, flat_map, range_with_len, drop_more, get_or-map, length-map, sum_by-cons, spell_dinode, spell_dirent, spell_numbers, Used, blocks_for, node_blocks, file_blocks, NewFile, contents_of, names_of, entries_from, inodes_from, data_from, file_node, inode_for, node_bytes, padded, whole}
 use Rattle.mkfs.proofs.Basics.{node_bytes-large, whole-front}
 
@@ -49,9 +50,9 @@ pub name-at : (files : List NewFile) (i : ℕ) (file : NewFile) (name : List ℕ
 name-at files i file name same l e = same ∙ ap (λ (f : NewFile). f.name.items) e ∙ sym (get_or-map (λ (f : NewFile). f.name.items) files i file [] l)
 
 pub size-at : (files : List NewFile) (i : ℕ) (file : NewFile) (bytes : List ℕ) → bytes ≡ file.content.items
-    → All (λ content. length content ≤ 274432) (contents_of files) → i < length files → file ≡ get_or files i file → length bytes ≤ 274432
+    → All (λ content. length content ≤ largest_size) (contents_of files) → i < length files → file ≡ get_or files i file → length bytes ≤ largest_size
 size-at files i file bytes same h l e =
-    subst (λ (xs : List ℕ). length xs ≤ 274432) (sym same) (at-file (λ (f : NewFile). f.content.items) (λ content. length content ≤ 274432) files i file h l e)
+    subst (λ (xs : List ℕ). length xs ≤ largest_size) (sym same) (at-file (λ (f : NewFile). f.content.items) (λ content. length content ≤ largest_size) files i file h l e)
 
 -- the parts of a node with more than twelve blocks, as they are appended
 pub content-parts : (old content front rest : List ℕ) (first n : ℕ) → 12288 < length content

@@ -1,4 +1,5 @@
 -- What can be made fits its image.
+use Rattle.image_versions.specs.Shared.{largest_size}
 use Rattle.mkfs.proofs.Vocabulary.{Version, ◌≡◌, ℕ, zero, suc, ◌+◌, ◌<◌, ◌≤◌, ◌^◌, List, length, map, ap, ◌∙◌, sym, subst, arith, All, length-map, All-map, IsName, node_blocks, file_blocks, data_start, root_size, Node, nodes_with, file_node, used_by, root_content, CanBeMade}
 use Rattle.mkfs.proofs.RootSizes.{few-bytes, most-slots}
 use Rattle.mkfs.proofs.Basics.{used-parts, length-root_content, Fits, AreNodes}
@@ -11,9 +12,9 @@ root_long v size ninodes names contents many can =
     length-root_content v names few each ∙ ap (root_size v) many
 
 pub root_few : (v : Version) (size ninodes : ℕ) (names contents : List (List ℕ)) → length names ≡ length contents → CanBeMade v size ninodes names contents
-    → length (root_content v names) ≤ 274432
+    → length (root_content v names) ≤ largest_size
 root_few v size ninodes names contents many can =
-    subst (λ (n : ℕ). n ≤ 274432) (sym (root_long v size ninodes names contents many can)) (few-bytes v (length contents) can.0.0.1.few)
+    subst (λ (n : ℕ). n ≤ largest_size) (sym (root_long v size ninodes names contents many can)) (few-bytes v (length contents) can.0.0.1.few)
 
 pub room : (v : Version) (size ninodes : ℕ) (names contents : List (List ℕ)) → length names ≡ length contents → CanBeMade v size ninodes names contents
     → used_by (data_start ninodes) (nodes_with (root_content v names) contents) ≤ size
@@ -22,9 +23,9 @@ room v size ninodes names contents many can =
     let same = sym (used-parts first (root_content v names) contents) ∙ ap (λ (n : ℕ). first + node_blocks n + file_blocks contents) (root_long v size ninodes names contents many can) in
     subst (λ (n : ℕ). n ≤ size) (sym same) can.1
 
-each-node : (root : List ℕ) (contents : List (List ℕ)) → length root ≤ 274432 → All (λ content. length content ≤ 274432) contents → AreNodes (nodes_with root contents)
+each-node : (root : List ℕ) (contents : List (List ℕ)) → length root ≤ largest_size → All (λ content. length content ≤ largest_size) contents → AreNodes (nodes_with root contents)
 each-node root contents few h =
-    let files : AreNodes (map file_node contents) = All-map (λ (node : Node). length node.content ≤ 274432) file_node contents h in
+    let files : AreNodes (map file_node contents) = All-map (λ (node : Node). length node.content ≤ largest_size) file_node contents h in
     at files
   where
     at : AreNodes (map file_node contents) → AreNodes (nodes_with root contents)

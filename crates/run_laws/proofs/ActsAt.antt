@@ -1,4 +1,5 @@
 -- Each operation's program is marked at its first step or at its last one.
+use Rattle.inode_data.specs.Widths.{most_blocks}
 use Rattle.run_laws.proofs.Vocabulary.{◌≡◌, ◌⊎◌, inl, inr, ◌<◌, ◌+◌, ◌-◌, ◌*◌, ◌/◌, ◌≤◌, ◌==◌, min, nat_lt, if◌then◌else◌, ℕ, zero, suc, Bool, true, false, is_some, Option, Some, None, List, [], ◌∷◌, length, take, slice_index, refl, subst, arith, option_map, nat_tests, Dinode, IndexState, Loaded, no_index, Used, Super, dirent_at, spell_dirent, numbers_in, Cause, Name, same_name, Handover, Ret, Do, bind, unmarked, AfterLeave, first_below, first_clear_below, clear_bit, free_block, take_first, zero_found, FirstIs, first_is, LockedState, Locks, after_leave, commit_unless, commits, fetch, read_unless, inode_blocks, give_back, inode_block, load_unless, put_inode, store, Address, Direct, InTable, address, table_of, free_in_table, free_indirect, free_numbers, free_table, FilledMemory, blocks_between, end_of, fetch_at, fetch_block, fetch_named, fetch_number, filled_with, give_fetched, next_block, part_of, read_blocks, read_from, read_part, direct, WriteResult, front_of, locate, locate_at, locate_in_table, located, look_up, name_direct, name_in_table, put_part, store_written, take_one, with_address, with_table, write_blocks, write_in, write_part, Query, AtNothing, AtName, AtEntries, InodeType, ClaimResult, EntryResult, Wrote, Take, UnlockInode, UpStart, Up, WalkDown, Down, Free, Forget, Claim, Store, Fill, Enter, Clear, Empty, Slot, Install, StatFile, LockFile, ReadFile, CheckFile, JoinFile, LockOpen, WriteFile, Double, Shut, SetDirectory, Lend, LendDirectory, Release, Join, Leave, Say, give_content, dots, enter_in, entered_to, filled_to, if_none, look_last, put_grown, search_full, seek_full, Acts, acts, Apart, Carry, Emptied, Finds, Had, Has, NothingMore, Opened, HasInodes, claim_at, claim_from, clear_in, clear_slot, slot_found, slot_of, looked, number_found, learned, search_entries, seen_record, stat_loaded, stat_locked, file_locked, give_read, handlers, put_record, loaded_in, record_in, with_index, give_written, refused_in, write_unless, Found, Searched, slot_for, Aim, Named, Unused, block_count, found_at, found_in, is_directory, is_live_directory, look_at, lookup, most_slots, or_next, search, search_from, slot_count, slots_in, first_gap, first_of, free_below, index_room, index_raised, slots_known, with_entry, is_free, IsAtEnd, MarksLast, MarksNone, MarksOne, OperationsActFirstOrLast, block_len, dirent_len, dirents_per_block}
 use Rattle.group_log.specs.declared.log.AfterLeave.TheVariants as left
 use Rattle.fs_machine.specs.Inodes.{Refuses}
@@ -276,8 +277,8 @@ module _ {A : Type 0} (act : Acts) (then_ : Searched → P A) (full : (x : Index
 
   full_last : (l : Loaded) → MarksLast (bind (seek_full (Some act) l) then_)
   full_last l =
-      next_full (first_of Unused l.inode l.index) l.index (search_full (Some act) (267 - l.index.blocks) l.inode l.index.blocks) (λ f is. known_below l.inode l.index f is)
-      (blocks_full l.inode (267 - l.index.blocks) l.index.blocks)
+      next_full (first_of Unused l.inode l.index) l.index (search_full (Some act) (most_blocks - 1 - l.index.blocks) l.inode l.index.blocks) (λ f is. known_below l.inode l.index f is)
+      (blocks_full l.inode (most_blocks - 1 - l.index.blocks) l.index.blocks)
 
 -- ---- the operations
 

@@ -35,5 +35,5 @@ loop-k-preserved c =
 
 pub returns : goal.returns
 returns c =
-    let last : c.loop-k.k ≡ 16 = omega arith in
+    let last : c.loop-k.k ≡ inodes_per_block = omega arith in
     record { count = omega (arith, last, c.loop-k.invariant.few); numbers = c.loop-k.invariant.among ∙ ap (free_among c.args.ninodes (inodes_per_block * c.args.before) c.args.block.now) last }

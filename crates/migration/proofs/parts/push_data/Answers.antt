@@ -1,4 +1,5 @@
 use Rattle.std.proofs.Common.{◌≡◌, ◌∙◌, ap, arith, subst, sym, ℕ, ◌+◌, ◌≤◌, List, ◌++◌, length, drop, map}
+use Rattle.image_versions.specs.Shared.{largest_size}
 use Rattle.mkfs.proofs.Steps.{one_more}
 use Rattle.migration.specs.Vocabulary.{node_blocks, node_bytes}
 use Rattle.migration.specs.declared.node.NewNode.{NewNode}
@@ -9,7 +10,7 @@ use Rattle.migration.proofs.parts.push_data.Goals as goal
 
 pub push_content-requires-clause-size : goal.push_content-requires-clause-size
 push_content-requires-clause-size c =
-    subst (λ (bytes : List ℕ). length bytes ≤ 274432) (sym c.as_slice-content.ensures.value)
+    subst (λ (bytes : List ℕ). length bytes ≤ largest_size) (sym c.as_slice-content.ensures.value)
     (size-at c.args.nodes.now c.loop-node.node-index c.node-item.result c.requires.contents c.loop-node-test.true c.node-item.is)
 
 pub push_content-requires-clause-first : goal.push_content-requires-clause-first
@@ -18,11 +19,11 @@ push_content-requires-clause-first c = omega (arith, c.loop-node.invariant.0, fe
 pub node_blocks-requires : goal.node_blocks-requires
 node_blocks-requires c =
     let small = size-at c.args.nodes.now c.loop-node.node-index c.node-item.result c.requires.contents c.loop-node-test.true c.node-item.is in
-    omega (arith, subst (λ (bytes : List ℕ). length bytes ≤ 274432) (sym c.as_slice-content.ensures.value) small)
+    omega (arith, subst (λ (bytes : List ℕ). length bytes ≤ largest_size) (sym c.as_slice-content.ensures.value) small)
 
 few : (c : goal.After-node_blocks) → c.node_blocks.result ≤ 269
 few c =
-    c.node_blocks.ensures.few (subst (λ (bytes : List ℕ). length bytes ≤ 274432) (sym c.as_slice-content.ensures.value)
+    c.node_blocks.ensures.few (subst (λ (bytes : List ℕ). length bytes ≤ largest_size) (sym c.as_slice-content.ensures.value)
     (size-at c.args.nodes.now c.loop-node.node-index c.node-item.result c.requires.contents c.loop-node-test.true c.node-item.is))
 
 pub overflow_cast-at : goal.overflow_cast-at

@@ -1,3 +1,4 @@
+use Rattle.image_versions.specs.Shared.{largest_size}
 use Rattle.mkfs.proofs.Lemmas.{rules, ◌≡◌, ◌≤◌, ◌∙◌, ℕ, List, sym, subst, length, data_start, names_of, contents_of, image_of, nodes_with, used_by, is-made, same-length, root_few, room}
 use Rattle.mkfs.proofs.made.image_bytes.Goals as goal
 
@@ -5,7 +6,7 @@ pub push_parts-requires-clause-root : goal.push_parts-requires-clause-root
 push_parts-requires-clause-root c =
     let is = c.as_slice.ensures.value ∙ c.in_ok-root.ensures in
     let few = root_few c.args.version c.args.size c.args.ninodes (names_of c.args.files.now) (contents_of c.args.files.now) (same-length c.args.files.now) c.requires in
-    subst (λ (root : List ℕ). length root ≤ 274432) (sym is) few
+    subst (λ (root : List ℕ). length root ≤ largest_size) (sym is) few
 
 pub push_parts-requires-clause-blocks : goal.push_parts-requires-clause-blocks
 push_parts-requires-clause-blocks c =
