@@ -3,6 +3,7 @@ use Rattle.std.proofs.Common.{◌≡◌, ◌↔◌, ◌∙◌, IsTrue, sym, refl
 use Rattle.std.proofs.lemmas.List.{length-map, length-replicate, length-take}
 use Rattle.std.proofs.lemmas.List.Elements.{All-append, All-cons, All-nil}
 use Rattle.std.specs.Prelude.{All}
+use Rattle.fs_layout.specs.Widths.{block_len}
 use Rattle.image_versions.specs.Shared.{largest_size}
 use Rattle.image_versions.specs.declared.version.Version.{Version}
 use Rattle.image_versions.proofs.Places.{most_fit}
@@ -53,7 +54,7 @@ small_directory w v disk d later few =
 small_content : (w v : Version) (disk : List (List ℕ)) (d : Dinode) (is : Bool) → is_directory d ≡ is → IsLater w v → d.size ≤ largest_size
     → (is_directory d ≡ true → d.size / dirent_len_of w ≤ most_slots_of v) → length (content_as w v disk d) ≤ largest_size
 small_content w v disk d true e later small few = rw e (small_directory w v disk d later (few e))
-small_content w v disk d false e later small few = rw e (omega (arith, small, length-take d.size (front_blocks disk d ((d.size + 1023) / 1024))))
+small_content w v disk d false e later small few = rw e (omega (arith, small, length-take d.size (front_blocks disk d ((d.size + 1023) / block_len))))
 
 small_node : (w v : Version) (disk : List (List ℕ)) (i : ℕ) (is : Bool) → (is_node disk i && is_live (inode_of disk i)) ≡ is → IsWellFormed w disk → IsLater w v
     → HasGoodDirectories w v disk → length (new_node w v disk i).content ≤ largest_size

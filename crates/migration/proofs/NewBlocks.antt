@@ -3,6 +3,7 @@ use Rattle.std.proofs.Common.{◌≡◌, ◌∙◌, sym, refl, ap, subst, arith,
 use Rattle.std.proofs.lemmas.List.{drop-append-le, drop-drop, drop_at, get_or_past, take-append-le}
 use Rattle.std.proofs.lemmas.List.Elements.{All-cons, All-nil}
 use Rattle.std.proofs.lemmas.Bool.{cases_lt}
+use Rattle.fs_layout.specs.Widths.{block_len, inode_len, inodes_per_block}
 use Rattle.block_device.specs.Blocks.{block_at}
 use Rattle.block_device.specs.BlockLaws.{get_or-blocks_of, length-blocks_of}
 use Rattle.image_versions.specs.declared.version.Version.{Version}
@@ -34,54 +35,54 @@ pub count-inodes : (first : ℕ) (nodes : List Node) → length (inodes_from fir
 count-inodes first [] = refl
 count-inodes first (node ∷ nodes) = ap suc (count-inodes (first + blocks_of_node node) nodes)
 
-pub long-inodes : (first : ℕ) (nodes : List Node) → AreLong spell_dinode 64 (inodes_from first nodes)
-long-inodes first [] = All-nil (λ (d : Dinode). length (spell_dinode d) ≡ 64)
+pub long-inodes : (first : ℕ) (nodes : List Node) → AreLong spell_dinode inode_len (inodes_from first nodes)
+long-inodes first [] = All-nil (λ (d : Dinode). length (spell_dinode d) ≡ inode_len)
 long-inodes first (node ∷ nodes) =
     let behind : ℕ = first + blocks_of_node node in
-    All-cons (λ (d : Dinode). length (spell_dinode d) ≡ 64) (inode_for first node) (inodes_from behind nodes)
+    All-cons (λ (d : Dinode). length (spell_dinode d) ≡ inode_len) (inode_for first node) (inodes_from behind nodes)
     (length-spell_dinode (inode_for first node) (length-addrs first node)) (long-inodes behind nodes)
 
-pub length-inodes : (first : ℕ) (nodes : List Node) → length (flat_map spell_dinode (inodes_from first nodes)) ≡ 64 * length nodes
-length-inodes first nodes = length-records spell_dinode 64 (inodes_from first nodes) (long-inodes first nodes) ∙ ap (λ (n : ℕ). 64 * n) (count-inodes first nodes)
+pub length-inodes : (first : ℕ) (nodes : List Node) → length (flat_map spell_dinode (inodes_from first nodes)) ≡ inode_len * length nodes
+length-inodes first nodes = length-records spell_dinode inode_len (inodes_from first nodes) (long-inodes first nodes) ∙ ap (λ (n : ℕ). inode_len * n) (count-inodes first nodes)
 
-length-table : (ninodes first : ℕ) (nodes : List Node) → 1 + length nodes ≤ 16 * inode_blocks ninodes
-    → length (inode_table ninodes first nodes) ≡ 1024 * inode_blocks ninodes
+length-table : (ninodes first : ℕ) (nodes : List Node) → 1 + length nodes ≤ inodes_per_block * inode_blocks ninodes
+    → length (inode_table ninodes first nodes) ≡ block_len * inode_blocks ninodes
 unfolding inode_table
 length-table ninodes first nodes h =
     let some : List ℕ = flat_map spell_dinode (inodes_from first nodes) in
-    let free : ℕ = 64 * (16 * inode_blocks ninodes - (1 + length nodes)) in
-    omega (arith, length-append (replicate 64 0 ++ some) (replicate free 0), length-append (replicate 64 0) some, length-inodes first nodes, length-zeros 64, length-zeros free)
+    let free : ℕ = inode_len * (inodes_per_block * inode_blocks ninodes - (1 + length nodes)) in
+    omega (arith, length-append (replicate inode_len 0 ++ some) (replicate free 0), length-append (replicate inode_len 0) some, length-inodes first nodes, length-zeros inode_len, length-zeros free)
 
 -- ---- blocks beside a part that is exchanged
 
-block-before : (a rest : List ℕ) (k : ℕ) → 1024 * k + 1024 ≤ length a → take 1024 (drop (1024 * k) (a ++ rest)) ≡ take 1024 (drop (1024 * k) a)
+block-before : (a rest : List ℕ) (k : ℕ) → block_len * k + block_len ≤ length a → take block_len (drop (block_len * k) (a ++ rest)) ≡ take block_len (drop (block_len * k) a)
 block-before a rest k h =
-    ap (take 1024) (drop-append-le (1024 * k) a rest (omega arith))
-    ∙ take-append-le 1024 (drop (1024 * k) a) rest (omega (arith, length-drop (1024 * k) a))
+    ap (take block_len) (drop-append-le (block_len * k) a rest (omega arith))
+    ∙ take-append-le block_len (drop (block_len * k) a) rest (omega (arith, length-drop (block_len * k) a))
 
-block-behind : (a rest : List ℕ) (n k : ℕ) → length a ≡ 1024 * n → take 1024 (drop (1024 * (n + k)) (a ++ rest)) ≡ take 1024 (drop (1024 * k) rest)
+block-behind : (a rest : List ℕ) (n k : ℕ) → length a ≡ block_len * n → take block_len (drop (block_len * (n + k)) (a ++ rest)) ≡ take block_len (drop (block_len * k) rest)
 block-behind a rest n k h =
-    let place : 1024 * (n + k) ≡ 1024 * n + 1024 * k = omega arith in
-    ap (λ (i : ℕ). take 1024 (drop i (a ++ rest))) place
-    ∙ ap (take 1024) (sym (drop-drop (1024 * k) (1024 * n) (a ++ rest)) ∙ ap (drop (1024 * k)) (drop_at a rest (1024 * n) h))
+    let place : block_len * (n + k) ≡ block_len * n + block_len * k = omega arith in
+    ap (λ (i : ℕ). take block_len (drop i (a ++ rest))) place
+    ∙ ap (take block_len) (sym (drop-drop (block_len * k) (block_len * n) (a ++ rest)) ∙ ap (drop (block_len * k)) (drop_at a rest (block_len * n) h))
 
-block-beside : (f t s r : List ℕ) (n m b : ℕ) → length f ≡ 1024 * n → length t ≡ 1024 * m → length s ≡ 1024 * m → (b < n) ⊎ (n + m ≤ b)
-    → take 1024 (drop (1024 * b) (f ++ (t ++ r))) ≡ take 1024 (drop (1024 * b) (f ++ (s ++ r)))
+block-beside : (f t s r : List ℕ) (n m b : ℕ) → length f ≡ block_len * n → length t ≡ block_len * m → length s ≡ block_len * m → (b < n) ⊎ (n + m ≤ b)
+    → take block_len (drop (block_len * b) (f ++ (t ++ r))) ≡ take block_len (drop (block_len * b) (f ++ (s ++ r)))
 block-beside f t s r n m b lf lt ls where_ =
     ⊎_elim
     (λ (before : b < n).
-    let within : 1024 * b + 1024 ≤ length f = omega (arith, lf) in
+    let within : block_len * b + block_len ≤ length f = omega (arith, lf) in
     block-before f (t ++ r) b within ∙ sym (block-before f (s ++ r) b within))
     (λ (past : n + m ≤ b).
     let k : ℕ = b - (n + m) in
     let place : n + m + k ≡ b = omega arith in
-    let one : length (f ++ t) ≡ 1024 * (n + m) = omega (arith, length-append f t, lf, lt) in
-    let two : length (f ++ s) ≡ 1024 * (n + m) = omega (arith, length-append f s, lf, ls) in
-    subst (λ (c : ℕ). take 1024 (drop (1024 * c) (f ++ (t ++ r))) ≡ take 1024 (drop (1024 * c) (f ++ (s ++ r)))) place
-    (ap (λ (xs : List ℕ). take 1024 (drop (1024 * (n + m + k)) xs)) (sym (append_assoc f t r))
+    let one : length (f ++ t) ≡ block_len * (n + m) = omega (arith, length-append f t, lf, lt) in
+    let two : length (f ++ s) ≡ block_len * (n + m) = omega (arith, length-append f s, lf, ls) in
+    subst (λ (c : ℕ). take block_len (drop (block_len * c) (f ++ (t ++ r))) ≡ take block_len (drop (block_len * c) (f ++ (s ++ r)))) place
+    (ap (λ (xs : List ℕ). take block_len (drop (block_len * (n + m + k)) xs)) (sym (append_assoc f t r))
     ∙ block-behind (f ++ t) r (n + m) k one
     ∙ sym (block-behind (f ++ s) r (n + m) k two)
-    ∙ ap (λ (xs : List ℕ). take 1024 (drop (1024 * (n + m + k)) xs)) (append_assoc f s r)))
+    ∙ ap (λ (xs : List ℕ). take block_len (drop (block_len * (n + m + k)) xs)) (append_assoc f s r)))
     where_
 
 -- ---- of the image
@@ -91,7 +92,7 @@ regroup f t b d e = simp append_assoc
 
 -- what stands behind the inodes
 behind : ℕ → ℕ → List Node → List ℕ
-behind size first nodes = bitmap (used_by first nodes) ++ (data_from first nodes ++ replicate (1024 * (size - used_by first nodes)) 0)
+behind size first nodes = bitmap (used_by first nodes) ++ (data_from first nodes ++ replicate (block_len * (size - used_by first nodes)) 0)
 
 new-split : (v : Version) (size ninodes : ℕ) (nodes : List Node)
     → image_with v size ninodes nodes ≡ front v size ninodes ++ (inode_table ninodes (data_start ninodes) nodes ++ behind size (data_start ninodes) nodes)
@@ -99,7 +100,7 @@ unfolding image_with behind
 new-split v size ninodes nodes =
     let first : ℕ = data_start ninodes in
     regroup (front v size ninodes) (inode_table ninodes first nodes) (bitmap (used_by first nodes)) (data_from first nodes)
-    (replicate (1024 * (size - used_by first nodes)) 0)
+    (replicate (block_len * (size - used_by first nodes)) 0)
 
 files-split : (v : Version) (size ninodes : ℕ) (nodes : List Node)
     → image_of_files v size ninodes (plains nodes)
@@ -109,18 +110,18 @@ files-split v size ninodes nodes =
     let first : ℕ = data_start ninodes in
     let f : List ℕ = front v size ninodes in
     let t : List ℕ = table_of_files ninodes first (plains nodes) in
-    ap (λ (n : ℕ). (((f ++ t) ++ bitmap n) ++ files_from first (plains nodes)) ++ replicate (1024 * (size - n)) 0) (used-same first nodes)
-    ∙ ap (λ (xs : List ℕ). (((f ++ t) ++ bitmap (used_by first nodes)) ++ xs) ++ replicate (1024 * (size - used_by first nodes)) 0) (data-same first nodes)
-    ∙ regroup f t (bitmap (used_by first nodes)) (data_from first nodes) (replicate (1024 * (size - used_by first nodes)) 0)
+    ap (λ (n : ℕ). (((f ++ t) ++ bitmap n) ++ files_from first (plains nodes)) ++ replicate (block_len * (size - n)) 0) (used-same first nodes)
+    ∙ ap (λ (xs : List ℕ). (((f ++ t) ++ bitmap (used_by first nodes)) ++ xs) ++ replicate (block_len * (size - used_by first nodes)) 0) (data-same first nodes)
+    ∙ regroup f t (bitmap (used_by first nodes)) (data_from first nodes) (replicate (block_len * (size - used_by first nodes)) 0)
 
 module _ (v : Version) (size ninodes : ℕ) (nodes : List Node) (h : IsLaid size ninodes nodes) where
-  long-new-table : length (inode_table ninodes (data_start ninodes) nodes) ≡ 1024 * inode_blocks ninodes
+  long-new-table : length (inode_table ninodes (data_start ninodes) nodes) ≡ block_len * inode_blocks ninodes
   long-new-table = length-table ninodes (data_start ninodes) nodes (omega (arith, h.count))
 
-  long-files-table : length (table_of_files ninodes (data_start ninodes) (plains nodes)) ≡ 1024 * inode_blocks ninodes
+  long-files-table : length (table_of_files ninodes (data_start ninodes) (plains nodes)) ≡ block_len * inode_blocks ninodes
   long-files-table = length-table_of_files ninodes (data_start ninodes) (plains nodes) (omega (arith, h.count, plain-count nodes))
 
-  length-new : length (image_with v size ninodes nodes) ≡ 1024 * size
+  length-new : length (image_with v size ninodes nodes) ≡ block_len * size
   length-new =
       let f : List ℕ = front v size ninodes in
       let t : List ℕ = inode_table ninodes (data_start ninodes) nodes in
@@ -136,7 +137,7 @@ module _ (v : Version) (size ninodes : ℕ) (nodes : List Node) (h : IsLaid size
   pub length-disk : length (new_disk v size ninodes nodes) ≡ size
   length-disk = omega (arith, length-blocks_of (image_with v size ninodes nodes), length-new, h.few)
 
-  pub block-new : (b : ℕ) → b < size → block_at (new_disk v size ninodes nodes) b ≡ take 1024 (drop (1024 * b) (image_with v size ninodes nodes))
+  pub block-new : (b : ℕ) → b < size → block_at (new_disk v size ninodes nodes) b ≡ take block_len (drop (block_len * b) (image_with v size ninodes nodes))
   block-new b l = get_or-blocks_of (image_with v size ninodes nodes) [] b (omega (arith, length-disk))
 
   length-files : length (files_disk v size ninodes nodes) ≡ size
@@ -152,10 +153,10 @@ module _ (v : Version) (size ninodes : ℕ) (nodes : List Node) (h : IsLaid size
       ⊎_elim
       (λ (l : b < size).
       block-new b l
-      ∙ ap (λ (xs : List ℕ). take 1024 (drop (1024 * b) xs)) (new-split v size ninodes nodes)
+      ∙ ap (λ (xs : List ℕ). take block_len (drop (block_len * b) xs)) (new-split v size ninodes nodes)
       ∙ block-beside (front v size ninodes) (inode_table ninodes (data_start ninodes) nodes) (table_of_files ninodes (data_start ninodes) (plains nodes))
       (behind size (data_start ninodes) nodes) 33 (inode_blocks ninodes) b (omega (arith, length-front v size ninodes)) long-new-table long-files-table beside
-      ∙ ap (λ (xs : List ℕ). take 1024 (drop (1024 * b) xs)) (sym (files-split v size ninodes nodes))
+      ∙ ap (λ (xs : List ℕ). take block_len (drop (block_len * b) xs)) (sym (files-split v size ninodes nodes))
       ∙ sym (get_or-blocks_of (image_of_files v size ninodes (plains nodes)) [] b (omega (arith, length-files))))
       (λ (m : size ≤ b).
       get_or_past (new_disk v size ninodes nodes) b [] (omega (arith, length-disk))

@@ -3,6 +3,7 @@ use Rattle.std.proofs.Common.{◌≡◌, ◌∙◌, sym, refl, ap, subst, arith,
 use Rattle.std.proofs.lemmas.List.{take_all, take_at, take_more, take-take}
 use Rattle.std.proofs.Math.Seq.{take-add}
 use Rattle.std.specs.Prelude.{All}
+use Rattle.fs_layout.specs.Widths.{block_len}
 use Rattle.image_versions.specs.Versions.{dirents_per_block_of}
 use Rattle.image_versions.specs.declared.version.Version.{Version}
 use Rattle.image_versions.proofs.Places.{count_slots, in_their_blocks, in_their_content, inside}
@@ -16,25 +17,25 @@ use Rattle.migration.specs.Nodes.{spell_slot, spell_slots}
 
 -- the blocks of a content, with zeros behind it
 abbrev pub HasContent : List (List ℕ) → Dinode → List ℕ → Type 0
-HasContent disk d content = (k : ℕ) → 1024 * k < length content → content_block disk d k ≡ take 1024 (drop (1024 * k) (whole content))
+HasContent disk d content = (k : ℕ) → block_len * k < length content → content_block disk d k ≡ take block_len (drop (block_len * k) (whole content))
 
 -- ---- bytes
 
 front-are : (disk : List (List ℕ)) (d : Dinode) (content : List ℕ) (n : ℕ) → n ≤ blocks_for (length content) → HasContent disk d content
-    → front_blocks disk d n ≡ take (1024 * n) (whole content)
+    → front_blocks disk d n ≡ take (block_len * n) (whole content)
 unfolding front_blocks
 front-are disk d content zero h at = refl
 front-are disk d content (suc n) h at =
     let bytes : List ℕ = whole content in
-    let count : 1024 * n + 1024 ≡ 1024 * suc n = omega arith in
+    let count : block_len * n + block_len ≡ block_len * suc n = omega arith in
     ap (λ (xs : List ℕ). xs ++ content_block disk d n) (front-are disk d content n (omega arith) at)
-    ∙ ap (λ (xs : List ℕ). take (1024 * n) bytes ++ xs) (at n (omega arith))
-    ∙ sym (take-add (1024 * n) 1024 bytes)
+    ∙ ap (λ (xs : List ℕ). take (block_len * n) bytes ++ xs) (at n (omega arith))
+    ∙ sym (take-add (block_len * n) block_len bytes)
     ∙ ap (λ (k : ℕ). take k bytes) count
 
 take-whole : (bytes : List ℕ) → take (length bytes) (whole bytes) ≡ bytes
 unfolding whole padded
-take-whole bytes = take_at bytes (replicate (1024 * blocks_for (length bytes) - length bytes) 0) (length bytes) refl
+take-whole bytes = take_at bytes (replicate (block_len * blocks_for (length bytes) - length bytes) 0) (length bytes) refl
 
 pub content-read : (disk : List (List ℕ)) (d : Dinode) (content : List ℕ) → d.size ≡ length content → HasContent disk d content → content_of disk d ≡ content
 content-read disk d content size at =
@@ -42,7 +43,7 @@ content-read disk d content size at =
     let same : n ≤ n = omega arith in
     ap (λ (k : ℕ). take k (front_blocks disk d (blocks_for k))) size
     ∙ ap (take (length content)) (front-are disk d content n same at)
-    ∙ take-take (length content) (1024 * n) (whole content) (omega arith)
+    ∙ take-take (length content) (block_len * n) (whole content) (omega arith)
     ∙ take-whole content
 
 -- ---- slots
@@ -71,7 +72,7 @@ pub count-spelled : (v : Version) (slots : List (Option Dirent)) → All (IsRead
 count-spelled v slots h = ap (λ (n : ℕ). n / dirent_len_of v) (length-spelled v slots h) ∙ (count_slots v (length slots)).0
 
 entry-there : (v : Version) (slots : List (Option Dirent)) (s : ℕ) (rest : List ℕ) → All (IsRead v) slots → s < length slots
-    → dirent_at v (s % dirents_per_block_of v) (take 1024 (drop (1024 * (s / dirents_per_block_of v)) (spell_slots v slots ++ rest))) ≡ get_or slots s None
+    → dirent_at v (s % dirents_per_block_of v) (take block_len (drop (block_len * (s / dirents_per_block_of v)) (spell_slots v slots ++ rest))) ≡ get_or slots s None
 entry-there v slots s rest h l =
     let bytes : List ℕ = spell_slots v slots ++ rest in
     let width : ℕ = dirent_len_of v in
@@ -79,7 +80,7 @@ entry-there v slots s rest h l =
     let block : ℕ = s / dirents_per_block_of v in
     let stands = in_their_blocks v s in
     ap (dirent_of v)
-    (part-of-part bytes width (width * here) 1024 (1024 * block) (width * s) (inside v here stands.0) (sym stands.1)
+    (part-of-part bytes width (width * here) block_len (block_len * block) (width * s) (inside v here stands.0) (sym stands.1)
     ∙ record-there (spell_slot v) (dirent_len_of v) slots s None rest (long-slots v slots h) l)
     ∙ slot-read v (get_or slots s None) (h s None l)
 
@@ -88,10 +89,10 @@ slot-there : (v : Version) (disk : List (List ℕ)) (d : Dinode) (slots : List (
 unfolding slot_at whole padded
 slot-there v disk d slots s h at l =
     let content : List ℕ = spell_slots v slots in
-    let rest : List ℕ = replicate (1024 * blocks_for (length content) - length content) 0 in
+    let rest : List ℕ = replicate (block_len * blocks_for (length content) - length content) 0 in
     let block : ℕ = s / dirents_per_block_of v in
     let below : s < length content / dirent_len_of v = subst (λ (n : ℕ). s < n) (sym (count-spelled v slots h)) l in
-    let within : 1024 * block < length content = (in_their_content v s (length content) below).1 in
+    let within : block_len * block < length content = (in_their_content v s (length content) below).1 in
     ap (dirent_at v (s % dirents_per_block_of v)) (at block within) ∙ entry-there v slots s rest h l
 
 first-are : (v : Version) (disk : List (List ℕ)) (d : Dinode) (slots : List (Option Dirent)) (n : ℕ) → n ≤ length slots

@@ -1,6 +1,7 @@
 -- A migrated image has the live nodes of the old one, each with its number.
 use Rattle.std.proofs.Common.{◌≡◌, ◌≢◌, ◌∙◌, sym, refl, ap, subst, arith, true, false, ◌&&◌, ℕ, ℤ, pos, ◌+◌, ◌*◌, ◌%◌, ◌<◌, ◌≤◌, ◌<ℤ◌, ◌≤ℤ◌, List, length, get_or, map, Option, All}
 use Rattle.std.proofs.lemmas.Bool.{false_from_ne_true, false≢true}
+use Rattle.fs_layout.specs.Widths.{block_len}
 use Rattle.image_versions.specs.Shared.{largest_size}
 use Rattle.image_versions.specs.declared.version.Version.{Version}
 use Rattle.image_versions.proofs.Places.{count_slots, lie_apart}
@@ -45,7 +46,7 @@ says_fields first node = record { kind = refl; major = refl; minor = refl; nlink
 record IsNew (disk : List (List ℕ)) (i : ℕ) (node : Node) : Type 0 where
   says : IsInodeOf (inode_of disk i) node
   content : HasContent disk (inode_of disk i) node.content
-  named : (k : ℕ) → 1024 * k < length node.content → block_number (numbers_of disk (inode_of disk i)) k ≢ 0
+  named : (k : ℕ) → block_len * k < length node.content → block_number (numbers_of disk (inode_of disk i)) k ≢ 0
 
 -- ---- kinds
 
@@ -325,5 +326,5 @@ module _ (w v : Version) (size : ℕ) (disk : List (List ℕ)) (whole : HasWhole
           slots = λ directory live.
               slots_fit i (directory_from disk i (record { low = old.low; bound = old.bound; directory = sym (ap (is_number 1) new.says.kind) ∙ directory; live = was.1 }));
         };
-        named = λ k below. new.named k (subst (λ (n : ℕ). 1024 * k < n) new.says.size below);
+        named = λ k below. new.named k (subst (λ (n : ℕ). block_len * k < n) new.says.size below);
       }

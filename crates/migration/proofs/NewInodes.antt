@@ -3,6 +3,8 @@ use Rattle.std.proofs.Common.{◌≡◌, ◌∙◌, sym, ap, arith, ℕ, zero, s
 use Rattle.std.proofs.lemmas.List.{drop-drop, drop_at}
 use Rattle.std.proofs.lemmas.List.Sums.{sum_by-cons}
 use Rattle.std.specs.Prelude.{All}
+use Rattle.image_versions.specs.Shared.{addresses}
+use Rattle.fs_layout.specs.Widths.{block_len, inode_len, inodes_per_block}
 use Rattle.image_versions.specs.declared.version.Version.{Version}
 use Rattle.fs_layout.specs.Inode.{IsDinode, dinode_at, dinode_of}
 use Rattle.fs_layout.specs.declared.superblock.Super.{Super}
@@ -37,7 +39,7 @@ inode-in first (node ∷ nodes) (suc j) n d h =
 good-inode : (first : ℕ) (node : Node) → first < 2 ^ 31 → IsSound node → IsDinode (inode_for first node)
 unfolding inode_for padded
 good-inode first node f h =
-    let k : ℕ = min (blocks_of_node node) 13 in
+    let k : ℕ = min (blocks_of_node node) addresses in
     let numbers : List ℕ = range_with_len first k in
     record {
       kind = h.kind;
@@ -46,7 +48,7 @@ good-inode first node f h =
       nlink = h.nlink;
       size = omega (arith, h.size);
       thirteen = length-addrs first node;
-      addrs = all-append numbers (replicate (13 - length numbers) 0) (all-range first k (omega arith)) (all-zeros (13 - length numbers));
+      addrs = all-append numbers (replicate (addresses - length numbers) 0) (all-range first k (omega arith)) (all-zeros (addresses - length numbers));
     }
 
 good-inodes : (first : ℕ) (nodes : List Node) (j : ℕ) (d : Dinode) → j < length nodes → first + sum_by blocks_of_node nodes < 2 ^ 31 → All IsSound nodes
@@ -63,21 +65,21 @@ regroup : (f z i r b d e : List ℕ) → (((f ++ ((z ++ i) ++ r)) ++ b) ++ d) ++
 regroup f z i r b d e = simp append_assoc
 
 table-at : (v : Version) (size ninodes : ℕ) (nodes : List Node) (j : ℕ) (d : Dinode) → j < length nodes
-    → take 64 (drop (33856 + 64 * j) (image_with v size ninodes nodes)) ≡ spell_dinode (get_or (inodes_from (data_start ninodes) nodes) j d)
+    → take inode_len (drop (33856 + inode_len * j) (image_with v size ninodes nodes)) ≡ spell_dinode (get_or (inodes_from (data_start ninodes) nodes) j d)
 unfolding image_with inode_table
 table-at v size ninodes nodes j d h =
     let first : ℕ = data_start ninodes in
     let used : ℕ = used_by first nodes in
     let f : List ℕ = front v size ninodes in
-    let z : List ℕ = replicate 64 0 in
+    let z : List ℕ = replicate inode_len 0 in
     let i : List ℕ = flat_map spell_dinode (inodes_from first nodes) in
-    let r : List ℕ = replicate (64 * (16 * inode_blocks ninodes - (1 + length nodes))) 0 in
-    let e : List ℕ = replicate (1024 * (size - used)) 0 in
+    let r : List ℕ = replicate (inode_len * (inodes_per_block * inode_blocks ninodes - (1 + length nodes))) 0 in
+    let e : List ℕ = replicate (block_len * (size - used)) 0 in
     let rest : List ℕ = r ++ (bitmap used ++ (data_from first nodes ++ e)) in
-    let long : length (f ++ z) ≡ 33856 = omega (arith, length-append f z, length-front v size ninodes, length-zeros 64) in
-    ap (λ (xs : List ℕ). take 64 (drop (33856 + 64 * j) xs)) (regroup f z i r (bitmap used) (data_from first nodes) e)
-    ∙ ap (take 64) (sym (drop-drop (64 * j) 33856 ((f ++ z) ++ (i ++ rest))) ∙ ap (drop (64 * j)) (drop_at (f ++ z) (i ++ rest) 33856 long))
-    ∙ record-there spell_dinode 64 (inodes_from first nodes) j d rest (long-inodes first nodes) (omega (arith, count-inodes first nodes))
+    let long : length (f ++ z) ≡ 33856 = omega (arith, length-append f z, length-front v size ninodes, length-zeros inode_len) in
+    ap (λ (xs : List ℕ). take inode_len (drop (33856 + inode_len * j) xs)) (regroup f z i r (bitmap used) (data_from first nodes) e)
+    ∙ ap (take inode_len) (sym (drop-drop (inode_len * j) 33856 ((f ++ z) ++ (i ++ rest))) ∙ ap (drop (inode_len * j)) (drop_at (f ++ z) (i ++ rest) 33856 long))
+    ∙ record-there spell_dinode inode_len (inodes_from first nodes) j d rest (long-inodes first nodes) (omega (arith, count-inodes first nodes))
 
 -- node j of the list is inode j + 1
 pub inode-new : (v : Version) (size ninodes : ℕ) (nodes : List Node) (j : ℕ) (n : Node) → IsLaid size ninodes nodes → j < length nodes
@@ -86,15 +88,15 @@ unfolding inode_of
 inode-new v size ninodes nodes j n h l =
     let disk : List (List ℕ) = new_disk v size ninodes nodes in
     let d : Dinode = inode_for 0 n in
-    let q : ℕ = 33 + (j + 1) / 16 in
-    let r : ℕ = (j + 1) % 16 in
+    let q : ℕ = 33 + (j + 1) / inodes_per_block in
+    let r : ℕ = (j + 1) % inodes_per_block in
     let there : Dinode = get_or (inodes_from (data_start ninodes) nodes) j d in
-    let low : 64 * r + 64 ≤ 1024 = omega arith in
+    let low : inode_len * r + inode_len ≤ block_len = omega arith in
     let within : q < size = omega (arith, h.count, h.room) in
-    let place : 1024 * q + 64 * r ≡ 33856 + 64 * j = omega arith in
+    let place : block_len * q + inode_len * r ≡ 33856 + inode_len * j = omega arith in
     let few : data_start ninodes + sum_by blocks_of_node nodes < 2 ^ 31 = omega (arith, h.room, h.few) in
-    ap (λ (s : Super). dinode_at r (recovered disk (s.inodestart + (j + 1) / 16))) (sizes-new v size ninodes nodes h)
+    ap (λ (s : Super). dinode_at r (recovered disk (s.inodestart + (j + 1) / inodes_per_block))) (sizes-new v size ninodes nodes h)
     ∙ ap (dinode_at r) (recovered-new v size ninodes nodes h q ∙ block-new v size ninodes nodes h q within)
-    ∙ ap dinode_of (part-of-part (image_with v size ninodes nodes) 64 (64 * r) 1024 (1024 * q) (33856 + 64 * j) low place ∙ table-at v size ninodes nodes j d l)
+    ∙ ap dinode_of (part-of-part (image_with v size ninodes nodes) inode_len (inode_len * r) block_len (block_len * q) (33856 + inode_len * j) low place ∙ table-at v size ninodes nodes j d l)
     ∙ dinode_of-spell there (good-inodes (data_start ninodes) nodes j d l few h.each)
     ∙ inode-in (data_start ninodes) nodes j n d l

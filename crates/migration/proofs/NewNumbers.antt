@@ -1,6 +1,7 @@
 -- The blocks that the nodes of a new image name, and what stands in them.
 use Rattle.std.proofs.Common.{◌≡◌, ◌≢◌, ◌∙◌, sym, refl, ap, subst, arith, true, false, if◌then◌else◌, ◌==◌, ◌⊎◌, inl, inr, ⊎_elim, ℕ, zero, suc, ◌+◌, ◌-◌, ◌*◌, ◌<◌, ◌≤◌, List, [], ◌++◌, length, take, drop, get_or, filter, slice_index, All}
 use Rattle.std.proofs.lemmas.List.Elements.{All-nil}
+use Rattle.fs_layout.specs.Widths.{block_len}
 use Rattle.image_versions.specs.declared.version.Version.{Version}
 use Rattle.fs_layout.specs.Bits.{bit_of}
 use Rattle.fs_layout.specs.Bytes.{u32_at}
@@ -206,24 +207,24 @@ module _ (v : Version) (size ninodes : ℕ) (nodes : List Node) (h : IsLaid size
 
   -- ---- the blocks of a content
 
-  in-file : (j k : ℕ) (n : Node) → j < length nodes → 1024 * k < length (get_or nodes j n).content → 1024 * k < length (get_or (plains nodes) j none).content
-  in-file j k n l below = subst (λ (file : File). 1024 * k < length file.content) (sym (plain-at nodes j n none l)) below
+  in-file : (j k : ℕ) (n : Node) → j < length nodes → block_len * k < length (get_or nodes j n).content → block_len * k < length (get_or (plains nodes) j none).content
+  in-file j k n l below = subst (λ (file : File). block_len * k < length file.content) (sym (plain-at nodes j n none l)) below
 
-  number-files : (j k : ℕ) (n : Node) → j < length nodes → 1024 * k < length (get_or nodes j n).content
+  number-files : (j k : ℕ) (n : Node) → j < length nodes → block_len * k < length (get_or nodes j n).content
       → block_number (numbers_of of_files (inode_of of_files (j + 1))) k ≡ place_of (data_start ninodes) nodes j + place k
   number-files j k n l below =
       block_number-there v size ninodes (plains nodes) j k none h.many fits (plains-are size ninodes nodes h) (within j l) (in-file j k n l below)
 
-  number-new : (j k : ℕ) (n : Node) → j < length nodes → 1024 * k < length (get_or nodes j n).content
+  number-new : (j k : ℕ) (n : Node) → j < length nodes → block_len * k < length (get_or nodes j n).content
       → block_number (numbers_of made (inode_of made (j + 1))) k ≡ place_of (data_start ninodes) nodes j + place k
   number-new j k n l below = ap (λ (numbers : List ℕ). block_number numbers k) (numbers-new j l) ∙ number-files j k n l below
 
-  pub named-new : (j k : ℕ) (n : Node) → j < length nodes → 1024 * k < length (get_or nodes j n).content
+  pub named-new : (j k : ℕ) (n : Node) → j < length nodes → block_len * k < length (get_or nodes j n).content
       → block_number (numbers_of made (inode_of made (j + 1))) k ≢ 0
   named-new j k n l below e = absurd (omega (arith, number-new j k n l below, e))
 
-  pub content-new : (j k : ℕ) (n : Node) → j < length nodes → 1024 * k < length (get_or nodes j n).content
-      → content_block made (inode_of made (j + 1)) k ≡ take 1024 (drop (1024 * k) (whole (get_or nodes j n).content))
+  pub content-new : (j k : ℕ) (n : Node) → j < length nodes → block_len * k < length (get_or nodes j n).content
+      → content_block made (inode_of made (j + 1)) k ≡ take block_len (drop (block_len * k) (whole (get_or nodes j n).content))
   unfolding content_block
   content-new j k n l below =
       let at : ℕ = place_of (data_start ninodes) nodes j + place k in
@@ -231,4 +232,4 @@ module _ (v : Version) (size ninodes : ℕ) (nodes : List Node) (h : IsLaid size
       ∙ recovered-same v size ninodes nodes h at (inr (omega arith))
       ∙ sym (ap (recovered of_files) (number-files j k n l below))
       ∙ files-shown.content j k none (within j l) (in-file j k n l below)
-      ∙ ap (λ (file : File). take 1024 (drop (1024 * k) (whole file.content))) (plain-at nodes j n none l)
+      ∙ ap (λ (file : File). take block_len (drop (block_len * k) (whole file.content))) (plain-at nodes j n none l)

@@ -5,6 +5,7 @@ use Rattle.std.proofs.lemmas.List.{get_or_append_left, get_or_at, get_or_default
 use Rattle.std.proofs.Math.Facts.{Fits-of_lt, sfits_to_z}
 use Rattle.std.proofs.Math.Nat.{div-add-mod}
 use Rattle.std.specs.Prelude.{All}
+use Rattle.fs_layout.specs.Widths.{block_len, inode_len, inodes_per_block}
 use Rattle.image_versions.specs.Shared.{largest_size}
 use Rattle.image_versions.specs.declared.version.Version.{Version}
 use Rattle.image_versions.proofs.Places.{in_range, lie_apart}
@@ -70,8 +71,8 @@ recovered_bytes disk b are = are (place_of (sizes_of disk).logstart (logged disk
 inode_fields : (disk : List (List ℕ)) (i : ℕ) → HasBytes disk → HasFields (inode_of disk i)
 unfolding inode_of
 inode_fields disk i are =
-    let block : List ℕ = recovered disk ((sizes_of disk).inodestart + i / 16) in
-    has_fields (take 64 (drop (64 * (i % 16)) block)) (take_bytes 64 (drop (64 * (i % 16)) block) (drop_bytes (64 * (i % 16)) block (recovered_bytes disk ((sizes_of disk).inodestart + i / 16) are)))
+    let block : List ℕ = recovered disk ((sizes_of disk).inodestart + i / inodes_per_block) in
+    has_fields (take inode_len (drop (inode_len * (i % inodes_per_block)) block)) (take_bytes inode_len (drop (inode_len * (i % inodes_per_block)) block) (drop_bytes (inode_len * (i % inodes_per_block)) block (recovered_bytes disk ((sizes_of disk).inodestart + i / inodes_per_block) are)))
 
 -- ---- a node of the new image
 
@@ -181,15 +182,15 @@ first_two w disk i sizes live node =
 
 -- ---- the bytes of another node
 
-length_front : (disk : List (List ℕ)) (d : Dinode) (n : ℕ) → ((k : ℕ) → k < n → length (content_block disk d k) ≡ 1024) → length (front_blocks disk d n) ≡ 1024 * n
+length_front : (disk : List (List ℕ)) (d : Dinode) (n : ℕ) → ((k : ℕ) → k < n → length (content_block disk d k) ≡ block_len) → length (front_blocks disk d n) ≡ block_len * n
 unfolding front_blocks
 length_front disk d zero all = refl
 length_front disk d (suc n) all =
     omega (arith, length-append (front_blocks disk d n) (content_block disk d n), length_front disk d n (λ k l. all k (omega arith)), all n (omega arith))
 
-length_content : (disk : List (List ℕ)) (d : Dinode) → ((k : ℕ) → 1024 * k < d.size → length (content_block disk d k) ≡ 1024) → length (content_of disk d) ≡ d.size
+length_content : (disk : List (List ℕ)) (d : Dinode) → ((k : ℕ) → block_len * k < d.size → length (content_block disk d k) ≡ block_len) → length (content_of disk d) ≡ d.size
 length_content disk d all =
-    let long : length (front_blocks disk d (blocks_for d.size)) ≡ 1024 * blocks_for d.size = length_front disk d (blocks_for d.size) (λ k l. all k (omega arith)) in
+    let long : length (front_blocks disk d (blocks_for d.size)) ≡ block_len * blocks_for d.size = length_front disk d (blocks_for d.size) (λ k l. all k (omega arith)) in
     omega (arith, length-take d.size (front_blocks disk d (blocks_for d.size)), long)
 
 at_index : (P : ℕ → Type 0) (ns : List ℕ) (k : ℕ) → All (λ b. b ≢ 0 → P b) ns → slice_index ns k ≢ 0 → P (slice_index ns k)
@@ -200,7 +201,7 @@ at_index P ns k all ne =
     (cases_lt k (length ns))
 
 -- a block of the disk, its own or a copy in the log, is whole
-whole_data : (v : Version) (disk : List (List ℕ)) (b : ℕ) → HasWholeBlocks disk → UpToLog v disk → IsData (sizes_of disk) b → length (recovered disk b) ≡ 1024
+whole_data : (v : Version) (disk : List (List ℕ)) (b : ℕ) → HasWholeBlocks disk → UpToLog v disk → IsData (sizes_of disk) b → length (recovered disk b) ≡ block_len
 unfolding recovered
 whole_data v disk b whole front block =
     let size = front.0.1 in

@@ -4,6 +4,7 @@ use Rattle.std.proofs.lemmas.List.{get_or-map, length-map}
 use Rattle.std.proofs.lemmas.List.Elements.{All-map}
 use Rattle.std.proofs.lemmas.List.Sums.{sum_by-cons}
 use Rattle.std.specs.Prelude.{All}
+use Rattle.image_versions.specs.Shared.{most_disk_blocks}
 use Rattle.image_versions.specs.Shared.{largest_size}
 use Rattle.image_tree.specs.Inodes.{is_number}
 use Rattle.mkfs.specs.Image.{Node as File, blocks_of_node as blocks_of_file, data_from as files_from, used_by as used_by_files, file_node}
@@ -34,7 +35,7 @@ pub record IsSound (node : Node) : Type 0 where
 
 -- they fit, and each inode but the first is one's
 pub record IsLaid (size ninodes : ℕ) (nodes : List Node) : Type 0 where
-  pub few : size ≤ 8191
+  pub few : size ≤ most_disk_blocks
   pub some : 2 ≤ ninodes
   pub many : ninodes ≤ 65535
   pub count : 1 + length nodes ≡ ninodes

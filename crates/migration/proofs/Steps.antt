@@ -4,6 +4,8 @@ use Rattle.std.proofs.lemmas.List.{drop_more, get_or-map, length-map}
 use Rattle.std.proofs.lemmas.List.Sums.{sum_by-cons}
 use Rattle.std.proofs.lemmas.List.FromFn.{length-range_with_len}
 use Rattle.std.specs.Prelude.{min, sum_by}
+use Rattle.image_versions.specs.Shared.{addresses}
+use Rattle.fs_layout.specs.Widths.{block_len, inode_len, inodes_per_block}
 use Rattle.image_versions.specs.Shared.{largest_size}
 use Rattle.mkfs.proofs.Padding.{length-padded}
 use Rattle.fs_layout.specs.Vocabulary.{flat_map}
@@ -56,18 +58,18 @@ used-more nodes i node blocks first part l e p h =
     regroup blocks part (sum_by blocks_of_node (map node_of (drop (i + 1) nodes))) (node_blocks (length node.content.items)) p
     ∙ ap (λ (n : ℕ). blocks + n) (sym next) ∙ h
 
-pub length-addrs : (first : ℕ) (node : Node) → length (inode_for first node).addrs ≡ 13
+pub length-addrs : (first : ℕ) (node : Node) → length (inode_for first node).addrs ≡ addresses
 unfolding inode_for
 length-addrs first node =
-    let n : ℕ = min (blocks_of_node node) 13 in
-    length-padded 13 (range_with_len first n) (omega (arith, length-range_with_len first n))
+    let n : ℕ = min (blocks_of_node node) addresses in
+    length-padded addresses (range_with_len first n) (omega (arith, length-range_with_len first n))
 
 -- the inode blocks, as they are appended
-pub table-parts : (old : List ℕ) (ninodes first k : ℕ) (nodes : List Node) → k ≡ 64 * (16 * inode_blocks ninodes - (1 + length nodes))
-    → ((old ++ replicate 64 0) ++ flat_map spell_dinode (inodes_from first nodes)) ++ replicate k 0 ≡ old ++ inode_table ninodes first nodes
+pub table-parts : (old : List ℕ) (ninodes first k : ℕ) (nodes : List Node) → k ≡ inode_len * (inodes_per_block * inode_blocks ninodes - (1 + length nodes))
+    → ((old ++ replicate inode_len 0) ++ flat_map spell_dinode (inodes_from first nodes)) ++ replicate k 0 ≡ old ++ inode_table ninodes first nodes
 unfolding inode_table
 table-parts old ninodes first k nodes h =
-    let a : List ℕ = replicate 64 0 in
+    let a : List ℕ = replicate inode_len 0 in
     let b : List ℕ = flat_map spell_dinode (inodes_from first nodes) in
     ap (λ (xs : List ℕ). xs ++ replicate k 0) (append_assoc old a b)
     ∙ append_assoc old (a ++ b) (replicate k 0)
@@ -75,7 +77,7 @@ table-parts old ninodes first k nodes h =
 
 -- all parts, as they are appended
 pub image-parts : (v : Version) (old : List ℕ) (size ninodes used : ℕ) (nodes : List Node) → used ≡ used_by (data_start ninodes) nodes
-    → ((((old ++ front v size ninodes) ++ inode_table ninodes (data_start ninodes) nodes) ++ bitmap used) ++ data_from (data_start ninodes) nodes) ++ replicate (1024 * (size - used)) 0
+    → ((((old ++ front v size ninodes) ++ inode_table ninodes (data_start ninodes) nodes) ++ bitmap used) ++ data_from (data_start ninodes) nodes) ++ replicate (block_len * (size - used)) 0
     ≡ old ++ image_with v size ninodes nodes
 unfolding image_with
 image-parts v old size ninodes used nodes h =
@@ -83,7 +85,7 @@ image-parts v old size ninodes used nodes h =
     let b : List ℕ = inode_table ninodes (data_start ninodes) nodes in
     let d : List ℕ = data_from (data_start ninodes) nodes in
     let c : ℕ → List ℕ = λ n. bitmap n in
-    let e : ℕ → List ℕ = λ n. replicate (1024 * (size - n)) 0 in
+    let e : ℕ → List ℕ = λ n. replicate (block_len * (size - n)) 0 in
     let all : ℕ = used_by (data_start ninodes) nodes in
     ap (λ (n : ℕ). ((((old ++ a) ++ b) ++ c n) ++ d) ++ e n) h
     ∙ ap (λ (xs : List ℕ). ((xs ++ c all) ++ d) ++ e all) (append_assoc old a b)

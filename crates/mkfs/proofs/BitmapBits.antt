@@ -1,4 +1,5 @@
 -- The bits of the bitmap: just those of the first blocks are set.
+use Rattle.fs_layout.specs.Widths.{block_len}
 use Rattle.mkfs.proofs.Vocabulary.{Version, ◌≡◌, ℕ, ◌+◌, ◌-◌, ◌/◌, ◌%◌, ◌^◌, ◌<◌, ◌≤◌, Bool, true, false, eqb, nat_lt, List, [], ◌∷◌, ◌++◌, length, replicate, get_or, refl, ap, ◌∙◌, sym, ⊎_elim, arith, length-append, bit_at, cases_lt, lt-ltb, le-ltb, length-replicate, get_or_append_left, get_or-append_right, get_or_at, get_or-replicate, bit_at-zero, bit_at_ones, bit_at_ones_above, Super, bit_of, recovered, is_marked, data_start, bitmap_start, Node, bitmap, padded, used_by}
 use Rattle.mkfs.proofs.Basics.{Fits, disk_of, sizes-there, recovered-there}
 use Rattle.mkfs.proofs.DataBlocks.{bitmap-there}
@@ -21,7 +22,7 @@ byte-full used i h =
     let full : ℕ = 255 in
     let front : List ℕ = replicate (used / 8) full in
     let within : i < length front = omega (arith, length-replicate (used / 8) full) in
-    get_or_append_left (ones used) (replicate (1024 - length (ones used)) 0) 0 i (omega (arith, length-ones used))
+    get_or_append_left (ones used) (replicate (block_len - length (ones used)) 0) 0 i (omega (arith, length-ones used))
     ∙ get_or_append_left front ((2 ^ (used % 8) - 1) ∷ []) 0 i within
     ∙ get_or-replicate (used / 8) i 255 0 h
 
@@ -29,16 +30,16 @@ byte-last : (used : ℕ) → get_or (bitmap used) (used / 8) 0 ≡ 2 ^ (used % 8
 unfolding bitmap padded ones
 byte-last used =
     let full : ℕ = 255 in
-    get_or_append_left (ones used) (replicate (1024 - length (ones used)) 0) 0 (used / 8) (omega (arith, length-ones used))
+    get_or_append_left (ones used) (replicate (block_len - length (ones used)) 0) 0 (used / 8) (omega (arith, length-ones used))
     ∙ get_or_at (replicate (used / 8) 255) (2 ^ (used % 8) - 1) [] 0 (used / 8) (length-replicate (used / 8) full)
 
-byte-free : (used i : ℕ) → used / 8 < i → i < 1024 → get_or (bitmap used) i 0 ≡ 0
+byte-free : (used i : ℕ) → used / 8 < i → i < block_len → get_or (bitmap used) i 0 ≡ 0
 unfolding bitmap padded ones
 byte-free used i h l =
     let k : ℕ = length (ones used) in
     let long : k ≡ used / 8 + 1 = length-ones used in
-    get_or-append_right (ones used) (replicate (1024 - k) 0) (used / 8 + 1) i 0 long (omega arith)
-    ∙ get_or-replicate (1024 - k) (i - (used / 8 + 1)) 0 0 (omega arith)
+    get_or-append_right (ones used) (replicate (block_len - k) 0) (used / 8 + 1) i 0 long (omega arith)
+    ∙ get_or-replicate (block_len - k) (i - (used / 8 + 1)) 0 0 (omega arith)
 
 -- ---- its bits
 
@@ -69,7 +70,7 @@ bit-last used b h =
 bit-free : (used b : ℕ) → b < 8192 → used / 8 < b / 8 → bit_of (bitmap used) b ≡ nat_lt b used
 bit-free used b few h =
     let above : used ≤ b = omega arith in
-    let within : b / 8 < 1024 = omega arith in
+    let within : b / 8 < block_len = omega arith in
     bit-in used b 0 0 false (byte-free used (b / 8) h within) (bit_at-zero (b % 8)) refl ∙ sym (le-ltb b used above)
 
 pub bits-of : (used b : ℕ) → b < 8192 → bit_of (bitmap used) b ≡ nat_lt b used

@@ -1,4 +1,5 @@
 -- What the disk of an image shows of the root and the files.
+use Rattle.fs_layout.specs.Widths.{block_len}
 use Rattle.mkfs.proofs.Vocabulary.{Version, dirent_len_of, dirents_per_block_of, ◌≡◌, ℕ, zero, suc, ◌+◌, ◌-◌, ◌*◌, ◌/◌, ◌%◌, ◌^◌, ◌<◌, ◌≤◌, pos, List, [], ◌∷◌, ◌++◌, length, take, drop, map, replicate, get_or, Some, refl, sym, ap, subst, ◌∙◌, arith, All, take-add, take_all, take_at, take-take, map_more, length-map, Dinode, Dirent, Free, Super, IsName, dirent_at, sizes_of, inode_of, content_block, front_blocks, content_of, slot_at, first_slots, slots_of, blocks_for, root_size, data_start, Node, padded, whole, inode_for, root_content, root_node, file_node, nodes_with, blocks_before, CanBeMade, HasGoodNames}
 use Rattle.image_versions.proofs.Places.{in_their_content}
 use Rattle.mkfs.proofs.RootSizes.{most-slots}
@@ -28,23 +29,23 @@ shown-inode disk size ninodes nodes j n h l =
 
 -- the blocks of a node's content
 abbrev HasContent : List (List ℕ) → Dinode → List ℕ → Type 0
-HasContent disk d content = (k : ℕ) → 1024 * k < length content → content_block disk d k ≡ take 1024 (drop (1024 * k) (whole content))
+HasContent disk d content = (k : ℕ) → block_len * k < length content → content_block disk d k ≡ take block_len (drop (block_len * k) (whole content))
 
 front-are : (disk : List (List ℕ)) (d : Dinode) (content : List ℕ) (n : ℕ) → n ≤ blocks_for (length content) → HasContent disk d content
-    → front_blocks disk d n ≡ take (1024 * n) (whole content)
+    → front_blocks disk d n ≡ take (block_len * n) (whole content)
 unfolding front_blocks
 front-are disk d content zero h at = refl
 front-are disk d content (suc n) h at =
     let bytes : List ℕ = whole content in
-    let count : 1024 * n + 1024 ≡ 1024 * suc n = omega arith in
+    let count : block_len * n + block_len ≡ block_len * suc n = omega arith in
     ap (λ (xs : List ℕ). xs ++ content_block disk d n) (front-are disk d content n (omega arith) at)
-    ∙ ap (λ (xs : List ℕ). take (1024 * n) bytes ++ xs) (at n (omega arith))
-    ∙ sym (take-add (1024 * n) 1024 bytes)
+    ∙ ap (λ (xs : List ℕ). take (block_len * n) bytes ++ xs) (at n (omega arith))
+    ∙ sym (take-add (block_len * n) block_len bytes)
     ∙ ap (λ (k : ℕ). take k bytes) count
 
 take-whole : (bytes : List ℕ) → take (length bytes) (whole bytes) ≡ bytes
 unfolding whole padded
-take-whole bytes = take_at bytes (replicate (1024 * blocks_for (length bytes) - length bytes) 0) (length bytes) refl
+take-whole bytes = take_at bytes (replicate (block_len * blocks_for (length bytes) - length bytes) 0) (length bytes) refl
 
 content-is : (disk : List (List ℕ)) (d : Dinode) (content : List ℕ) → d.size ≡ length content → HasContent disk d content → content_of disk d ≡ content
 content-is disk d content size at =
@@ -52,7 +53,7 @@ content-is disk d content size at =
     let same : n ≤ n = omega arith in
     ap (λ (k : ℕ). take k (front_blocks disk d (blocks_for k))) size
     ∙ ap (take (length content)) (front-are disk d content n same at)
-    ∙ take-take (length content) (1024 * n) (whole content) (omega arith)
+    ∙ take-take (length content) (block_len * n) (whole content) (omega arith)
     ∙ take-whole content
 
 -- ---- the root's slots
@@ -74,11 +75,11 @@ slot-there : (v : Version) (disk : List (List ℕ)) (d : Dinode) (names : List (
 unfolding slot_at whole padded
 slot-there v disk d names s few good at long l =
     let root : List ℕ = root_content v names in
-    let rest : List ℕ = replicate (1024 * blocks_for (length root) - length root) 0 in
+    let rest : List ℕ = replicate (block_len * blocks_for (length root) - length root) 0 in
     let block : ℕ = s / dirents_per_block_of v in
     let below : s < root_size v (length names) / dirent_len_of v = subst (λ (n : ℕ). s < n) (length-all v names) l in
-    let within : 1024 * block < length root = subst (λ (n : ℕ). 1024 * block < n) (sym long) (in_their_content v s (root_size v (length names)) below).1 in
-    ap (dirent_at v (s % dirents_per_block_of v)) (at block within ∙ ap (λ (xs : List ℕ). take 1024 (drop (1024 * block) (xs ++ rest))) (root-bytes v names few good))
+    let within : block_len * block < length root = subst (λ (n : ℕ). block_len * block < n) (sym long) (in_their_content v s (root_size v (length names)) below).1 in
+    ap (dirent_at v (s % dirents_per_block_of v)) (at block within ∙ ap (λ (xs : List ℕ). take block_len (drop (block_len * block) (xs ++ rest))) (root-bytes v names few good))
     ∙ entry-there v (all_entries v names) s Free rest (good-entries v names few good) l
 
 slots-are : (v : Version) (disk : List (List ℕ)) (d : Dinode) (names : List (List ℕ)) → 2 + length names < 2 ^ 16 → All (IsName v) names

@@ -1,4 +1,5 @@
 -- The numbers of a node's blocks, as its inode and the block of its numbers have them.
+use Rattle.image_versions.specs.Shared.{addresses, direct, numbers_per_block}
 use Rattle.image_versions.specs.Shared.{largest_size}
 use Rattle.mkfs.proofs.Vocabulary.{Version, ◌≡◌, ℕ, zero, suc, ◌+◌, ◌-◌, ◌<◌, ◌≤◌, ◌^◌, eqb, min, Bool, false, cond, List, [], ◌∷◌, ◌++◌, length, take, replicate, get_or, ap, ◌∙◌, sym, ⊎_elim, arith, append_assoc, All, range_with_len, cases_lt, ne_eqb, append-nil, get_or-append_right, get_or_append_left, get_or-replicate, length-range_with_len, get_or-range_with_len, sum_by-cons, sum_by_more_le, Dinode, numbers_in, spell_numbers, recovered, numbers_in-spell, inode_of, numbers_of, blocks_for, data_start, Node, padded, inode_for, inodes_from, blocks_before, blocks_of_node}
 use Rattle.mkfs.proofs.Basics.{length-padded, Fits, blocks-small, blocks-large, disk_of, IsRange, range-append}
@@ -26,38 +27,38 @@ inode-for-there v size ninodes nodes j n few h all l =
 -- ---- its addresses
 
 -- the address of the indirect block, where there is one
-twelfth : (first n : ℕ) → 13 ≤ n → get_or (padded 13 (range_with_len first (min n 13))) 12 0 ≡ first + 12
+twelfth : (first n : ℕ) → addresses ≤ n → get_or (padded addresses (range_with_len first (min n addresses))) direct 0 ≡ first + direct
 unfolding padded
 twelfth first n h =
-    let numbers : List ℕ = range_with_len first (min n 13) in
-    let long : 12 < length numbers = omega (arith, length-range_with_len first (min n 13)) in
-    get_or_append_left numbers (replicate (13 - length numbers) 0) 0 12 long
-    ∙ get_or-range_with_len first (min n 13) 12 0 (omega arith)
+    let numbers : List ℕ = range_with_len first (min n addresses) in
+    let long : direct < length numbers = omega (arith, length-range_with_len first (min n addresses)) in
+    get_or_append_left numbers (replicate (addresses - length numbers) 0) 0 direct long
+    ∙ get_or-range_with_len first (min n addresses) direct 0 (omega arith)
 
-no-twelfth : (first n : ℕ) → n ≤ 12 → get_or (padded 13 (range_with_len first (min n 13))) 12 0 ≡ 0
+no-twelfth : (first n : ℕ) → n ≤ direct → get_or (padded addresses (range_with_len first (min n addresses))) direct 0 ≡ 0
 unfolding padded
 no-twelfth first n h =
-    let numbers : List ℕ = range_with_len first (min n 13) in
-    let count : ℕ = 13 - length numbers in
+    let numbers : List ℕ = range_with_len first (min n addresses) in
+    let count : ℕ = addresses - length numbers in
     let none : ℕ = 0 in
-    let long : length numbers ≡ min n 13 = length-range_with_len first (min n 13) in
-    get_or-append_right numbers (replicate count 0) (min n 13) 12 0 long (omega arith)
-    ∙ get_or-replicate count (12 - min n 13) none none (omega (arith, long))
+    let long : length numbers ≡ min n addresses = length-range_with_len first (min n addresses) in
+    get_or-append_right numbers (replicate count 0) (min n addresses) direct 0 long (omega arith)
+    ∙ get_or-replicate count (direct - min n addresses) none none (omega (arith, long))
 
-addrs-small : (first n : ℕ) → n ≤ 12 → padded 13 (range_with_len first (min n 13)) ≡ range_with_len first n ++ replicate (13 - n) 0
+addrs-small : (first n : ℕ) → n ≤ direct → padded addresses (range_with_len first (min n addresses)) ≡ range_with_len first n ++ replicate (addresses - n) 0
 unfolding padded
 addrs-small first n h =
-    let count : min n 13 ≡ n = omega arith in
-    ap (λ (i : ℕ). range_with_len first i ++ replicate (13 - length (range_with_len first i)) 0) count
-    ∙ ap (λ (i : ℕ). range_with_len first n ++ replicate (13 - i) 0) (length-range_with_len first n)
+    let count : min n addresses ≡ n = omega arith in
+    ap (λ (i : ℕ). range_with_len first i ++ replicate (addresses - length (range_with_len first i)) 0) count
+    ∙ ap (λ (i : ℕ). range_with_len first n ++ replicate (addresses - i) 0) (length-range_with_len first n)
 
-addrs-large : (first n : ℕ) → 13 ≤ n → padded 13 (range_with_len first (min n 13)) ≡ range_with_len first 13
+addrs-large : (first n : ℕ) → addresses ≤ n → padded addresses (range_with_len first (min n addresses)) ≡ range_with_len first addresses
 unfolding padded
 addrs-large first n h =
-    let count : min n 13 ≡ 13 = omega arith in
-    ap (λ (i : ℕ). range_with_len first i ++ replicate (13 - length (range_with_len first i)) 0) count
-    ∙ ap (λ (i : ℕ). range_with_len first 13 ++ replicate (13 - i) 0) (length-range_with_len first 13)
-    ∙ append-nil (range_with_len first 13)
+    let count : min n addresses ≡ addresses = omega arith in
+    ap (λ (i : ℕ). range_with_len first i ++ replicate (addresses - length (range_with_len first i)) 0) count
+    ∙ ap (λ (i : ℕ). range_with_len first addresses ++ replicate (addresses - i) 0) (length-range_with_len first addresses)
+    ∙ append-nil (range_with_len first addresses)
 
 -- ---- the numbers of a node with at most twelve blocks, and of one with more
 
@@ -65,42 +66,42 @@ addrs-large first n h =
 abbrev behind : List (List ℕ) → ℕ → List ℕ
 behind disk address = cond (eqb address 0) [] (numbers_in (recovered disk address))
 
-few-numbers : (disk : List (List ℕ)) (first : ℕ) (node : Node) → blocks_of_node node ≤ 12
-    → numbers_of disk (inode_for first node) ≡ range_with_len first (blocks_of_node node) ++ replicate (13 - blocks_of_node node) 0
+few-numbers : (disk : List (List ℕ)) (first : ℕ) (node : Node) → blocks_of_node node ≤ direct
+    → numbers_of disk (inode_for first node) ≡ range_with_len first (blocks_of_node node) ++ replicate (addresses - blocks_of_node node) 0
 unfolding numbers_of inode_for
 few-numbers disk first node h =
     let n : ℕ = blocks_of_node node in
-    let addrs : List ℕ = padded 13 (range_with_len first (min n 13)) in
+    let addrs : List ℕ = padded addresses (range_with_len first (min n addresses)) in
     ap (λ (a : ℕ). addrs ++ behind disk a) (no-twelfth first n h) ∙ append-nil addrs ∙ addrs-small first n h
 
-many-numbers : (disk : List (List ℕ)) (first : ℕ) (node : Node) → 13 ≤ blocks_of_node node
-    → numbers_in (recovered disk (first + 12)) ≡ padded 256 (range_with_len (first + 13) (blocks_of_node node - 13))
-    → numbers_of disk (inode_for first node) ≡ range_with_len first (blocks_of_node node) ++ replicate (256 - (blocks_of_node node - 13)) 0
+many-numbers : (disk : List (List ℕ)) (first : ℕ) (node : Node) → addresses ≤ blocks_of_node node
+    → numbers_in (recovered disk (first + direct)) ≡ padded numbers_per_block (range_with_len (first + addresses) (blocks_of_node node - addresses))
+    → numbers_of disk (inode_for first node) ≡ range_with_len first (blocks_of_node node) ++ replicate (256 - (blocks_of_node node - addresses)) 0
 unfolding numbers_of inode_for padded
 many-numbers disk first node h there =
     let n : ℕ = blocks_of_node node in
-    let addrs : List ℕ = padded 13 (range_with_len first (min n 13)) in
-    let further : List ℕ = range_with_len (first + 13) (n - 13) in
+    let addrs : List ℕ = padded addresses (range_with_len first (min n addresses)) in
+    let further : List ℕ = range_with_len (first + addresses) (n - addresses) in
     let zeros : ℕ → List ℕ = λ k. replicate (256 - k) 0 in
-    let not : eqb (first + 12) 0 ≡ false = ne_eqb (first + 12) 0 (λ e. omega arith) in
-    let all : 13 + (n - 13) ≡ n = omega arith in
+    let not : eqb (first + direct) 0 ≡ false = ne_eqb (first + direct) 0 (λ e. omega arith) in
+    let all : addresses + (n - addresses) ≡ n = omega arith in
     ap (λ (a : ℕ). addrs ++ behind disk a) (twelfth first n h)
-    ∙ ap (λ (b : Bool). addrs ++ cond b [] (numbers_in (recovered disk (first + 12)))) not
+    ∙ ap (λ (b : Bool). addrs ++ cond b [] (numbers_in (recovered disk (first + direct)))) not
     ∙ ap (λ (xs : List ℕ). addrs ++ xs) there
     ∙ ap (λ (xs : List ℕ). xs ++ (further ++ zeros (length further))) (addrs-large first n h)
-    ∙ sym (append_assoc (range_with_len first 13) further (zeros (length further)))
-    ∙ ap (λ (xs : List ℕ). xs ++ zeros (length further)) (range-append first 13 (n - 13) ∙ ap (range_with_len first) all)
-    ∙ ap (λ (k : ℕ). range_with_len first n ++ zeros k) (length-range_with_len (first + 13) (n - 13))
+    ∙ sym (append_assoc (range_with_len first addresses) further (zeros (length further)))
+    ∙ ap (λ (xs : List ℕ). xs ++ zeros (length further)) (range-append first addresses (n - addresses) ∙ ap (range_with_len first) all)
+    ∙ ap (λ (k : ℕ). range_with_len first n ++ zeros k) (length-range_with_len (first + addresses) (n - addresses))
 
 -- what was spelled in the block of the numbers is read
-read-numbers : (first count : ℕ) → first + count < 2 ^ 32 → count ≤ 256
-    → numbers_in (spell_numbers (padded 256 (range_with_len first count))) ≡ padded 256 (range_with_len first count)
+read-numbers : (first count : ℕ) → first + count < 2 ^ 32 → count ≤ numbers_per_block
+    → numbers_in (spell_numbers (padded numbers_per_block (range_with_len first count))) ≡ padded numbers_per_block (range_with_len first count)
 unfolding padded
 read-numbers first count h few =
     let numbers : List ℕ = range_with_len first count in
-    let long : length numbers ≤ 256 = omega (arith, length-range_with_len first count) in
-    let zeros : ℕ = 256 - length numbers in
-    numbers_in-spell (padded 256 numbers) (length-padded 256 numbers long) (all-append numbers (replicate zeros 0) (all-range first count h) (all-zeros zeros))
+    let long : length numbers ≤ numbers_per_block = omega (arith, length-range_with_len first count) in
+    let zeros : ℕ = numbers_per_block - length numbers in
+    numbers_in-spell (padded numbers_per_block numbers) (length-padded numbers_per_block numbers long) (all-append numbers (replicate zeros 0) (all-range first count h) (all-zeros zeros))
 
 -- ---- in an image
 
@@ -119,20 +120,20 @@ numbers-there v size ninodes nodes j n few h all l =
     ⊎_elim
     (λ (more : 12288 < bytes).
     let blocks : count ≡ blocks_for bytes + 1 = blocks-large bytes more in
-    let many : 13 ≤ count = omega (arith, blocks) in
-    let rest : blocks_for bytes - 12 ≡ count - 13 = omega (arith, blocks) in
-    let within : 12 < count = omega (arith, many) in
-    let there : numbers_in (recovered disk (first + 12)) ≡ padded 256 (range_with_len (first + 13) (count - 13)) =
-    ap numbers_in (node-block v size ninodes nodes j 12 n few h l within ∙ block-of-numbers first node.content more most)
-    ∙ ap (λ (k : ℕ). numbers_in (spell_numbers (padded 256 (range_with_len (first + 13) k)))) rest
-    ∙ read-numbers (first + 13) (count - 13) (omega (arith, room, h.few)) (omega (arith, blocks)) in
+    let many : addresses ≤ count = omega (arith, blocks) in
+    let rest : blocks_for bytes - direct ≡ count - addresses = omega (arith, blocks) in
+    let within : direct < count = omega (arith, many) in
+    let there : numbers_in (recovered disk (first + direct)) ≡ padded numbers_per_block (range_with_len (first + addresses) (count - addresses)) =
+    ap numbers_in (node-block v size ninodes nodes j direct n few h l within ∙ block-of-numbers first node.content more most)
+    ∙ ap (λ (k : ℕ). numbers_in (spell_numbers (padded numbers_per_block (range_with_len (first + addresses) k)))) rest
+    ∙ read-numbers (first + addresses) (count - addresses) (omega (arith, room, h.few)) (omega (arith, blocks)) in
     let is : IsRange (numbers_of disk (inode_of disk (j + 1))) first count =
-    record { zeros = 256 - (count - 13); is = ap (numbers_of disk) inode ∙ many-numbers disk first node many there } in
+    record { zeros = numbers_per_block - (count - addresses); is = ap (numbers_of disk) inode ∙ many-numbers disk first node many there } in
     is)
     (λ (less : bytes ≤ 12288).
     let blocks : count ≡ blocks_for bytes = blocks-small bytes less in
-    let some : count ≤ 12 = omega (arith, blocks) in
+    let some : count ≤ direct = omega (arith, blocks) in
     let is : IsRange (numbers_of disk (inode_of disk (j + 1))) first count =
-    record { zeros = 13 - count; is = ap (numbers_of disk) inode ∙ few-numbers disk first node some } in
+    record { zeros = addresses - count; is = ap (numbers_of disk) inode ∙ few-numbers disk first node some } in
     is)
     (cases_lt 12288 bytes)

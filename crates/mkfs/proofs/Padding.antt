@@ -1,4 +1,6 @@
 -- Zeros behind numbers, and numbers that rise.
+use Rattle.image_versions.specs.Shared.{addresses, direct, most_content_blocks}
+use Rattle.fs_layout.specs.Widths.{block_len}
 use Rattle.image_versions.specs.Shared.{largest_size}
 use Rattle.mkfs.proofs.Vocabulary.{◌≡◌, ℕ, zero, suc, ◌+◌, ◌-◌, ◌*◌, ◌/◌, ◌%◌, ◌<◌, ◌≤◌, List, [], ◌∷◌, ◌++◌, length, take, drop, replicate, refl, sym, ap, ◌∙◌, arith, length-append, append_assoc, set, get_or, ◌^◌, Bool, true, false, if◌then◌else◌, nat_lt, min, append-nil, drop-replicate, length-replicate, length-take-le, take_at, set_at, drop_more, length-range_with_len, range_with_len, overwrite, pow-lt, le-ltb, lt-ltb, Node, inode_for, padded, whole, bitmap, node_bytes, indirect_block, blocks_for, node_blocks}
 
@@ -19,15 +21,15 @@ length-padded n xs h =
     let none : ℕ = 0 in
     omega (arith, length-append xs (replicate (n - length xs) none), length-replicate (n - length xs) none)
 
-pub length-whole : (xs : List ℕ) → length (whole xs) ≡ 1024 * blocks_for (length xs)
+pub length-whole : (xs : List ℕ) → length (whole xs) ≡ block_len * blocks_for (length xs)
 unfolding whole
-length-whole xs = length-padded (1024 * blocks_for (length xs)) xs (omega arith)
+length-whole xs = length-padded (block_len * blocks_for (length xs)) xs (omega arith)
 
 -- the zeros that are missing up to a whole block
-pub whole-missing : (xs : List ℕ) (m : ℕ) → m ≡ (1024 - length xs % 1024) % 1024 → xs ++ replicate m 0 ≡ whole xs
+pub whole-missing : (xs : List ℕ) (m : ℕ) → m ≡ (block_len - length xs % block_len) % block_len → xs ++ replicate m 0 ≡ whole xs
 unfolding whole padded
 whole-missing xs m h =
-    let count : m ≡ 1024 * blocks_for (length xs) - length xs = omega arith in
+    let count : m ≡ block_len * blocks_for (length xs) - length xs = omega arith in
     ap (λ (i : ℕ). xs ++ replicate i 0) count
 
 -- the first of the numbers that rise, and then zeros
@@ -68,7 +70,7 @@ bitmap-parts old used =
     let here : List ℕ = front ++ (2 ^ bits - 1) ∷ [] in
     let ff : ℕ = 255 in
     let long : length here ≡ used / 8 + 1 = omega (arith, length-append front ((2 ^ bits - 1) ∷ []), length-replicate (used / 8) ff) in
-    let count : 1023 - used / 8 ≡ 1024 - length here = omega arith in
+    let count : 1023 - used / 8 ≡ block_len - length here = omega arith in
     ap (λ (b : ℕ). ((old ++ front) ++ b ∷ []) ++ replicate (1023 - used / 8) 0) byte
     ∙ ap (λ (xs : List ℕ). xs ++ replicate (1023 - used / 8) 0) (append_assoc old front ((2 ^ bits - 1) ∷ []))
     ∙ append_assoc old here (replicate (1023 - used / 8) 0)
@@ -80,7 +82,7 @@ unfolding whole padded
 whole-front content h =
     let a : List ℕ = take 12288 content in
     let long : length a ≡ 12288 = length-take-le 12288 content h in
-    let none : 1024 * blocks_for (length a) - length a ≡ 0 = omega (arith, long) in
+    let none : block_len * blocks_for (length a) - length a ≡ 0 = omega (arith, long) in
     ap (λ (n : ℕ). a ++ replicate n 0) none ∙ append-nil a
 
 pub node_bytes-small : (first : ℕ) (content : List ℕ) → length content ≤ 12288 → node_bytes first content ≡ whole content
@@ -96,11 +98,11 @@ node_bytes-large first content h = rw (lt-ltb 12288 (length content) h) refl
 pub node_blocks-few : (size : ℕ) → size ≤ largest_size → node_blocks size ≤ 269
 node_blocks-few size h =
     let one : (b : Bool) → (if b then 1 else 0) ≤ 1 = λ b. elim b as (λ v. (if v then 1 else 0) ≤ 1) [ true ↦ omega arith | false ↦ omega arith ] in
-    let blocks : blocks_for size ≤ 268 = omega arith in
-    omega (arith, one (nat_lt 12 (blocks_for size)))
+    let blocks : blocks_for size ≤ most_content_blocks = omega arith in
+    omega (arith, one (nat_lt direct (blocks_for size)))
 
-pub length-addrs : (first : ℕ) (node : Node) → length (inode_for first node).addrs ≡ 13
+pub length-addrs : (first : ℕ) (node : Node) → length (inode_for first node).addrs ≡ addresses
 unfolding inode_for
 length-addrs first node =
-    let n : ℕ = min (node_blocks (length node.content)) 13 in
-    length-padded 13 (range_with_len first n) (omega (arith, length-range_with_len first n))
+    let n : ℕ = min (node_blocks (length node.content)) addresses in
+    length-padded addresses (range_with_len first n) (omega (arith, length-range_with_len first n))

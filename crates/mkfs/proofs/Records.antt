@@ -1,4 +1,6 @@
 -- The inodes of an image.
+use Rattle.image_versions.specs.Shared.{addresses}
+use Rattle.fs_layout.specs.Widths.{block_len, inode_len, inodes_per_block}
 use Rattle.image_versions.specs.Shared.{largest_size}
 use Rattle.mkfs.proofs.Vocabulary.{Version, ◌≡◌, ℕ, zero, suc, ◌+◌, ◌-◌, ◌*◌, ◌/◌, ◌%◌, ◌^◌, ◌<◌, ◌≤◌, min, w16, FitsSigned, List, [], ◌∷◌, ◌++◌, length, take, drop, map, replicate, get_or, sum_by, ap, ◌∙◌, sym, subst, arith, rules, append_assoc, length-append, All, AllByRecursion, flat_map, range_with_len, drop_at, drop-drop, length-map, get_or-map, sum_by-cons, Dinode, record_at, dinode_at, dinode_of, spell_dinode, IsDinode, block_at, dinode_of-spell, data_start, inode_blocks, Node, padded, front, inode_for, inodes_from, inode_table, bitmap, data_from, used_by, image_with, blocks_of_node, nodes_with, file_node}
 use Rattle.mkfs.proofs.Basics.{length-addrs, AreNodes, Fits, length-front, length-zeros, inode-spelled, part-of-part, disk_of, block-at}
@@ -28,7 +30,7 @@ pub record IsNode (node : Node) : Type 0 where
 good-inode : (first : ℕ) (node : Node) → first < 2 ^ 31 → IsNode node → IsDinode (inode_for first node)
 unfolding inode_for padded
 good-inode first node f h =
-    let k : ℕ = min (blocks_of_node node) 13 in
+    let k : ℕ = min (blocks_of_node node) addresses in
     let numbers : List ℕ = range_with_len first k in
     record {
       kind = h.kind;
@@ -37,7 +39,7 @@ good-inode first node f h =
       nlink = first_of (omega arith, search rules);
       size = omega (arith, h.size);
       thirteen = length-addrs first node;
-      addrs = all-append numbers (replicate (13 - length numbers) 0) (all-range first k (omega arith)) (all-zeros (13 - length numbers));
+      addrs = all-append numbers (replicate (addresses - length numbers) 0) (all-range first k (omega arith)) (all-zeros (addresses - length numbers));
     }
 
 good-inodes : (first : ℕ) (nodes : List Node) (j : ℕ) (d : Dinode) → j < length nodes → first + sum_by blocks_of_node nodes < 2 ^ 31 → All IsNode nodes
@@ -52,35 +54,35 @@ good-inodes first (node ∷ nodes) (suc j) d h f all =
 -- ---- where they stand
 
 table-at : (v : Version) (size ninodes : ℕ) (nodes : List Node) (j : ℕ) (d : Dinode) → j < length nodes
-    → take 64 (drop (33856 + 64 * j) (image_with v size ninodes nodes)) ≡ spell_dinode (get_or (inodes_from (data_start ninodes) nodes) j d)
+    → take inode_len (drop (33856 + inode_len * j) (image_with v size ninodes nodes)) ≡ spell_dinode (get_or (inodes_from (data_start ninodes) nodes) j d)
 unfolding image_with inode_table
 table-at v size ninodes nodes j d h =
     let first : ℕ = data_start ninodes in
     let used : ℕ = used_by first nodes in
     let f : List ℕ = front v size ninodes in
-    let z : List ℕ = replicate 64 0 in
+    let z : List ℕ = replicate inode_len 0 in
     let i : List ℕ = flat_map spell_dinode (inodes_from first nodes) in
-    let r : List ℕ = replicate (64 * (16 * inode_blocks ninodes - (1 + length nodes))) 0 in
-    let e : List ℕ = replicate (1024 * (size - used)) 0 in
+    let r : List ℕ = replicate (inode_len * (inodes_per_block * inode_blocks ninodes - (1 + length nodes))) 0 in
+    let e : List ℕ = replicate (block_len * (size - used)) 0 in
     let rest : List ℕ = r ++ (bitmap used ++ (data_from first nodes ++ e)) in
-    let long : length (f ++ z) ≡ 33856 = omega (arith, length-append f z, length-front v size ninodes, length-zeros 64) in
-    ap (λ (xs : List ℕ). take 64 (drop (33856 + 64 * j) xs)) (regroup f z i r (bitmap used) (data_from first nodes) e)
-    ∙ ap (take 64) (sym (drop-drop (64 * j) 33856 ((f ++ z) ++ (i ++ rest))) ∙ ap (drop (64 * j)) (drop_at (f ++ z) (i ++ rest) 33856 long))
+    let long : length (f ++ z) ≡ 33856 = omega (arith, length-append f z, length-front v size ninodes, length-zeros inode_len) in
+    ap (λ (xs : List ℕ). take inode_len (drop (33856 + inode_len * j) xs)) (regroup f z i r (bitmap used) (data_from first nodes) e)
+    ∙ ap (take inode_len) (sym (drop-drop (inode_len * j) 33856 ((f ++ z) ++ (i ++ rest))) ∙ ap (drop (inode_len * j)) (drop_at (f ++ z) (i ++ rest) 33856 long))
     ∙ inode-spelled first nodes j d rest h
 
 pub inode-there : (v : Version) (size ninodes : ℕ) (nodes : List Node) (j : ℕ) (d : Dinode) → Fits size ninodes nodes → All IsNode nodes → j < length nodes
-    → dinode_at ((j + 1) % 16) (block_at (disk_of v size ninodes nodes) (33 + (j + 1) / 16)) ≡ get_or (inodes_from (data_start ninodes) nodes) j d
+    → dinode_at ((j + 1) % inodes_per_block) (block_at (disk_of v size ninodes nodes) (33 + (j + 1) / inodes_per_block)) ≡ get_or (inodes_from (data_start ninodes) nodes) j d
 inode-there v size ninodes nodes j d h all l =
-    let q : ℕ = 33 + (j + 1) / 16 in
-    let r : ℕ = (j + 1) % 16 in
+    let q : ℕ = 33 + (j + 1) / inodes_per_block in
+    let r : ℕ = (j + 1) % inodes_per_block in
     let image : List ℕ = image_with v size ninodes nodes in
     let there : Dinode = get_or (inodes_from (data_start ninodes) nodes) j d in
-    let low : 64 * r + 64 ≤ 1024 = omega arith in
+    let low : inode_len * r + inode_len ≤ block_len = omega arith in
     let within : q < size = omega (arith, h.inodes, h.room) in
-    let place : 1024 * q + 64 * r ≡ 33856 + 64 * j = omega arith in
+    let place : block_len * q + inode_len * r ≡ 33856 + inode_len * j = omega arith in
     let few : data_start ninodes + sum_by blocks_of_node nodes < 2 ^ 31 = omega (arith, h.room, h.few) in
-    ap (λ (block : List ℕ). dinode_of (record_at 64 r block)) (block-at v size ninodes nodes q h within)
-    ∙ ap dinode_of (part-of-part image 64 (64 * r) 1024 (1024 * q) (33856 + 64 * j) low place ∙ table-at v size ninodes nodes j d l)
+    ap (λ (block : List ℕ). dinode_of (record_at inode_len r block)) (block-at v size ninodes nodes q h within)
+    ∙ ap dinode_of (part-of-part image inode_len (inode_len * r) block_len (block_len * q) (33856 + inode_len * j) low place ∙ table-at v size ninodes nodes j d l)
     ∙ dinode_of-spell there (good-inodes (data_start ninodes) nodes j d l few all)
 
 pub are-nodes : (root : List ℕ) (contents : List (List ℕ)) → AreNodes (nodes_with root contents) → All IsNode (nodes_with root contents)

@@ -1,4 +1,5 @@
 -- The root's bytes are its entries, spelled: those of the names, and free ones behind them.
+use Rattle.fs_layout.specs.Widths.{block_len}
 use Rattle.mkfs.proofs.Vocabulary.{Version, dirent_len_of, dirents_per_block_of, name_len_of, nat_le, nat_tests, true, mul-suc, mul-zero, ◌≡◌, ◌≢◌, ℕ, zero, suc, ◌+◌, ◌-◌, ◌*◌, ◌/◌, ◌%◌, ◌^◌, ◌<◌, List, [], ◌∷◌, ◌++◌, length, take, drop, replicate, get_or, Some, refl, sym, ap, ◌∙◌, arith, length-append, All, flat_map, length-replicate, replicate-append-replicate, flat_map-append, All-append, All-cons, All-head, All-tail, All-nil, All-replicate, Dirent, Free, Used, IsName, spell_dirent, dirent_at, dirent_of, IsDirent, length-spell_dirent, dirent_of-spell, blocks_for, root_size, dot, dotdot, padded, whole, root_content, root_entries, entries_from}
 use Rattle.image_versions.proofs.Places.{in_range, inside, in_their_blocks}
 use Rattle.mkfs.proofs.RootSizes.{entries-fit, free-bytes}
@@ -79,15 +80,15 @@ length-used v names few h =
 
 pub length-root_content : (v : Version) (names : List (List ℕ)) → 2 + length names < 2 ^ 16 → All (IsName v) names → length (root_content v names) ≡ root_size v (length names)
 unfolding root_content
-length-root_content v names few h = length-whole (flat_map (spell_dirent v) (root_entries names)) ∙ ap (λ (n : ℕ). 1024 * blocks_for n) (length-used v names few h)
+length-root_content v names few h = length-whole (flat_map (spell_dirent v) (root_entries names)) ∙ ap (λ (n : ℕ). block_len * blocks_for n) (length-used v names few h)
 
 pub root-bytes : (v : Version) (names : List (List ℕ)) → 2 + length names < 2 ^ 16 → All (IsName v) names → root_content v names ≡ flat_map (spell_dirent v) (all_entries v names)
 unfolding root_content whole padded
 root-bytes v names few h =
     let free : ℕ = free_entries v (length names) in
     let used : List ℕ = flat_map (spell_dirent v) (root_entries names) in
-    let zeros : 1024 * blocks_for (length used) - length used ≡ dirent_len_of v * free =
-    ap (λ (n : ℕ). 1024 * blocks_for n - n) (length-used v names few h) ∙ free-bytes v (length names) in
+    let zeros : block_len * blocks_for (length used) - length used ≡ dirent_len_of v * free =
+    ap (λ (n : ℕ). block_len * blocks_for n - n) (length-used v names few h) ∙ free-bytes v (length names) in
     ap (λ (n : ℕ). used ++ replicate n 0) zeros
     ∙ ap (λ (xs : List ℕ). used ++ xs) (sym (spelled-free v free))
     ∙ sym (flat_map-append (spell_dirent v) (root_entries names) (replicate free Free))
@@ -96,12 +97,12 @@ root-bytes v names few h =
 
 -- in the blocks of spelled entries and what follows them
 pub entry-there : (v : Version) (entries : List Dirent) (s : ℕ) (d : Dirent) (rest : List ℕ) → All (IsDirent v) entries → s < length entries
-    → dirent_at v (s % dirents_per_block_of v) (take 1024 (drop (1024 * (s / dirents_per_block_of v)) (flat_map (spell_dirent v) entries ++ rest))) ≡ Some (get_or entries s d)
+    → dirent_at v (s % dirents_per_block_of v) (take block_len (drop (block_len * (s / dirents_per_block_of v)) (flat_map (spell_dirent v) entries ++ rest))) ≡ Some (get_or entries s d)
 entry-there v entries s d rest h l =
     let bytes : List ℕ = flat_map (spell_dirent v) entries ++ rest in
     let width : ℕ = dirent_len_of v in
     let here : ℕ = s % dirents_per_block_of v in
     let block : ℕ = s / dirents_per_block_of v in
     let stands = in_their_blocks v s in
-    ap (dirent_of v) (part-of-part bytes width (width * here) 1024 (1024 * block) (width * s) (inside v here stands.0) (sym stands.1) ∙ record-there (spell_dirent v) (dirent_len_of v) entries s d rest (long-entries v entries h) l)
+    ap (dirent_of v) (part-of-part bytes width (width * here) block_len (block_len * block) (width * s) (inside v here stands.0) (sym stands.1) ∙ record-there (spell_dirent v) (dirent_len_of v) entries s d rest (long-entries v entries h) l)
     ∙ dirent_of-spell v (get_or entries s d) (h s d l)

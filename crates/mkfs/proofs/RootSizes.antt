@@ -1,13 +1,14 @@
 -- How large the root is that names so many files.
+use Rattle.fs_layout.specs.Widths.{block_len}
 use Rattle.image_versions.specs.Shared.{largest_size}
 use Rattle.mkfs.proofs.Vocabulary.{◌≡◌, ℕ, ◌+◌, ◌-◌, ◌*◌, ◌/◌, ◌%◌, ◌^◌, ◌<◌, ◌≤◌, arith, blocks_for, root_size, Version, dirent_len_of, most_slots_of}
 use Rattle.image_versions.proofs.Places.{in_range, lie_apart, hold_entries, most_fit}
 
 -- whole blocks hold the bytes
-blocks-hold : (bytes : ℕ) → bytes ≤ 1024 * blocks_for bytes
+blocks-hold : (bytes : ℕ) → bytes ≤ block_len * blocks_for bytes
 blocks-hold bytes = omega arith
 
-blocks-few : (bytes : ℕ) → bytes ≤ largest_size → 1024 * blocks_for bytes ≤ largest_size
+blocks-few : (bytes : ℕ) → bytes ≤ largest_size → block_len * blocks_for bytes ≤ largest_size
 blocks-few bytes h = omega arith
 
 -- its slots: its entries, and free ones

@@ -1,4 +1,5 @@
 -- The check of sizes passes.
+use Rattle.fs_layout.specs.Widths.{block_len}
 use Rattle.image_versions.specs.Shared.{largest_size}
 use Rattle.mkfs.proofs.Vocabulary.{Version, dirent_len_of, ◌≡◌, ◌≢◌, ℕ, zero, suc, ◌+◌, ◌*◌, ◌%◌, ◌<◌, ◌≤◌, true, false, List, [], length, get_or, ap, ◌∙◌, sym, refl, subst, arith, All, false≢true, Super, Dinode, sizes_of, inode_of, is_number, is_free, numbers_of, block_number, IsFittingSize, IsGoodSize, HasGoodSizes, node_is, data_start, node_blocks, root_size, Node, root_node, nodes_with, inode_for, blocks_before}
 use Rattle.mkfs.proofs.RootSizes.{first-two, whole-slots}
@@ -23,7 +24,7 @@ unfolding inode_for
 fitting v first node few h = record { limit = few; slots = λ e _. h.slots e }
 
 -- the number of a block of its content is that of a block of the node
-block-named : (numbers : List ℕ) (first size k : ℕ) → 0 < first → IsRange numbers first (node_blocks size) → 1024 * k < size → block_number numbers k ≢ 0
+block-named : (numbers : List ℕ) (first size k : ℕ) → 0 < first → IsRange numbers first (node_blocks size) → block_len * k < size → block_number numbers k ≢ 0
 block-named numbers first size k some range l e =
     let number : block_number numbers k ≡ first + place k = in-range numbers first (node_blocks size) (place k) range (place-within size k l) in
     omega (arith, number, e)
@@ -42,7 +43,7 @@ node-size v disk size ninodes nodes j n shows few slots l =
     record {
       fits = subst (IsFittingSize v) (sym is) (fitting v first node (few j n l) (slots j n l));
       named = λ k below.
-          block-named (numbers_of disk (inode_of disk (j + 1))) first (length node.content) k (omega arith) (shows.numbers j n l) (subst (λ (s : ℕ). 1024 * k < s) long below);
+          block-named (numbers_of disk (inode_of disk (j + 1))) first (length node.content) k (omega arith) (shows.numbers j n l) (subst (λ (s : ℕ). block_len * k < s) long below);
     }
 
 pub has_sizes : (v : Version) (disk : List (List ℕ)) (size ninodes : ℕ) (nodes : List Node) → Shows disk size ninodes nodes → AreNodes nodes → All (HasSlots v) nodes → HasGoodSizes v disk

@@ -1,4 +1,5 @@
 -- Appending one part after another.
+use Rattle.image_versions.specs.Shared.{addresses, direct, numbers_per_block}
 use Rattle.image_versions.specs.Shared.{largest_size}
 use Rattle.mkfs.proofs.Vocabulary.{Version, ◌≡◌, ℕ, ◌+◌, ◌-◌, ◌<◌, ◌≤◌, List, [], ◌∷◌, ◌++◌, length, take, drop, map, get_or, sym, subst, ap, if◌then◌else◌, is_ok, Ok, Err, Result, OnOk, ◌∙◌, arith, append_assoc, All, flat_map, range_with_len, drop_more, get_or-map, length-map, sum_by-cons, spell_dinode, spell_dirent, spell_numbers, Used, blocks_for, node_blocks, file_blocks, NewFile, contents_of, names_of, entries_from, inodes_from, data_from, file_node, inode_for, node_bytes, padded, whole}
 use Rattle.mkfs.proofs.Basics.{node_bytes-large, whole-front}
@@ -57,9 +58,9 @@ size-at files i file bytes same h l e =
 -- the parts of a node with more than twelve blocks, as they are appended
 pub content-parts : (old content front rest : List ℕ) (first n : ℕ) → 12288 < length content
     → front ≡ take 12288 content → rest ≡ drop 12288 content → n ≡ blocks_for (length content)
-    → ((old ++ whole front) ++ spell_numbers (padded 256 (range_with_len (first + 13) (n - 12)))) ++ whole rest ≡ old ++ node_bytes first content
+    → ((old ++ whole front) ++ spell_numbers (padded numbers_per_block (range_with_len (first + addresses) (n - direct)))) ++ whole rest ≡ old ++ node_bytes first content
 content-parts old content front rest first n h e1 e2 e3 =
-    let numbers : ℕ → List ℕ = λ k. spell_numbers (padded 256 (range_with_len (first + 13) (k - 12))) in
+    let numbers : ℕ → List ℕ = λ k. spell_numbers (padded numbers_per_block (range_with_len (first + addresses) (k - direct))) in
     let a : List ℕ = take 12288 content in
     let b : List ℕ = numbers (blocks_for (length content)) in
     let c : List ℕ = whole (drop 12288 content) in

@@ -44,10 +44,10 @@ text_bytes (b ∷ bs) t =
     let apart : (b == 47) ≡ false = eq_not b 47 t.1 in
     rw (some, apart) (text_bytes bs t.2)
 
-is_named : (e : List ℕ) → 0 < length e → length e ≤ 14 → IsText e → is_name e ≡ true
+is_named : (e : List ℕ) → 0 < length e → length e ≤ name_len → IsText e → is_name e ≡ true
 is_named e long short t =
     let some : nat_lt 0 (length e) ≡ true = grind (arith, nat_tests, long) in
-    let fits : nat_le (length e) 14 ≡ true = grind (arith, nat_tests, short) in
+    let fits : nat_le (length e) name_len ≡ true = grind (arith, nat_tests, short) in
     rw (some, fits) (text_bytes e t)
 
 name_of : (b : ℕ) (bs : List ℕ) → IsText (b ∷ bs) → is_name (take name_len (b ∷ bs)) ≡ true

@@ -1,5 +1,6 @@
 use Rattle.std.proofs.Common.{◌≡◌, ◌∙◌, ap, ℕ, ◌-◌, ◌*◌, List, ◌++◌, map, replicate}
 use Rattle.std.proofs.lemmas.Result.{IfOk-equal}
+use Rattle.fs_layout.specs.Widths.{block_len}
 use Rattle.migration.specs.Vocabulary.{bitmap, data_start}
 use Rattle.migration.specs.Nodes.{Node, node_of}
 use Rattle.migration.specs.Image.{data_from, inode_table, used_by}
@@ -15,7 +16,7 @@ returns c =
     let at : c.data_start-first.result ≡ first = c.data_start-first.ensures in
     let same : used ≡ used_by first nodes = c.used_blocks-used.ensures ∙ ap (λ (n : ℕ). used_by n nodes) at in
     IfOk-equal c.push_many.result _ _ _ c.push_many.ensures
-    (ap (λ (xs : List ℕ). xs ++ replicate (1024 * (c.args.size - used)) 0)
+    (ap (λ (xs : List ℕ). xs ++ replicate (block_len * (c.args.size - used)) 0)
     (c.in_ok-push_data.ensures
     ∙ ap (λ (n : ℕ). c.push_bitmap.new.image.items ++ data_from n nodes) at
     ∙ ap (λ (xs : List ℕ). xs ++ data_from first nodes)

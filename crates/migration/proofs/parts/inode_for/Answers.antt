@@ -1,4 +1,5 @@
 use Rattle.std.proofs.Common.{◌≡◌, ◌∙◌, ap, ℕ, List, length, min, rules, w16, SFits}
+use Rattle.image_versions.specs.Shared.{addresses}
 use Rattle.fs_layout.proofs.Vocabulary.{to_z-of_z}
 use Rattle.migration.specs.Vocabulary.{Dinode, node_blocks, padded, range_with_len}
 use Rattle.migration.specs.Nodes.{Node, node_of}
@@ -10,11 +11,11 @@ fields node size addrs = record { kind = node.kind; major = node.major; minor = 
 
 -- the fields as they are written
 same : (node : Node) (first n size : ℕ) (addrs : List ℕ) → size ≡ length node.content → n ≡ node_blocks size
-    → addrs ≡ padded 13 (range_with_len first (min n 13)) → fields node size addrs ≡ inode_for first node
+    → addrs ≡ padded addresses (range_with_len first (min n addresses)) → fields node size addrs ≡ inode_for first node
 unfolding inode_for
 same node first n size addrs e f h =
     ap (λ (k : ℕ). fields node k addrs) e
-    ∙ ap (fields node (length node.content)) (h ∙ ap (λ (k : ℕ). padded 13 (range_with_len first (min k 13))) (f ∙ ap node_blocks e))
+    ∙ ap (fields node (length node.content)) (h ∙ ap (λ (k : ℕ). padded addresses (range_with_len first (min k addresses))) (f ∙ ap node_blocks e))
 
 pub returns : goal.returns
 returns c =

@@ -1,3 +1,4 @@
+use Rattle.fs_layout.specs.Widths.{block_len}
 use Rattle.mkfs.proofs.Lemmas.{◌≡◌, ◌++◌, ◌+◌, ◌*◌, ◌-◌, ◌∙◌, ℕ, List, ap, length, replicate, IfOk-equal, node_blocks, file_blocks, data_start, Node, contents_of, nodes_with, inode_table, bitmap, data_from, used_by, image-parts, used-parts}
 use Rattle.mkfs.proofs.made.push_parts.Goals as goal
 
@@ -14,7 +15,7 @@ returns c =
     c.used_blocks-used.ensures ∙ ap (λ (n : ℕ). n + node_blocks (length root) + file_blocks contents) at ∙ used-parts first root contents in
     let table : List ℕ = inode_table c.args.ninodes first nodes in
     IfOk-equal c.push_many.result _ _ _ c.push_many.ensures
-    (ap (λ (xs : List ℕ). xs ++ replicate (1024 * (c.args.size - used)) 0)
+    (ap (λ (xs : List ℕ). xs ++ replicate (block_len * (c.args.size - used)) 0)
     (c.in_ok-push_data.ensures
     ∙ ap (λ (n : ℕ). c.push_bitmap.new.image.items ++ data_from n nodes) at
     ∙ ap (λ (xs : List ℕ). xs ++ data_from first nodes)

@@ -1,3 +1,4 @@
+use Rattle.image_versions.specs.Shared.{addresses, direct, numbers_per_block}
 use Rattle.mkfs.proofs.Lemmas.{◌++◌, ◌∙◌, ◌+◌, ◌-◌, ap, sym, arith, List, ℕ, range_with_len, IfOk-equal, spell_numbers, padded, whole, node_bytes-small, content-parts}
 use Rattle.mkfs.proofs.parts.push_content.Goals as goal
 
@@ -11,7 +12,7 @@ returns c =
     let old : List ℕ = c.args.image.now.items in
     let first : ℕ = c.args.first in
     let n : ℕ = c.blocks_for-numbers.result in
-    let numbers : List ℕ = spell_numbers (padded 256 (range_with_len (first + 13) (n - 12))) in
+    let numbers : List ℕ = spell_numbers (padded numbers_per_block (range_with_len (first + addresses) (n - direct))) in
     let front : List ℕ = c.split_at.result.0.now in
     let rest : List ℕ = c.split_at.result.1.now in
     IfOk-equal c.push_whole-3.result _ _ _ c.push_whole-3.ensures
