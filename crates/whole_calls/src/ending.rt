@@ -68,12 +68,13 @@ pub enum Ending {
 }
 
 /// The next inode of the list is freed, or the reply is given.
-fn free_next(list: &mut Numbers, answer: Answer) -> Ending
-    ensures { (call : Call) → ending_of call list.new result ≡ free_all list.old (say (reply_to call answer)) }
+#[inline(always)]
+fn free_next(at: &mut Ending, list: &mut Numbers, answer: Answer)
+    ensures { (call : Call) → ending_of call list.new at.new ≡ free_all list.old (say (reply_to call answer)) }
 {
     match list.take_first() {
-        Some(n) => Ending::Frees(Freeing::Join(n), answer),
-        None => Ending::Says(answer),
+        Some(n) => *at = Ending::Frees(Freeing::Join(n), answer),
+        None => *at = Ending::Says(answer),
     }
 }
 
@@ -108,10 +109,14 @@ impl Ending {
                     *self = Ending::Leaves(*answer);
                 }
             }
-            Ending::Leaves(answer) => *self = free_next(list, *answer),
+            Ending::Leaves(answer) => {
+                let answer = *answer;
+                free_next(self, list, answer);
+            }
             Ending::Frees(freeing, answer) => {
                 if freeing.step(heard) {
-                    *self = free_next(list, *answer);
+                    let answer = *answer;
+                    free_next(self, list, answer);
                 }
             }
             Ending::Says(answer) => {

@@ -1,6 +1,6 @@
 //! open: what is there is opened, or a new file made.
 ghost use Rattle.std.specs.Prelude.{◌≡◌, ◌≢◌, ◌≤◌, ℕ, All, [], List, Option, Some, length, ◌==◌, false};
-ghost use Rattle.whole_calls.specs.Vocabulary.{creates, has, elements, asks, claimed_of, entered_of, face_of, hears, mark_at, marked_as, op_in, reply_to, sight_of, type_of, stepped, IsNamed, name_in, IsElement, face_or, open_refusal, create_found, empties, make_on, make_with, open_face, open_program, give_up, tail, Heard};
+ghost use Rattle.whole_calls.specs.Vocabulary.{creates, has, elements, asks, claimed_of, entered_of, face_of, hears, mark_at, marked_as, op_in, reply_to, sight_of, type_of, stepped, IsNamed, name_in, IsElement, face_or, open_refusal, create_found, create_in, empties, make_on, make_with, open_at, open_face, open_program, give_up, tail, Heard};
 ghost use Rattle.plain_tree.specs.declared.call.Call.TheVariants as calls;
 ghost use Rattle.plain_tree.specs.declared.step.Action.TheVariants as steps;
 ghost use Rattle.whole_calls.specs.Calls.{Fits, Fresh, Past};
@@ -117,12 +117,51 @@ fn refusal(flags: u32, inode_type: InodeType) -> Option<Cause>
 
 /// Gives an inode up, and answers this.
 #[inline(always)]
-fn refuse(number: u32, answer: Answer) -> Open
+fn refuse(at: &mut Open, number: u32, answer: Answer)
     ensures program { (path : List ℕ) (flags : ℕ) (list : List ℕ)
-        → open_of path flags list result ≡ give_up number (tail list (reply_to (calls.Open path flags) answer)) }
-    ensures past { open_stage result ≡ Past }
+        → open_of path flags list at.new ≡ give_up number (tail list (reply_to (calls.Open path flags) answer)) }
+    ensures past { open_stage at.new ≡ Past }
 {
-    Open::Ends(Ending::Gives(Dropping::UnlockInode(number), answer))
+    *at = Open::Ends(Ending::Gives(Dropping::UnlockInode(number), answer));
+}
+
+/// Leaves the transaction, and answers this.
+#[inline(always)]
+fn leave(at: &mut Open, answer: Answer)
+    ensures program { (path : List ℕ) (flags : ℕ) (list : List ℕ)
+        → open_of path flags list at.new ≡ tail list (reply_to (calls.Open path flags) answer) }
+    ensures past { open_stage at.new ≡ Past }
+{
+    *at = Open::Ends(Ending::Leaves(answer));
+}
+
+/// Gives a new inode and its directory up, and answers this.
+#[inline(always)]
+fn refuse_new(at: &mut Open, number: u32, directory: u32, answer: Answer)
+    ensures program { (path : List ℕ) (flags : ℕ) (list : List ℕ)
+        → open_of path flags list at.new ≡ give_up number (give_up directory (tail list (reply_to (calls.Open path flags) answer))) }
+    ensures past { open_stage at.new ≡ Past }
+{
+    *at = Open::Ends(Ending::GivesTwo(Dropping::UnlockInode(number), directory, answer));
+}
+
+/// What is there is taken.
+#[inline(always)]
+fn take(at: &mut Open, number: u32)
+    ensures program { (path : List ℕ) (flags : ℕ) (list : List ℕ) → open_of path flags list at.new ≡ open_at path flags number list }
+    ensures past { open_stage at.new ≡ Past }
+{
+    *at = Open::Take(number);
+}
+
+/// The parent is reached, with the name that is to be made.
+#[inline(always)]
+fn look(at: &mut Open, directory: u32, element: Element)
+    ensures program { (path : List ℕ) (flags : ℕ) (list : List ℕ)
+        → open_of path flags list at.new ≡ create_in path flags directory (name_in path element) list }
+    ensures fits { (path list : List ℕ) → IsElement path element → Fits path list (open_stage at.new) }
+{
+    *at = Open::Look(directory, element);
 }
 
 /// A transaction is joined.
@@ -133,7 +172,7 @@ fn begin(at: &mut Open, path: &[u8], flags: u32)
     ensures fits { length (elements path.now) ≤ MOST_LISTED → Fits path.now [] (open_stage at.new) }
 {
     if has_flag(flags, CREATE) && next_element(Version::One, path, 0).is_none() {
-        *at = Open::Ends(Ending::Leaves(Answer::Failed(Cause::NoEntry)));
+        leave(at, Answer::Failed(Cause::NoEntry));
     } else {
         *at = Open::Walks(Walk::Start);
     }
@@ -149,7 +188,7 @@ fn took(at: &mut Open, number: u32, flags: u32, sight: &Sight)
 {
     let inode_type = face_or(sight).inode_type;
     match refusal(flags, inode_type) {
-        Some(cause) => *at = refuse(number, Answer::Failed(cause)),
+        Some(cause) => refuse(at, number, Answer::Failed(cause)),
         None => {
             *at = Open::Slot(Found {
                 number,
@@ -167,7 +206,7 @@ fn installed(at: &mut Open, found: Found, flags: u32, fd: Option<u32>)
     ensures past { open_stage at.new ≡ Past }
 {
     match fd {
-        None => *at = refuse(found.number, Answer::Full(Full::Descriptors)),
+        None => refuse(at, found.number, Answer::Full(Full::Descriptors)),
         Some(fd) => {
             if !found.made && is_emptied(flags, found.inode_type) {
                 *at = Open::Empty(found.number, fd);
@@ -199,8 +238,8 @@ fn claimed(at: &mut Open, directory: u32, element: Element, claimed: Claimed)
     ensures fits { (path list : List ℕ) → IsElement path element → Fits path list (open_stage at.new) }
 {
     match claimed {
-        Claimed::NoInode => *at = refuse(directory, Answer::Full(Full::DiskInodes)),
-        Claimed::NoPlace => *at = refuse(directory, Answer::Full(Full::MemInodes)),
+        Claimed::NoInode => refuse(at, directory, Answer::Full(Full::DiskInodes)),
+        Claimed::NoPlace => refuse(at, directory, Answer::Full(Full::MemInodes)),
         Claimed::New(number) if number == directory => *at = Open::ForgetSame(directory),
         Claimed::New(number) => {
             *at = Open::TakeNew(NewName {
@@ -289,11 +328,9 @@ impl Open {
             Open::Join => begin(self, path, flags),
             Open::Walks(walk) => match walk.step(goal(flags), heard, path, list) {
                 Walked::Walks => {}
-                Walked::Reached(number, None) => *self = Open::Take(number),
-                Walked::Reached(directory, Some(element)) => {
-                    *self = Open::Look(directory, element);
-                }
-                Walked::Lost(why) => *self = Open::Ends(Ending::Leaves(stopped(why))),
+                Walked::Reached(number, None) => take(self, number),
+                Walked::Reached(directory, Some(element)) => look(self, directory, element),
+                Walked::Lost(why) => leave(self, stopped(why)),
             },
             Open::Take(number) => {
                 let number = *number;
@@ -303,7 +340,8 @@ impl Open {
                 if heard.is() {
                     *self = Open::Install(*found);
                 } else {
-                    *self = refuse(found.number, Answer::Full(Full::OpenFiles));
+                    let number = found.number;
+                    refuse(self, number, Answer::Full(Full::OpenFiles));
                 }
             }
             Open::Install(found) => {
@@ -311,26 +349,31 @@ impl Open {
                 installed(self, found, flags, heard.start());
             }
             Open::Empty(number, fd) => *self = Open::UnlockInode(*number, *fd),
-            Open::UnlockInode(_, fd) => *self = Open::Ends(Ending::Leaves(Answer::Fd(*fd))),
+            Open::UnlockInode(_, fd) => {
+                let fd = *fd;
+                leave(self, Answer::Fd(fd));
+            }
             Open::Look(directory, element) => {
                 let (directory, element) = (*directory, *element);
                 let sight = heard.sight();
                 if is_live(&sight) {
                     looked(self, directory, element, sight.found);
                 } else {
-                    *self = refuse(directory, Answer::Failed(Cause::NoEntry));
+                    refuse(self, directory, Answer::Failed(Cause::NoEntry));
                 }
             }
             Open::Up(directory, number) => {
                 if heard.is() {
                     *self = Open::GiveParent(Dropping::UnlockInode(*directory), *number);
                 } else {
-                    *self = refuse(*directory, Answer::Full(Full::MemInodes));
+                    let directory = *directory;
+                    refuse(self, directory, Answer::Full(Full::MemInodes));
                 }
             }
             Open::GiveParent(dropping, number) => {
                 if dropping.step(heard) {
-                    *self = Open::Take(*number);
+                    let number = *number;
+                    take(self, number);
                 }
             }
             Open::Claim(directory, element) => {
@@ -338,7 +381,8 @@ impl Open {
                 claimed(self, directory, element, heard.claimed());
             }
             Open::ForgetSame(directory) => {
-                *self = refuse(*directory, Answer::Full(Full::MemInodes));
+                let directory = *directory;
+                refuse(self, directory, Answer::Full(Full::MemInodes));
             }
             Open::TakeNew(name) => {
                 *self = Open::StoreNew(*name, face_or(&heard.sight()).inode_type);
@@ -358,8 +402,8 @@ impl Open {
                 }
             }
             Open::Unmake(number, directory, answer) => {
-                let dropping = Dropping::UnlockInode(*number);
-                *self = Open::Ends(Ending::GivesTwo(dropping, *directory, *answer));
+                let (number, directory, answer) = (*number, *directory, *answer);
+                refuse_new(self, number, directory, answer);
             }
             Open::Ends(ending) => return ending.step(heard, list, says),
         }

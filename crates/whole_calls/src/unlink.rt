@@ -45,12 +45,21 @@ pub enum Unlink {
 
 /// Gives the directory up, and answers this.
 #[inline(always)]
-fn refuse(directory: u32, answer: Answer) -> Unlink
+fn refuse(at: &mut Unlink, directory: u32, answer: Answer)
     ensures program { (path list : List ℕ)
-        → unlink_of path list result ≡ give_up directory (tail list (reply_to (calls.Unlink path) answer)) }
-    ensures past { unlink_stage result ≡ Past }
+        → unlink_of path list at.new ≡ give_up directory (tail list (reply_to (calls.Unlink path) answer)) }
+    ensures past { unlink_stage at.new ≡ Past }
 {
-    Unlink::Ends(Ending::Gives(Dropping::UnlockInode(directory), answer))
+    *at = Unlink::Ends(Ending::Gives(Dropping::UnlockInode(directory), answer));
+}
+
+/// Leaves the transaction, and answers this.
+#[inline(always)]
+fn leave(at: &mut Unlink, answer: Answer)
+    ensures program { (path list : List ℕ) → unlink_of path list at.new ≡ tail list (reply_to (calls.Unlink path) answer) }
+    ensures past { unlink_stage at.new ≡ Past }
+{
+    *at = Unlink::Ends(Ending::Leaves(answer));
 }
 
 fn is_directory(face: &Face) -> bool
@@ -162,15 +171,16 @@ impl Unlink {
                     reached(self, directory, element, path);
                 }
                 Walked::Reached(_, None) => {
-                    *self = Unlink::Ends(Ending::Leaves(Answer::Failed(Cause::NoEntry)));
+                    leave(self, Answer::Failed(Cause::NoEntry));
                 }
-                Walked::Lost(why) => *self = Unlink::Ends(Ending::Leaves(stopped(why))),
+                Walked::Lost(why) => leave(self, stopped(why)),
             },
             Unlink::Dots(directory) => {
+                let directory = *directory;
                 if is_live(&heard.sight()) {
-                    *self = refuse(*directory, Answer::Failed(Cause::DotName));
+                    refuse(self, directory, Answer::Failed(Cause::DotName));
                 } else {
-                    *self = refuse(*directory, Answer::Failed(Cause::NoEntry));
+                    refuse(self, directory, Answer::Failed(Cause::NoEntry));
                 }
             }
             Unlink::Look(directory, element) => {
@@ -181,7 +191,8 @@ impl Unlink {
                 if heard.is() {
                     *self = Unlink::Take(*name, *number);
                 } else {
-                    *self = refuse(name.directory, Answer::Full(Full::MemInodes));
+                    let directory = name.directory;
+                    refuse(self, directory, Answer::Full(Full::MemInodes));
                 }
             }
             Unlink::Take(name, number) => {
@@ -270,7 +281,7 @@ fn begin(at: &mut Unlink, path: &[u8])
     ensures fits { length (elements path.now) ≤ MOST_LISTED → Fits path.now [] (unlink_stage at.new) }
 {
     match next_element(Version::One, path, 0) {
-        None => *at = Unlink::Ends(Ending::Leaves(Answer::Failed(Cause::NoEntry))),
+        None => leave(at, Answer::Failed(Cause::NoEntry)),
         Some(_) => *at = Unlink::Walks(Walk::Start),
     }
 }
@@ -284,9 +295,9 @@ fn found(at: &mut Unlink, directory: u32, element: Element, sight: &Sight)
     ensures past { unlink_stage at.new ≡ Past }
 {
     match sight.found {
-        None => *at = refuse(directory, Answer::Failed(Cause::NoEntry)),
+        None => refuse(at, directory, Answer::Failed(Cause::NoEntry)),
         Some(number) if number == directory => {
-            *at = refuse(directory, Answer::Failed(Cause::NoEntry));
+            refuse(at, directory, Answer::Failed(Cause::NoEntry));
         }
         Some(number) => {
             let name = Name {
