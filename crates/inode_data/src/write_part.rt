@@ -1,11 +1,12 @@
 //! A part of a content written.
 ghost use Rattle.std.specs.Prelude.{◌≡◌, ◌≢◌, ◌+◌, ◌<◌, ◌≤◌, ◌^◌, ℕ, List, drop, length, Some, None, IsSome, IfSome, IfNone};
-ghost use Rattle.inode_data.specs.Vocabulary.{MatchOption, bits_per_block, asks, inode_block, op_in, answer_in, CanDo, Prepared, IsAfter, Goes, left_after, HandState};
+ghost use Rattle.inode_data.specs.Vocabulary.{MatchOption, bits_per_block, asks, inode_block, op_in, answer_in, bind, CanDo, Prepared, IsAfter, Goes, left_after, HandState};
 ghost use Rattle.inode_data.specs.Widths.{most_bytes};
 ghost use Rattle.inode_data.specs.Writing.{grown, write_part};
 ghost use Rattle.inode_data.specs.Locating.{Leaves};
 ghost use Rattle.inode_data.specs.InHand.{NoBuffers};
-ghost use Rattle.inode_data.specs.PartWriting.{after_location, stored, write_left, write_asked, write_rest, written_as, written_so, BeginsAmid, IsPast, IsWithin, IsWriting, WriteReady};
+ghost use Rattle.inode_data.specs.declared.write_part.WritePart.TheVariants as parts;
+ghost use Rattle.inode_data.specs.PartWriting.{after_location, blocks_behind, stored, write_left, write_asked, write_rest, written_as, written_so, BeginsAmid, IsPast, IsWithin, IsWriting, WriteReady};
 
 use crate::begun::Begun;
 use crate::locate::{Locate, Located};
@@ -114,31 +115,63 @@ impl WritePart {
             WritePart::Locating(writing, locate) => match locate.next(answer, hand) {
                 None => None,
                 Some(located) => {
-                    *self = found(writing, &located);
+                    let writing = *writing;
+                    seek_on(self, writing, &located);
                     None
                 }
             },
             WritePart::Fetching(writing, so_far, fetch) => match fetch.next(answer, hand) {
                 None => None,
                 Some(_) => {
-                    *self = WritePart::There(*writing, *so_far);
+                    let (writing, so_far) = (*writing, *so_far);
+                    fetch_on(self, writing, so_far);
                     None
                 }
             },
             WritePart::There(writing, so_far) => {
-                let next = passed(writing, bytes.len());
-                *self = onward(&next, so_far);
+                let (writing, so_far) = (*writing, *so_far);
+                pass(self, writing, so_far, bytes.len());
                 None
             }
             WritePart::Storing(written, store) => {
-                let written = *written;
                 match store.next(answer, hand) {
                     None => None,
-                    Some(()) => Some(written),
+                    Some(()) => Some(*written),
                 }
             }
         }
     }
+}
+
+// On from where the next block was sought.
+#[inline(always)]
+fn seek_on(at: &mut WritePart, writing: Writing, located: &Located)
+    requires { IsWriting (writing.left + 1) writing }
+    ensures program { (bytes : List ℕ) (h : HandState) → write_left bytes at.new h ≡ after_location writing bytes located.now }
+    ensures ready { BeginsAmid writing.done at.new }
+{
+    *at = found(&writing, located);
+}
+
+// On from where its buffer was fetched.
+#[inline(always)]
+fn fetch_on(at: &mut WritePart, writing: Writing, so_far: Dinode)
+    ensures { at.new ≡ parts.There writing so_far }
+{
+    *at = WritePart::There(writing, so_far);
+}
+
+// On from where it was written, of so many bytes in all.
+#[inline(always)]
+fn pass(at: &mut WritePart, writing: Writing, so_far: Dinode, count: usize)
+    requires ready { IsWriting (writing.left + 1) writing }
+    requires there { writing.done ≤ count }
+    ensures program { (bytes : List ℕ) (h : HandState) → length bytes ≡ count
+        → write_left bytes at.new h ≡ bind (blocks_behind writing bytes so_far) (stored writing) }
+    ensures ready { (bytes : List ℕ) (h : HandState) → length bytes ≡ count → NoBuffers h → IsSome h.txn → WriteReady bytes at.new h }
+{
+    let next = passed(&writing, count);
+    *at = onward(&next, &so_far);
 }
 
 // Goes on with the next block, or with the store.

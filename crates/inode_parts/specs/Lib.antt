@@ -28,5 +28,6 @@ pub mod FileWrites
 pub mod InodeParts
 pub mod Coming
 pub mod UnderWay
+pub mod Beginnings
 pub mod Calls
 pub mod Telling

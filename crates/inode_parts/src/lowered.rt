@@ -81,9 +81,7 @@ impl Lowered {
         self.notes = Notes::new();
         self.ended = false;
         let ask = self.call.ask();
-        let path = self.call.text();
-        let second = self.call.second();
-        self.part.begin(ask, sizes, path, second, &self.notes, hand);
+        self.part.begin(ask, sizes, &self.call, &self.notes, hand);
     }
 
     /// What the call heard in its last step, where an operation over whole inodes ended there; also of a call that has ended.
@@ -204,10 +202,8 @@ impl Control for Lowered {
                 Some(())
             } else {
                 let ask = self.call.ask();
-                let path = self.call.text();
-                let second = self.call.second();
                 self.part
-                    .begin(ask, &self.sizes, path, second, &self.notes, hand);
+                    .begin(ask, &self.sizes, &self.call, &self.notes, hand);
                 None
             }
         } else {

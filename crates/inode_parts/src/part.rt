@@ -1,18 +1,18 @@
 //! Operations on whole inodes, each as a part over blocks.
 ghost use Rattle.std.specs.Prelude.{◌≡◌, ◌++◌, ℕ, List, Some, None, IfSome, IfNone};
-ghost use Rattle.inode_parts.specs.Vocabulary.{Ret, asks, op_in, answer_in, CanDo, Prepared, IsAfter, Goes, bare, Hand as HandState, OpAbove, Take, above_op, query_in, first_in, second_in, text_in};
+ghost use Rattle.inode_parts.specs.Vocabulary.{Super as SuperState, Ret, asks, op_in, answer_in, CanDo, Prepared, IsAfter, Goes, bare, Hand as HandState, OpAbove, Take, above_op, query_in, first_in, second_in, text_in};
 ghost use Rattle.inode_parts.specs.Expecting.{BeginsWith};
-ghost use Rattle.inode_parts.specs.Carries.{carry_in, handed};
+ghost use Rattle.inode_parts.specs.Beginnings.{PartHasBegun, PartHasStarted, PartMayBegin, PartMayStart};
+ghost use Rattle.inode_parts.specs.Carries.{carry_in};
 ghost use Rattle.inode_parts.specs.Holding.{Having};
 ghost use Rattle.inode_parts.specs.Leaving.{having, heard_if};
-ghost use Rattle.inode_parts.specs.OneSteps.{Begins};
 ghost use Rattle.inode_parts.specs.Parts.{IsPart};
 ghost use Rattle.inode_parts.specs.Sizes.{IsSized};
-ghost use Rattle.inode_parts.specs.Enters.{AskStands};
 ghost use Rattle.inode_parts.specs.Takes.{IsTold};
-ghost use Rattle.inode_parts.specs.InodeParts.{is_short, part_for, part_left, part_left_after, part_asked, AskTold, ChangesNone, FillsAs, MayGoOn, PartReady, PartTold, ReadsInto};
+ghost use Rattle.inode_parts.specs.InodeParts.{is_short, part_for, part_left, part_left_after, part_asked, ChangesNone, MayGoOn, PartReady, PartTold, ReadsInto};
 ghost use Rattle.inode_parts.specs.UnderWay.{GoesOrLeaves, UnderWay};
 ghost use Rattle.inode_parts.specs.declared.note.Notes.{Notes as NotesState};
+ghost use Rattle.path_walk.specs.declared.asks.Ask.TheVariants as asking;
 
 use crate::claim_part::ClaimPart;
 use crate::clear_part::ClearPart;
@@ -34,7 +34,7 @@ use crate::take_part::TakePart;
 use crate::write_file_part::WriteFilePart;
 use fs_layout::Super;
 use fs_machine::{Answer, Control, Finish, Hand, Op};
-use path_walk::{Ask, Heard, Query};
+use path_walk::{Ask, Element, Heard, InodeType, Query};
 use whole_calls::Whole;
 
 /// The operation of a call under way, whichever it is.
@@ -79,103 +79,180 @@ impl InodePart {
         InodePart::One(OneStep::Say)
     }
 
-    /// The part of this ask of a call with this path, and a second one behind it, begins in this place, on a disk with this superblock;
-    /// what was learned of locked inodes is noted. The record of one of them may change in hand.
+    /// The part of this ask of a call begins in this place, on a disk with this superblock; what was learned of locked inodes is noted. The
+    /// record of one of them may change in hand.
     #[inline(always)]
-    pub fn begin(
-        &mut self,
-        ask: Ask,
-        sizes: &Super,
-        path: &[u8],
-        second: &[u8],
-        notes: &Notes,
-        hand: &mut Hand,
-    )
-        requires sizes { IsSized sizes.now }
-        requires begins { let text = path.now ++ second.now in BeginsWith text (above_op text ask) (having hand.old notes.now) }
-        requires stands { AskStands path.now second.now ask }
-        requires told { AskTold path.now second.now ask }
-        ensures part { let text = path.now ++ second.now in
-            IsPart sizes.now (carry_in text notes.now hand.old) (above_op text ask) (part_left text notes.now self.new hand.new) }
-        ensures ready { PartReady self.new hand.new }
-        ensures told { PartTold path.now second.now self.new }
-        ensures fills { let text = path.now ++ second.now in FillsAs ask text (part_left text notes.now self.new hand.new) }
-        ensures known { let text = path.now ++ second.now in Begins (above_op text ask) hand.old
-            → (self.new ≡ part_for (above_op text ask) hand.old) × (hand.new ≡ hand.old) }
-        ensures under { let text = path.now ++ second.now in
-            UnderWay text (above_op text ask) (having hand.old notes.now) self.new (having hand.new notes.now) }
-        ensures hand { bare hand.new ≡ bare hand.old }
+    pub fn begin(&mut self, ask: Ask, sizes: &Super, call: &Whole, notes: &Notes, hand: &mut Hand)
+        requires { PartMayBegin sizes.now (first_in call.now) (second_in call.now) ask notes.now hand.old }
+        ensures { PartHasBegun sizes.now (first_in call.now) (second_in call.now) ask notes.now hand.old self.new hand.new }
     {
         if is_short(&ask) {
             self.begin_short(ask, hand);
         } else {
             match ask {
                 Ask::Take(number, query) => self.begin_take(number, query, sizes, hand),
-                _ => self.begin_long(ask, sizes, path, second, notes, hand),
+                _ => self.begin_long(ask, sizes, call, notes, hand),
             }
         }
     }
 
-    // The same, in a function of its own: its arms take much room for what they begin, which is cleared each time.
+    // The same, in a function of its own. What its arms begin is cleared first, so each is a function that is put into it: no other's
+    // room is cleared.
     #[tactic(auto, using(crate::proofs::Begins::is_part, crate::proofs::Begins::is_ready))]
-    fn begin_long(
-        &mut self,
-        ask: Ask,
-        sizes: &Super,
-        path: &[u8],
-        second: &[u8],
-        notes: &Notes,
-        hand: &mut Hand,
-    )
-        requires sizes { IsSized sizes.now }
-        requires begins { let text = path.now ++ second.now in BeginsWith text (above_op text ask) (having hand.old notes.now) }
-        requires stands { AskStands path.now second.now ask }
-        requires told { AskTold path.now second.now ask }
-        ensures part { let text = path.now ++ second.now in
-            IsPart sizes.now (carry_in text notes.now hand.old) (above_op text ask) (part_left text notes.now self.new hand.new) }
-        ensures ready { PartReady self.new hand.new }
-        ensures told { PartTold path.now second.now self.new }
-        ensures fills { let text = path.now ++ second.now in FillsAs ask text (part_left text notes.now self.new hand.new) }
-        ensures known { let text = path.now ++ second.now in Begins (above_op text ask) hand.old
-            → (self.new ≡ part_for (above_op text ask) hand.old) × (hand.new ≡ hand.old) }
-        ensures under { let text = path.now ++ second.now in
-            UnderWay text (above_op text ask) (having hand.old notes.now) self.new (having hand.new notes.now) }
-        ensures hand { bare hand.new ≡ bare hand.old }
+    fn begin_long(&mut self, ask: Ask, sizes: &Super, call: &Whole, notes: &Notes, hand: &mut Hand)
+        requires { PartMayBegin sizes.now (first_in call.now) (second_in call.now) ask notes.now hand.old }
+        ensures { PartHasBegun sizes.now (first_in call.now) (second_in call.now) ask notes.now hand.old self.new hand.new }
     {
         match ask {
-            Ask::Store(number, count) => {
-                *self = InodePart::Store(StorePart::begin(number, count, sizes, hand));
-            }
-            Ask::Empty(number) => *self = InodePart::Empty(EmptyPart::begin(number, sizes, hand)),
+            Ask::Store(number, count) => self.begin_store(number, count, sizes, hand),
+            Ask::Empty(number) => self.begin_empty(number, sizes, hand),
             Ask::Enter(number, element, child) => {
-                let name = name(path, second, &element);
-                *self = InodePart::Enter(EnterPart::begin(number, child, name, sizes, hand));
+                self.begin_enter(number, element, child, sizes, call, hand);
             }
-            Ask::Clear(number, _) => {
-                *self = InodePart::Clear(ClearPart::begin(number, sizes, notes, hand));
-            }
-            Ask::Fill(number, parent) => {
-                *self = InodePart::Fill(FillPart::begin(number, parent, sizes, hand));
-            }
-            Ask::Free(number) => *self = InodePart::Free(FreePart::begin(number, sizes, hand)),
-            Ask::Claim(inode_type) => *self = InodePart::Claim(ClaimPart::begin(
-                inode_type, sizes, hand,
-            )),
-            Ask::LockOpen(fd, _) => *self = InodePart::LockOpen(LockOpenPart::begin(
-                fd, sizes, hand,
-            )),
-            Ask::LockFile(fd) => *self = InodePart::LockFile(LockFilePart::begin(fd, sizes, hand)),
-            Ask::StatFile(fd) => *self = InodePart::StatFile(StatFilePart::begin(fd, sizes, hand)),
+            Ask::Clear(number, _) => self.begin_clear(number, sizes, notes, hand),
+            Ask::Fill(number, parent) => self.begin_fill(number, parent, sizes, hand),
+            Ask::Free(number) => self.begin_free(number, sizes, hand),
+            Ask::Claim(inode_type) => self.begin_claim(inode_type, sizes, hand),
+            Ask::LockOpen(fd, _) => self.begin_lock_open(fd, sizes, hand),
+            Ask::LockFile(fd) => self.begin_lock_file(fd, sizes, hand),
+            Ask::StatFile(fd) => self.begin_stat_file(fd, sizes, hand),
             Ask::Take(number, query) => self.begin_take(number, query, sizes, hand),
             Ask::ReadFile(fd, number, _, count) => {
-                *self = InodePart::ReadFile(ReadFilePart::begin(fd, number, count, notes, hand));
+                self.begin_read_file(fd, number, count, notes, hand);
             }
             Ask::WriteFile(fd, number, _, index) => {
-                let part = WriteFilePart::begin(fd, number, index, path, sizes, notes, hand);
-                *self = InodePart::WriteFile(part);
+                self.begin_write_file(fd, number, index, sizes, call, notes, hand);
             }
             _ => self.begin_short(ask, hand),
         }
+    }
+
+    #[inline(always)]
+    fn begin_store(&mut self, number: u32, count: u32, sizes: &Super, hand: &mut Hand)
+        requires { PartMayStart sizes.now (asking.Store number count) hand.old }
+        ensures { PartHasStarted sizes.now (asking.Store number count) hand.old self.new hand.new }
+    {
+        *self = InodePart::Store(StorePart::begin(number, count, sizes, hand));
+    }
+
+    #[inline(always)]
+    fn begin_empty(&mut self, number: u32, sizes: &Super, hand: &mut Hand)
+        requires { PartMayStart sizes.now (asking.Empty number) hand.old }
+        ensures { PartHasStarted sizes.now (asking.Empty number) hand.old self.new hand.new }
+    {
+        *self = InodePart::Empty(EmptyPart::begin(number, sizes, hand));
+    }
+
+    #[inline(always)]
+    fn begin_enter(
+        &mut self,
+        number: u32,
+        element: Element,
+        child: u32,
+        sizes: &Super,
+        call: &Whole,
+        hand: &Hand,
+    )
+        requires { (notes : NotesState)
+            × PartMayBegin sizes.now (first_in call.now) (second_in call.now) (asking.Enter number element child) notes hand.now }
+        ensures { (notes : NotesState) → let a = asking.Enter number element child in
+            PartMayBegin sizes.now (first_in call.now) (second_in call.now) a notes hand.now
+            → PartHasBegun sizes.now (first_in call.now) (second_in call.now) a notes hand.now self.new hand.now }
+    {
+        let name = name(call.text(), call.second(), &element);
+        *self = InodePart::Enter(EnterPart::begin(number, child, name, sizes, hand));
+    }
+
+    #[inline(always)]
+    fn begin_clear(&mut self, number: u32, sizes: &Super, notes: &Notes, hand: &Hand)
+        requires { (first second : List ℕ) × (element : Element)
+            × PartMayBegin sizes.now first second (asking.Clear number element) notes.now hand.now }
+        ensures { (first second : List ℕ) (element : Element) → let a = asking.Clear number element in
+            PartMayBegin sizes.now first second a notes.now hand.now
+            → PartHasBegun sizes.now first second a notes.now hand.now self.new hand.now }
+    {
+        *self = InodePart::Clear(ClearPart::begin(number, sizes, notes, hand));
+    }
+
+    #[inline(always)]
+    fn begin_fill(&mut self, number: u32, parent: u32, sizes: &Super, hand: &Hand)
+        requires { PartMayStart sizes.now (asking.Fill number parent) hand.now }
+        ensures { PartHasStarted sizes.now (asking.Fill number parent) hand.now self.new hand.now }
+    {
+        *self = InodePart::Fill(FillPart::begin(number, parent, sizes, hand));
+    }
+
+    #[inline(always)]
+    fn begin_free(&mut self, number: u32, sizes: &Super, hand: &mut Hand)
+        requires { PartMayStart sizes.now (asking.Free number) hand.old }
+        ensures { PartHasStarted sizes.now (asking.Free number) hand.old self.new hand.new }
+    {
+        *self = InodePart::Free(FreePart::begin(number, sizes, hand));
+    }
+
+    #[inline(always)]
+    fn begin_claim(&mut self, inode_type: InodeType, sizes: &Super, hand: &Hand)
+        requires { PartMayStart sizes.now (asking.Claim inode_type) hand.now }
+        ensures { PartHasStarted sizes.now (asking.Claim inode_type) hand.now self.new hand.now }
+    {
+        *self = InodePart::Claim(ClaimPart::begin(inode_type, sizes, hand));
+    }
+
+    #[inline(always)]
+    fn begin_lock_open(&mut self, fd: u32, sizes: &Super, hand: &Hand)
+        requires { (number : ℕ) × PartMayStart sizes.now (asking.LockOpen fd number) hand.now }
+        ensures { (number : ℕ) → PartHasStarted sizes.now (asking.LockOpen fd number) hand.now self.new hand.now }
+    {
+        *self = InodePart::LockOpen(LockOpenPart::begin(fd, sizes, hand));
+    }
+
+    #[inline(always)]
+    fn begin_lock_file(&mut self, fd: u32, sizes: &Super, hand: &Hand)
+        requires { PartMayStart sizes.now (asking.LockFile fd) hand.now }
+        ensures { PartHasStarted sizes.now (asking.LockFile fd) hand.now self.new hand.now }
+    {
+        *self = InodePart::LockFile(LockFilePart::begin(fd, sizes, hand));
+    }
+
+    #[inline(always)]
+    fn begin_stat_file(&mut self, fd: u32, sizes: &Super, hand: &Hand)
+        requires { PartMayStart sizes.now (asking.StatFile fd) hand.now }
+        ensures { PartHasStarted sizes.now (asking.StatFile fd) hand.now self.new hand.now }
+    {
+        *self = InodePart::StatFile(StatFilePart::begin(fd, sizes, hand));
+    }
+
+    #[inline(always)]
+    fn begin_read_file(&mut self, fd: u32, number: u32, count: usize, notes: &Notes, hand: &Hand)
+        requires { (sizes : SuperState) × (first second : List ℕ) × (offset : ℕ)
+            × PartMayBegin sizes first second (asking.ReadFile fd number offset count) notes.now hand.now }
+        ensures { (sizes : SuperState) (first second : List ℕ) (offset : ℕ) → let a = asking.ReadFile fd number offset count in
+            PartMayBegin sizes first second a notes.now hand.now
+            → PartHasBegun sizes first second a notes.now hand.now self.new hand.now }
+    {
+        *self = InodePart::ReadFile(ReadFilePart::begin(fd, number, count, notes, hand));
+    }
+
+    #[inline(always)]
+    fn begin_write_file(
+        &mut self,
+        fd: u32,
+        number: u32,
+        index: usize,
+        sizes: &Super,
+        call: &Whole,
+        notes: &Notes,
+        hand: &Hand,
+    )
+        requires { (offset : ℕ)
+            × PartMayBegin sizes.now (first_in call.now) (second_in call.now) (asking.WriteFile fd number offset index) notes.now hand.now }
+        ensures { (offset : ℕ) → let a = asking.WriteFile fd number offset index in
+            PartMayBegin sizes.now (first_in call.now) (second_in call.now) a notes.now hand.now
+            → PartHasBegun sizes.now (first_in call.now) (second_in call.now) a notes.now hand.now self.new hand.now }
+    {
+        let text = call.text();
+        let part = WriteFilePart::begin(fd, number, index, text, sizes, notes, hand);
+        *self = InodePart::WriteFile(part);
     }
 
     // That of an operation which is one below, or leaves a transaction. Where one below was here before, it alone is written.

@@ -7,12 +7,8 @@ returns-in-Some-clause-goes c before =
     let bytes = c.args.bytes.now in
     let on = after_location c.in-Locating.writing bytes in
     let answer = answer_in (locate_asked m) c.args.answer.now c.args.hand.now in
-    rw c.in-Locating.is (λ ready after. subst (λ (p : P WriteResult). Goes (bind (locate_left m before) on) answer p) (sym (c.found.ensures.program bytes c.next.new.hand))
+    rw c.in-Locating.is (λ ready after. subst (λ (p : P WriteResult). Goes (bind (locate_left m before) on) answer p) (sym (c.seek_on.ensures.program bytes c.next.new.hand))
     (goes_bind (locate_left m before) (Ret c.in-Some.located) on answer (c.in-Some.ensures.goes before ready.1 after)))
 
 pub returns-in-There-clause-goes : goal.returns-in-There-clause-goes
-returns-in-There-clause-goes c before =
-    let bytes = c.args.bytes.now in
-    let w = c.in-There.writing in
-    let d = c.in-There.so_far in
-    rw c.in-There.is (λ ready after. sym (c.onward.ensures.program bytes c.args.hand.now ∙ past_so w c.passed-next.result d bytes (c.passed-next.ensures bytes refl)))
+returns-in-There-clause-goes c before = rw c.in-There.is (λ ready after. sym (c.pass.ensures.program c.args.bytes.now c.args.hand.now refl))

@@ -80,8 +80,8 @@ next-requires-clause-count c =
     let some = ap (λ (b : Bool). heard_if b x) c.if-part_next.true in
     room_then l.list l.call did.new.call l.part (having c.requires.came.0 l.notes) x (heard_if did.result x) some did.ensures.call ready.way did.ensures.room
 
-pub begin-requires-clause-begins : goal.begin-requires-clause-begins
-begin-requires-clause-begins c =
+pub begin-requires : goal.begin-requires
+begin-requires c =
     let l = c.args.self.now in
     let came = c.requires.came in
     let ready = came.1 in
@@ -99,55 +99,12 @@ begin-requires-clause-begins c =
     let fits = c.next.ensures.fits c.if-next.false in
     let named = c.ask-ask.ensures.named ms fits in
     let asked = c.ask-ask.ensures.asks ms fits in
-    let path = c.text-path in
-    let second = c.second-second in
-    begins_now v ms s a path.result.now second.result.now path.ensures second.ensures named asked runs
-
-pub begin-requires-clause-stands : goal.begin-requires-clause-stands
-begin-requires-clause-stands c =
-    let l = c.args.self.now in
-    let came = c.requires.came in
-    let ready = came.1 in
-    let did = c.part_next in
-    let u = did.new.call in
-    let x = did.new.heard in
-    let s = having did.new.hand did.new.notes in
-    let v = c.next.new.self in
-    let ms = c.next.new.list in
-    let some = ap (λ (b : Bool). heard_if b x) c.if-part_next.true in
-    let leaves : (op : above.Op) (start : Having) → UnderWay (text_in l.call) op start l.part (having came.0 l.notes) → Leaves (text_in l.call) op (answer_to [] op x) start s = λ op start under. subst (λ (o : Option Heard). GoesOrLeaves (text_in l.call) op start o did.new.part s) some (did.ensures.under op start came.0 under ready.ready came.2) in
-    let on : hears (text_in u) (whole_of l.list u) x ≡ whole_of ms v = (c.next.ensures.goes ∙ ap (λ (ended : Bool). stepped (whole_of ms v) (call_in v) c.next.new.says ended) c.if-next.false) in
-    let runs = next_runs l.call u v l.list ms l.part (having came.0 l.notes) s x did.ensures.call ready.way leaves c.next.ensures.call on in
-    let a = c.ask-ask.result in
-    let fits = c.next.ensures.fits c.if-next.false in
-    let named = c.ask-ask.ensures.named ms fits in
-    let asked = c.ask-ask.ensures.asks ms fits in
-    let path = c.text-path in
-    let second = c.second-second in
-    stands_now v ms s a path.result.now second.result.now path.ensures second.ensures named asked runs fits
-
-pub begin-requires-clause-told : goal.begin-requires-clause-told
-begin-requires-clause-told c =
-    let l = c.args.self.now in
-    let came = c.requires.came in
-    let ready = came.1 in
-    let did = c.part_next in
-    let u = did.new.call in
-    let x = did.new.heard in
-    let s = having did.new.hand did.new.notes in
-    let v = c.next.new.self in
-    let ms = c.next.new.list in
-    let some = ap (λ (b : Bool). heard_if b x) c.if-part_next.true in
-    let leaves : (op : above.Op) (start : Having) → UnderWay (text_in l.call) op start l.part (having came.0 l.notes) → Leaves (text_in l.call) op (answer_to [] op x) start s = λ op start under. subst (λ (o : Option Heard). GoesOrLeaves (text_in l.call) op start o did.new.part s) some (did.ensures.under op start came.0 under ready.ready came.2) in
-    let on : hears (text_in u) (whole_of l.list u) x ≡ whole_of ms v = (c.next.ensures.goes ∙ ap (λ (ended : Bool). stepped (whole_of ms v) (call_in v) c.next.new.says ended) c.if-next.false) in
-    let runs = next_runs l.call u v l.list ms l.part (having came.0 l.notes) s x did.ensures.call ready.way leaves c.next.ensures.call on in
-    let a = c.ask-ask.result in
-    let fits = c.next.ensures.fits c.if-next.false in
-    let named = c.ask-ask.ensures.named ms fits in
-    let asked = c.ask-ask.ensures.asks ms fits in
-    let path = c.text-path in
-    let second = c.second-second in
-    told_now v ms s a path.result.now second.result.now path.ensures second.ensures named asked runs
+    record {
+      sized = ready.sized;
+      begins = begins_now v ms s a (first_in v) (second_in v) refl refl named asked runs;
+      stands = stands_now v ms s a (first_in v) (second_in v) refl refl named asked runs fits;
+      told = told_now v ms s a (first_in v) (second_in v) refl refl named asked runs;
+    }
 
 pub returns-else-next-clause-goes : goal.returns-else-next-clause-goes
 returns-else-next-clause-goes c before ready after =
@@ -170,7 +127,7 @@ returns-else-next-clause-goes c before ready after =
     let q = c.begin.new.self in
     let g = c.begin.new.hand in
     let stays = text_stays u v c.next.ensures.call in
-    let read = read_text v c.text-path.result.now c.second-second.result.now c.text-path.ensures c.second-second.ensures in
+    let read = read_text v (first_in v) (second_in v) refl refl in
     let fits = c.next.ensures.fits c.if-next.false in
     let is = subst (λ (t : List ℕ). IsPart l.sizes (carry_in t m h) (op_in t a) (part_left t m q g)) (read ∙ stays) c.begin.ensures.part in
     let fills = subst (λ (t : List ℕ). FillsAs a t (part_left t m q g)) read c.begin.ensures.fills in
@@ -200,7 +157,7 @@ returns-else-next-clause-tells c before ready after =
     let q = c.begin.new.self in
     let g = c.begin.new.hand in
     let stays = text_stays u v c.next.ensures.call in
-    let read = read_text v c.text-path.result.now c.second-second.result.now c.text-path.ensures c.second-second.ensures in
+    let read = read_text v (first_in v) (second_in v) refl refl in
     let is = subst (λ (t : List ℕ). IsPart l.sizes (carry_in t m h) (op_in t a) (part_left t m q g)) (read ∙ stays) c.begin.ensures.part in
     let fills = subst (λ (t : List ℕ). FillsAs a t (part_left t m q g)) read c.begin.ensures.fills in
     let asked = c.ask-ask.ensures.asks ms (c.next.ensures.fits c.if-next.false) in
@@ -240,17 +197,15 @@ returns-else-next-clause-ready c =
     let fits = c.next.ensures.fits c.if-next.false in
     let named = c.ask-ask.ensures.named ms fits in
     let asked = c.ask-ask.ensures.asks ms fits in
-    let path = c.text-path in
-    let second = c.second-second in
     let q = c.begin.new.self in
     let t = having c.begin.new.hand did.new.notes in
     record {
       sized = ready.sized;
       fits = fits;
       ready = c.begin.ensures.ready;
-      told = part_told v q path.result.now second.result.now path.ensures second.ensures c.begin.ensures.told;
-      reads = reads_now (path.result.now ++ second.result.now) v a s t q named c.begin.ensures.under;
-      way = way_now v ms s a path.result.now second.result.now path.ensures second.ensures named asked runs q t c.begin.ensures.under;
+      told = part_told v q (first_in v) (second_in v) refl refl c.begin.ensures.told;
+      reads = reads_now (first_in v ++ second_in v) v a s t q named c.begin.ensures.under;
+      way = way_now v ms s a (first_in v) (second_in v) refl refl named asked runs q t c.begin.ensures.under;
     }
 
 pub returns-then-next-clause-goes : goal.returns-then-next-clause-goes

@@ -1,150 +1,111 @@
-use Rattle.inode_parts.proofs.Lemmas.{◌++◌, ℕ, List, rules, refl, sym, subst, ◌<◌, ◌^◌, name_in, Ask, BeginsWith, carry_in, part_left, AskTold, PartReady, PartTold, having, step_for, IsPart, InodePart, UnderWay, piece, Name, Enter, WriteFile, enter_part_left, write_file_left, alone, is_part, is_ready, other_fills, short_begins, told_for, may_change, may_claim, may_free, may_lock, may_write, under_way}
+use Rattle.inode_parts.proofs.Lemmas.{◌++◌, refl, sym, subst, Ask, first_in, second_in, BeginsWith, carry_in, part_left, AskTold, PartReady, PartTold, having, step_for, IsPart, InodePart, PartHasBegun, UnderWay, is_part, is_ready, other_fills, short_begins, told_for, under_way}
 use Rattle.path_walk.specs.Asks.{op_in}
 use Rattle.inode_parts.proofs.part.InodePart.begin_long.Goals as goal
 
-pub returns-in-Store-clause-part : goal.returns-in-Store-clause-part
-returns-in-Store-clause-part c = rw c.in-Store.is (c.begin.ensures.part (c.args.path.now ++ c.args.second.now) c.args.notes.now)
+pub begin_store-requires : goal.begin_store-requires
+begin_store-requires c = (first_in c.args.call.now, second_in c.args.call.now, c.args.notes.now, rw c.in-Store.is at c.requires)
 
-pub returns-in-Empty-clause-part : goal.returns-in-Empty-clause-part
-returns-in-Empty-clause-part c = rw c.in-Empty.is (c.begin-in-Empty.ensures.part (c.args.path.now ++ c.args.second.now) c.args.notes.now)
+pub returns-in-Store : goal.returns-in-Store
+returns-in-Store c = let may = rw c.in-Store.is at c.requires in rw c.in-Store.is (c.begin_store.ensures (first_in c.args.call.now) (second_in c.args.call.now) c.args.notes.now may)
 
-pub begin-requires-in-Empty : goal.begin-requires-in-Empty
-begin-requires-in-Empty c =
-    let sizes = c.args.sizes.now in
-    let sized = c.requires.sizes in
-    let h = c.args.hand.now in
-    let n = c.in-Empty.number in
-    let few : n < 2 ^ 32 = search rules in
-    let begins = rw c.in-Empty.is at c.requires.begins in
-    record { begins = may_change sizes sized n h few begins }
+pub begin_empty-requires : goal.begin_empty-requires
+begin_empty-requires c = (first_in c.args.call.now, second_in c.args.call.now, c.args.notes.now, rw c.in-Empty.is at c.requires)
 
-pub begin-requires-in-Fill : goal.begin-requires-in-Fill
-begin-requires-in-Fill c =
-    let sizes = c.args.sizes.now in
-    let sized = c.requires.sizes in
-    let h = c.args.hand.now in
-    let n = c.in-Fill.number in
-    let few : n < 2 ^ 32 = search rules in
-    let begins = rw c.in-Fill.is at c.requires.begins in
-    record { begins = (may_change sizes sized n h few begins, sized.size) }
+pub returns-in-Empty : goal.returns-in-Empty
+returns-in-Empty c = let may = rw c.in-Empty.is at c.requires in rw c.in-Empty.is (c.begin_empty.ensures (first_in c.args.call.now) (second_in c.args.call.now) c.args.notes.now may)
 
-pub begin-requires-in-Free : goal.begin-requires-in-Free
-begin-requires-in-Free c =
-    let sizes = c.args.sizes.now in
-    let sized = c.requires.sizes in
-    let h = c.args.hand.now in
-    let n = c.in-Free.number in
-    let few : n < 2 ^ 32 = search rules in
-    let begins = rw c.in-Free.is at c.requires.begins in
-    record { begins = may_free sizes sized n h few begins }
+pub begin_fill-requires : goal.begin_fill-requires
+begin_fill-requires c = (first_in c.args.call.now, second_in c.args.call.now, c.args.notes.now, rw c.in-Fill.is at c.requires)
 
-pub begin-requires-in-Claim : goal.begin-requires-in-Claim
-begin-requires-in-Claim c =
-    let sizes = c.args.sizes.now in
-    let sized = c.requires.sizes in
-    let h = c.args.hand.now in
-    let begins = rw c.in-Claim.is at c.requires.begins in
-    record { begins = may_claim sizes sized h begins }
+pub returns-in-Fill : goal.returns-in-Fill
+returns-in-Fill c = let may = rw c.in-Fill.is at c.requires in rw c.in-Fill.is (c.begin_fill.ensures (first_in c.args.call.now) (second_in c.args.call.now) c.args.notes.now may)
 
-pub begin-requires-in-LockOpen : goal.begin-requires-in-LockOpen
-begin-requires-in-LockOpen c =
-    let sizes = c.args.sizes.now in
-    let sized = c.requires.sizes in
-    let h = c.args.hand.now in
-    let begins = rw c.in-LockOpen.is at c.requires.begins in
-    record { begins = may_lock sizes sized h begins }
+pub begin_free-requires : goal.begin_free-requires
+begin_free-requires c = (first_in c.args.call.now, second_in c.args.call.now, c.args.notes.now, rw c.in-Free.is at c.requires)
 
-pub begin-requires-in-LockFile : goal.begin-requires-in-LockFile
-begin-requires-in-LockFile c =
-    let sizes = c.args.sizes.now in
-    let sized = c.requires.sizes in
-    let h = c.args.hand.now in
-    let begins = rw c.in-LockFile.is at c.requires.begins in
-    record { begins = may_lock sizes sized h begins }
+pub returns-in-Free : goal.returns-in-Free
+returns-in-Free c = let may = rw c.in-Free.is at c.requires in rw c.in-Free.is (c.begin_free.ensures (first_in c.args.call.now) (second_in c.args.call.now) c.args.notes.now may)
 
-pub begin-requires-in-StatFile : goal.begin-requires-in-StatFile
-begin-requires-in-StatFile c =
-    let sizes = c.args.sizes.now in
-    let sized = c.requires.sizes in
-    let h = c.args.hand.now in
-    let begins = rw c.in-StatFile.is at c.requires.begins in
-    record { begins = may_lock sizes sized h begins }
+pub begin_claim-requires : goal.begin_claim-requires
+begin_claim-requires c = (first_in c.args.call.now, second_in c.args.call.now, c.args.notes.now, rw c.in-Claim.is at c.requires)
 
-pub begin-requires-in-Clear : goal.begin-requires-in-Clear
-begin-requires-in-Clear c =
-    let path = c.args.path.now ++ c.args.second.now in
-    let n = c.in-Clear.number in
-    let few : n < 2 ^ 32 = search rules in
-    let begins = subst (λ (a : Ask). BeginsWith path (op_in path a) (having c.args.hand.now c.args.notes.now)) c.in-Clear.is c.requires.begins in
-    record { begins = (path, name_in path c.in-Clear.field-1, (may_change c.args.sizes.now c.requires.sizes n c.args.hand.now few begins.0, begins.1)) }
+pub returns-in-Claim : goal.returns-in-Claim
+returns-in-Claim c = let may = rw c.in-Claim.is at c.requires in rw c.in-Claim.is (c.begin_claim.ensures (first_in c.args.call.now) (second_in c.args.call.now) c.args.notes.now may)
 
-pub returns-in-Enter-clause-part : goal.returns-in-Enter-clause-part
-returns-in-Enter-clause-part c =
-    let path = c.args.path.now ++ c.args.second.now in
-    let m = c.args.notes.now in
-    let h = c.args.hand.now in
-    rw c.in-Enter.is
-    (subst (λ (name : Name). IsPart c.args.sizes.now (carry_in path m h) (Enter c.in-Enter.number name c.in-Enter.child) (enter_part_left path m c.begin-in-Enter.result h)) c.name-name.ensures
-    (c.begin-in-Enter.ensures.part path m))
+pub begin_lock_file-requires : goal.begin_lock_file-requires
+begin_lock_file-requires c = (first_in c.args.call.now, second_in c.args.call.now, c.args.notes.now, rw c.in-LockFile.is at c.requires)
 
-pub returns-in-Clear-clause-part : goal.returns-in-Clear-clause-part
-returns-in-Clear-clause-part c =
-    let path = c.args.path.now ++ c.args.second.now in
-    let n = c.in-Clear.number in
-    let few : n < 2 ^ 32 = search rules in
-    let begins = subst (λ (a : Ask). BeginsWith path (op_in path a) (having c.args.hand.now c.args.notes.now)) c.in-Clear.is c.requires.begins in
-    rw c.in-Clear.is (c.begin-in-Clear.ensures.part path (name_in path c.in-Clear.field-1) (may_change c.args.sizes.now c.requires.sizes n c.args.hand.now few begins.0, begins.1))
+pub returns-in-LockFile : goal.returns-in-LockFile
+returns-in-LockFile c = let may = rw c.in-LockFile.is at c.requires in rw c.in-LockFile.is (c.begin_lock_file.ensures (first_in c.args.call.now) (second_in c.args.call.now) c.args.notes.now may)
 
-pub returns-in-Fill-clause-part : goal.returns-in-Fill-clause-part
-returns-in-Fill-clause-part c = rw c.in-Fill.is (c.begin-in-Fill.ensures.part (c.args.path.now ++ c.args.second.now) c.args.notes.now)
+pub begin_stat_file-requires : goal.begin_stat_file-requires
+begin_stat_file-requires c = (first_in c.args.call.now, second_in c.args.call.now, c.args.notes.now, rw c.in-StatFile.is at c.requires)
 
-pub returns-in-Free-clause-part : goal.returns-in-Free-clause-part
-returns-in-Free-clause-part c = rw c.in-Free.is (c.begin-in-Free.ensures.part (c.args.path.now ++ c.args.second.now) c.args.notes.now)
+pub returns-in-StatFile : goal.returns-in-StatFile
+returns-in-StatFile c = let may = rw c.in-StatFile.is at c.requires in rw c.in-StatFile.is (c.begin_stat_file.ensures (first_in c.args.call.now) (second_in c.args.call.now) c.args.notes.now may)
 
-pub returns-in-Claim-clause-part : goal.returns-in-Claim-clause-part
-returns-in-Claim-clause-part c = rw c.in-Claim.is (c.begin-in-Claim.ensures.part (c.args.path.now ++ c.args.second.now) c.args.notes.now)
+pub begin_lock_open-requires : goal.begin_lock_open-requires
+begin_lock_open-requires c = (c.in-LockOpen.field-1, (first_in c.args.call.now, second_in c.args.call.now, c.args.notes.now, rw c.in-LockOpen.is at c.requires))
 
-pub returns-in-LockOpen-clause-part : goal.returns-in-LockOpen-clause-part
-returns-in-LockOpen-clause-part c = rw c.in-LockOpen.is (c.begin-in-LockOpen.ensures.part (c.args.path.now ++ c.args.second.now) c.args.notes.now c.in-LockOpen.field-1)
+pub returns-in-LockOpen : goal.returns-in-LockOpen
+returns-in-LockOpen c = let may = rw c.in-LockOpen.is at c.requires in rw c.in-LockOpen.is (c.begin_lock_open.ensures c.in-LockOpen.field-1 (first_in c.args.call.now) (second_in c.args.call.now) c.args.notes.now may)
 
-pub returns-in-LockFile-clause-part : goal.returns-in-LockFile-clause-part
-returns-in-LockFile-clause-part c = rw c.in-LockFile.is (c.begin-in-LockFile.ensures.part (c.args.path.now ++ c.args.second.now) c.args.notes.now)
+pub begin_enter-requires : goal.begin_enter-requires
+begin_enter-requires c = (c.args.notes.now, rw c.in-Enter.is at c.requires)
 
-pub returns-in-StatFile-clause-part : goal.returns-in-StatFile-clause-part
-returns-in-StatFile-clause-part c = rw c.in-StatFile.is (c.begin-in-StatFile.ensures.part (c.args.path.now ++ c.args.second.now) c.args.notes.now)
+pub returns-in-Enter : goal.returns-in-Enter
+returns-in-Enter c = let may = rw c.in-Enter.is at c.requires in rw c.in-Enter.is (c.begin_enter.ensures c.args.notes.now may)
+
+pub begin_clear-requires : goal.begin_clear-requires
+begin_clear-requires c = (first_in c.args.call.now, second_in c.args.call.now, c.in-Clear.field-1, rw c.in-Clear.is at c.requires)
+
+pub returns-in-Clear : goal.returns-in-Clear
+returns-in-Clear c = let may = rw c.in-Clear.is at c.requires in rw c.in-Clear.is (c.begin_clear.ensures (first_in c.args.call.now) (second_in c.args.call.now) c.in-Clear.field-1 may)
+
+pub begin_read_file-requires : goal.begin_read_file-requires
+begin_read_file-requires c = (c.args.sizes.now, first_in c.args.call.now, second_in c.args.call.now, c.in-ReadFile.field-2, rw c.in-ReadFile.is at c.requires)
+
+pub returns-in-ReadFile : goal.returns-in-ReadFile
+returns-in-ReadFile c =
+    let may = rw c.in-ReadFile.is at c.requires in
+    rw c.in-ReadFile.is (c.begin_read_file.ensures c.args.sizes.now (first_in c.args.call.now) (second_in c.args.call.now) c.in-ReadFile.field-2 may)
+
+pub begin_write_file-requires : goal.begin_write_file-requires
+begin_write_file-requires c = (c.in-WriteFile.field-2, rw c.in-WriteFile.is at c.requires)
+
+pub returns-in-WriteFile : goal.returns-in-WriteFile
+returns-in-WriteFile c = let may = rw c.in-WriteFile.is at c.requires in rw c.in-WriteFile.is (c.begin_write_file.ensures c.in-WriteFile.field-2 may)
 
 pub begin_take-requires : goal.begin_take-requires
 begin_take-requires c =
-    let path = c.args.path.now ++ c.args.second.now in
+    let path = first_in c.args.call.now ++ second_in c.args.call.now in
     let m = c.args.notes.now in
-    record { sizes = c.requires.sizes; begins = (path, m, subst (λ (a : Ask). BeginsWith path (op_in path a) (having c.args.hand.now m)) c.in-Take.is c.requires.begins) }
+    record { sizes = c.requires.sized; begins = (path, m, subst (λ (a : Ask). BeginsWith path (op_in path a) (having c.args.hand.now m)) c.in-Take.is c.requires.begins) }
 
-pub returns-in-Take-clause-part : goal.returns-in-Take-clause-part
-returns-in-Take-clause-part c =
-    let path = c.args.path.now ++ c.args.second.now in
-    let m = c.args.notes.now in
-    let h = c.args.hand.now in
-    subst (λ (a : Ask). BeginsWith path (op_in path a) (having h m) → IsPart c.args.sizes.now (carry_in path m h) (op_in path a) (part_left path m c.begin_take.new.self h)) (sym c.in-Take.is)
-    (λ begins. c.begin_take.ensures.part path m begins) c.requires.begins
-
-pub returns-in-Take-clause-under : goal.returns-in-Take-clause-under
-returns-in-Take-clause-under c =
-    let path = c.args.path.now ++ c.args.second.now in
+pub returns-in-Take : goal.returns-in-Take
+returns-in-Take c =
+    let first = first_in c.args.call.now in
+    let second = second_in c.args.call.now in
+    let path = first ++ second in
     let m = c.args.notes.now in
     let h = c.args.hand.now in
-    subst (λ (a : Ask). BeginsWith path (op_in path a) (having h m) → UnderWay path (op_in path a) (having h m) c.begin_take.new.self (having h m)) (sym c.in-Take.is)
-    (λ begins. c.begin_take.ensures.under path m begins) c.requires.begins
-
-pub returns-in-Take-clause-told : goal.returns-in-Take-clause-told
-returns-in-Take-clause-told c =
-    let path = c.args.path.now in
-    let second = c.args.second.now in
-    c.begin_take.ensures.told path second (subst (λ (a : Ask). AskTold path second a) c.in-Take.is c.requires.told)
+    let p = c.begin_take.new.self in
+    subst (λ (a : Ask). BeginsWith path (op_in path a) (having h m) → AskTold first second a → PartHasBegun c.args.sizes.now first second a m h p h) (sym c.in-Take.is)
+    (λ begins told.
+    record {
+      part = c.begin_take.ensures.part path m begins;
+      ready = c.begin_take.ensures.ready;
+      told = c.begin_take.ensures.told first second told;
+      fills = tt;
+      known = λ none. absurd none;
+      under = c.begin_take.ensures.under path m begins;
+      hand = refl;
+    }) c.requires.begins c.requires.told
 
 pub returns-in_default : goal.returns-in_default
 returns-in_default c =
     let sizes = c.args.sizes.now in
-    let path = c.args.path.now ++ c.args.second.now in
+    let path = first_in c.args.call.now ++ second_in c.args.call.now in
     let m = c.args.notes.now in
     let h = c.args.hand.now in
     let op = op_in path c.args.ask in
@@ -154,41 +115,9 @@ returns-in_default c =
     record {
       part = subst (λ (p : InodePart). IsPart sizes (carry_in path m h) op (part_left path m p h)) (sym is) (is_part sizes path m h op has);
       ready = subst (λ (p : InodePart). PartReady p h) (sym is) (is_ready op h has);
-      told = subst (λ (p : InodePart). PartTold c.args.path.now c.args.second.now p) (sym is) (told_for c.args.path.now c.args.second.now (step_for op h));
+      told = subst (λ (p : InodePart). PartTold (first_in c.args.call.now) (second_in c.args.call.now) p) (sym is) (told_for (first_in c.args.call.now) (second_in c.args.call.now) (step_for op h));
       fills = other_fills path c.args.ask _ no.not-ReadFile;
       known = λ begins. (is, refl);
       under = subst (λ (p : InodePart). UnderWay path op (having h m) p (having h m)) (sym is) (under_way path op h m has);
       hand = refl;
     }
-
-pub begin-requires-in-ReadFile : goal.begin-requires-in-ReadFile
-begin-requires-in-ReadFile c =
-    let begins = rw c.in-ReadFile.is at c.requires.begins in
-    let stands = rw c.in-ReadFile.is at c.requires.stands in
-    record { count = stands.1; begins = (c.in-ReadFile.field-2, begins) }
-
-pub returns-in-ReadFile-clause-part : goal.returns-in-ReadFile-clause-part
-returns-in-ReadFile-clause-part c =
-    let begins = rw c.in-ReadFile.is at c.requires.begins in
-    rw c.in-ReadFile.is (c.begin-in-ReadFile.ensures.part c.args.sizes.now (c.args.path.now ++ c.args.second.now) c.in-ReadFile.field-2 begins)
-
-pub begin-part-requires : goal.begin-part-requires
-begin-part-requires c =
-    let n = c.in-WriteFile.number in
-    let few : n < 2 ^ 32 = search rules in
-    let begins = rw c.in-WriteFile.is at c.requires.begins in
-    let stands = rw c.in-WriteFile.is at c.requires.stands in
-    record { stands = stands.0; begins = (c.in-WriteFile.field-2, may_write c.args.sizes.now c.requires.sizes n c.in-WriteFile.fd c.in-WriteFile.field-2 (having c.args.hand.now c.args.notes.now) few begins) }
-
-pub returns-in-WriteFile-clause-part : goal.returns-in-WriteFile-clause-part
-returns-in-WriteFile-clause-part c =
-    let n = c.in-WriteFile.number in
-    let few : n < 2 ^ 32 = search rules in
-    let begins = rw c.in-WriteFile.is at c.requires.begins in
-    let m = c.args.notes.now in
-    let h = c.args.hand.now in
-    let stands = rw c.in-WriteFile.is at c.requires.stands in
-    rw c.in-WriteFile.is
-    (subst (λ (text : List ℕ). IsPart c.args.sizes.now (carry_in text m h) (WriteFile c.in-WriteFile.fd n c.in-WriteFile.field-2 (piece text c.in-WriteFile.index)) (write_file_left text c.begin-part.result h))
-    (alone c.args.path.now c.args.second.now stands.1)
-    (c.begin-part.ensures.part c.in-WriteFile.field-2 (may_write c.args.sizes.now c.requires.sizes n c.in-WriteFile.fd c.in-WriteFile.field-2 (having c.args.hand.now c.args.notes.now) few begins)))
