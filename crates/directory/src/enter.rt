@@ -168,16 +168,16 @@ fn place(entering: &Entering, found: Option<Found>, hand: &Hand) -> Begun<Enter,
 {
     let seat = entering.seat;
     let inode = record_at(hand, seat);
-    let slot = slot_for(&inode, found);
+    let slot = slot_for(inode, found);
     if slot >= MOST_SLOTS {
         return Begun::Is(Entered {
-            inode,
+            inode: *inode,
             room: Room::NoSlot,
             seat,
         });
     }
     let at = (DIRENT_LEN * slot) as u32;
-    let part = WritePart::begin(entering.number, &inode, &entering.sizes, at, DIRENT_LEN);
+    let part = WritePart::begin(entering.number, inode, &entering.sizes, at, DIRENT_LEN);
     let placing = Placing {
         seat,
         entry: entering.entry,

@@ -43,11 +43,11 @@ impl Search {
     {
         let inode = record_at(hand, seat);
         let index = index_at(hand, seat);
-        match first_of(index, &inode, sought) {
+        match first_of(index, inode, sought) {
             Some(found) => Begun::Is(Some(found)),
             None => {
                 let known = index.blocks();
-                next(hand, seat, known, block_count(&inode).saturating_sub(known))
+                next(hand, seat, known, block_count(inode).saturating_sub(known))
             }
         }
     }
@@ -61,7 +61,7 @@ impl Search {
         ensures ready { NoBuffers hand.now → IfBegun (λ m. SearchReady seat m hand.now) (λ _. Unit {0}) result }
         ensures slot { IfBegun (λ _. Unit {0}) IsSlot result }
     {
-        if is_live_directory(&record_at(hand, seat)) {
+        if is_live_directory(record_at(hand, seat)) {
             Search::begin(hand, seat, Sought::Name(name))
         } else {
             Begun::Is(None)
@@ -75,7 +75,7 @@ impl Search {
         ensures ready { NoBuffers hand.now → IfBegun (λ m. SearchReady seat m hand.now) (λ _. Unit {0}) result }
         ensures slot { IfBegun (λ _. Unit {0}) IsSlot result }
     {
-        if is_directory(&record_at(hand, seat)) {
+        if is_directory(record_at(hand, seat)) {
             Search::begin(hand, seat, Sought::Entry)
         } else {
             Begun::Is(None)
@@ -164,7 +164,7 @@ fn next(hand: &Hand, seat: InodePlace, block: usize, left: usize) -> Begun<Searc
     if left == 0 {
         return Begun::Is(None);
     }
-    let fetch = fetch_of(&record_at(hand, seat), block);
+    let fetch = fetch_of(record_at(hand, seat), block);
     let at = Blocks {
         block,
         left: left - 1,

@@ -91,8 +91,9 @@ pub(crate) fn look_at(hand: &mut Hand, seat: InodePlace, k: usize, sought: Sough
         ≡ with_index seat (raised (record_in seat hand.old) k (bytes_at First hand.old) (index_at seat hand.old)) hand.old }
 {
     let inode = record_at(hand, seat);
-    let found = found_at(hand, &inode, k, sought);
-    raise_at(hand, seat, k, slots_in(&inode, k));
+    let found = found_at(hand, inode, k, sought);
+    let count = slots_in(inode, k);
+    raise_at(hand, seat, k, count);
     found
 }
 

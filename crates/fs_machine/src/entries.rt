@@ -65,11 +65,15 @@ impl Inode {
         self.dinode.is_some()
     }
 
-    /// What stands on the disk.
-    pub fn dinode(&self) -> Option<Dinode>
-        ensures { result ≡ dinode_of self.now }
+    /// What stands on the disk of one that is loaded.
+    pub fn record(&self) -> &Dinode
+        requires { IsSome self.now.content }
+        ensures { dinode_of self.now ≡ Some result.now }
     {
-        self.dinode
+        match &self.dinode {
+            Some(inode) => inode,
+            None => unreachable!(),
+        }
     }
 
     /// It stands so from now on. Where it wasn't loaded none of its names is indexed.

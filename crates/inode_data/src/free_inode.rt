@@ -99,7 +99,7 @@ fn store_free(emptying: Emptying, hand: &mut Hand) -> FreeInode
     ensures beside { beside_freeing emptying hand.new ≡ beside_freeing emptying hand.old }
     ensures hand { bare hand.new ≡ bare hand.old }
 {
-    let inode = free(record_at(hand, emptying.seat));
+    let inode = free(*record_at(hand, emptying.seat));
     let Emptying { seat, sizes } = emptying;
     let store = StoreRecord::with(sizes.inodestart, hand, seat, inode, Place::First);
     FreeInode::Storing(emptying, store)

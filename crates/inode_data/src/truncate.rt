@@ -165,7 +165,7 @@ fn free_own(emptying: Emptying, from: usize, hand: &mut Hand) -> Truncate
     ensures hand { bare hand.new ≡ bare hand.old }
 {
     let inode = record_at(hand, emptying.seat);
-    match next_own(&inode, from) {
+    match next_own(inode, from) {
         None => free_indirect(emptying, hand),
         Some(at) => {
             let free = FreeBlock::new(emptying.sizes.bmapstart, inode.addrs[at], Place::First);
@@ -220,7 +220,7 @@ fn store(emptying: Emptying, hand: &mut Hand) -> Truncate
     ensures beside { beside_emptying emptying hand.new ≡ beside_emptying emptying hand.old }
     ensures hand { bare hand.new ≡ bare hand.old }
 {
-    let inode = without(record_at(hand, emptying.seat));
+    let inode = without(*record_at(hand, emptying.seat));
     let Emptying { seat, sizes } = emptying;
     let store = StoreRecord::with(sizes.inodestart, hand, seat, inode, Place::First);
     Truncate::Record(emptying, store)

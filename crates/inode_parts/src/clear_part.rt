@@ -10,10 +10,11 @@ ghost use Rattle.inode_parts.specs.declared.note.Notes.{Notes as NotesState};
 
 use crate::note::{Note, Notes};
 use crate::places::lock_seat;
-use crate::records::{change, record_at};
+use crate::records::change;
 use directory::{Clear, Slot, clear_in_index};
 use fs_layout::Super;
 use fs_machine::{Answer, Hand, InodePlace, Op, Routine};
+use inode_table::record_at;
 use path_walk::Heard;
 
 /// A slot is cleared of the directory whose lock is at this seat.
@@ -39,7 +40,7 @@ impl ClearPart {
         let seat = lock_seat(hand, number);
         let slot = found_slot(notes, seat);
         let clear = Clear::new(Slot {
-            inode: record_at(hand, seat),
+            inode: *record_at(hand, seat),
             number,
             inodestart: sizes.inodestart,
             slot,

@@ -10,10 +10,11 @@ ghost use Rattle.inode_parts.specs.declared.note.Notes.{Notes as NotesState};
 
 use crate::note::Notes;
 use crate::places::lock_seat;
-use crate::records::{change, clear_index_at, record_at};
+use crate::records::{change, clear_index_at};
 use directory::Fill;
 use fs_layout::Super;
 use fs_machine::{Answer, Hand, InodePlace, Op, Routine};
+use inode_table::record_at;
 use path_walk::Heard;
 
 /// "." and ".." are written in the new directory whose lock is at this seat.
@@ -35,7 +36,7 @@ impl FillPart {
     {
         let seat = lock_seat(hand, number);
         let inode = record_at(hand, seat);
-        let fill = Fill::new(number, &inode, sizes, parent);
+        let fill = Fill::new(number, inode, sizes, parent);
         FillPart { seat, fill }
     }
 

@@ -10,9 +10,9 @@ ghost use Rattle.inode_parts.specs.declared.note.Notes.{Notes as NotesState};
 
 use crate::locked_file::{LockedFile, locked_file};
 use crate::note::Notes;
-use crate::records::record_at;
 use fs_machine::{Answer, Hand, Op};
 use inode_data::{Begun, ReadPart};
+use inode_table::record_at;
 use path_walk::Heard;
 
 /// A file's bytes are read to the front of the call's own; then its lock is given up.
@@ -37,7 +37,7 @@ impl ReadFilePart {
     {
         let file = locked_file(number, fd, notes, hand);
         let inode = record_at(hand, file.seat);
-        match ReadPart::begin(&inode, file.offset, count as u32) {
+        match ReadPart::begin(inode, file.offset, count as u32) {
             Begun::Runs(part) => ReadFilePart::Reading(file, part),
             Begun::Is(count) => ReadFilePart::Ending(file, count),
         }
@@ -80,7 +80,7 @@ impl ReadFilePart {
         match self {
             ReadFilePart::Reading(file, part) => {
                 let inode = record_at(hand, file.seat);
-                match part.next(&inode, text, answer, hand) {
+                match part.next(inode, text, answer, hand) {
                     None => false,
                     Some(count) => {
                         *self = ReadFilePart::Ending(*file, count);

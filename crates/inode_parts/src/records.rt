@@ -1,35 +1,13 @@
 // Inodes changed whose locks are in hand.
 ghost use Rattle.std.specs.Prelude.{◌≡◌, IsSome};
-ghost use Rattle.inode_parts.specs.Vocabulary.{MatchOption, option_map, option_map_or, record_of, bare, indexed, inode_at, no_index, no_inode, with_index, with_record, record_in, IsLoadedAt};
+ghost use Rattle.inode_parts.specs.Vocabulary.{MatchOption, option_map, option_map_or, bare, indexed, inode_at, no_index, no_inode, with_index, with_record, IsLoadedAt};
 ghost use Rattle.inode_parts.specs.Carries.{with_note};
 ghost use Rattle.inode_parts.specs.declared.note.Note.TheVariants as note;
 
 use crate::note::{Note, Notes};
 use fs_layout::Dinode;
 use fs_machine::{Hand, Inode, InodePlace};
-use inode_table::record;
 use sleep_lock::Guard;
-
-fn record_of(place: &Option<Guard<Inode>>) -> Dinode
-    requires { MatchOption place.now ⊥ (λ g. IsSome g.value.content) }
-    ensures { result ≡ record_of (option_map_or (λ g. g.value) place.now no_inode) }
-{
-    match place {
-        Some(guard) => record(guard),
-        None => unreachable!(),
-    }
-}
-
-// The record of the inode at a seat.
-pub(crate) fn record_at(hand: &Hand, seat: InodePlace) -> Dinode
-    requires { IsLoadedAt seat hand.now }
-    ensures { result ≡ record_in seat hand.now }
-{
-    match seat {
-        InodePlace::One => record_of(&hand.one),
-        InodePlace::Two => record_of(&hand.two),
-    }
-}
 
 // The inode at a seat has this record from now on, and nothing more is known of it.
 #[tactic(auto, using(crate::proofs::Changing::bare_record))]

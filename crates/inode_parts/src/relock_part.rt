@@ -13,10 +13,9 @@ ghost use Rattle.path_walk.specs.declared.asks.Query.TheVariants as query;
 use crate::faces::face_unless_free;
 use crate::note::{Note, Notes};
 use crate::places::free_seat;
-use crate::records::record_at;
 use fs_layout::Super;
 use fs_machine::{Answer, Hand, InodePlace, Op, Routine};
-use inode_table::LockInode;
+use inode_table::{LockInode, record_at};
 use path_walk::{Heard, Sight};
 
 /// The lock of the first listed inode is taken, and the reference to it comes to a seat.
@@ -111,7 +110,7 @@ fn seen(seat: InodePlace, notes: &mut Notes, hand: &Hand) -> Heard
     let inode = record_at(hand, seat);
     notes.set(seat, Note::Nothing);
     Heard::Saw(Sight {
-        face: face_unless_free(&inode),
+        face: face_unless_free(inode),
         found: None,
         empty: true,
     })

@@ -10,10 +10,10 @@ ghost use Rattle.inode_parts.specs.declared.note.Notes.{Notes as NotesState};
 
 use crate::faces::face;
 use crate::note::{Note, Notes};
-use crate::records::record_at;
 use file_table::{FileLocked, LockFile};
 use fs_layout::Super;
 use fs_machine::{Answer, Hand, InodePlace, Op, Routine, Want};
+use inode_table::record_at;
 use path_walk::Heard;
 
 /// The lock of what a descriptor names is taken, where that has a state to tell.
@@ -75,7 +75,7 @@ impl StatFilePart {
             Some(FileLocked::Locked(held)) => {
                 let inode = record_at(hand, held.seat);
                 notes.set(held.seat, Note::Nothing);
-                *heard = Heard::Stat(Some((held.file.number as u16, face(&inode))));
+                *heard = Heard::Stat(Some((held.file.number as u16, face(inode))));
                 true
             }
         }

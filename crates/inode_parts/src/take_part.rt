@@ -17,12 +17,11 @@ use crate::faces::face_unless_free;
 use crate::names::name;
 use crate::note::{Note, Notes};
 use crate::places::reference_seat;
-use crate::records::record_at;
 use directory::{Found, Search, Sought};
 use fs_layout::{Dinode, Super};
 use fs_machine::{Answer, Hand, InodePlace, Op, Routine};
 use inode_data::Begun;
-use inode_table::LockInode;
+use inode_table::{LockInode, record_at};
 use path_walk::{Element, Heard, Query, Sight};
 
 /// The lock of an inode is taken, to which a reference is in hand, and the inode is looked at.
@@ -111,7 +110,7 @@ impl TakePart {
                     None => false,
                     Some(found) => {
                         let inode = record_at(hand, *seat);
-                        *heard = named(&inode, *seat, *element, found, notes);
+                        *heard = named(inode, *seat, *element, found, notes);
                         true
                     }
                 }
@@ -121,7 +120,7 @@ impl TakePart {
                     None => false,
                     Some(found) => {
                         let inode = record_at(hand, *seat);
-                        *heard = listed(&inode, *seat, found, notes);
+                        *heard = listed(inode, *seat, found, notes);
                         true
                     }
                 }
@@ -154,14 +153,14 @@ fn look(
     match query {
         Query::Nothing => {
             notes.set(seat, Note::Nothing);
-            Begun::Is(saw(&inode, None, true))
+            Begun::Is(saw(inode, None, true))
         }
         Query::Name(element) => match Search::lookup(hand, seat, name(path, second, &element)) {
-            Begun::Is(found) => Begun::Is(named(&inode, seat, element, found, notes)),
+            Begun::Is(found) => Begun::Is(named(inode, seat, element, found, notes)),
             Begun::Runs(search) => Begun::Runs(TakePart::Naming(seat, element, search)),
         },
         Query::Entries => match Search::entries(hand, seat) {
-            Begun::Is(found) => Begun::Is(listed(&inode, seat, found, notes)),
+            Begun::Is(found) => Begun::Is(listed(inode, seat, found, notes)),
             Begun::Runs(search) => Begun::Runs(TakePart::Listing(seat, search)),
         },
     }

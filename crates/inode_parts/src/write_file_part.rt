@@ -10,11 +10,11 @@ ghost use Rattle.inode_parts.specs.declared.note.Notes.{Notes as NotesState};
 use crate::locked_file::{LockedFile, locked_file};
 use crate::note::Notes;
 use crate::pieces::piece;
-use crate::records::record_at;
 use fs_layout::widths::BLOCK_LEN;
 use fs_layout::{Dinode, Super};
 use fs_machine::{Answer, Hand, InodePlace, Op};
 use inode_data::{MOST_BLOCKS, WritePart, Written};
+use inode_table::record_at;
 use path_walk::{Heard, Wrote};
 use plain_tree::Cause;
 
@@ -53,10 +53,10 @@ impl WriteFilePart {
         let file = locked_file(number, fd, notes, hand);
         let inode = record_at(hand, file.seat);
         let len = piece(text, index).len();
-        match refused(&inode, file.offset, len) {
+        match refused(inode, file.offset, len) {
             Some(why) => WriteFilePart::Denied(file.seat, why),
             None => {
-                let part = WritePart::begin(number, &inode, sizes, file.offset, len);
+                let part = WritePart::begin(number, inode, sizes, file.offset, len);
                 WriteFilePart::Writing(file, index, part)
             }
         }

@@ -9,19 +9,16 @@ use fs_machine::{Hand, Inode, InodePlace};
 use sleep_lock::Guard;
 
 /// The record of an inode that is loaded, as the holder of its lock has it.
-pub fn record(guard: &Guard<Inode>) -> Dinode
+pub fn record(guard: &Guard<Inode>) -> &Dinode
     requires { IsSome guard.now.value.content }
-    ensures { result ≡ record_of guard.now.value }
+    ensures { result.now ≡ record_of guard.now.value }
 {
-    match guard.value().dinode() {
-        Some(inode) => inode,
-        None => unreachable!(),
-    }
+    guard.value().record()
 }
 
-fn record_of(place: &Option<Guard<Inode>>) -> Dinode
+fn record_of(place: &Option<Guard<Inode>>) -> &Dinode
     requires { MatchOption place.now ⊥ (λ g. IsSome g.value.content) }
-    ensures { result ≡ record_of (option_map_or (λ g. g.value) place.now no_inode) }
+    ensures { result.now ≡ record_of (option_map_or (λ g. g.value) place.now no_inode) }
 {
     match place {
         Some(guard) => record(guard),
@@ -30,9 +27,9 @@ fn record_of(place: &Option<Guard<Inode>>) -> Dinode
 }
 
 /// The record of the inode at a seat.
-pub fn record_at(hand: &Hand, seat: InodePlace) -> Dinode
+pub fn record_at(hand: &Hand, seat: InodePlace) -> &Dinode
     requires { IsLoadedAt seat hand.now }
-    ensures { result ≡ record_in seat hand.now }
+    ensures { result.now ≡ record_in seat hand.now }
 {
     match seat {
         InodePlace::One => record_of(&hand.one),

@@ -73,7 +73,7 @@ impl StoreRecord {
         ensures seat { record_seat result ≡ seat }
         ensures hand { hand.new ≡ with_record seat (counted count (record_in seat hand.old)) hand.old }
     {
-        let inode = counted(record_at(hand, seat), count);
+        let inode = counted(*record_at(hand, seat), count);
         StoreRecord::with(inodestart, hand, seat, inode, place)
     }
 }
@@ -103,7 +103,7 @@ impl Part for StoreRecord {
         match self {
             StoreRecord::Fetching(_, fetch) => fetch.op(hand),
             StoreRecord::Write(seat, place) => {
-                let inode = record_at(hand, *seat);
+                let inode = *record_at(hand, *seat);
                 let number = hand.number(*seat);
                 write_dinode_at(hand, *place, number, &inode);
                 Op::Record(*place)

@@ -89,10 +89,8 @@ fn a_lock_waits_while_it_is_out(rt: HostRuntime) -> Result<(), Fail> {
     tables.unlock(0, guard);
     let guard = tables.lock(1, ROOT).expect(&rt, "it was given back");
     assert!(rt; guard.hart() == 1);
-    match guard.value().dinode() {
-        None => panic!(rt; "it was loaded"),
-        Some(inode) => assert!(rt; inode.nlink == 3),
-    }
+    assert!(rt; guard.value().is_loaded());
+    assert!(rt; guard.value().record().nlink == 3);
     tables.unlock(1, guard);
     match tables.lock(1, 7) {
         None => {}

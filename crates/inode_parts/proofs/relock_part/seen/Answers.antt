@@ -6,7 +6,7 @@ use Rattle.inode_parts.proofs.relock_part.seen.Goals as goal
 pub returns-clause-program : goal.returns-clause-program
 returns-clause-program c path =
     let saw : Option Face → Heard = λ f. heard.Saw (record { face = f; found = None; empty = true }) in
-    sym (seen_ends path c.args.notes.now c.set.new.self c.args.seat c.args.hand.now note.Nothing c.record_at-inode.result None true (saw c.face_unless_free.result) c.record_at-inode.ensures c.requires (ap saw c.face_unless_free.ensures.is) c.set.ensures)
+    sym (seen_ends path c.args.notes.now c.set.new.self c.args.seat c.args.hand.now note.Nothing c.record_at-inode.result.now None true (saw c.face_unless_free.result) c.record_at-inode.ensures c.requires (ap saw c.face_unless_free.ensures.is) c.set.ensures)
 
 pub returns-clause-sees : goal.returns-clause-sees
 returns-clause-sees c path =

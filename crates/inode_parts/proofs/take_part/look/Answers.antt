@@ -6,7 +6,7 @@ pub returns-in-Nothing-clause-program : goal.returns-in-Nothing-clause-program
 returns-in-Nothing-clause-program c =
     let path = c.args.path.now ++ c.args.second.now in
     rw c.in-Nothing.is (sym
-    (seen_ends path c.args.notes.now c.set.new.self c.args.seat c.args.hand.now note.Nothing c.record_at-inode.result None true c.saw.result c.record_at-inode.ensures c.requires.taken c.saw.ensures.heard c.set.ensures))
+    (seen_ends path c.args.notes.now c.set.new.self c.args.seat c.args.hand.now note.Nothing c.record_at-inode.result.now None true c.saw.result c.record_at-inode.ensures c.requires.taken c.saw.ensures.heard c.set.ensures))
 
 pub returns-in-Is-clause-program : goal.returns-in-Is-clause-program
 returns-in-Is-clause-program c =
@@ -19,7 +19,7 @@ returns-in-Is-clause-program c =
     let is = c.record_at-inode.ensures in
     let prog = subst (λ (name : List ℕ). let p : P Searched = lookup name (loaded_in k h) in Ret (found_with k found h) ≡ p) c.name.ensures c.in-Is.ensures.program in
     rw c.in-Name.is
-    (sym (seen_over path m c.named.new.notes k h (note_of e found) c.record_at-inode.result (number_found found) true c.named.result is c.requires.taken c.named.ensures.heard c.named.ensures.notes)
+    (sym (seen_over path m c.named.new.notes k h (note_of e found) c.record_at-inode.result.now (number_found found) true c.named.result is c.requires.taken c.named.ensures.heard c.named.ensures.notes)
     ∙ (λ i. bind (prog i) (named_ends path (beside_in path m k h) (number_at k h) (loaded_in k h) e)))
 
 pub returns-in-Is-entries-clause-program : goal.returns-in-Is-entries-clause-program
@@ -31,7 +31,7 @@ returns-in-Is-entries-clause-program c =
     let found = c.in-Is-entries.found in
     let is = c.record_at-inode.ensures in
     rw c.in-Entries.is
-    (sym (seen_over path m c.listed.new.notes k h note.Nothing c.record_at-inode.result None (not (is_some found)) c.listed.result is c.requires.taken c.listed.ensures.heard c.listed.ensures.notes)
+    (sym (seen_over path m c.listed.new.notes k h note.Nothing c.record_at-inode.result.now None (not (is_some found)) c.listed.result is c.requires.taken c.listed.ensures.heard c.listed.ensures.notes)
     ∙ (λ i. bind (c.in-Is-entries.ensures.program i) (listed_ends path (beside_in path m k h) (number_at k h) (loaded_in k h))))
 
 pub returns-in-Nothing-clause-sees : goal.returns-in-Nothing-clause-sees
@@ -43,7 +43,7 @@ pub returns-in-Is-clause-sees : goal.returns-in-Is-clause-sees
 returns-in-Is-clause-sees c =
     let path = c.args.path.now ++ c.args.second.now in
     rw c.in-Name.is
-    (sees_name path c.args.seat c.named.result c.args.notes.now c.named.new.notes c.named.ensures.counted c.in-Name.element (face_unless_free c.record_at-inode.result) c.in-Is.found c.in-Is.ensures.slot
+    (sees_name path c.args.seat c.named.result c.args.notes.now c.named.new.notes c.named.ensures.counted c.in-Name.element (face_unless_free c.record_at-inode.result.now) c.in-Is.found c.in-Is.ensures.slot
     c.named.ensures.heard c.named.ensures.notes)
 
 pub returns-in-Is-entries-clause-sees : goal.returns-in-Is-entries-clause-sees

@@ -61,7 +61,7 @@ returns-in-Some-next-clause-goes c before =
     rw c.in-Naming.is (λ ready after.
     let same = did.beside before ready.0 after in
     search_over (λ c n d. named_ends path c n (unindexed d) e) path m k before h (Named (name_in path e)) s answer same (found_with k found h) _
-    (seen_over path m c.named.new.notes k h (note_of e found) c.record_at-inode.result (number_found found) true c.named.result c.record_at-inode.ensures (taken_stays k before h same ready.1) c.named.ensures.heard c.named.ensures.notes)
+    (seen_over path m c.named.new.notes k h (note_of e found) c.record_at-inode.result.now (number_found found) true c.named.result c.record_at-inode.ensures (taken_stays k before h same ready.1) c.named.ensures.heard c.named.ensures.notes)
     (subst (λ (name : List ℕ). Goes (search_left (Named name) k s before) answer (Ret (found_with k found h))) c.name.ensures (did.goes before ready.0 after)))
 
 pub returns-in-None-next-2-clause-goes : goal.returns-in-None-next-2-clause-goes
@@ -85,7 +85,7 @@ returns-in-Some-next-2-clause-goes c before =
     rw c.in-Listing.is (λ ready after.
     let same = did.beside before ready.0 after in
     search_over (λ c n d. listed_ends path c n (unindexed d)) path m k before h Entry s (answer_in (search_asked s) c.args.answer.now c.args.hand.now) same (found_with k found h) _
-    (seen_over path m c.listed.new.notes k h note.Nothing c.record_at-inode-in-Some-next-2.result None (not (is_some found)) c.listed.result c.record_at-inode-in-Some-next-2.ensures (taken_stays k before h same ready.1) c.listed.ensures.heard c.listed.ensures.notes)
+    (seen_over path m c.listed.new.notes k h note.Nothing c.record_at-inode-in-Some-next-2.result.now None (not (is_some found)) c.listed.result c.record_at-inode-in-Some-next-2.ensures (taken_stays k before h same ready.1) c.listed.ensures.heard c.listed.ensures.notes)
     (did.goes before ready.0 after))
 
 pub returns-in-None-clause-leaves : goal.returns-in-None-clause-leaves
@@ -144,7 +144,7 @@ returns-in-Some-next-clause-leaves c n looking start before =
     let same = did.beside before ready.0 after in
     take_leaves path m m2 n looking start k h x amid.0 amid.1 (comes_on_search k s start before h ready.0 did.over.1 same amid.3) (taken_stays k before h same ready.1) did.over.0
     (subst (λ (looking : Query). Sees path looking k x m m2) amid.2
-    (sees_name path k x m m2 c.named.ensures.counted e (face_unless_free c.record_at-inode.result) found did.slot c.named.ensures.heard c.named.ensures.notes)))
+    (sees_name path k x m m2 c.named.ensures.counted e (face_unless_free c.record_at-inode.result.now) found did.slot c.named.ensures.heard c.named.ensures.notes)))
 
 pub returns-in-None-next-2-clause-leaves : goal.returns-in-None-next-2-clause-leaves
 returns-in-None-next-2-clause-leaves c n looking start before =

@@ -7,7 +7,7 @@ returns-in-Some-clause-part c offset begins =
     let text = c.args.text.now in
     let bytes = piece text c.args.index in
     let refused = sym (c.refused.ensures.is bytes (ap length (sym c.piece-len.ensures.is))) ∙ c.in-Some.is in
-    begun_deny c.args.sizes.now text c.args.notes.now c.args.number c.args.fd offset bytes c.args.hand.now begins.0.0 begins.0.4 f.result c.record_at-inode.result
+    begun_deny c.args.sizes.now text c.args.notes.now c.args.number c.args.fd offset bytes c.args.hand.now begins.0.0 begins.0.4 f.result c.record_at-inode.result.now
     f.ensures.seat f.ensures.fd (f.ensures.offset offset begins.0.3) c.record_at-inode.ensures c.in-Some.why refused
 
 pub returns-in-None-clause-part : goal.returns-in-None-clause-part
@@ -18,7 +18,7 @@ returns-in-None-clause-part c offset begins =
     let bytes = piece text c.args.index in
     let len = ap length (sym c.piece-len.ensures.is) in
     let fits = sym (c.refused.ensures.is bytes len) ∙ c.in-None.is in
-    begun_write c.args.sizes.now text c.args.notes.now c.args.number c.args.fd offset bytes h begins.0.0 begins.0.4 f.result c.record_at-inode.result
+    begun_write c.args.sizes.now text c.args.notes.now c.args.number c.args.fd offset bytes h begins.0.0 begins.0.4 f.result c.record_at-inode.result.now
     f.ensures.seat f.ensures.fd (f.ensures.offset offset begins.0.3) c.record_at-inode.ensures (write_left bytes c.begin-part.result h) fits (c.begin-part.ensures.program bytes h len)
 
 pub returns-in-None-clause-told : goal.returns-in-None-clause-told
