@@ -53,6 +53,7 @@ impl Part for TakeBlock {
 
     ghost Ends = { λ m _ h. buffer_at (take_place m) h ≡ None };
 
+    #[inline(always)]
     fn op(&self, hand: &mut Hand) -> Op {
         match self {
             TakeBlock::Bitmap(_, fetch) => fetch.op(hand),
@@ -71,6 +72,7 @@ impl Part for TakeBlock {
         }
     }
 
+    #[inline(always)]
     #[tactic(auto, using(fs_machine::proofs::Going::goes_bind, fs_machine::proofs::Goings::fetched_goes))]
     fn next(&mut self, answer: &Answer, hand: &Hand) -> Option<Option<u32>> {
         match self {

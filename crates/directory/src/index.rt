@@ -90,6 +90,7 @@ fn free_below(limit: usize, slot: usize) -> Option<Found>
 }
 
 // The first slot in the blocks of an index that is sought.
+#[inline(always)]
 #[tactic(auto, unfolding(crate::specs::Indexes::first_of))]
 pub(crate) fn first_of(index: &NameIndex, inode: &Dinode, sought: Sought) -> Option<Found>
     requires sought { IsSought sought }

@@ -79,6 +79,7 @@ fn found_at(hand: &Hand, inode: &Dinode, k: usize, sought: Sought) -> Option<Fou
 }
 
 // The same where the block is indexed besides, if it may be.
+#[inline(always)]
 #[tactic(auto, unfolding(crate::specs::Indexes::raised))]
 pub(crate) fn look_at(hand: &mut Hand, seat: InodePlace, k: usize, sought: Sought) -> Option<Found>
     requires valid { MatchOption hand.old.first ⊥ (λ g. IsSome g.value.content) }

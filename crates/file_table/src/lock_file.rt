@@ -69,6 +69,7 @@ impl Routine for LockFile {
         }
     }
 
+    #[inline(always)]
     #[tactic(auto, using(fs_machine::proofs::Going::goes_bind))]
     fn next(&mut self, answer: &Answer, hand: &mut Hand) -> Option<FileLocked> {
         match self {

@@ -139,6 +139,7 @@ impl Tables {
 
     /// The descriptor goes, and with the last one that names it the open file, whose reference is handed out (xv6: `fileclose`, without
     /// its `iput`).
+    #[inline(always)]
     pub fn shut(&mut self, hart: u8, fd: u32) -> Shut
         requires { hart < HARTS }
         ensures ran { shut_descriptor hart fd self.old ≡ Ran result self.new }

@@ -45,6 +45,7 @@ impl Control for Finish {
         }
     }
 
+    #[inline(always)]
     fn next(&mut self, answer: &Answer, hand: &mut Hand) -> Option<()>
         requires came { (before : HandState) × FinishReady self.old before × IsAfter (finish_asked self.old) before answer.now hand.old }
         ensures goes { (before : HandState) → FinishReady self.old before → IsAfter (finish_asked self.old) before answer.now hand.old

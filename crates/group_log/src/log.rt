@@ -194,6 +194,7 @@ impl<D: Device> Log<D> {
     /// Records a valid buffer and gives it back: its block is seen with these bytes from now on, and its buffer stays
     /// pinned until a commit has copied it home. A block that is recorded again takes no further place in the group.
     /// A transaction adds at most ten blocks (xv6: `log_write` and `brelse`).
+    #[inline(always)]
     pub fn record(&mut self, txn: &mut Txn, guard: Guard<Buffer>)
         requires member { IsMember self.old.members txn.old }
         requires running { self.old.phase ≢ Halted }
@@ -258,6 +259,7 @@ impl<D: Device> Log<D> {
     /// log, then the head is written with their numbers, then each is copied home and its pin given back, and then the
     /// head is written with none. It waits exactly where the buffer of the block to be copied is out, and then nothing
     /// changes. After a fault the log is halted for good (xv6: `commit`; a write of `write_log`, `write_head` or `install_trans`).
+    #[inline(always)]
     pub fn commit_step(&mut self, hart: u8) -> Progress
         requires hart { hart < HARTS }
         requires few { count_of (is_held_by hart) self.old.cache.seats ≤ 1 }

@@ -91,6 +91,7 @@ impl<D: Device> Harts<D> {
     }
 
     /// Whether a call under way reserves the hart: it is the child of an inherit.
+    #[inline(always)]
     pub fn is_reserved(&self, hart: u8) -> bool
         ensures { result ≡ reserved (busy_in self.now.calls) (children_in self.now.children) hart }
     {

@@ -127,6 +127,7 @@ impl<D: Device> World<D> {
     /// Starts a hart's call. It is refused, and handed back, where there is no such hart, where the hart has a call or is the child of
     /// another one's, at the call's own first fault, and last where the child can't be one; nothing has changed then. A stopped
     /// world takes starts as before. No start calls the device.
+    #[inline(always)]
     pub fn start(&mut self, hart: u8, call: Call) -> Result<(), (Call, StartRefused)>
         ensures makes { Makes D.contents D.failures self.old.sizes (StartOf hart call) self.old.harts
             (start_outcome result) self.new.harts }

@@ -130,6 +130,7 @@ impl Control for Locate {
         }
     }
 
+    #[inline(always)]
     #[tactic(auto, using(fs_machine::proofs::Going::goes_bind, fs_machine::proofs::Goings::fetched_goes))]
     fn next(&mut self, answer: &Answer, hand: &mut Hand) -> Option<Located>
         requires came { (before : HandState) × LocateReady self.old before × IsAfter (locate_asked self.old) before answer.now hand.old }

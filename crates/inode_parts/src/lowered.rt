@@ -65,6 +65,7 @@ impl Lowered {
     }
 
     /// A call begins in this place, on a disk of these sizes, of a hart with nothing in hand.
+    #[inline(always)]
     pub fn start(&mut self, sizes: &Super, call: Call, hand: &mut Hand)
         requires call { IsCall call }
         requires runs { RunsByParts (path_of call) call }
