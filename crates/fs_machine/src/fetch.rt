@@ -53,6 +53,7 @@ impl Part for Fetch {
         }
     }
 
+    #[inline(always)]
     #[tactic(auto, using(crate::proofs::Going::got_valid, crate::proofs::Going::got_unread, crate::proofs::Going::was_read))]
     fn next(&mut self, answer: &Answer, hand: &Hand) -> Option<Fetched> {
         match *self {

@@ -92,6 +92,7 @@ impl Routine for Truncate {
         }
     }
 
+    #[inline(always)]
     #[tactic(auto, using(fs_machine::proofs::Going::goes_bind, fs_machine::proofs::Goings::fetched_goes))]
     fn next(&mut self, answer: &Answer, hand: &mut Hand) -> Option<Emptying> {
         match self {
