@@ -6,7 +6,7 @@ unfoldable pub use Rattle.inodes_on_blocks.proofs.Vocabulary.{any_below}
 pub use Rattle.hart_core.proofs.Refusals.{bytes_below, may_start}
 pub use Rattle.hart_core.proofs.Stepping.{all_idle, all_set, begun_fits, begun_in, honest_past, idle_past, is_at, leaves_same, ran}
 pub use Rattle.hart_core.proofs.Unfinished.{Ending, all_ended, all_left, ends_with, is_within, keeps_finished, meets, no_calls, one_more, passes_with, starts}
-pub use Rattle.hart_core.specs.Harts.{outcome_with, said}
+pub use Rattle.hart_core.specs.Harts.{said}
 pub use Rattle.plain_tree.proofs.ReadLemmas.{below_all, below_more, below_true}
 pub use Rattle.std.specs.Vec.Iter.{into_iter_items, into_iter_len}
 pub use Rattle.atomic_programs.proofs.Tables.{honest_here, step_gives}
@@ -26,4 +26,4 @@ pub use Rattle.std.proofs.Common.{append-nil, vec_len}
 pub use Rattle.std.proofs.lemmas.Grind.{common_steps}
 pub use Rattle.std.specs.Vec.{vec_capacity}
 pub use Rattle.hart_core.proofs.Telling.{done_tells, none_there, notes_more, notes_none, ran_tells, set-own, stays_same, stops_tells, waits_tells}
-pub use Rattle.syscalls.specs.Places.{HasBegun, IsReplied, with_reply}
+pub use Rattle.syscalls.specs.Places.{HasBegun}

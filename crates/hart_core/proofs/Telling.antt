@@ -2,13 +2,10 @@
 use Rattle.hart_core.proofs.Vocabulary.{◌≡◌, ℕ, zero, suc, List, [], ◌∷◌, ◌++◌, Super, HartsOf, Option, Some, None, refl, sym, ◌∙◌, ap, subst, get_or, set, slice_get, Reply, Kind, Core, Heard, state_of, Running, StepsAt}
 use Rattle.atomic_programs.specs.declared.machines.SteppedInPlace.TheVariants.{Waits, Ran, Done, Stopped}
 use Rattle.fs_machine.specs.Steps.{State}
-use Rattle.hart_core.specs.Harts.{outcome_with}
-use Rattle.std.specs.Option.{IsSome}
 use Rattle.hart_core.specs.Telling.{NotesEvent, NotesRun, RanAt, StaysAt, TellsOutcome, heard_at}
 use Rattle.hart_core.specs.declared.events.Came.{Came}
 use Rattle.hart_core.specs.declared.events.Event.{Event}
-use Rattle.hart_core.specs.declared.outcome.BareOutcome.TheVariants as told
-use Rattle.syscalls.specs.Places.{with_reply}
+use Rattle.hart_core.specs.declared.outcome.Outcome.TheVariants as outcome
 
 pub stays_same : (o : Option Running) → StaysAt o o
 stays_same None = refl
@@ -47,11 +44,10 @@ module _ {D : Type 0} (contents : D → List (List ℕ)) (failures : D → ℕ) 
   ran_tells kind None p steps = absurd steps
   ran_tells kind (Some m) p steps = (steps.0, steps.2.tells, ap (heard_at last) steps.1, steps.1)
 
-  pub done_tells : (kind : Kind) (place : Option Reply) (o p : Option Running) → IsSome place → StepsAt contents failures Called h o p (with_reply (Done tt kind) place) last old new
-      → TellsOutcome h o (outcome_with told.Done place) (heard_at last p) p s t
-  done_tells kind None o p is steps = absurd (cc is)
-  done_tells kind (Some reply) None p is steps = absurd steps
-  done_tells kind (Some reply) (Some m) p is steps = (steps.0, steps.2.tells.0, ap (heard_at last) steps.1 ∙ steps.2.tells.1, steps.1)
+  pub done_tells : (kind : Kind) (reply : Reply) (o p : Option Running) → StepsAt contents failures Called h o p (Done reply kind) last old new
+      → TellsOutcome h o (outcome.Done reply) (heard_at last p) p s t
+  done_tells kind reply None p steps = absurd steps
+  done_tells kind reply (Some m) p steps = (steps.0, steps.2.tells.0, ap (heard_at last) steps.1 ∙ steps.2.tells.1, steps.1)
 
 -- ---- of a run
 

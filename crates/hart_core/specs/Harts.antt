@@ -1,11 +1,9 @@
 -- What harts' machines over all that they share stand for.
-use Rattle.std.specs.Prelude.{◌≡◌, ℕ, Bool, List, length, Option, Some, None, IsSome, get_or, is_some, replicate}
+use Rattle.std.specs.Prelude.{◌≡◌, ℕ, Bool, List, length, Option, None, get_or, is_some, replicate}
 use Rattle.hart_core.specs.Vocabulary.{hart_count, Reply, OutcomeOf, WasIdle, DidWait, DidRun, DidEnd, DidStop, WasStopped, PlaceFits, plain_at, Kind, Core, Outside, Passes, Fails, State, state_of, Running, running_of, RunningFits}
 use Rattle.hart_core.specs.declared.outcome.Outcome.{Outcome}
 use Rattle.hart_core.specs.declared.outcome.Outcome.TheVariants as outcome
 use Rattle.hart_core.specs.declared.outcome.Stop.TheVariants as stop
-use Rattle.hart_core.specs.declared.outcome.BareOutcome.{BareOutcome}
-use Rattle.hart_core.specs.declared.outcome.BareOutcome.TheVariants as told
 use Rattle.hart_core.specs.Blocks.{blocks, code, Programs}
 
 -- what a hart's step came to, in the words of the block machine
@@ -16,23 +14,6 @@ outcome_of (outcome.Ran kind) = DidRun kind
 outcome_of (outcome.Done reply) = DidEnd reply
 outcome_of (outcome.Stopped stop.DeviceFault) = DidStop
 outcome_of (outcome.Stopped stop.Halted) = WasStopped
-
--- the outcome of a step whose reply stands in a place of its own (one that is done has left one there)
-abbrev pub outcome_with : BareOutcome → Option Reply → Outcome
-outcome_with told.Idle place = outcome.Idle
-outcome_with told.Waits place = outcome.Waits
-outcome_with (told.Ran kind) place = outcome.Ran kind
-outcome_with told.Done (Some reply) = outcome.Done reply
-outcome_with told.Done None = outcome.Idle
-outcome_with (told.Stopped why) place = outcome.Stopped why
-
--- a reply stands there just where the step is done
-abbrev pub IsTold : BareOutcome → Option Reply → Type 0
-IsTold told.Idle place = place ≡ None
-IsTold told.Waits place = place ≡ None
-IsTold (told.Ran kind) place = place ≡ None
-IsTold told.Done place = IsSome place
-IsTold (told.Stopped why) place = place ≡ None
 
 -- what the device answered in a step with this outcome, which left this state
 abbrev pub said : Outcome → State → Outside

@@ -12,17 +12,17 @@ ghost use Rattle.syscalls.specs.Machines.{heard_of, lacks_place_at, running_of};
 ghost use Rattle.syscalls.specs.Places.{HasBegun};
 ghost use Rattle.whole_calls.specs.Wholes.{IsCall};
 ghost use Rattle.hart_core.specs.Blocks.{blocks, code};
-ghost use Rattle.hart_core.specs.Harts.{outcome_of, outcome_with, said, AreIdle, HartFits, IsTold};
+ghost use Rattle.hart_core.specs.Harts.{outcome_of, said, AreIdle, HartFits};
 ghost use Rattle.hart_core.specs.Telling.{TellsOutcome, heard_at};
 
 use crate::in_place::step;
-use crate::outcome::BareOutcome;
+use crate::outcome::Outcome;
 use block_device::Device;
 use buffer_cache::HARTS;
 use fs_layout::Super;
 use fs_machine::{Core, RetiredCore};
 use path_walk::Heard;
-use plain_tree::{Call, Reply};
+use plain_tree::Call;
 use std::alloc::{AllocError, Global};
 use std::marker::Model;
 use syscalls::CallPlace;
@@ -119,49 +119,38 @@ impl Calls {
         self.places[hart as usize].is_busy()
     }
 
-    /// One operation of a hart's call in its place, unless the world has stopped. A call that has replied leaves its place idle, and its
-    /// reply stands in a place of its own.
+    /// One operation of a hart's call in its place, unless the world has stopped. A call that has replied leaves its place idle.
     #[inline(always)]
     pub fn step<D: Device>(
         &mut self,
-        replied: &mut Option<Reply>,
         last: &mut Option<Heard>,
         hart: u8,
         core: &mut Core<D>,
         stopped: &mut bool,
-    ) -> BareOutcome
+    ) -> Outcome
         requires eight { hart < HARTS }
         requires may { stopped.old ≡ false
             → MayOf blocks code hart (state_of D.contents D.failures core.old) (program_at running_of (get_or self.old hart None)) }
         requires fits { HartFits (state_of D.contents D.failures core.old) hart (get_or self.old hart None) }
-        requires none { replied.old ≡ None }
-        ensures makes { hart_step blocks code hart (said (outcome_with result replied.new) (state_of D.contents D.failures core.new))
+        ensures makes { hart_step blocks code hart (said result (state_of D.contents D.failures core.new))
             (state_of D.contents D.failures core.old) stopped.old (program_at running_of (get_or self.old hart None))
             ≡ record {
-              came = outcome_of (outcome_with result replied.new);
+              came = outcome_of result;
               left = program_at running_of (get_or self.new hart None);
               shared = state_of D.contents D.failures core.new;
               stopped = stopped.new;
             } }
-        ensures honest { PlainHonestStep blocks code hart (said (outcome_with result replied.new) (state_of D.contents D.failures core.new))
+        ensures honest { PlainHonestStep blocks code hart (said result (state_of D.contents D.failures core.new))
             (state_of D.contents D.failures core.old) stopped.old (program_at running_of (get_or self.old hart None)) }
         ensures fits { HartFits (state_of D.contents D.failures core.new) hart (get_or self.new hart None) }
         ensures kept { self.new ≡ slice_set self.old hart (get_or self.new hart None) }
-        ensures told { IsTold result replied.new }
         ensures others { LeavesTied hart (state_of D.contents D.failures core.old) (state_of D.contents D.failures core.new) }
         ensures called { CallsOnce D.Called core.old.log.cache.device core.new.log.cache.device }
-        ensures tells { TellsOutcome hart (get_or self.old hart None) (outcome_with result replied.new)
+        ensures tells { TellsOutcome hart (get_or self.old hart None) result
             (heard_at last.new (get_or self.new hart None)) (get_or self.new hart None) (state_of D.contents D.failures core.old)
             (state_of D.contents D.failures core.new) }
     {
-        step(
-            &mut self.places[hart as usize],
-            replied,
-            last,
-            hart,
-            core,
-            stopped,
-        )
+        step(&mut self.places[hart as usize], last, hart, core, stopped)
     }
 
     /// Has an idle hart begin a call, on a disk of these sizes.

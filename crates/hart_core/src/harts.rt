@@ -7,7 +7,7 @@ ghost use Rattle.fs_machine.specs.Machines.{CallsOnce};
 ghost use Rattle.hart_core.specs.Blocks.{blocks, code, MayStep};
 ghost use Rattle.inode_machine.specs.Exec.{is_at};
 ghost use Rattle.calls_on_blocks.specs.Theory.{block_calls, has_file, reserved};
-ghost use Rattle.hart_core.specs.Harts.{outcome_of, outcome_with, said, IsTold, shared_of, programs_of, busy_in, children_in, AreHarts, AreIdle};
+ghost use Rattle.hart_core.specs.Harts.{outcome_of, said, shared_of, programs_of, busy_in, children_in, AreHarts, AreIdle};
 ghost use Rattle.hart_core.specs.Starts.{fault_of};
 ghost use Rattle.hart_core.specs.Telling.{SetsAt, TellsOutcome, heard_at, some_lacks_place};
 ghost use Rattle.inode_parts.specs.Sizes.{IsSized};
@@ -15,14 +15,14 @@ ghost use Rattle.syscalls.specs.Places.{HasBegun};
 ghost use Rattle.atomic_programs.specs.Prog.{plain};
 
 use crate::calls::Calls;
-use crate::outcome::BareOutcome;
+use crate::outcome::Outcome;
 use block_device::Device;
 use buffer_cache::HARTS;
 use fs_layout::Super;
 use fs_machine::{Core, DESCRIPTORS};
 use group_log::Phase;
 use path_walk::Heard;
-use plain_tree::{Call, Reply};
+use plain_tree::Call;
 use std::marker::Model;
 
 // Whether this is the child.
@@ -135,27 +135,20 @@ impl<D: Device> Harts<D> {
 
     /// One operation of a hart's call. It is idle where there is no such hart, or the hart has no call; and a call is stopped by the
     /// device's failure in this very step, or since the device has failed before. At most one call of the device is made.
-    /// A reply is left in a place of its own, which is empty before, and what its call heard in this step in `last`.
+    /// What a call that replied heard in this step is left in `last`.
     #[inline(always)]
-    pub fn step(
-        &mut self,
-        replied: &mut Option<Reply>,
-        last: &mut Option<Heard>,
-        hart: u8,
-    ) -> BareOutcome
+    pub fn step(&mut self, last: &mut Option<Heard>, hart: u8) -> Outcome
         requires may { MayStep hart (programs_of D.contents D.failures self.old) }
-        requires none { replied.old ≡ None }
         ensures makes { plain_makes blocks code
-            (StepOf hart (said (outcome_with result replied.new) (shared_of D.contents D.failures self.new)))
+            (StepOf hart (said result (shared_of D.contents D.failures self.new)))
             (programs_of D.contents D.failures self.old)
-            ≡ record { came = outcome_of (outcome_with result replied.new); after = programs_of D.contents D.failures self.new } }
+            ≡ record { came = outcome_of result; after = programs_of D.contents D.failures self.new } }
         ensures honest { PlainHonest blocks code
-            (StepOf hart (said (outcome_with result replied.new) (shared_of D.contents D.failures self.new)))
+            (StepOf hart (said result (shared_of D.contents D.failures self.new)))
             (programs_of D.contents D.failures self.old) }
         ensures children { self.new.children ≡ self.old.children }
-        ensures told { IsTold result replied.new }
         ensures called { CallsOnce D.Called self.old.core.log.cache.device self.new.core.log.cache.device }
-        ensures tells { TellsOutcome hart (get_or self.old.calls hart None) (outcome_with result replied.new)
+        ensures tells { TellsOutcome hart (get_or self.old.calls hart None) result
             (heard_at last.new (get_or self.new.calls hart None)) (get_or self.new.calls hart None)
             (shared_of D.contents D.failures self.old) (shared_of D.contents D.failures self.new) }
         ensures others { SetsAt hart self.old.calls self.new.calls }
@@ -163,10 +156,10 @@ impl<D: Device> Harts<D> {
         // What holds of the harts is needed in both cases.
         let _ = &self.calls;
         if hart >= HARTS {
-            return BareOutcome::Idle;
+            return Outcome::Idle;
         }
         self.calls
-            .step(replied, last, hart, &mut self.core, &mut self.stopped)
+            .step(last, hart, &mut self.core, &mut self.stopped)
     }
 
     /// What the hart's call heard in its last step, where an operation over whole inodes ended there; of a hart without a call, `last`.

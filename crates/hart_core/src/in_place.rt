@@ -1,65 +1,61 @@
 // A step of a hart's call in its place.
-ghost use Rattle.std.specs.Prelude.{◌≡◌, ◌<◌, false, None};
+ghost use Rattle.std.specs.Prelude.{◌≡◌, ◌<◌, false};
 ghost use Rattle.hart_core.specs.Vocabulary.{PlainHonestStep, MayOf, hart_step, program_at, state_of, CallsOnce, LeavesTied, running_of};
 ghost use Rattle.hart_core.specs.Blocks.{blocks, code};
-ghost use Rattle.hart_core.specs.Harts.{outcome_of, outcome_with, said, HartFits, IsTold};
+ghost use Rattle.hart_core.specs.Harts.{outcome_of, said, HartFits};
 ghost use Rattle.hart_core.specs.Telling.{TellsOutcome, heard_at};
 
-use crate::outcome::{BareOutcome, Stop};
+use crate::outcome::{Outcome, Stop};
 use atomic_programs::machines::SteppedInPlace;
 use block_device::Device;
 use buffer_cache::HARTS;
 use fs_machine::Core;
 use path_walk::Heard;
-use plain_tree::Reply;
 use syscalls::CallPlace;
 
 /// A step of the call that stands in this place, if one does, unless the world has stopped. Once it has replied the place is idle, and
-/// the reply stands in a place of its own, with what it heard in this step in `last`.
+/// what it heard in this step stands in `last`.
 #[inline(always)]
 pub(crate) fn step<D: Device>(
     place: &mut CallPlace,
-    replied: &mut Option<Reply>,
     last: &mut Option<Heard>,
     hart: u8,
     core: &mut Core<D>,
     stopped: &mut bool,
-) -> BareOutcome
+) -> Outcome
     requires eight { hart < HARTS }
     requires may { stopped.old ≡ false
         → MayOf blocks code hart (state_of D.contents D.failures core.old) (program_at running_of place.old) }
     requires fits { HartFits (state_of D.contents D.failures core.old) hart place.old }
-    requires none { replied.old ≡ None }
-    ensures makes { hart_step blocks code hart (said (outcome_with result replied.new) (state_of D.contents D.failures core.new))
+    ensures makes { hart_step blocks code hart (said result (state_of D.contents D.failures core.new))
         (state_of D.contents D.failures core.old) stopped.old (program_at running_of place.old)
         ≡ record {
-          came = outcome_of (outcome_with result replied.new);
+          came = outcome_of result;
           left = program_at running_of place.new;
           shared = state_of D.contents D.failures core.new;
           stopped = stopped.new;
         } }
-    ensures honest { PlainHonestStep blocks code hart (said (outcome_with result replied.new) (state_of D.contents D.failures core.new))
+    ensures honest { PlainHonestStep blocks code hart (said result (state_of D.contents D.failures core.new))
         (state_of D.contents D.failures core.old) stopped.old (program_at running_of place.old) }
     ensures fits { HartFits (state_of D.contents D.failures core.new) hart place.new }
-    ensures told { IsTold result replied.new }
     ensures others { LeavesTied hart (state_of D.contents D.failures core.old) (state_of D.contents D.failures core.new) }
     ensures called { CallsOnce D.Called core.old.log.cache.device core.new.log.cache.device }
-    ensures tells { TellsOutcome hart place.old (outcome_with result replied.new) (heard_at last.new place.new) place.new
+    ensures tells { TellsOutcome hart place.old result (heard_at last.new place.new) place.new
         (state_of D.contents D.failures core.old) (state_of D.contents D.failures core.new) }
 {
     if !place.is_busy() {
-        return BareOutcome::Idle;
+        return Outcome::Idle;
     }
     if *stopped {
-        return BareOutcome::Stopped(Stop::Halted);
+        return Outcome::Stopped(Stop::Halted);
     }
-    match place.step(replied, last, hart, core) {
-        SteppedInPlace::Waits => BareOutcome::Waits,
-        SteppedInPlace::Ran(kind) => BareOutcome::Ran(kind),
-        SteppedInPlace::Done((), _kind) => BareOutcome::Done,
+    match place.step(last, hart, core) {
+        SteppedInPlace::Waits => Outcome::Waits,
+        SteppedInPlace::Ran(kind) => Outcome::Ran(kind),
+        SteppedInPlace::Done(reply, _kind) => Outcome::Done(reply),
         SteppedInPlace::Stopped => {
             *stopped = true;
-            BareOutcome::Stopped(Stop::DeviceFault)
+            Outcome::Stopped(Stop::DeviceFault)
         }
     }
 }

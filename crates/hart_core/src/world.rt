@@ -24,7 +24,7 @@ use fs_layout::Super;
 use group_log::Phase;
 use image_tree::MountFault;
 use path_walk::Heard;
-use plain_tree::{Call, Reply};
+use plain_tree::Call;
 use std::alloc::Global;
 use std::marker::Model;
 
@@ -34,21 +34,18 @@ use std::marker::Model;
 pub struct World<D: Device> {
     harts: Harts<D>,
     sizes: Super,
-    // A step leaves its reply here, and it is taken from here in the same step.
-    replied: Option<Reply>,
     // What the call that replied last heard in its last step.
     last: Option<Heard>,
 }
 
 impl<D: Device> Model for World<D> {
-    ghost use Rattle.std.specs.Prelude.{◌≡◌, None};
     ghost use Rattle.hart_core.specs.Worlds.{WorldOf, IsWorld};
 
     ghost Value = { WorldOf D };
 
     ghost view = { λ w. record { harts = w.harts; sizes = w.sizes; last = w.last } };
 
-    ghost invariant = { λ w. IsWorld D.contents D.failures w.sizes w.harts × (w.replied ≡ None) };
+    ghost invariant = { λ w. IsWorld D.contents D.failures w.sizes w.harts };
 }
 
 impl<D: Device> World<D> {
@@ -69,7 +66,6 @@ impl<D: Device> World<D> {
                 Ok(World {
                     harts,
                     sizes,
-                    replied: None,
                     last: None,
                 })
             }
@@ -163,8 +159,7 @@ impl<D: Device> World<D> {
             (shared_of D.contents D.failures self.new.harts) }
         ensures others { SetsAt hart self.old.harts.calls self.new.harts.calls }
     {
-        let told = self.harts.step(&mut self.replied, &mut self.last, hart);
-        told.outcome(&mut self.replied)
+        self.harts.step(&mut self.last, hart)
     }
 
     /// What a hart's call heard in its last step that ran, where one of its operations over whole inodes ended in that step; of a call that
@@ -209,7 +204,6 @@ impl<D: Device> World<D> {
         let World {
             harts,
             sizes: _,
-            replied: _,
             last: _,
         } = self;
         harts.unmount()

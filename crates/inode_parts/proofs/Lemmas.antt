@@ -6,7 +6,8 @@ pub use Rattle.inodes_on_blocks.proofs.Vocabulary.{Enter, drop_all, min, replica
 pub use Rattle.fs_machine.proofs.Vocabulary.{IfNone, buffer_at}
 pub use Rattle.inode_parts.proofs.Amid.{buffer_beside, buffers_beside, leaves_both, leaves_changed, record_beside, reloads, stands, still_amid}
 pub use Rattle.inode_parts.proofs.Coming.{comes_first, comes_on, file_learned, file_opens, never_came}
-pub use Rattle.inode_parts.proofs.OnWay.{begins_now, first_runs, next_ends, next_runs, part_told, read_text, stands_now, text_stays, told_now, way_now}
+pub use Rattle.inode_parts.proofs.OnWay.{begins_now, first_runs, next_ends, next_runs, read_text, stands_of, text_stays, told_of, way_now}
+pub use Rattle.whole_calls.proofs.Shifted.{in_two}
 pub use Rattle.inode_data.proofs.Asking.{asks_bind}
 pub use Rattle.inode_parts.proofs.Locking.{first_seat, lock_on, lock_over, other_free}
 pub use Rattle.inode_parts.proofs.Taking.{is_taken, search_on, search_over, seen_ends, seen_over, take_on, take_over}

@@ -1,5 +1,5 @@
 -- How a call that runs below goes on from one operation to the next.
-use Rattle.inode_parts.proofs.Vocabulary.{◌≡◌, ℕ, List, [], ◌++◌, Some, refl, sym, ap, ◌∙◌, subst, arith, Reply, Call, Ret, Do, IsEmpty, program, answer_to, asks, hears, op_in, IsNamed, IsNamedInTwo, in_two, named_front, WholeAsks, WholeFits, call_in, second_in, text_in, whole_of, Ask, Heard, Whole, BeginsWith, FillsOrStays, IsOnWay, RunsByParts, path_of, AskStands, Having, Leaves, Runs, AskTold, PartTold, UnderWay, InodePart}
+use Rattle.inode_parts.proofs.Vocabulary.{◌≡◌, ℕ, List, [], ◌++◌, Some, refl, sym, ap, ◌∙◌, subst, arith, Reply, Call, Ret, Do, IsEmpty, program, answer_to, asks, hears, op_in, IsNamed, IsNamedInTwo, in_two, named_front, WholeAsks, WholeFits, call_in, second_in, text_in, whole_of, Ask, Heard, Whole, BeginsWith, FillsOrStays, IsOnWay, RunsByParts, path_of, AskStands, Having, Leaves, Runs, AskTold, UnderWay, InodePart}
 use Rattle.inode_machine.specs.Parts as programs
 use Rattle.inode_machine.specs.World as above
 use Rattle.whole_calls.specs.Wholes.{first_in}
@@ -53,7 +53,7 @@ stands_alone : (path : List ℕ) (a : Ask) → IsNamed path a → AskStands path
 stands_alone path a named = stands_in path [] a (named_front path [] a named)
 
 -- a read asks for as much as there is room for
-told_of : (w : Whole) (a : Ask) → WholeAsks w a → AskTold (first_in w) (second_in w) a
+pub told_of : (w : Whole) (a : Ask) → WholeAsks w a → AskTold (first_in w) (second_in w) a
 told_of (whole.Link old new c) a named = told_in old new a named
 told_of (whole.Read fd buf (reading.Part n offset)) (ask.ReadFile f i at count) named = tt
 told_of (whole.Read fd buf (reading.Part n offset)) a named = told_alone buf.items a named
@@ -61,7 +61,7 @@ told_of (whole.Write fd bytes c) (ask.WriteFile f n offset i) named = tt
 told_of (whole.Write fd bytes c) a named = told_alone bytes a named
 told_of w a named = told_alone (text_in w) a named
 
-stands_of : (ns : List ℕ) (w : Whole) (a : Ask) → WholeFits ns w → WholeAsks w a → AskStands (first_in w) (second_in w) a
+pub stands_of : (ns : List ℕ) (w : Whole) (a : Ask) → WholeFits ns w → WholeAsks w a → AskStands (first_in w) (second_in w) a
 stands_of ns (whole.Link old new c) a fits named = stands_in old new a named
 stands_of ns (whole.Read fd buf (reading.Part n offset)) (ask.ReadFile f i at count) fits named =
     let short = fits.0 in
@@ -108,46 +108,19 @@ first_runs call w s same is runs empty =
     subst (λ (path : List ℕ). Runs path (BeginsWith path) (whole_of [] w) s) (sym text)
     (subst (λ (p : programs.P Reply). Runs (path_of call) (BeginsWith (path_of call)) p s) (sym is) (runs s empty))
 
--- its next operation, by the text as it was read in two
-module _ (w : Whole) (ns : List ℕ) (s : Having) (a : Ask) (path second : List ℕ) (first : path ≡ first_in w) (behind : second ≡ second_in w) (named : WholeAsks w a) (asked : asks (whole_of ns w) ≡ Some (op_in (text_in w) a)) (runs : Runs (text_in w) (BeginsWith (text_in w)) (whole_of ns w) s) where
-  starts : BeginsWith (text_in w) (op_in (text_in w) a) s
-  starts = runs_first (text_in w) s (whole_of ns w) (op_in (text_in w) a) asked runs
+-- its next operation, by its text in two
+module _ (w : Whole) (ns : List ℕ) (s : Having) (a : Ask) (asked : asks (whole_of ns w) ≡ Some (op_in (text_in w) a)) (runs : Runs (text_in w) (BeginsWith (text_in w)) (whole_of ns w) s) where
+  pub begins_now : BeginsWith (first_in w ++ second_in w) (op_in (first_in w ++ second_in w) a) s
+  begins_now = subst (λ (t : List ℕ). BeginsWith t (op_in t a) s) (sym (in_two w)) (runs_first (text_in w) s (whole_of ns w) (op_in (text_in w) a) asked runs)
 
-  text : List ℕ
-  text = path ++ second
-
-  read : text ≡ text_in w
-  unfolding text
-  read = read_text w path second first behind
-
-  pub begins_now : BeginsWith (path ++ second) (op_in (path ++ second) a) s
-  unfolding text
-  begins_now = subst (λ (t : List ℕ). BeginsWith t (op_in t a) s) (sym read) starts
-
-  pub stands_now : WholeFits ns w → AskStands path second a
-  stands_now fits =
-      subst (λ (path : List ℕ). AskStands path second a) (sym first)
-      (subst (λ (second : List ℕ). AskStands (first_in w) second a) (sym behind) (stands_of ns w a fits named))
-
-  pub told_now : AskTold path second a
-  told_now =
-      subst (λ (path : List ℕ). AskTold path second a) (sym first)
-      (subst (λ (second : List ℕ). AskTold (first_in w) second a) (sym behind) (told_of w a named))
-
-  pub way_now : (q : InodePart) (t : Having) → UnderWay (path ++ second) (op_in (path ++ second) a) s q t → IsOnWay (text_in w) (whole_of ns w) q t
-  unfolding text
+  pub way_now : (q : InodePart) (t : Having) → UnderWay (first_in w ++ second_in w) (op_in (first_in w ++ second_in w) a) s q t → IsOnWay (text_in w) (whole_of ns w) q t
   way_now q t under = record {
     op = op_in (text_in w) a;
     start = s;
     asked = asked;
     runs = runs;
-    under = subst (λ (path : List ℕ). UnderWay path (op_in path a) s q t) read under;
+    under = subst (λ (path : List ℕ). UnderWay path (op_in path a) s q t) (in_two w) under;
   }
-
--- its part is told of the text that was read
-pub part_told : (w : Whole) (q : InodePart) (path second : List ℕ) → path ≡ first_in w → second ≡ second_in w → PartTold path second q → PartTold (first_in w) (second_in w) q
-part_told w q path second first behind told =
-    subst (λ (second : List ℕ). PartTold (first_in w) second q) behind (subst (λ (path : List ℕ). PartTold path second q) first told)
 
 -- how it goes on from what its operation left, which may have come into its text
 module _ (w u v : Whole) (ns ms : List ℕ) (q : InodePart) (s t : Having) (x : Heard) (filled : FillsOrStays w u) (way : IsOnWay (text_in w) (whole_of ns w) q s)

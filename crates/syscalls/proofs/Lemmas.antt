@@ -14,5 +14,5 @@ pub use Rattle.fs_machine.specs.Machines.{MayNext}
 pub use Rattle.path_walk.specs.Asks.{reply_to}
 pub use Rattle.syscalls.proofs.Places.{busy_is, busy_on, has_nothing, idle_is, nothing_fits}
 pub use Rattle.syscalls.specs.Machines.{heard_of}
-pub use Rattle.syscalls.specs.Places.{StepsAt, with_reply}
+pub use Rattle.syscalls.specs.Places.{StepsAt}
 pub use Rattle.whole_calls.specs.Wholes.{call_in}

@@ -1,5 +1,5 @@
 -- The place of a hart's call, and a step of what stands there.
-use Rattle.std.specs.Prelude.{◌≡◌, ℕ, List, Bool, true, false, Option, Some, None, IsSome}
+use Rattle.std.specs.Prelude.{◌≡◌, ℕ, List, Bool, true, false, Option, Some, None}
 use Rattle.syscalls.specs.Vocabulary.{Super, Reply, Call, Heard, BeginsAsking, RestOrResult, Still, stepped_at, SteppedInPlace, Waits, Ran, Done, Stopped, State, state_of, Answers, CallsOnce, Moves, LeavesTied, Kind, Core, program, lowered, nothing}
 use Rattle.syscalls.specs.Machines.{Running, heard_of, running_of, RunningFits, TellsOf}
 
@@ -13,21 +13,6 @@ abbrev pub HasBegun : Super → Call → Option Running → Type 0
 HasBegun sizes call None = ⊥
 HasBegun sizes call (Some m) = (running_of m ≡ lowered sizes nothing (program call)) × ((hart : ℕ) (s : State) → RunningFits hart s m)
     × BeginsAsking sizes nothing (program call) m.control m.hand
-
--- a step with its reply, which stands in a place of its own (one that is done has left one)
-abbrev pub with_reply : SteppedInPlace (Unit {0}) Kind → Option Reply → SteppedInPlace Reply Kind
-with_reply Waits place = Waits
-with_reply (Ran kind) place = Ran kind
-with_reply (Done end kind) (Some reply) = Done reply kind
-with_reply (Done end kind) None = Waits
-with_reply Stopped place = Stopped
-
--- a reply stands there just where the step is done
-abbrev pub IsReplied : SteppedInPlace (Unit {0}) Kind → Option Reply → Type 0
-IsReplied Waits place = place ≡ None
-IsReplied (Ran kind) place = place ≡ None
-IsReplied (Done end kind) place = IsSome place
-IsReplied Stopped place = place ≡ None
 
 -- what is left in the place: the call, or nothing once it has replied
 abbrev pub left_in : SteppedInPlace Reply Kind → Running → Option Running

@@ -7,10 +7,10 @@ ghost use Rattle.whole_calls.specs.Wholes.{IsCall};
 ghost use Rattle.fs_machine.specs.Empty.{IsEmpty};
 ghost use Rattle.inode_parts.specs.Sizes.{IsSized};
 ghost use Rattle.syscalls.specs.Machines.{heard_of, lacks_place_at, running_of, RunningFits};
-ghost use Rattle.syscalls.specs.Places.{with_reply, HasBegun, IsReplied, StepsAt};
+ghost use Rattle.syscalls.specs.Places.{HasBegun, StepsAt};
 
 use crate::calls_run_by_parts;
-use atomic_programs::machines::{SteppedInPlace, put};
+use atomic_programs::machines::SteppedInPlace;
 use block_device::Device;
 use buffer_cache::HARTS;
 use fs_layout::Super;
@@ -120,24 +120,19 @@ impl CallPlace {
         self.is_busy = true;
     }
 
-    /// One operation of the call under way. Once it has replied the place is idle, and the reply stands in a place of its own, which is
-    /// empty before; and `last` is what it heard in this step.
+    /// One operation of the call under way. Once it has replied the place is idle, and `last` is what it heard in this step.
     #[inline(always)]
     pub fn step<D: Device>(
         &mut self,
-        replied: &mut Option<Reply>,
         last: &mut Option<Heard>,
         hart: u8,
         core: &mut Core<D>,
-    ) -> SteppedInPlace<(), Kind>
+    ) -> SteppedInPlace<Reply, Kind>
         requires eight { hart < HARTS }
         requires busy { IsSome self.old }
         requires may { MatchOption self.old ⊥ (λ call. MayNext hart (running_of call) (state_of D.contents D.failures core.old)) }
         requires fits { MatchOption self.old ⊥ (λ call. RunningFits hart (state_of D.contents D.failures core.old) call) }
-        requires none { replied.old ≡ None }
-        ensures steps { StepsAt D.contents D.failures D.Called hart self.old self.new (with_reply result replied.new) last.new core.old
-            core.new }
-        ensures replied { IsReplied result replied.new }
+        ensures { StepsAt D.contents D.failures D.Called hart self.old self.new result last.new core.old core.new }
     {
         match self.machine.step(hart, core) {
             SteppedInPlace::Waits => SteppedInPlace::Waits,
@@ -145,8 +140,7 @@ impl CallPlace {
             SteppedInPlace::Done((), kind) => {
                 self.is_busy = false;
                 *last = self.machine.control.heard();
-                put(replied, self.machine.control.reply());
-                SteppedInPlace::Done((), kind)
+                SteppedInPlace::Done(self.machine.control.reply(), kind)
             }
             SteppedInPlace::Stopped => SteppedInPlace::Stopped,
         }

@@ -1,4 +1,4 @@
-use Rattle.hart_core.proofs.Lemmas.{◌≡◌, ◌∙◌, None, arith, refl, set, sym, subst, get_or, set-set, Step, WasIdle, plain_makes, PlainHonest, step_gives, honest_here, Passes, state_of, running_of, blocks, code, MayStep, HartsOf, said, outcome_of, outcome_with, programs_of, SetsAt, TellsOutcome, heard_at, set-own, stays_same, all_set, idle_past, honest_past, is_at}
+use Rattle.hart_core.proofs.Lemmas.{◌≡◌, ◌∙◌, None, arith, refl, set, sym, subst, get_or, set-set, Step, WasIdle, plain_makes, PlainHonest, step_gives, honest_here, Passes, state_of, running_of, blocks, code, MayStep, HartsOf, said, outcome_of, programs_of, SetsAt, TellsOutcome, heard_at, set-own, stays_same, all_set, idle_past, honest_past, is_at}
 use Rattle.hart_core.proofs.harts.Harts.step.Goals as goal
 
 pub step-requires-clause-may : goal.step-requires-clause-may
@@ -24,11 +24,11 @@ returns-clause-makes g c =
     let less = c.if-hart-ge-HARTS.false in
     let left = get_or c.step.new.self h None in
     subst
-    (λ (v : HartsOf _). plain_makes blocks code (Step h (said (outcome_with c.step.result c.step.new.replied) t)) (programs_of g.D.Device.contents g.D.Device.failures v)
-    ≡ record { came = outcome_of (outcome_with c.step.result c.step.new.replied); after = programs_of g.D.Device.contents g.D.Device.failures (record { core = c.step.new.core; stopped = c.step.new.stopped; children = w.children; calls = c.step.new.self }) })
+    (λ (v : HartsOf _). plain_makes blocks code (Step h (said c.step.result t)) (programs_of g.D.Device.contents g.D.Device.failures v)
+    ≡ record { came = outcome_of c.step.result; after = programs_of g.D.Device.contents g.D.Device.failures (record { core = c.step.new.core; stopped = c.step.new.stopped; children = w.children; calls = c.step.new.self }) })
     c.self.view_is
-    (step_gives blocks code running_of (state_of g.D.Device.contents g.D.Device.failures w.core) w.stopped w.calls h (get_or w.calls h None) left (set w.calls h None) c.step.new.self (is_at w.calls h (omega (arith, eight, less))) refl (c.step.ensures.kept ∙ sym (set-set w.calls h None left)) (said (outcome_with c.step.result c.step.new.replied) t)
-    (outcome_of (outcome_with c.step.result c.step.new.replied)) t c.step.new.stopped c.step.ensures.makes)
+    (step_gives blocks code running_of (state_of g.D.Device.contents g.D.Device.failures w.core) w.stopped w.calls h (get_or w.calls h None) left (set w.calls h None) c.step.new.self (is_at w.calls h (omega (arith, eight, less))) refl (c.step.ensures.kept ∙ sym (set-set w.calls h None left)) (said c.step.result t)
+    (outcome_of c.step.result) t c.step.new.stopped c.step.ensures.makes)
 
 pub returns-clause-honest : goal.returns-clause-honest
 returns-clause-honest g c =
@@ -38,9 +38,9 @@ returns-clause-honest g c =
     let eight = c.self.invariant.long in
     let less = c.if-hart-ge-HARTS.false in
     let left = get_or c.step.new.self h None in
-    subst (λ (v : HartsOf _). PlainHonest blocks code (Step h (said (outcome_with c.step.result c.step.new.replied) t)) (programs_of g.D.Device.contents g.D.Device.failures v)) c.self.view_is
+    subst (λ (v : HartsOf _). PlainHonest blocks code (Step h (said c.step.result t)) (programs_of g.D.Device.contents g.D.Device.failures v)) c.self.view_is
     (honest_here blocks code running_of (state_of g.D.Device.contents g.D.Device.failures w.core) w.stopped w.calls h (get_or w.calls h None) left (set w.calls h None) c.step.new.self (is_at w.calls h (omega (arith, eight, less))) refl (c.step.ensures.kept ∙ sym (set-set w.calls h None left))
-    (said (outcome_with c.step.result c.step.new.replied) t) c.step.ensures.honest)
+    (said c.step.result t) c.step.ensures.honest)
 
 -- there is no such hart
 pub returns-then-hart-ge-HARTS-clause-makes : goal.returns-then-hart-ge-HARTS-clause-makes
@@ -65,7 +65,7 @@ returns-clause-tells g c =
     let h = c.args.hart in
     let left = get_or c.step.new.self h None in
     let s = state_of g.D.Device.contents g.D.Device.failures in
-    subst (λ (v : HartsOf _). TellsOutcome h (get_or v.calls h None) (outcome_with c.step.result c.step.new.replied) (heard_at c.step.new.last left) left (s v.core) (s c.step.new.core)) c.self.view_is c.step.ensures.tells
+    subst (λ (v : HartsOf _). TellsOutcome h (get_or v.calls h None) c.step.result (heard_at c.step.new.last left) left (s v.core) (s c.step.new.core)) c.self.view_is c.step.ensures.tells
 
 pub returns-clause-others : goal.returns-clause-others
 returns-clause-others g c = subst (λ (v : HartsOf _). SetsAt c.args.hart v.calls c.step.new.self) c.self.view_is c.step.ensures.kept

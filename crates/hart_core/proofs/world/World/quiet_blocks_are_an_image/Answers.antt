@@ -5,4 +5,4 @@ pub returns : goal.returns
 returns g c =
     let w = c.self.inside in
     subst (λ (v : WorldOf _). QuietBlocksAreAnImage g.D.Device.contents g.D.Device.failures v.harts) c.self.view_is
-    (quiet_blocks_are_an_image g.D.Device.contents g.D.Device.failures w.sizes w.harts c.self.invariant.0)
+    (quiet_blocks_are_an_image g.D.Device.contents g.D.Device.failures w.sizes w.harts c.self.invariant)

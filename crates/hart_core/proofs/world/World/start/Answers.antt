@@ -16,11 +16,9 @@ pub invariant_of-self : goal.invariant_of-self
 invariant_of-self g c =
     let w = c.self.inside in
     let long = subst (λ (v : WorldOf _). length v.harts.calls ≡ 8) (sym c.self.view_is) c.find_start_refusal.ensures.eight in
-    let none = subst (λ (v : WorldOf _). refusal_of v.harts c.args.hart c.args.call ≡ None) (sym c.self.view_is) (sym c.find_start_refusal.ensures.refusal ∙ c.in-None.is) in (
-      world_started g.D.Device.contents g.D.Device.failures w.sizes w.harts long c.args.hart c.args.call c.find_start_refusal.ensures.bytes c.begin.new.self c.self.invariant.0
-          (made_start g.D.Device.contents g.D.Device.failures w.sizes w.harts long c.args.hart c.args.call c.find_start_refusal.ensures.bytes c.begin.new.self none c.begin.ensures.makes c.begin.ensures.eight (c.begin.ensures.children ∙ ap (slice_set w.harts.children c.args.hart) c.find_child-child.ensures)),
-      c.self.invariant.1,
-    )
+    let none = subst (λ (v : WorldOf _). refusal_of v.harts c.args.hart c.args.call ≡ None) (sym c.self.view_is) (sym c.find_start_refusal.ensures.refusal ∙ c.in-None.is) in
+    world_started g.D.Device.contents g.D.Device.failures w.sizes w.harts long c.args.hart c.args.call c.find_start_refusal.ensures.bytes c.begin.new.self c.self.invariant
+    (made_start g.D.Device.contents g.D.Device.failures w.sizes w.harts long c.args.hart c.args.call c.find_start_refusal.ensures.bytes c.begin.new.self none c.begin.ensures.makes c.begin.ensures.eight (c.begin.ensures.children ∙ ap (slice_set w.harts.children c.args.hart) c.find_child-child.ensures))
 
 pub returns-in-Some-clause-makes : goal.returns-in-Some-clause-makes
 returns-in-Some-clause-makes g c =

@@ -1,4 +1,4 @@
-use Rattle.inode_parts.proofs.Lemmas.{◌≡◌, ℕ, List, [], Some, refl, nothing_in, Carry, ◌++◌, sym, subst, ap, ◌∙◌, program, WholeFits, first_in, second_in, text_in, whole_of, whole_with, with_text, IsOnWay, carry_in, part_left, FillsAs, having, IsPart, new_is, begins_now, first_runs, part_told, read_text, stands_now, told_now, way_now, fills_now, on_text, reads_now}
+use Rattle.inode_parts.proofs.Lemmas.{◌≡◌, ℕ, List, [], Some, refl, nothing_in, Carry, ◌++◌, sym, subst, ap, ◌∙◌, program, WholeFits, first_in, second_in, text_in, whole_of, whole_with, with_text, IsOnWay, carry_in, part_left, FillsAs, having, IsPart, new_is, begins_now, first_runs, in_two, stands_of, told_of, way_now, fills_now, on_text, reads_now}
 use Rattle.path_walk.specs.Asks.{asks, op_in}
 use Rattle.inode_parts.proofs.lowered.Lowered.start.Goals as goal
 
@@ -11,9 +11,9 @@ begin-requires c =
     let asked = c.ask-ask.ensures.asks [] c.new.ensures.fits in
     record {
       sized = c.requires.sizes;
-      begins = begins_now w [] s c.ask-ask.result (first_in w) (second_in w) refl refl named asked runs;
-      stands = stands_now w [] s c.ask-ask.result (first_in w) (second_in w) refl refl named asked runs c.new.ensures.fits;
-      told = told_now w [] s c.ask-ask.result (first_in w) (second_in w) refl refl named asked runs;
+      begins = begins_now w [] s c.ask-ask.result asked runs;
+      stands = stands_of [] w c.ask-ask.result c.new.ensures.fits named;
+      told = told_of w c.ask-ask.result named;
     }
 
 pub returns-clause-program : goal.returns-clause-program
@@ -26,7 +26,7 @@ returns-clause-program c =
     let q = c.begin.new.self in
     let g = c.begin.new.hand in
     let path = text_in w in
-    let read = read_text w (first_in w) (second_in w) refl refl in
+    let read = in_two w in
     let is = subst (λ (t : List ℕ). IsPart sizes (carry_in t m h) (op_in t a) (part_left t m q g)) read c.begin.ensures.part in
     let fills = subst (λ (t : List ℕ). FillsAs a t (part_left t m q g)) read c.begin.ensures.fills in
     let same = on_text sizes [] w (part_left path m q g) (fills_now [] w a (part_left path m q g) (c.ask-ask.ensures.asks [] c.new.ensures.fits) fills) in
@@ -43,7 +43,7 @@ returns-clause-asks c =
     let q = c.begin.new.self in
     let g = c.begin.new.hand in
     let path = text_in w in
-    let read = read_text w (first_in w) (second_in w) refl refl in
+    let read = in_two w in
     let is = subst (λ (t : List ℕ). IsPart sizes (carry_in t m h) (op_in t a) (part_left t m q g)) read c.begin.ensures.part in
     let fills = subst (λ (t : List ℕ). FillsAs a t (part_left t m q g)) read c.begin.ensures.fills in
     let asked = c.ask-ask.ensures.asks [] c.new.ensures.fits in
@@ -68,12 +68,12 @@ returns-clause-ready c =
     let t = having c.begin.new.hand m in
     let runs = first_runs c.args.call w s c.new.ensures.call c.new.ensures.program c.requires.runs c.requires.empty in
     let named = c.ask-ask.ensures.named [] c.new.ensures.fits in
-    let way = way_now w [] s a (first_in w) (second_in w) refl refl named (c.ask-ask.ensures.asks [] c.new.ensures.fits) runs q t c.begin.ensures.under in
+    let way = way_now w [] s a (c.ask-ask.ensures.asks [] c.new.ensures.fits) runs q t c.begin.ensures.under in
     record {
       sized = c.requires.sizes;
       fits = subst (λ (ns : List ℕ). WholeFits ns w) (sym c.clear.ensures) c.new.ensures.fits;
       ready = c.begin.ensures.ready;
-      told = part_told w q (first_in w) (second_in w) refl refl c.begin.ensures.told;
+      told = c.begin.ensures.told;
       reads = reads_now (first_in w ++ second_in w) w a s t q named c.begin.ensures.under;
       way = subst (λ (ns : List ℕ). IsOnWay (text_in w) (whole_of ns w) q t) (sym c.clear.ensures) way;
     }

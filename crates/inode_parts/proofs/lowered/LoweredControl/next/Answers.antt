@@ -1,4 +1,4 @@
-use Rattle.inode_parts.proofs.Lemmas.{◌≡◌, ℕ, Bool, List, [], ◌++◌, Option, Some, refl, sym, ap, subst, ◌∙◌, IfNone, Ret, Reply, Goes, answer_in, answer_to, hears, reply_to, stepped, Heard, call_in, first_in, second_in, text_in, whole_of, whole_with, with_text, IsOnWay, carry_in, FillsFrom, Having, Leaves, part_asked, part_left, part_left_after, FillsAs, PartReady, PartTold, ReadsInto, having, heard_if, IsPart, GoesOrLeaves, UnderWay, asks_on, ends_on, goes_within, begins_now, next_ends, next_runs, part_told, read_text, stands_now, text_stays, told_now, way_now, fills_now, fits_with, its_own, same_hears, handed, on_text, reads_now, reads_with, room_before, room_then, same_with, way_with}
+use Rattle.inode_parts.proofs.Lemmas.{◌≡◌, ℕ, Bool, List, [], ◌++◌, Option, Some, refl, sym, ap, subst, ◌∙◌, IfNone, Ret, Reply, Goes, answer_in, answer_to, hears, reply_to, stepped, Heard, call_in, first_in, second_in, text_in, whole_of, whole_with, with_text, IsOnWay, carry_in, FillsFrom, Having, Leaves, part_asked, part_left, part_left_after, FillsAs, PartReady, PartTold, ReadsInto, having, heard_if, IsPart, GoesOrLeaves, UnderWay, asks_on, ends_on, goes_within, begins_now, next_ends, next_runs, in_two, stands_of, text_stays, told_of, way_now, fills_now, fits_with, its_own, same_hears, handed, on_text, reads_now, reads_with, room_before, room_then, same_with, way_with}
 use Rattle.inode_machine.specs.Parts as programs
 use Rattle.inode_machine.specs.World as above
 use Rattle.path_walk.specs.Asks.{asks, op_in}
@@ -101,9 +101,9 @@ begin-requires c =
     let asked = c.ask-ask.ensures.asks ms fits in
     record {
       sized = ready.sized;
-      begins = begins_now v ms s a (first_in v) (second_in v) refl refl named asked runs;
-      stands = stands_now v ms s a (first_in v) (second_in v) refl refl named asked runs fits;
-      told = told_now v ms s a (first_in v) (second_in v) refl refl named asked runs;
+      begins = begins_now v ms s a asked runs;
+      stands = stands_of ms v a fits named;
+      told = told_of v a named;
     }
 
 pub returns-else-next-clause-goes : goal.returns-else-next-clause-goes
@@ -127,7 +127,7 @@ returns-else-next-clause-goes c before ready after =
     let q = c.begin.new.self in
     let g = c.begin.new.hand in
     let stays = text_stays u v c.next.ensures.call in
-    let read = read_text v (first_in v) (second_in v) refl refl in
+    let read = in_two v in
     let fits = c.next.ensures.fits c.if-next.false in
     let is = subst (λ (t : List ℕ). IsPart l.sizes (carry_in t m h) (op_in t a) (part_left t m q g)) (read ∙ stays) c.begin.ensures.part in
     let fills = subst (λ (t : List ℕ). FillsAs a t (part_left t m q g)) read c.begin.ensures.fills in
@@ -157,7 +157,7 @@ returns-else-next-clause-tells c before ready after =
     let q = c.begin.new.self in
     let g = c.begin.new.hand in
     let stays = text_stays u v c.next.ensures.call in
-    let read = read_text v (first_in v) (second_in v) refl refl in
+    let read = in_two v in
     let is = subst (λ (t : List ℕ). IsPart l.sizes (carry_in t m h) (op_in t a) (part_left t m q g)) (read ∙ stays) c.begin.ensures.part in
     let fills = subst (λ (t : List ℕ). FillsAs a t (part_left t m q g)) read c.begin.ensures.fills in
     let asked = c.ask-ask.ensures.asks ms (c.next.ensures.fits c.if-next.false) in
@@ -203,9 +203,9 @@ returns-else-next-clause-ready c =
       sized = ready.sized;
       fits = fits;
       ready = c.begin.ensures.ready;
-      told = part_told v q (first_in v) (second_in v) refl refl c.begin.ensures.told;
+      told = c.begin.ensures.told;
       reads = reads_now (first_in v ++ second_in v) v a s t q named c.begin.ensures.under;
-      way = way_now v ms s a (first_in v) (second_in v) refl refl named asked runs q t c.begin.ensures.under;
+      way = way_now v ms s a asked runs q t c.begin.ensures.under;
     }
 
 pub returns-then-next-clause-goes : goal.returns-then-next-clause-goes
