@@ -1,14 +1,13 @@
 //! A name cleared, as a part.
-ghost use Rattle.std.specs.Prelude.{◌≡◌, ℕ, List, Some, None, IfNone};
-ghost use Rattle.inode_parts.specs.Vocabulary.{Name, asks, op_in, answer_in, CanDo, Prepared, IsAfter, Goes, bare, left_after, Hand as HandState};
-ghost use Rattle.inode_machine.specs.World as above;
-ghost use Rattle.inode_parts.specs.Carries.{carry_in, handed, note_at};
+ghost use Rattle.std.specs.Prelude.{◌≡◌, ℕ, List};
+ghost use Rattle.inode_parts.specs.Vocabulary.{Name};
+ghost use Rattle.inode_machine.specs.World as world;
+ghost use Rattle.inode_parts.specs.Carries.{carry_in, note_at};
 ghost use Rattle.inode_parts.specs.Clears.{clear_part_left, clear_part_asked, slot_in, ClearAmid, ClearBegins, ClearPartReady, HasFound};
-ghost use Rattle.inode_parts.specs.Leaving.{heard_if, having, StaysOrLeaves};
 ghost use Rattle.inode_parts.specs.Parts.{IsPart};
-ghost use Rattle.inode_parts.specs.declared.note.Notes.{Notes as NotesState};
 
 use crate::note::{Note, Notes};
+use crate::operation::Operation;
 use crate::places::lock_seat;
 use crate::records::change;
 use directory::{Clear, Slot, clear_in_index};
@@ -32,7 +31,7 @@ impl ClearPart {
     pub fn begin(number: u32, sizes: &Super, notes: &Notes, hand: &Hand) -> ClearPart
         requires begins { (path : List ℕ) × (name : Name) × ClearBegins sizes.now path notes.now number name hand.now }
         ensures part { (path : List ℕ) (name : Name) → ClearBegins sizes.now path notes.now number name hand.now
-            → IsPart sizes.now (carry_in path notes.now hand.now) (above.Clear number name)
+            → IsPart sizes.now (carry_in path notes.now hand.now) (world.Clear number name)
             (clear_part_left path notes.now result hand.now) }
         ensures ready { ClearPartReady result hand.now }
         ensures amid { ClearAmid number hand.now result hand.now }
@@ -47,43 +46,35 @@ impl ClearPart {
         });
         ClearPart { seat, slot, clear }
     }
+}
 
-    /// The next operation. Bytes to be recorded are written in their buffer.
-    pub fn op(&self, hand: &mut Hand) -> Op
-        requires ready { ClearPartReady self.now hand.old }
-        ensures op { result ≡ clear_part_asked self.now }
-        ensures asks { (path : List ℕ) (notes : NotesState)
-            → asks (clear_part_left path notes self.now hand.old) ≡ Some (op_in hand.new result) }
-        ensures can { CanDo result hand.new }
-        ensures prepared { Prepared result hand.old hand.new }
-    {
+impl Operation for ClearPart {
+    ghost left = { clear_part_left };
+
+    ghost asked = { clear_part_asked };
+
+    ghost Ready = { ClearPartReady };
+
+    // The directory, and the name.
+    ghost About = { ℕ × Name };
+
+    ghost above = { λ a. world.Clear a.0 a.1 };
+
+    ghost Amid = { λ a. ClearAmid a.0 };
+
+    fn op(&self, hand: &mut Hand) -> Op {
         self.clear.op(hand)
     }
 
-    /// How it goes on: true where it is over, with what is heard left in `heard`. At its end the directory has its new record, and the
-    /// slot is gone from its index.
+    // At its end the directory has its new record, and the slot is gone from its index.
     #[tactic(auto, using(crate::proofs::Clears::clear_on, crate::proofs::Clears::clear_ends))]
-    pub fn next(
+    fn next(
         &mut self,
         notes: &mut Notes,
         answer: &Answer,
         hand: &mut Hand,
         heard: &mut Heard,
-    ) -> bool
-        requires came { (before : HandState) × ClearPartReady self.old before
-            × IsAfter (clear_part_asked self.old) before answer.now hand.old }
-        ensures goes { (path : List ℕ) (before : HandState) → ClearPartReady self.old before
-            → IsAfter (clear_part_asked self.old) before answer.now hand.old
-            → Goes (clear_part_left path notes.old self.old before) (answer_in (clear_part_asked self.old) answer.now hand.old)
-            (left_after (clear_part_left path notes.new) (handed path notes.new) (heard_if result heard.new) self.new hand.new) }
-        ensures ready { IfNone (heard_if result heard.new) (ClearPartReady self.new hand.new) }
-        ensures leaves { (path : List ℕ) (n : ℕ) (name : Name) (start before : HandState)
-            → ClearAmid n start self.old before → ClearPartReady self.old before
-            → IsAfter (clear_part_asked self.old) before answer.now hand.old
-            → StaysOrLeaves (ClearAmid n start self.new) path (above.Clear n name) (heard_if result heard.new)
-            (having start notes.old) (having hand.new notes.new) }
-        ensures hand { bare hand.new ≡ bare hand.old }
-    {
+    ) -> bool {
         match self.clear.next(answer, hand) {
             None => false,
             Some(inode) => {

@@ -1,16 +1,17 @@
 //! A name entered, as a part.
-ghost use Rattle.std.specs.Prelude.{◌≡◌, ℕ, List, Some, None, IfNone};
-ghost use Rattle.inode_parts.specs.Vocabulary.{Name, Ret, asks, op_in, answer_in, CanDo, Prepared, IsAfter, Goes, bare, left_after, Hand as HandState, HasNoBuffer, IsLoadedAt, entered_as};
-ghost use Rattle.inode_machine.specs.World as above;
+ghost use Rattle.std.specs.Prelude.{◌≡◌, ℕ, List};
+ghost use Rattle.inode_parts.specs.Vocabulary.{Name, Ret, bare, Hand as HandState, HasNoBuffer, IsLoadedAt, entered_as};
+ghost use Rattle.inode_machine.specs.World as world;
 ghost use Rattle.inode_parts.specs.Carries.{carry_in, handed};
 ghost use Rattle.inode_parts.specs.Changes.{IsAmid};
 ghost use Rattle.inode_parts.specs.Enters.{enter_part_left, enter_part_asked, entered, EnterAmid, EnterBegins, EnterPartReady};
 ghost use Rattle.inode_parts.specs.Holding.{Changed, StandBeside};
-ghost use Rattle.inode_parts.specs.Leaving.{heard_if, having, StaysOrLeaves};
+ghost use Rattle.inode_parts.specs.Leaving.{having};
 ghost use Rattle.inode_parts.specs.Parts.{IsPart};
 ghost use Rattle.inode_parts.specs.declared.note.Notes.{Notes as NotesState};
 
 use crate::note::Notes;
+use crate::operation::Operation;
 use crate::places::lock_seat;
 use crate::records::change;
 use directory::{Enter, Entered, Room};
@@ -30,7 +31,7 @@ impl EnterPart {
     pub fn begin(number: u32, child: u32, name: &[u8], sizes: &Super, hand: &Hand) -> EnterPart
         requires begins { EnterBegins sizes.now number name.now hand.now }
         ensures part { (path : List ℕ) (notes : NotesState)
-            → IsPart sizes.now (carry_in path notes hand.now) (above.Enter number name.now child)
+            → IsPart sizes.now (carry_in path notes hand.now) (world.Enter number name.now child)
             (enter_part_left path notes result hand.now) }
         ensures ready { EnterPartReady result hand.now }
         ensures amid { EnterAmid number hand.now result hand.now }
@@ -41,42 +42,35 @@ impl EnterPart {
             Begun::Is(_) => unreachable!(),
         }
     }
+}
 
-    /// The next operation. Bytes to be recorded are written in their buffer.
-    pub fn op(&self, hand: &mut Hand) -> Op
-        requires ready { EnterPartReady self.now hand.old }
-        ensures op { result ≡ enter_part_asked self.now }
-        ensures asks { (path : List ℕ) (notes : NotesState)
-            → asks (enter_part_left path notes self.now hand.old) ≡ Some (op_in hand.new result) }
-        ensures can { CanDo result hand.new }
-        ensures prepared { Prepared result hand.old hand.new }
-    {
+impl Operation for EnterPart {
+    ghost left = { enter_part_left };
+
+    ghost asked = { enter_part_asked };
+
+    ghost Ready = { EnterPartReady };
+
+    // The directory, the inode that is named in it, and the name.
+    ghost About = { ℕ × ℕ × Name };
+
+    ghost above = { λ a. world.Enter a.0 a.2 a.1 };
+
+    ghost Amid = { λ a. EnterAmid a.0 };
+
+    fn op(&self, hand: &mut Hand) -> Op {
         self.enter.op(hand)
     }
 
-    /// How it goes on: true where it is over, with what is heard left in `heard`. At its end the directory has its new record and index.
+    // At its end the directory has its new record and index.
     #[tactic(auto, using(crate::proofs::Enters::enter_on, crate::proofs::Enters::enter_ends))]
-    pub fn next(
+    fn next(
         &mut self,
         notes: &mut Notes,
         answer: &Answer,
         hand: &mut Hand,
         heard: &mut Heard,
-    ) -> bool
-        requires came { (before : HandState) × EnterPartReady self.old before
-            × IsAfter (enter_part_asked self.old) before answer.now hand.old }
-        ensures goes { (path : List ℕ) (before : HandState) → EnterPartReady self.old before
-            → IsAfter (enter_part_asked self.old) before answer.now hand.old
-            → Goes (enter_part_left path notes.old self.old before) (answer_in (enter_part_asked self.old) answer.now hand.old)
-            (left_after (enter_part_left path notes.new) (handed path notes.new) (heard_if result heard.new) self.new hand.new) }
-        ensures ready { IfNone (heard_if result heard.new) (EnterPartReady self.new hand.new) }
-        ensures leaves { (path : List ℕ) (n child : ℕ) (name : Name) (start before : HandState)
-            → EnterAmid n start self.old before → EnterPartReady self.old before
-            → IsAfter (enter_part_asked self.old) before answer.now hand.old
-            → StaysOrLeaves (EnterAmid n start self.new) path (above.Enter n name child) (heard_if result heard.new)
-            (having start notes.old) (having hand.new notes.new) }
-        ensures hand { bare hand.new ≡ bare hand.old }
-    {
+    ) -> bool {
         match self.enter.next(answer, hand) {
             None => false,
             Some(entered) => {

@@ -25,6 +25,7 @@ use crate::lock_open_part::LockOpenPart;
 use crate::names::name;
 use crate::note::Notes;
 use crate::one_step::OneStep;
+use crate::operation::Operation;
 use crate::places::{reference_seat, refers_at};
 use crate::read_file_part::ReadFilePart;
 use crate::relock_part::RelockPart;

@@ -1,8 +1,7 @@
 //! The first listed inode locked, to be freed.
-ghost use Rattle.std.specs.Prelude.{◌≡◌, ℕ, List, Some, IfNone};
-ghost use Rattle.inode_parts.specs.Vocabulary.{Ret, asks, number_at, op_in, answer_in, CanDo, Prepared, IsAfter, Goes, left_after, bare, Hand as HandState, loaded_in, AtNothing, Take};
+ghost use Rattle.std.specs.Prelude.{◌≡◌, ℕ, List};
+ghost use Rattle.inode_parts.specs.Vocabulary.{Ret, number_at, loaded_in, AtNothing, Take};
 ghost use Rattle.inode_parts.specs.Carries.{carry_in, handed};
-ghost use Rattle.inode_parts.specs.Leaving.{heard_if, having, StaysOrLeaves};
 ghost use Rattle.inode_parts.specs.Parts.{IsPart};
 ghost use Rattle.inode_parts.specs.Relocks.{relock_left, relock_asked, RelockAmid, RelockBegins, RelockReady};
 ghost use Rattle.inode_parts.specs.Sides.{beside_in};
@@ -12,6 +11,7 @@ ghost use Rattle.path_walk.specs.declared.asks.Query.TheVariants as query;
 
 use crate::faces::face_unless_free;
 use crate::note::{Note, Notes};
+use crate::operation::Operation;
 use crate::places::free_seat;
 use fs_layout::Super;
 use fs_machine::{Answer, Hand, InodePlace, Op, Routine};
@@ -39,42 +39,36 @@ impl RelockPart {
         let seat = free_seat(hand);
         RelockPart::Locking(seat, sizes.inodestart)
     }
+}
 
-    /// The next operation.
-    pub fn op(&self, hand: &mut Hand) -> Op
-        requires ready { RelockReady self.now hand.old }
-        ensures op { result ≡ relock_asked self.now }
-        ensures asks { (path : List ℕ) (notes : NotesState)
-            → asks (relock_left path notes self.now hand.old) ≡ Some (op_in hand.new result) }
-        ensures can { CanDo result hand.new }
-        ensures prepared { Prepared result hand.old hand.new }
-    {
+impl Operation for RelockPart {
+    ghost left = { relock_left };
+
+    ghost asked = { relock_asked };
+
+    ghost Ready = { RelockReady };
+
+    // The inode.
+    ghost About = { ℕ };
+
+    ghost above = { λ n. Take n AtNothing };
+
+    ghost Amid = { RelockAmid };
+
+    fn op(&self, hand: &mut Hand) -> Op {
         match self {
             RelockPart::Locking(seat, _) => Op::LockListed(*seat),
             RelockPart::Loading(lock) => lock.op(hand),
         }
     }
 
-    /// How it goes on: true where it is over, with what is heard left in `heard`.
-    pub fn next(
+    fn next(
         &mut self,
         notes: &mut Notes,
         answer: &Answer,
         hand: &mut Hand,
         heard: &mut Heard,
-    ) -> bool
-        requires came { (before : HandState) × RelockReady self.old before × IsAfter (relock_asked self.old) before answer.now hand.old }
-        ensures goes { (path : List ℕ) (before : HandState) → RelockReady self.old before
-            → IsAfter (relock_asked self.old) before answer.now hand.old
-            → Goes (relock_left path notes.old self.old before) (answer_in (relock_asked self.old) answer.now hand.old)
-            (left_after (relock_left path notes.new) (handed path notes.new) (heard_if result heard.new) self.new hand.new) }
-        ensures ready { IfNone (heard_if result heard.new) (RelockReady self.new hand.new) }
-        ensures leaves { (path : List ℕ) (number : ℕ) (start before : HandState) → RelockAmid number start self.old before
-            → RelockReady self.old before → IsAfter (relock_asked self.old) before answer.now hand.old
-            → StaysOrLeaves (RelockAmid number start self.new) path (Take number AtNothing) (heard_if result heard.new)
-            (having start notes.old) (having hand.new notes.new) }
-        ensures hand { bare hand.new ≡ bare hand.old }
-    {
+    ) -> bool {
         match self {
             RelockPart::Locking(seat, inodestart) => {
                 let seat = *seat;

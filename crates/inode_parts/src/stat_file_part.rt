@@ -1,15 +1,15 @@
 //! What a descriptor names locked, to tell its state.
-ghost use Rattle.std.specs.Prelude.{◌≡◌, ℕ, List, Some, IfNone};
-ghost use Rattle.inode_parts.specs.Vocabulary.{asks, op_in, answer_in, CanDo, Prepared, IsAfter, Goes, left_after, bare, Hand as HandState, Stats};
-ghost use Rattle.inode_parts.specs.Carries.{carry_in, handed};
+ghost use Rattle.std.specs.Prelude.{ℕ, List};
+ghost use Rattle.inode_parts.specs.Vocabulary.{Stats};
+ghost use Rattle.inode_parts.specs.Carries.{carry_in};
 ghost use Rattle.inode_parts.specs.FileLocks.{LockBegins};
 ghost use Rattle.inode_parts.specs.FileStats.{stat_left, stat_asked, StatAmid, StatReady};
-ghost use Rattle.inode_parts.specs.Leaving.{heard_if, having, StaysOrLeaves};
 ghost use Rattle.inode_parts.specs.Parts.{IsPart};
 ghost use Rattle.inode_parts.specs.declared.note.Notes.{Notes as NotesState};
 
 use crate::faces::face;
 use crate::note::{Note, Notes};
+use crate::operation::Operation;
 use file_table::{FileLocked, LockFile};
 use fs_layout::Super;
 use fs_machine::{Answer, Hand, InodePlace, Op, Routine, Want};
@@ -34,38 +34,33 @@ impl StatFilePart {
         let lock = LockFile::new(sizes.inodestart, InodePlace::One, Want::Stat, fd);
         StatFilePart { lock }
     }
+}
 
-    /// The next operation.
-    pub fn op(&self, hand: &mut Hand) -> Op
-        requires ready { StatReady self.now hand.old }
-        ensures op { result ≡ stat_asked self.now }
-        ensures asks { (path : List ℕ) (notes : NotesState) → asks (stat_left path notes self.now hand.old) ≡ Some (op_in hand.new result) }
-        ensures can { CanDo result hand.new }
-        ensures prepared { Prepared result hand.old hand.new }
-    {
+impl Operation for StatFilePart {
+    ghost left = { stat_left };
+
+    ghost asked = { stat_asked };
+
+    ghost Ready = { StatReady };
+
+    // The descriptor.
+    ghost About = { ℕ };
+
+    ghost above = { Stats };
+
+    ghost Amid = { λ _. StatAmid };
+
+    fn op(&self, hand: &mut Hand) -> Op {
         self.lock.op(hand)
     }
 
-    /// How it goes on: true where it is over, with what is heard left in `heard`.
-    pub fn next(
+    fn next(
         &mut self,
         notes: &mut Notes,
         answer: &Answer,
         hand: &mut Hand,
         heard: &mut Heard,
-    ) -> bool
-        requires came { (before : HandState) × StatReady self.old before × IsAfter (stat_asked self.old) before answer.now hand.old }
-        ensures goes { (path : List ℕ) (before : HandState) → StatReady self.old before
-            → IsAfter (stat_asked self.old) before answer.now hand.old
-            → Goes (stat_left path notes.old self.old before) (answer_in (stat_asked self.old) answer.now hand.old)
-            (left_after (stat_left path notes.new) (handed path notes.new) (heard_if result heard.new) self.new hand.new) }
-        ensures ready { IfNone (heard_if result heard.new) (StatReady self.new hand.new) }
-        ensures leaves { (path : List ℕ) (fd : ℕ) (start before : HandState) → StatAmid start self.old before
-            → StatReady self.old before → IsAfter (stat_asked self.old) before answer.now hand.old
-            → StaysOrLeaves (StatAmid start self.new) path (Stats fd) (heard_if result heard.new) (having start notes.old)
-            (having hand.new notes.new) }
-        ensures hand { bare hand.new ≡ bare hand.old }
-    {
+    ) -> bool {
         match self.lock.next(answer, hand) {
             None => false,
             Some(FileLocked::Refused(_)) => {

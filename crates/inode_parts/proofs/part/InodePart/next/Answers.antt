@@ -22,7 +22,7 @@ returns-in-Store-clause-under c op start before =
     let path = text_in c.args.call.now in
     let did = c.next-in-Store in
     rw c.in-Store.is (λ under ready after.
-    stores path start before c.args.hand.now c.args.notes.now did.new.notes (heard_if did.result did.new.heard) c.in-Store.part did.new.self (λ n count amid. did.ensures.leaves path n count start.hand before amid ready after) op under)
+    stores path start before did.new.hand c.args.notes.now did.new.notes (heard_if did.result did.new.heard) c.in-Store.part did.new.self (λ n count amid. did.ensures.leaves path (n, count) start.hand before amid ready after) op under)
 
 pub returns-in-Empty-clause-under : goal.returns-in-Empty-clause-under
 returns-in-Empty-clause-under c op start before =
@@ -36,21 +36,21 @@ returns-in-Enter-clause-under c op start before =
     let path = text_in c.args.call.now in
     let did = c.next-in-Enter in
     rw c.in-Enter.is (λ under ready after.
-    enters path start before did.new.hand c.args.notes.now did.new.notes (heard_if did.result did.new.heard) c.in-Enter.part did.new.self (λ n child e amid. did.ensures.leaves path n child e start.hand before amid ready after) op under)
+    enters path start before did.new.hand c.args.notes.now did.new.notes (heard_if did.result did.new.heard) c.in-Enter.part did.new.self (λ n child e amid. did.ensures.leaves path (n, child, e) start.hand before amid ready after) op under)
 
 pub returns-in-Clear-clause-under : goal.returns-in-Clear-clause-under
 returns-in-Clear-clause-under c op start before =
     let path = text_in c.args.call.now in
     let did = c.next-in-Clear in
     rw c.in-Clear.is (λ under ready after.
-    clears path start before did.new.hand c.args.notes.now did.new.notes (heard_if did.result did.new.heard) c.in-Clear.part did.new.self (λ n e amid. did.ensures.leaves path n e start.hand before amid ready after) op under)
+    clears path start before did.new.hand c.args.notes.now did.new.notes (heard_if did.result did.new.heard) c.in-Clear.part did.new.self (λ n e amid. did.ensures.leaves path (n, e) start.hand before amid ready after) op under)
 
 pub returns-in-Fill-clause-under : goal.returns-in-Fill-clause-under
 returns-in-Fill-clause-under c op start before =
     let path = text_in c.args.call.now in
     let did = c.next-in-Fill in
     rw c.in-Fill.is (λ under ready after.
-    fills path start before did.new.hand c.args.notes.now did.new.notes (heard_if did.result did.new.heard) c.in-Fill.part did.new.self (λ n d amid. did.ensures.leaves path n d start.hand before amid ready after) op under)
+    fills path start before did.new.hand c.args.notes.now did.new.notes (heard_if did.result did.new.heard) c.in-Fill.part did.new.self (λ n d amid. did.ensures.leaves path (n, d) start.hand before amid ready after) op under)
 
 pub returns-in-Free-clause-under : goal.returns-in-Free-clause-under
 returns-in-Free-clause-under c op start before =
@@ -64,14 +64,14 @@ returns-in-Claim-clause-under c op start before =
     let path = text_in c.args.call.now in
     let did = c.next-in-Claim in
     rw c.in-Claim.is (λ under ready after.
-    claims path start before did.new.hand c.args.notes.now c.args.notes.now (heard_if did.result did.new.heard) c.in-Claim.part did.new.self (λ inode_type amid. did.ensures.leaves path inode_type start.hand before amid ready after) op under)
+    claims path start before did.new.hand c.args.notes.now did.new.notes (heard_if did.result did.new.heard) c.in-Claim.part did.new.self (λ inode_type amid. did.ensures.leaves path inode_type start.hand before amid ready after) op under)
 
 pub returns-in-LockOpen-clause-under : goal.returns-in-LockOpen-clause-under
 returns-in-LockOpen-clause-under c op start before =
     let path = text_in c.args.call.now in
     let did = c.next-in-LockOpen in
     rw c.in-LockOpen.is (λ under ready after.
-    lock_opens path start before did.new.hand c.args.notes.now did.new.notes (heard_if did.result did.new.heard) c.in-LockOpen.part did.new.self (λ fd n amid. did.ensures.leaves path fd n start.hand before amid ready after) op under)
+    lock_opens path start before did.new.hand c.args.notes.now did.new.notes (heard_if did.result did.new.heard) c.in-LockOpen.part did.new.self (λ fd n amid. did.ensures.leaves path (fd, n) start.hand before amid ready after) op under)
 
 pub returns-in-LockFile-clause-under : goal.returns-in-LockFile-clause-under
 returns-in-LockFile-clause-under c op start before =
