@@ -69,6 +69,7 @@ impl Story {
     }
 
     /// Room for one event more, whatever it comes to.
+    #[inline(always)]
     pub fn make_room(&mut self) -> Result<(), AllocError>
         ensures same { (self.new.events ≡ self.old.events) × (self.new.outcomes ≡ self.old.outcomes) }
         ensures room { IfOk result (λ _. HasRoom self.new) }
