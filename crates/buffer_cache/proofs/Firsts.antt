@@ -44,11 +44,6 @@ none_here {X} p (x ∷ xs) le = found (p x) le (λ l. none_here p xs l)
 pub no_place : {X : Type 0} (p : X → Bool) (xs : List X) → position p xs ≡ None → find p xs ≡ None
 no_place p xs e = none_here p xs (position_none p xs e)
 
--- where there is a first, it has a place
-pub has_place : {X : Type 0} (p : X → Bool) (xs : List X) (o : Option ℕ) → o ≡ position p xs → IsSome (find p xs) → IsSome o
-has_place {X} p xs None e some = let none : IsSome {T = X} None = subst (λ (o : Option X). IsSome o) (no_place p xs (sym e)) some in absurd (cc none)
-has_place p xs (Some i) e some = refl
-
 change_here : {X : Type 0} (p : X → Bool) (f : X → X) (xs : List X) (i : ℕ) (d y : X) → i ≡ position_or_len p xs → i < length xs → f (get_or xs i d) ≡ y → set xs i y ≡ change_first p f xs
 change_here p f [] i d y e lt is = absurd (omega arith)
 change_here {X} p f (x ∷ xs) i d y e lt is = found (p x) i e lt is (λ j g l h. change_here p f xs j d y g l h)

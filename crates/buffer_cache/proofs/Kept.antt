@@ -148,10 +148,14 @@ keeps_renewed seats order new hart b i got ordered none lt first to gives =
     let P : List SeatState → Got → Type 0 = λ l r. ((in_order l order, r) ≡ get_of hart b (in_order seats order)) × IsOrdered l order in
     subst (λ (l : List SeatState). P l got) (sym to) (subst (λ (r : Got). P (set seats i y) r) (sym gives) (got_so, ordered_set seats order i y refl ordered))
 
+-- the same of a guard that has it as it is seen
+pub held_at : (seats : List SeatState) (order : List ℕ) (seen : List SeatState) (g : GuardState BufferState) → IsOrdered seats order → in_order seats order ≡ seen → count_of (has_block g.value.block) seen ≤ 1 → IsHeld seen g
+    → position (has_block g.value.block) seats ≡ Some g.number
+held_at seats order seen g ordered is once held =
+    held_place seats order g ordered (once_of seats order seen (has_block g.value.block) ordered is once) (held_of seats order seen g ordered is once held)
+
 pub held_number : (seats : List SeatState) (order : List ℕ) (seen : List SeatState) (g : GuardState BufferState) → IsOrdered seats order → in_order seats order ≡ seen → count_of (has_block g.value.block) seen ≤ 1 → IsHeld seen g → g.number < length seats
-held_number seats order seen g ordered is once held =
-    let p = has_block g.value.block in
-    (position_some p seats g.number (held_place seats order g ordered (once_of seats order seen p ordered is once) (held_of seats order seen g ordered is once held))).1
+held_number seats order seen g ordered is once held = (position_some (has_block g.value.block) seats g.number (held_at seats order seen g ordered is once held)).1
 
 -- a held buffer's slot is there
 pub held_within : (slots : Row) (seats : List SeatState) (order : List ℕ) (seen : List SeatState) (g : GuardState BufferState) → IsKept slots seats order → in_order seats order ≡ seen → IsHeld seen g → g.number < length slots

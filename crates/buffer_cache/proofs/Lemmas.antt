@@ -4,11 +4,11 @@ unfoldable pub use Rattle.buffer_cache.proofs.Vocabulary.{get_of, lock_of, numbe
 pub use Rattle.buffer_cache.specs.Seats.{seen}
 pub use Rattle.buffer_cache.proofs.Ordered.{IsFirst, counted, first_free_in, first_of, has_free, in_order_new, numbered_read, once_of, seats_count}
 pub use Rattle.buffer_cache.proofs.Chained.{IsSeeking, chained_anew, chained_back, chained_lent, chained_new, chained_with, moved_to, seek_begun, seeks_on, sought, sought_all}
-pub use Rattle.buffer_cache.proofs.Firsts.{counted_in, has_place, place_change, place_first, placed}
-pub use Rattle.buffer_cache.proofs.Kept.{IsIn, held_number, held_of, held_within, keeps_filled, keeps_given, keeps_lent, keeps_pinned, keeps_renewed, kept_new, slot_in}
+pub use Rattle.buffer_cache.proofs.Firsts.{counted_in, place_change, place_first, placed}
+pub use Rattle.buffer_cache.proofs.Kept.{IsIn, held_at, held_number, held_of, held_within, keeps_filled, keeps_given, keeps_lent, keeps_pinned, keeps_renewed, kept_new, slot_in}
 pub use Rattle.buffer_cache.proofs.Laws.{BackLaws, GetLaws, back_laws, change_some, fill_either, get_laws, home_bytes, home_then, pin_block, pin_keeps, pin_pins, pin_recorded, pin_seen, unchanged_kept, unpin_others, written_either, written_err, written_ok}
 pub use Rattle.buffer_cache.proofs.Rings.{AreInOrder, ring_made, unlinked}
-pub use Rattle.buffer_cache.proofs.Seated.{LendGives, RenewGives, Row, either_way, found, held_cached, held_out, lend_gives, lends_so, renew_gives, renews_so, seated_at, slot_at, slot_within}
+pub use Rattle.buffer_cache.proofs.Seated.{LendGives, RenewGives, Row, either_way, held_cached, held_out, lend_gives, lends_so, renew_gives, renews_so, seated_at, slot_at, slot_within}
 pub use Rattle.buffer_cache.specs.Order.{IsLinked}
 pub use Rattle.buffer_cache.proofs.Enough.{some_free}
 pub use Rattle.buffer_cache.proofs.Made.{AllNew, new_push, no_unused, seated_new, unused_push}

@@ -293,10 +293,6 @@ held_unread ss g s e held unread =
     let same : at.0 ≡ s = same_Some at.0 s (sym at.1 ∙ e) in
     none_of s.content (ap (λ (u : SeatState). is_some u.content) (sym same) ∙ at.2.valid ∙ ap (λ (o : Option (List ℕ)). is_some o) unread)
 
--- the place that was found, in the list itself
-pub found : (b k i : ℕ) (view ss : List SeatState) (o : Option ℕ) → o ≡ position (has_block b) view → view ≡ ss → b ≡ k → o ≡ Some i → position (has_block k) ss ≡ Some i
-found b k i view ss o e v same is = ap (λ (n : ℕ). position (has_block n) ss) (sym same) ∙ ap (position (has_block b)) (sym v) ∙ sym e ∙ is
-
 -- the same, for the seat and the buffer as the code left them
 pub lends_so : (slots : Row) (ss : List SeatState) (i hart b : ℕ) (s : SeatState) (g : GuardState BufferState) (t : SeatState) (v : BufferState)
     → LendGives slots ss i hart b s (Some g) → t ≡ with_holder hart s → v ≡ record { block = b; content = g.value.content }

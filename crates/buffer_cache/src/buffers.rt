@@ -1,5 +1,5 @@
 // The buffers, their slots, and the order of giving back.
-ghost use Rattle.std.specs.Prelude.{count_by, ℕ, ◌≡◌, ◌↔◌, ◌<◌, ◌≤◌, ◌++◌, length, position, slice_set, Some, None, IsSome, IsTrue, IfOk, IfSome, OnOk, OnErr};
+ghost use Rattle.std.specs.Prelude.{count_by, ℕ, ◌≡◌, ◌↔◌, ◌<◌, ◌≤◌, length, position, slice_set, Some, None, IsSome, IsTrue, IfOk, IfSome, OnOk, OnErr};
 ghost use Rattle.std.specs.List.{find};
 ghost use Rattle.sleep_lock.specs.SleepLock.{GuardState};
 ghost use Rattle.buffer_cache.specs.Buffers.{BufferState};
@@ -7,7 +7,6 @@ ghost use Rattle.block_device.specs.Blocks.{block_at, faults_after};
 ghost use Rattle.buffer_cache.specs.Lists.{change_to_end, count_of};
 ghost use Rattle.buffer_cache.specs.Seats.{has_block, is_free, is_held_by, is_pinned, seat_of, slot_of, kept, IsHeld, with_seat, with_content, with_pin, given_back, without_holder, as_new, unused_from};
 ghost use Rattle.buffer_cache.specs.Rows.{IsSeated};
-ghost use Rattle.buffer_cache.specs.Links.{IsChained};
 ghost use Rattle.buffer_cache.specs.Order.{numbered, in_order, is_same, IsOrdered, IsLinked};
 ghost use Rattle.buffer_cache.specs.Getting.{get_of, guard_of};
 ghost use Rattle.buffer_cache.specs.declared.got.Got.TheVariants.{Held};
@@ -132,7 +131,7 @@ impl Buffers {
         ensures contents { D.contents device.new ≡ D.contents device.old }
         ensures faults { D.failures device.new ≡ faults_after result (D.failures device.old) }
     {
-        fill_in(&mut self.seats, &self.chains, device, guard)
+        fill_in(&mut self.seats, device, guard)
     }
 
     // Keeps a guard's bytes.
@@ -142,7 +141,7 @@ impl Buffers {
         requires once { count_of (has_block guard.now.value.block) self.old ≤ 1 }
         ensures { IfSome guard.now.value.content (λ bytes. self.new ≡ with_seat guard.now.value.block (with_content bytes) self.old) }
     {
-        keep_in(&mut self.seats, &self.chains, guard)
+        keep_in(&mut self.seats, guard)
     }
 
     // Gives a buffer back, with the bytes that are kept. It is the most recent one then.
@@ -157,13 +156,13 @@ impl Buffers {
         give_back(&mut self.seats, &mut self.order, place);
     }
 
-    // Pins a block's buffer, or takes the pin away.
-    pub(crate) fn set_pinned(&mut self, b: u32, pinned: bool)
-        requires there { IsSome (seat_of b self.old) }
-        requires once { count_of (has_block b) self.old ≤ 1 }
-        ensures { self.new ≡ with_seat b (with_pin pinned) self.old }
+    // Pins a guard's buffer, or takes the pin away.
+    pub(crate) fn set_pinned(&mut self, guard: &Guard<Buffer>, pinned: bool)
+        requires held { IsHeld self.old guard.now }
+        requires once { count_of (has_block guard.now.value.block) self.old ≤ 1 }
+        ensures { self.new ≡ with_seat guard.now.value.block (with_pin pinned) self.old }
     {
-        pin_in(&mut self.seats, &self.chains, b, pinned);
+        pin_in(&mut self.seats, guard, pinned);
     }
 
     // Ends the buffers. A guard that is out may then be ended too.
@@ -276,15 +275,12 @@ fn renew(seats: &mut Vec<BufferSeat>, slots: &mut Slots<Buffer>, i: usize, hart:
 
 fn fill_in<D: Device>(
     seats: &mut Vec<BufferSeat>,
-    chains: &Chains,
     device: &mut D,
     guard: &mut Guard<Buffer>,
 ) -> Result<(), Fault>
-    requires held { IsHeld seats.old.items guard.old }
+    requires place { position (has_block guard.old.value.block) seats.old.items ≡ Some guard.old.number }
     requires unread { guard.old.value.content ≡ None }
     requires within { guard.old.value.block < length (D.contents device.old) }
-    requires chained { IsChained seats.old.items chains.now }
-    requires once { count_of (has_block guard.old.value.block) seats.old.items ≤ 1 }
     ensures called { D.Called device.old device.new }
     ensures ok { OnOk result (guard.new ≡ record guard.old {
       value = record {
@@ -298,36 +294,27 @@ fn fill_in<D: Device>(
     ensures contents { D.contents device.new ≡ D.contents device.old }
     ensures faults { D.failures device.new ≡ faults_after result (D.failures device.old) }
 {
-    let b = guard.value().block();
-    let i = chains.find(seats, b).unwrap();
     guard.value_mut().read(device)?;
-    let seat = &mut seats[i];
+    let seat = &mut seats[guard.number() as usize];
     seat.keep(guard.value().bytes());
     Ok(())
 }
 
-fn keep_in(seats: &mut Vec<BufferSeat>, chains: &Chains, guard: &Guard<Buffer>)
-    requires held { IsSome (seat_of guard.now.value.block seats.old.items) }
+fn keep_in(seats: &mut Vec<BufferSeat>, guard: &Guard<Buffer>)
+    requires place { position (has_block guard.now.value.block) seats.old.items ≡ Some guard.now.number }
     requires valid { IsSome guard.now.value.content }
-    requires chained { IsChained seats.old.items chains.now }
-    requires once { count_of (has_block guard.now.value.block) seats.old.items ≤ 1 }
     ensures { IfSome guard.now.value.content
         (λ bytes. seats.new.items ≡ with_seat guard.now.value.block (with_content bytes) seats.old.items) }
 {
-    let buffer = guard.value();
-    let i = chains.find(seats, buffer.block()).unwrap();
-    let seat = &mut seats[i];
-    seat.keep(buffer.bytes());
+    let seat = &mut seats[guard.number() as usize];
+    seat.keep(guard.value().bytes());
 }
 
-fn pin_in(seats: &mut Vec<BufferSeat>, chains: &Chains, b: u32, pinned: bool)
-    requires there { IsSome (seat_of b seats.old.items) }
-    requires chained { IsChained seats.old.items chains.now }
-    requires once { count_of (has_block b) seats.old.items ≤ 1 }
-    ensures { seats.new.items ≡ with_seat b (with_pin pinned) seats.old.items }
+fn pin_in(seats: &mut Vec<BufferSeat>, guard: &Guard<Buffer>, pinned: bool)
+    requires { position (has_block guard.now.value.block) seats.old.items ≡ Some guard.now.number }
+    ensures { seats.new.items ≡ with_seat guard.now.value.block (with_pin pinned) seats.old.items }
 {
-    let i = chains.find(seats, b).unwrap();
-    let seat = &mut seats[i];
+    let seat = &mut seats[guard.number() as usize];
     seat.set_pinned(pinned);
 }
 

@@ -186,33 +186,33 @@ impl<D: Device> Cache<D> {
         self.buffers.release(guard);
     }
 
-    /// Pins a block's buffer: until its pin is given back it isn't taken for another block (xv6: `bpin`).
-    pub fn pin(&mut self, b: u32)
-        requires cached { IsSome (seat_of b self.old.seats) }
-        requires room { IsPinned b self.old.seats ⊎ (count_of is_pinned self.old.seats < most_pinned) }
-        ensures seats { self.new.seats ≡ with_seat b (with_pin true) self.old.seats }
-        ensures pinned { IsPinned b self.new.seats }
+    /// Pins a guard's buffer: until its pin is given back it isn't taken for another block (xv6: `bpin`).
+    pub fn pin(&mut self, guard: &Guard<Buffer>)
+        requires held { IsHeld self.old.seats guard.now }
+        requires room { IsPinned guard.now.value.block self.old.seats ⊎ (count_of is_pinned self.old.seats < most_pinned) }
+        ensures seats { self.new.seats ≡ with_seat guard.now.value.block (with_pin true) self.old.seats }
+        ensures pinned { IsPinned guard.now.value.block self.new.seats }
         ensures others { KeepsHeld self.old.seats self.new.seats }
         ensures pins { Keeps is_pinned self.old.seats self.new.seats }
         ensures recorded { Keeps is_recorded self.old.seats self.new.seats }
         ensures device { self.new.device ≡ self.old.device }
         ensures seen { (k : ℕ) → seen D.contents self.new k ≡ seen D.contents self.old k }
     {
-        self.buffers.set_pinned(b, true);
+        self.buffers.set_pinned(guard, true);
     }
 
-    /// Gives a block's pin back. The block has to stand on the device as it is seen (xv6: `bunpin`).
-    pub fn unpin(&mut self, b: u32)
-        requires cached { IsSome (seat_of b self.old.seats) }
-        requires home { block_at (D.contents self.old.device) b ≡ seen D.contents self.old b }
-        ensures seats { self.new.seats ≡ with_seat b (with_pin false) self.old.seats }
+    /// Gives the pin of a guard's buffer back. Its block has to stand on the device as it is seen (xv6: `bunpin`).
+    pub fn unpin(&mut self, guard: &Guard<Buffer>)
+        requires held { IsHeld self.old.seats guard.now }
+        requires home { block_at (D.contents self.old.device) guard.now.value.block ≡ seen D.contents self.old guard.now.value.block }
+        ensures seats { self.new.seats ≡ with_seat guard.now.value.block (with_pin false) self.old.seats }
         ensures others { KeepsHeld self.old.seats self.new.seats }
-        ensures pins { (k : ℕ) → k ≢ b → IsPinned k self.old.seats → IsPinned k self.new.seats }
-        ensures recorded { (k : ℕ) → k ≢ b → IsRecorded k self.old.seats → IsRecorded k self.new.seats }
+        ensures pins { (k : ℕ) → k ≢ guard.now.value.block → IsPinned k self.old.seats → IsPinned k self.new.seats }
+        ensures recorded { (k : ℕ) → k ≢ guard.now.value.block → IsRecorded k self.old.seats → IsRecorded k self.new.seats }
         ensures device { self.new.device ≡ self.old.device }
         ensures seen { (k : ℕ) → seen D.contents self.new k ≡ seen D.contents self.old k }
     {
-        self.buffers.set_pinned(b, false);
+        self.buffers.set_pinned(guard, false);
     }
 
     /// Writes a guard's bytes, as they are seen, to its block on the device, by one call. A write that fails leaves the

@@ -93,6 +93,21 @@ member_leaves (Some k ∷ ms) zero is = let a = joined-cons (Some k) ms in let b
 member_leaves (None ∷ ms) (suc i) is = let a = member_leaves ms i is in let b = joined-cons None ms in let d = joined-cons None (slice_set ms i None) in omega (arith, a, b, d)
 member_leaves (Some k ∷ ms) (suc i) is = let a = member_leaves ms i is in let b = joined-cons (Some k) ms in let d = joined-cons (Some k) (slice_set ms i None) in omega (arith, a, b, d)
 
+-- one more joins; and what one adds changes not how many have
+pub joins_more : (ms : List (Option ℕ)) (i : ℕ) → slice_get ms i ≡ Some None → joined (slice_set ms i (Some 0)) ≡ joined ms + 1
+joins_more [] i e = absurd (cc e)
+joins_more (None ∷ ms) zero e = let a = joined-cons (Some 0) ms in let b = joined-cons None ms in omega (arith, a, b)
+joins_more (Some k ∷ ms) zero e = absurd (cc e)
+joins_more (None ∷ ms) (suc i) e = let a = joins_more ms i e in let b = joined-cons None ms in let d = joined-cons None (slice_set ms i (Some 0)) in omega (arith, a, b, d)
+joins_more (Some k ∷ ms) (suc i) e = let a = joins_more ms i e in let b = joined-cons (Some k) ms in let d = joined-cons (Some k) (slice_set ms i (Some 0)) in omega (arith, a, b, d)
+
+pub joined_one_more : (ms : List (Option ℕ)) (i : ℕ) → joined (one_more ms i) ≡ joined ms
+joined_one_more [] i = refl
+joined_one_more (None ∷ ms) zero = refl
+joined_one_more (Some k ∷ ms) zero = let a = joined-cons (Some (k + 1)) ms in let b = joined-cons (Some k) ms in omega (arith, a, b)
+joined_one_more (None ∷ ms) (suc i) = let a = joined_one_more ms i in let b = joined-cons None ms in let d = joined-cons None (one_more ms i) in omega (arith, a, b, d)
+joined_one_more (Some k ∷ ms) (suc i) = let a = joined_one_more ms i in let b = joined-cons (Some k) ms in let d = joined-cons (Some k) (one_more ms i) in omega (arith, a, b, d)
+
 -- a hart with a count is in a transaction, and has room where the count is low
 pub member_at : (ms : List (Option ℕ)) (i k : ℕ) → get_or ms i None ≡ Some k → IsMember ms i
 member_at [] i k e = absurd (cc e)

@@ -1,5 +1,5 @@
 // The steps of a commit.
-ghost use Rattle.std.specs.Prelude.{◌≡◌, ◌≢◌, ◌↔◌, ◌<◌, ◌≤◌, ℕ, List, length, slice_index, IsTrue};
+ghost use Rattle.std.specs.Prelude.{◌≡◌, ◌≢◌, ◌↔◌, ◌<◌, ◌≤◌, ℕ, length, slice_index, IsTrue};
 ghost use Rattle.group_log.specs.Vocabulary.{count_of, is_held_by, has_block, seen, KeepsHeld, IsOutsideLog};
 ghost use Rattle.group_log.specs.Phases.{write_to, write_of, IsUnderWay};
 ghost use Rattle.group_log.specs.Slots.{HasSlots};
@@ -27,6 +27,7 @@ pub enum Progress {
 }
 
 /// Makes the commit's next write.
+#[inline(always)]
 pub(crate) fn write_next<D: Device>(
     cache: &mut Cache<D>,
     hart: u8,

@@ -111,7 +111,7 @@ pub(crate) fn copy_home<D: Device>(cache: &mut Cache<D>, hart: u8, recorded: Rec
         Got::Waits => Written::Waits,
         Got::Held(guard) => match cache.write_home(&guard) {
             Ok(()) => {
-                cache.unpin(recorded.block);
+                cache.unpin(&guard);
                 cache.release(guard);
                 Written::Done
             }

@@ -12,7 +12,7 @@ ghost use Rattle.buffer_cache.specs.Seats.{is_held_by, holder_of, IsHeld, KeepsH
 use crate::commit::{Progress, show_each_once, write_next};
 use crate::copies::Written;
 use crate::limits::{BLOCKS_OF_A_TRANSACTION, MOST_LOGGED, PLACES};
-use crate::members::{add, contains, has_room, is_member, outstanding};
+use crate::members::{Members, add, contains};
 use crate::phase::{Phase, after, clear_when_open};
 use crate::txn::{RetiredLog, Txn};
 use arrayvec::ArrayVec;
@@ -41,7 +41,7 @@ pub struct Log<D: Device> {
     group: ArrayVec<u32, MOST_LOGGED>,
     // The slots of its blocks' buffers, as long as these are pinned.
     slots: ArrayVec<u32, MOST_LOGGED>,
-    members: [Option<u8>; PLACES],
+    members: Members,
     phase: Phase,
 }
 
@@ -81,7 +81,7 @@ impl<D: Device> Log<D> {
             sizes,
             group: ArrayVec::new(),
             slots: ArrayVec::new(),
-            members: [None; PLACES],
+            members: Members::new(),
             phase: Phase::Open,
         }
     }
@@ -129,21 +129,21 @@ impl<D: Device> Log<D> {
         requires { hart < HARTS }
         ensures { IsTrue result ↔ (slice_get self.now.members hart ≡ Some None) }
     {
-        self.members[hart as usize].is_none()
+        self.members.is_idle(hart as usize)
     }
 
     /// Whether the hart of a transaction is in a transaction of this log.
     pub fn is_member(&self, txn: &Txn) -> bool
         ensures { IsTrue result ↔ IsMember self.now.members txn.now }
     {
-        is_member(&self.members, txn.hart() as usize)
+        self.members.is_member(txn.hart() as usize)
     }
 
     /// Whether the hart of a transaction is in one of this log that may add another block to the group.
     pub fn has_room(&self, txn: &Txn) -> bool
         ensures { IsTrue result ↔ HasRoom self.now.members txn.now }
     {
-        has_room(&self.members, txn.hart() as usize)
+        self.members.has_room(txn.hart() as usize)
     }
 
     /// Whether a block is in the group: to record it again takes no room.
@@ -183,11 +183,11 @@ impl<D: Device> Log<D> {
             return None;
         };
         let limit = MOST_LOGGED.min(self.sizes.nlog as usize - 1);
-        let others = outstanding(&self.members);
+        let others = self.members.outstanding();
         if limit < self.group.len() + (others + 1) * BLOCKS_OF_A_TRANSACTION as usize {
             return None;
         }
-        self.members[hart as usize] = Some(0);
+        self.members.join(hart as usize);
         Some(Txn::new(hart))
     }
 
@@ -227,7 +227,7 @@ impl<D: Device> Log<D> {
             b,
             guard.number(),
         );
-        self.cache.pin(b);
+        self.cache.pin(&guard);
         self.cache.release_changed(guard);
     }
 
@@ -245,8 +245,8 @@ impl<D: Device> Log<D> {
         ensures moves { IsMove D.contents (begins_at result) false self.old self.new }
     {
         let hart = txn.end();
-        self.members[hart as usize] = None;
-        match what_follows(outstanding(&self.members), &self.group) {
+        self.members.leave(hart as usize);
+        match what_follows(self.members.outstanding(), &self.group) {
             AfterLeave::Free => AfterLeave::Free,
             AfterLeave::Commits => {
                 self.phase = Phase::Staging(0);

@@ -51,21 +51,33 @@ fn touch<D: Device>(rt: &impl Abort, cache: &mut Cache<D>, hart: u8, b: u32, byt
     }
 }
 
+// Pins a block's buffer, and gives it back.
+fn pin(rt: &impl Abort, cache: &mut Cache<MemoryDisk>, hart: u8, b: u32) {
+    assert!(rt; hart < HARTS && cache.held_by(hart) < BUFFERS_OF_A_HART);
+    match cache.get(hart, b) {
+        Got::Waits => panic!(rt; "nothing is out"),
+        Got::Held(guard) => {
+            assert!(rt; cache.pinned() < MOST_PINNED);
+            cache.pin(&guard);
+            cache.release(guard);
+        }
+    }
+}
+
 /// On a fresh image, whose first 47 blocks have a zero at place 7, the first 46 blocks are in the buffers, and the first of them is asked
 /// for once more. Then block 46 takes the buffer of block 1; or of block 2, where block 1 is pinned.
 #[test]
 fn the_least_recent_is_taken(rt: HostRuntime) -> Result<(), Fail> {
-    for (pin, taken) in [(None, 1), (Some(1), 2)] {
+    for (pinned, taken) in [(None, 1), (Some(1), 2)] {
         let disk = fresh(rt.alloc())?;
         let mut cache = Cache::new(buffers(&rt, rt.alloc()), disk);
         for b in 0..BUFFERS as u32 {
             assert!(rt; !touch(&rt, &mut cache, 0, b, 0));
+            if pinned == Some(b) {
+                pin(&rt, &mut cache, 0, b);
+            }
         }
         assert!(rt; touch(&rt, &mut cache, 0, 0, 0));
-        if let Some(b) = pin {
-            assert!(rt; cache.is_cached(b) && cache.pinned() < MOST_PINNED);
-            cache.pin(b);
-        }
         assert!(rt; !touch(&rt, &mut cache, 0, BUFFERS as u32, 0));
         for b in 0..=BUFFERS as u32 {
             assert!(rt; cache.is_cached(b) == (b != taken));
@@ -114,8 +126,7 @@ fn there_is_one_more(rt: HostRuntime) -> Result<(), Fail> {
     let mut cache = Cache::new(buffers(&rt, rt.alloc()), disk);
     for b in 0..MOST_PINNED as u32 {
         assert!(rt; !touch(&rt, &mut cache, 0, b, b as u8));
-        assert!(rt; cache.is_cached(b) && cache.pinned() < MOST_PINNED);
-        cache.pin(b);
+        pin(&rt, &mut cache, 0, b);
     }
     for n in 0..16 {
         let hart = (n / 2) as u8;
@@ -147,14 +158,14 @@ fn what_is_recorded_is_seen_and_comes_home(rt: HostRuntime) -> Result<(), Fail> 
     let disk = numbered(rt.alloc())?;
     let mut cache = Cache::new(buffers(&rt, rt.alloc()), disk);
     assert!(rt; !touch(&rt, &mut cache, 2, 9, 9));
-    assert!(rt; cache.is_cached(9) && cache.pinned() < MOST_PINNED);
-    cache.pin(9);
     assert!(rt; cache.held_by(2) < BUFFERS_OF_A_HART && 9 < cache.device().blocks());
     match cache.get(2, 9) {
         Got::Waits => panic!(rt; "nothing is out"),
         Got::Held(mut guard) => {
             assert!(rt; guard.value().is_valid());
             guard.value_mut().bytes_mut()[7] = 200;
+            assert!(rt; cache.pinned() < MOST_PINNED);
+            cache.pin(&guard);
             cache.release_changed(guard);
         }
     }
@@ -170,8 +181,8 @@ fn what_is_recorded_is_seen_and_comes_home(rt: HostRuntime) -> Result<(), Fail> 
                 Got::Held(_other) => panic!(rt; "it is out"),
             }
             assert!(rt; cache.write_home(&guard).is_ok());
+            cache.unpin(&guard);
             cache.release(guard);
-            cache.unpin(9);
         }
     }
     assert!(rt; cache.pinned() == 0);

@@ -176,13 +176,10 @@ fn go_round(
     }
 }
 
-// Unpins a block's buffer, once it was written home, or pins it where it isn't pinned.
+// Unpins a block's buffer, once it was written home, or pins it where it isn't pinned; then it is given back.
 fn turn_pin(rt: &impl Abort, cache: &mut Cache<MemoryDisk>, plain: &mut Plain, b: u32) {
-    if !plain.is_pinned(b) {
-        if cache.is_cached(b) && cache.pinned() < MOST_PINNED {
-            cache.pin(b);
-            plain.set_pinned(b, true);
-        }
+    let is_pinned = plain.is_pinned(b);
+    if !is_pinned && !(cache.is_cached(b) && cache.pinned() < MOST_PINNED) {
         return;
     }
     assert!(rt; cache.held_by(0) < BUFFERS_OF_A_HART && b < cache.device().blocks());
@@ -190,13 +187,17 @@ fn turn_pin(rt: &impl Abort, cache: &mut Cache<MemoryDisk>, plain: &mut Plain, b
         Got::Waits => panic!(rt; "nothing is out"),
         Got::Held(guard) => {
             expect_same(rt, &guard, plain.get(b));
-            assert!(rt; guard.value().is_valid());
-            assert!(rt; cache.write_home(&guard).is_ok());
+            if is_pinned {
+                assert!(rt; guard.value().is_valid());
+                assert!(rt; cache.write_home(&guard).is_ok());
+                cache.unpin(&guard);
+            } else {
+                assert!(rt; cache.pinned() < MOST_PINNED);
+                cache.pin(&guard);
+            }
             cache.release(guard);
             plain.give_back(b);
-            assert!(rt; cache.is_cached(b));
-            cache.unpin(b);
-            plain.set_pinned(b, false);
+            plain.set_pinned(b, !is_pinned);
         }
     }
 }

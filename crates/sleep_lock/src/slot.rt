@@ -30,16 +30,20 @@ impl<T> Model for Slot<T> {
 /// A guard is put back, or ended after its slot has ended: code that lets one go doesn't compile.
 pub struct Guard<T> {
     number: u32,
-    hart: u8,
+    // As wide as the number, so that a guard has no byte of no meaning: such bytes would be copied one by one where it moves.
+    hart: u32,
     value: Box<T>,
 }
 
 impl<T> Model for Guard<T> {
+    ghost use Rattle.std.specs.Prelude.{◌<◌};
     ghost use Rattle.sleep_lock.specs.SleepLock.{GuardState};
 
     ghost Value = { GuardState T };
 
     ghost view = { λ g. record { number = g.number; hart = g.hart; value = g.value.value } };
+
+    ghost invariant = { λ g. g.hart < 256 };
 }
 
 /// The sign that the slot of this number has ended.
@@ -81,7 +85,7 @@ impl<T> Slot<T> {
                 self.holder = Some(hart);
                 Some(Guard {
                     number: self.number,
-                    hart,
+                    hart: u32::from(hart),
                     value,
                 })
             }
@@ -134,7 +138,7 @@ impl<T> Guard<T> {
     pub fn hart(&self) -> u8
         ensures { result ≡ self.now.hart }
     {
-        self.hart
+        self.hart as u8
     }
 
     /// The value.

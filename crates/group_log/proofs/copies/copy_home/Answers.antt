@@ -23,7 +23,7 @@ returns-in-Ok-clause-seats g c =
     let block : c.in-Held.guard.value.block ≡ b = (c.in-Held.ensures.held c.args.recorded.block c.requires.slot).1 in
     c.release.ensures.seats
     ∙ ap (λ (k : ℕ). given_back k c.unpin.new.self.seats) block
-    ∙ ap (λ (l : List SeatState). given_back b l) (c.unpin.ensures.seats ∙ ap (λ (l : List SeatState). with_seat b (with_pin false) l) (c.write_home.ensures.seats ∙ got.seats))
+    ∙ ap (λ (l : List SeatState). given_back b l) (c.unpin.ensures.seats ∙ ap (λ (k : ℕ). with_seat k (with_pin false) c.write_home.new.self.seats) block ∙ ap (λ (l : List SeatState). with_seat b (with_pin false) l) (c.write_home.ensures.seats ∙ got.seats))
     ∙ put_home c.args.hart b ss
 
 pub returns-in-Err-clause-seats : goal.returns-in-Err-clause-seats

@@ -6,4 +6,4 @@ none_there None r some no_ = refl
 none_there (Some x) r some no_ = let yes = some refl in absurd (cc (yes, no_))
 
 pub write_uncached-requires-clause-uncached : goal.write_uncached-requires-clause-uncached
-write_uncached-requires-clause-uncached g c = none_there _ c.is_cached-2.result c.is_cached-2.ensures.1 c.if-is_cached-2.false
+write_uncached-requires-clause-uncached g c = none_there _ c.is_cached.result c.is_cached.ensures.1 c.if-is_cached.false

@@ -1,11 +1,8 @@
-use Rattle.buffer_cache.proofs.Lemmas.{List, refl, sym, subst, on_ok_weaker, SeatState, has_block, with_content, IsLinked, either_way, once_of, held_of, keeps_filled, chained_with}
+use Rattle.buffer_cache.proofs.Lemmas.{List, refl, sym, subst, on_ok_weaker, SeatState, has_block, with_content, IsLinked, either_way, held_at, keeps_filled, chained_with}
 use Rattle.buffer_cache.proofs.buffers.Buffers.fill.Goals as goal
 
-pub fill_in-requires-clause-held : goal.fill_in-requires-clause-held
-fill_in-requires-clause-held g c = held_of c.self.inside.seats.items c.self.inside.order c.args.self.now c.args.guard.now c.self.invariant.kept.ordered c.self.view_is c.requires.once c.requires.held
-
-pub fill_in-requires-clause-once : goal.fill_in-requires-clause-once
-fill_in-requires-clause-once g c = once_of c.self.inside.seats.items c.self.inside.order c.args.self.now (has_block c.args.guard.now.value.block) c.self.invariant.kept.ordered c.self.view_is c.requires.once
+pub fill_in-requires-clause-place : goal.fill_in-requires-clause-place
+fill_in-requires-clause-place g c = held_at c.self.inside.seats.items c.self.inside.order c.args.self.now c.args.guard.now c.self.invariant.kept.ordered c.self.view_is c.requires.once c.requires.held
 
 pub invariant_of-self : goal.invariant_of-self
 invariant_of-self g c =

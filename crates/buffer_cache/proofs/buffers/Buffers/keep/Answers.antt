@@ -1,4 +1,4 @@
-use Rattle.buffer_cache.proofs.Lemmas.{ℕ, List, Option, Some, None, IsSome, refl, IfSome, has_block, with_content, IsLinked, held_cached, once_of, held_of, keeps_filled, chained_with}
+use Rattle.buffer_cache.proofs.Lemmas.{ℕ, List, Option, Some, None, IsSome, refl, IfSome, has_block, with_content, IsLinked, held_at, keeps_filled, chained_with}
 use Rattle.buffer_cache.proofs.buffers.Buffers.keep.Goals as goal
 
 some_then : (o : Option (List ℕ)) {P : List ℕ → Type 0} (Q : Type 0) → IsSome o → IfSome o P → ((x : List ℕ) → P x → Q) → Q
@@ -9,13 +9,8 @@ if_some : (o : Option (List ℕ)) {P Q : List ℕ → Type 0} → IfSome o P →
 if_some None p k = p
 if_some (Some x) p k = k x p
 
-pub keep_in-requires-clause-held : goal.keep_in-requires-clause-held
-keep_in-requires-clause-held c =
-    held_cached c.self.inside.seats.items c.args.guard.now
-    (held_of c.self.inside.seats.items c.self.inside.order c.args.self.now c.args.guard.now c.self.invariant.kept.ordered c.self.view_is c.requires.once c.requires.held)
-
-pub keep_in-requires-clause-once : goal.keep_in-requires-clause-once
-keep_in-requires-clause-once c = once_of c.self.inside.seats.items c.self.inside.order c.args.self.now (has_block c.args.guard.now.value.block) c.self.invariant.kept.ordered c.self.view_is c.requires.once
+pub keep_in-requires-clause-place : goal.keep_in-requires-clause-place
+keep_in-requires-clause-place c = held_at c.self.inside.seats.items c.self.inside.order c.args.self.now c.args.guard.now c.self.invariant.kept.ordered c.self.view_is c.requires.once c.requires.held
 
 pub invariant_of-self : goal.invariant_of-self
 invariant_of-self c =

@@ -1,4 +1,4 @@
-use Rattle.group_log.proofs.Lemmas.{◌≡◌, ◌≢◌, ◌⊎◌, ◌∙◌, ◌<◌, ap, sym, subst, ℕ, List, Option, Some, None, IfSome, true, false, arith, option_map, BufferState, count_of, SeatState, CacheState, is_pinned, seat_of, with_seat, with_content, with_pin, given_back, IsHeld, Phase, Open, Halted, has, with_block, members_with, HasRoom, IsMember, LogState, IsHome, IsSoundLog, member_below, same_cache, open_of, room_to_add, room_to_pin, pinned_by_pin, recorded_all, open_move, slots_open, slots_recorded}
+use Rattle.group_log.proofs.Lemmas.{◌≡◌, ◌≢◌, ◌∙◌, ap, refl, sym, subst, ℕ, List, Option, Some, None, IfSome, true, false, arith, BufferState, SeatState, CacheState, with_seat, with_content, with_pin, given_back, IsHeld, Phase, Open, Halted, has, with_block, members_with, HasRoom, IsMember, LogState, IsHome, IsSoundLog, member_below, same_cache, open_of, room_to_add, room_to_pin, pinned_by_pin, recorded_all, open_move, slots_open, slots_recorded}
 use Rattle.group_log.proofs.log.Log.record.Goals as goal
 
 pub add-requires-clause-within : goal.add-requires-clause-within
@@ -7,7 +7,7 @@ add-requires-clause-within g c =
     let member : IsMember l.members c.args.txn.now = subst (λ v. IsMember v.members c.args.txn.now) (sym c.self.view_is) c.requires.member in
     let below = member_below l.members c.args.txn.now member in
     let is : c.hart.result ≡ c.args.txn.now = c.hart.ensures in
-    omega (arith, below, is)
+    omega (arith, below, is, c.self.invariant.log.eight)
 
 pub add-requires-clause-room : goal.add-requires-clause-room
 add-requires-clause-room g c =
@@ -31,17 +31,14 @@ pin-requires-clause-room g c =
     let running : l.phase ≢ Halted = subst (λ v. v.phase ≢ Halted) (sym c.self.view_is) c.requires.running in
     let is_open : l.phase ≡ Open = open_of l.phase l.members c.args.txn.now c.self.invariant.log.quiet running member in
     let sound : IsSoundLog d l.cache.seats l.sizes l.group.items l.members Open = subst (λ (p : Phase). IsSoundLog d l.cache.seats l.sizes l.group.items l.members p) is_open c.self.invariant.log in
-    let b : c.block-b.result ≡ c.args.guard.value.block = c.block-b.ensures ∙ ap (λ (x : BufferState). x.block) c.value.ensures in
     let has_room : has l.group.items c.args.guard.value.block ≡ false → HasRoom l.members c.args.txn.now = subst (λ v. has v.group c.args.guard.value.block ≡ false → HasRoom v.members c.args.txn.now) (sym c.self.view_is) c.requires.room in
-    subst (λ (k : ℕ). (option_map is_pinned (seat_of k l.cache.seats) ≡ Some true) ⊎ (count_of is_pinned l.cache.seats < 30)) (sym b)
-    (room_to_pin d l.cache.seats l.sizes l.group.items l.members c.args.guard.value.block c.args.txn.now sound has_room)
+    room_to_pin d l.cache.seats l.sizes l.group.items l.members c.args.guard.value.block c.args.txn.now sound has_room
 
 pub release_changed-requires-clause-pinned : goal.release_changed-requires-clause-pinned
 release_changed-requires-clause-pinned g c =
     let l = c.self.inside in
-    let b : c.block-b.result ≡ c.args.guard.value.block = c.block-b.ensures ∙ ap (λ (x : BufferState). x.block) c.value.ensures in
     let held : IsHeld l.cache.seats c.args.guard = subst (λ v. IsHeld v.cache.seats c.args.guard) (sym c.self.view_is) c.requires.held in
-    pinned_by_pin c.args.guard.value.block c.block-b.result l.cache.seats c.pin.new.self.seats c.args.guard (λ i. c.args.guard.value.block) b held c.pin.ensures.seats
+    pinned_by_pin c.args.guard.value.block c.args.guard.value.block l.cache.seats c.pin.new.self.seats c.args.guard refl refl held c.pin.ensures.seats
 
 pub invariant_of-self : goal.invariant_of-self
 invariant_of-self g c =
@@ -52,6 +49,7 @@ invariant_of-self g c =
     let is_open : l.phase ≡ Open = open_of l.phase l.members c.args.txn.now c.self.invariant.log.quiet running member in
     let sound : IsSoundLog d l.cache.seats l.sizes l.group.items l.members Open = subst (λ (p : Phase). IsSoundLog d l.cache.seats l.sizes l.group.items l.members p) is_open c.self.invariant.log in
     let b : c.block-b.result ≡ c.args.guard.value.block = c.block-b.ensures ∙ ap (λ (x : BufferState). x.block) c.value.ensures in
+    let pinned : c.pin.new.self.seats ≡ with_seat c.block-b.result (with_pin true) l.cache.seats = c.pin.ensures.seats ∙ ap (λ (k : ℕ). with_seat k (with_pin true) l.cache.seats) (sym b) in
     let held : IsHeld l.cache.seats c.args.guard = subst (λ v. IsHeld v.cache.seats c.args.guard) (sym c.self.view_is) c.requires.held in
     let home : IsHome d l.sizes c.args.guard.value.block = subst (λ v. IsHome (g.D.Device.contents v.cache.device) v.sizes c.args.guard.value.block) (sym c.self.view_is) c.requires.home in
     let has_room : has l.group.items c.args.guard.value.block ≡ false → HasRoom l.members c.args.txn.now = subst (λ v. has v.group c.args.guard.value.block ≡ false → HasRoom v.members c.args.txn.now) (sym c.self.view_is) c.requires.room in
@@ -59,11 +57,11 @@ invariant_of-self g c =
       log = subst (λ (p : Phase). IsSoundLog (g.D.Device.contents c.release_changed.new.self.device) c.release_changed.new.self.seats l.sizes c.add.new.group.items c.add.new.members p) (sym is_open)
           (recorded_all d (g.D.Device.contents c.pin.new.self.device) (g.D.Device.contents c.release_changed.new.self.device) l.cache.seats c.pin.new.self.seats c.release_changed.new.self.seats l.sizes l.group.items c.add.new.group.items l.members c.add.new.members c.block-b.result c.args.txn.now c.hart.result c.args.guard
           c.show_each_once.ensures sound held c.requires.valid has_room home b c.hart.ensures c.add.ensures.group c.add.ensures.members
-          (ap g.D.Device.contents c.pin.ensures.device) c.pin.ensures.seats c.pin.ensures.seen
+          (ap g.D.Device.contents c.pin.ensures.device) pinned c.pin.ensures.seen
           (ap g.D.Device.contents c.release_changed.ensures.device) c.release_changed.ensures.seats c.release_changed.ensures.seen);
       placed = slots_open l.cache.seats c.release_changed.new.self.seats l.group.items c.add.new.group.items l.slots.items c.add.new.slots.items l.phase is_open
           (slots_recorded l.cache.seats c.pin.new.self.seats c.release_changed.new.self.seats l.group.items c.add.new.group.items l.slots.items c.add.new.slots.items c.block-b.result c.number.result c.args.guard
-          c.show_each_once.ensures held c.requires.valid b c.number.ensures c.add.ensures.group c.add.ensures.slots c.pin.ensures.seats c.release_changed.ensures.seats)
+          c.show_each_once.ensures held c.requires.valid b c.number.ensures c.add.ensures.group c.add.ensures.slots pinned c.release_changed.ensures.seats)
           c.self.invariant.placed;
     }
 
@@ -106,6 +104,7 @@ pub returns-clause-records : goal.returns-clause-records
 returns-clause-records g c =
     let l = c.self.inside in
     let b : c.block-b.result ≡ c.args.guard.value.block = c.block-b.ensures ∙ ap (λ (x : BufferState). x.block) c.value.ensures in
+    let pinned : c.pin.new.self.seats ≡ with_seat c.block-b.result (with_pin true) l.cache.seats = c.pin.ensures.seats ∙ ap (λ (k : ℕ). with_seat k (with_pin true) l.cache.seats) (sym b) in
     let z = c.release_changed.new.self in
     let old : LogState g.row.D.Denot = record { cache = l.cache; sizes = l.sizes; group = l.group.items; members = l.members; phase = l.phase } in
     let new : LogState g.row.D.Denot = record old { cache = z; group = c.add.new.group.items; members = c.add.new.members } in
@@ -116,4 +115,4 @@ returns-clause-records g c =
     }))
     c.self.view_is
     (records_as old z c.pin.new.self.seats c.add.new.group.items c.add.new.members c.block-b.result c.args.guard.value.block c.hart.result c.args.txn.now c.args.guard.value.content
-    b c.hart.ensures (c.release_changed.ensures.device ∙ c.pin.ensures.device) c.pin.ensures.seats c.release_changed.ensures.seats c.add.ensures.group c.add.ensures.members)
+    b c.hart.ensures (c.release_changed.ensures.device ∙ c.pin.ensures.device) pinned c.release_changed.ensures.seats c.add.ensures.group c.add.ensures.members)
