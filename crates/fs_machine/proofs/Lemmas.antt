@@ -5,6 +5,8 @@ pub use Rattle.fs_machine.proofs.Fits.{aside-none, block-there, buffer-again, bu
 pub use Rattle.fs_machine.proofs.Opening.{desks_changed, double_bad, double_full, double_gave, files_set, none_taken, open_full, open_gave, open_nowhere, shut_bad, shut_last, shut_named, shut_nothing, taken_ran}
 pub use Rattle.fs_machine.proofs.Performing.{waits}
 pub use Rattle.fs_machine.proofs.Places.{found, set_change}
+pub use Rattle.fs_machine.proofs.Naming.{all_counted, counted_new, counted_same, counted_set, has_room, named_any, no_desk, some_counted}
+pub use Rattle.fs_machine.proofs.Used.{free_more, free_none, free_past, free_set, free_used, may_count, sought_used, used_below}
 pub use Rattle.fs_machine.proofs.Counting.{counted_good, counted_locked, last_free, uncounted_good, uncounted_locked}
 pub use Rattle.fs_machine.proofs.Dying.{drop_counted, drop_dies, freed_counted, freed_nowhere, had_alive, had_back, had_dead, is_dead, out_alive, walked_counted, walked_kept, walked_nowhere}
 pub use Rattle.fs_machine.proofs.Locking.{had_out, lock_apart, lock_good, lock_had, lock_leaves, lock_own, lock_ran, lock_still, lock_still_at, lock_waits, numbered, unlock_frees, unlock_good, unlock_leaves, unlock_ran}

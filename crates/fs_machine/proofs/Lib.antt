@@ -9,6 +9,8 @@ pub mod Owned
 pub mod Showing
 pub mod Waits
 pub mod Places
+pub mod Used
+pub mod Naming
 pub mod Locking
 pub mod Counting
 pub mod Beginning

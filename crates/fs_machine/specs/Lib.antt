@@ -34,3 +34,4 @@ pub mod Hands
 pub mod Ops
 pub mod Performs
 pub mod Queues
+pub mod Names

@@ -1,11 +1,12 @@
 -- The tables that all harts share.
-use Rattle.std.specs.Prelude.{ℕ, ◌+◌, ◌-◌, ◌==◌, ◌&&◌, nat_lt, List, Bool, false, Option, Some, None, position, count_by, slice_get}
+use Rattle.std.specs.Prelude.{◌≡◌, ℕ, zero, suc, ◌+◌, ◌-◌, ◌≤◌, ◌==◌, ◌&&◌, nat_lt, List, length, [], ◌∷◌, Bool, false, Option, Some, None, position, count_by, slice_get}
 use Rattle.fs_machine.specs.Vocabulary.{SlotState}
 use Rattle.fs_machine.specs.InMemory.{Inode}
 use Rattle.fs_machine.specs.declared.entries.Entry.{Entry}
 use Rattle.fs_machine.specs.declared.files.OpenFile.{OpenFile}
 use Rattle.fs_machine.specs.declared.files.FilePlace.{FilePlace}
 use Rattle.fs_machine.specs.declared.files.FilePlace.TheVariants.{Free, Taken, Open}
+use Rattle.fs_machine.specs.Limits.{inode_places}
 use Rattle.fs_machine.specs.Lists.{change_at}
 use Rattle.fs_machine.specs.declared.desk.Desk.{Desk}
 
@@ -22,6 +23,17 @@ is_for n e = (e.number == n) && nat_lt 0 e.references
 
 abbrev pub is_unused : Entry → Bool
 is_unused e = e.references == 0
+
+-- from this place on each one is free
+abbrev pub AreFreeFrom : ℕ → List Entry → Type 0
+AreFreeFrom n [] = Unit {0}
+AreFreeFrom zero (e ∷ es) = (e.references ≡ 0) × AreFreeFrom zero es
+AreFreeFrom (suc n) (e ∷ es) = AreFreeFrom n es
+
+pub record AreUsedBelow (n : ℕ) (entries : List Entry) : Type 0 where
+  pub places : length entries ≡ inode_places
+  pub within : n ≤ inode_places
+  pub free : AreFreeFrom n entries
 
 abbrev pub place_of : ℕ → List Entry → Option ℕ
 place_of n entries = position (is_for n) entries

@@ -1,15 +1,13 @@
 // The steps on descriptors and open files.
-ghost use Rattle.std.specs.Prelude.{◌≡◌, ◌<◌, if◌then◌else◌, Some, None, IfSome, IfErr, length, position, slice_get, slice_set};
-ghost use Rattle.fs_machine.specs.Vocabulary.{list_any, Ran};
-ghost use Rattle.fs_machine.specs.Lists.{change_at, first_empty};
-ghost use Rattle.fs_machine.specs.Tables.{open_at, at_descriptor};
-ghost use Rattle.fs_machine.specs.Inodes.{refusal_of, is_number, directory_of, with_directory, settled, with_offset};
-ghost use Rattle.fs_machine.specs.Files.{is_free, names, opened, hand_of, descriptors_of, with_descriptor, with_hand};
+ghost use Rattle.std.specs.Prelude.{◌≡◌, ◌<◌, if◌then◌else◌, Some, None, IfSome, IfErr, position, slice_get, slice_set};
+ghost use Rattle.fs_machine.specs.Vocabulary.{Ran};
+ghost use Rattle.fs_machine.specs.Tables.{open_at};
+ghost use Rattle.fs_machine.specs.Inodes.{refusal_of, is_number, directory_of, settled, with_offset};
+ghost use Rattle.fs_machine.specs.Files.{is_free, names, opened, hand_of};
 
-use crate::desk::Desk;
 use crate::entries::Reference;
 use crate::files::{FilePlace, NewFile, OpenFile, Refused, Want};
-use crate::limits::{DESCRIPTORS, DEVICE, OPEN_FILES};
+use crate::limits::{DEVICE, OPEN_FILES};
 use crate::slots::{Doubled, Shut};
 use crate::tables::Tables;
 use buffer_cache::HARTS;
@@ -25,7 +23,7 @@ impl Tables {
         requires { hart < HARTS }
         ensures { result ≡ file_named hart fd self.now }
     {
-        match place_at(&self.desks, hart, fd) {
+        match self.desks.place_at(hart, fd) {
             None => None,
             Some(place) => file_at(&self.files, place),
         }
@@ -44,7 +42,7 @@ impl Tables {
         requires { hart < HARTS }
         ensures { result ≡ directory_of (slice_get self.now.desks hart) }
     {
-        directory_at(&self.desks, hart)
+        self.desks.directory_at(hart)
     }
 
     /// The hart's current directory becomes this inode, whose reference goes into the table; the old one's is handed out.
@@ -53,8 +51,8 @@ impl Tables {
         ensures ran { settled hart reference self.old ≡ Ran result self.new }
         ensures others { LeavesLocked self.old self.new }
     {
-        let old = directory_at(&self.desks, hart);
-        set_directory(&mut self.desks, hart, reference.end());
+        let old = self.desks.directory_at(hart);
+        self.desks.set_directory(hart, reference.end());
         Reference::new(old)
     }
 
@@ -64,7 +62,7 @@ impl Tables {
         ensures ran { self.new ≡ with_offset hart (Some (fd, offset)) self.old }
         ensures others { LeavesLocked self.old self.new }
     {
-        match place_at(&self.desks, hart, fd) {
+        match self.desks.place_at(hart, fd) {
             None => {}
             Some(place) => match file_at(&self.files, place) {
                 None => {}
@@ -86,7 +84,7 @@ impl Tables {
             None => false,
             Some(place) => {
                 set_place(&mut self.files, place, FilePlace::Taken);
-                set_hand(&mut self.desks, hart, Some(place as u8));
+                self.desks.set_hand(hart, Some(place as u8));
                 true
             }
         }
@@ -94,25 +92,26 @@ impl Tables {
 
     /// Opens a file at the place in hand, by the lowest free descriptor (xv6: `fdalloc`). Where all are open the place is given back, and
     /// the reference.
+    #[inline(always)]
     pub fn open(&mut self, hart: u8, reference: Reference, file: NewFile) -> Result<u8, Reference>
         requires { hart < HARTS }
         ensures ran { open_file hart reference file self.old ≡ Ran (opened_as result) self.new }
         ensures back { IfErr result (λ back. back ≡ reference) }
         ensures others { LeavesLocked self.old self.new }
     {
-        match hand_of(&self.desks, hart) {
+        match self.desks.hand_of(hart) {
             None => Err(reference),
-            Some(place) => match lowest(&self.desks, hart) {
+            Some(place) => match self.desks.lowest(hart) {
                 None => {
                     set_place(&mut self.files, place as usize, FilePlace::Free);
-                    set_hand(&mut self.desks, hart, None);
+                    self.desks.set_hand(hart, None);
                     Err(reference)
                 }
                 Some(fd) => {
                     let opened = opened(reference, file);
                     set_place(&mut self.files, place as usize, FilePlace::Open(opened));
-                    set_descriptor(&mut self.desks, hart, fd, Some(place));
-                    set_hand(&mut self.desks, hart, None);
+                    self.desks.set_descriptor(hart, fd, Some(place));
+                    self.desks.set_hand(hart, None);
                     Ok(fd as u8)
                 }
             },
@@ -125,12 +124,12 @@ impl Tables {
         ensures ran { double_descriptor hart fd self.old ≡ Ran result self.new }
         ensures others { LeavesLocked self.old self.new }
     {
-        match place_at(&self.desks, hart, fd) {
+        match self.desks.place_at(hart, fd) {
             None => Doubled::BadDescriptor,
-            Some(place) => match lowest(&self.desks, hart) {
+            Some(place) => match self.desks.lowest(hart) {
                 None => Doubled::Full,
                 Some(other) => {
-                    set_descriptor(&mut self.desks, hart, other, Some(place));
+                    self.desks.set_descriptor(hart, other, Some(place));
                     Doubled::Gave(other as u8)
                 }
             },
@@ -145,11 +144,11 @@ impl Tables {
         ensures ran { shut_descriptor hart fd self.old ≡ Ran result self.new }
         ensures others { LeavesLocked self.old self.new }
     {
-        match place_at(&self.desks, hart, fd) {
+        match self.desks.place_at(hart, fd) {
             None => Shut::BadDescriptor,
             Some(place) => {
-                set_descriptor(&mut self.desks, hart, fd as usize, None);
-                if is_named(&self.desks, place) {
+                self.desks.set_descriptor(hart, fd as usize, None);
+                if self.desks.is_named(place) {
                     return Shut::Closed;
                 }
                 match file_at(&self.files, place) {
@@ -162,69 +161,6 @@ impl Tables {
             }
         }
     }
-}
-
-// The place that a hart's descriptor names.
-pub(crate) fn place_at(desks: &[Desk; HARTS as usize], hart: u8, fd: u32) -> Option<u8>
-    requires { hart < HARTS }
-    ensures place { result ≡ at_descriptor fd (slice_get desks.now hart) }
-    ensures within { IfSome result (λ _. fd < DESCRIPTORS) }
-{
-    desks[hart as usize].place(fd)
-}
-
-// The lowest descriptor of a hart that is free.
-fn lowest(desks: &[Desk; HARTS as usize], hart: u8) -> Option<usize>
-    requires { hart < HARTS }
-    ensures lowest { result ≡ first_empty (descriptors_of (slice_get desks.now hart)) }
-    ensures within { IfSome result (λ fd. fd < DESCRIPTORS) }
-{
-    desks[hart as usize].lowest()
-}
-
-// The place in a hart's hand.
-fn hand_of(desks: &[Desk; HARTS as usize], hart: u8) -> Option<u8>
-    requires { hart < HARTS }
-    ensures { result ≡ hand_of (slice_get desks.now hart) }
-{
-    desks[hart as usize].hand
-}
-
-// The number of a hart's current directory.
-pub(crate) fn directory_at(desks: &[Desk; HARTS as usize], hart: u8) -> u32
-    requires { hart < HARTS }
-    ensures { result ≡ directory_of (slice_get desks.now hart) }
-{
-    desks[hart as usize].directory
-}
-
-pub(crate) fn set_directory(desks: &mut [Desk], hart: u8, number: u32)
-    requires { hart < length desks.old }
-    ensures { desks.new ≡ change_at hart (with_directory number) desks.old }
-{
-    desks[hart as usize].directory = number;
-}
-
-pub(crate) fn set_descriptor(desks: &mut [Desk], hart: u8, fd: usize, place: Option<u8>)
-    requires hart { hart < length desks.old }
-    requires fd { fd < DESCRIPTORS }
-    ensures { desks.new ≡ change_at hart (with_descriptor fd place) desks.old }
-{
-    desks[hart as usize].descriptors[fd] = place;
-}
-
-fn set_hand(desks: &mut [Desk], hart: u8, place: Option<u8>)
-    requires { hart < length desks.old }
-    ensures { desks.new ≡ change_at hart (with_hand place) desks.old }
-{
-    desks[hart as usize].hand = place;
-}
-
-// Whether a descriptor names a place.
-fn is_named(desks: &[Desk; HARTS as usize], place: u8) -> bool
-    ensures { result ≡ list_any (names place) desks.now }
-{
-    desks.iter().any(|desk| desk.names(place))
 }
 
 // The open file at a place.

@@ -1,9 +1,10 @@
 // Inodes in memory, and references to them.
-ghost use Rattle.std.specs.Prelude.{◌≡◌, ◌+◌, ◌-◌, ◌<◌, ◌^◌, ◌↔◌, ◌∷◌, ℕ, Some, None, IsSome, IsTrue, IfOk, IfSome, position, length, slice_get, slice_set};
+ghost use Rattle.std.specs.Prelude.{◌≡◌, ◌+◌, ◌-◌, ◌<◌, ◌^◌, ◌↔◌, Some, None, IsSome, IsTrue, IfOk, IfSome, position, replicate, slice_get, slice_set};
 ghost use Rattle.fs_machine.specs.Tables.{is_for, is_unused, one_more, one_less};
 ghost use Rattle.fs_machine.specs.Lists.{change_at};
 ghost use Rattle.fs_machine.specs.Inodes.{dead_of};
 
+use crate::limits::{MEMORY_INODES, ROOT};
 use crate::name_index::NameIndex;
 use fs_layout::Dinode;
 use sleep_lock::{Guard, RetiredSlots};
@@ -178,8 +179,101 @@ pub enum Dropped {
     Dying(Reference, Guard<Inode>),
 }
 
-/// The place of a referenced inode.
-pub(crate) fn place_of(entries: &[Entry], number: u32) -> Option<usize>
+/// The places for inodes in memory. A contract sees what is in each.
+#[derive(Drop)]
+pub(crate) struct Entries {
+    entries: [Entry; MEMORY_INODES],
+    // From this one on each place is free: who looks for an inode looks no further.
+    used: usize,
+}
+
+impl Model for Entries {
+    ghost use Rattle.std.specs.Prelude.{List};
+    ghost use Rattle.fs_machine.specs.Tables.{AreUsedBelow};
+    ghost use Rattle.fs_machine.specs.declared.entries.Entry.{Entry as EntryState};
+
+    ghost Value = { List EntryState };
+
+    ghost view = { λ e. e.entries };
+
+    ghost invariant = { λ e. AreUsedBelow e.used e.entries };
+}
+
+impl Entries {
+    /// To the root there are so many references, and to no other inode one.
+    pub fn new(references: u32) -> Entries
+        ensures { result ≡ slice_set (replicate MEMORY_INODES (record { number = ROOT; references = 0 })) 0
+            (record { number = ROOT; references = references }) }
+    {
+        let mut entries = [Entry {
+            number: ROOT,
+            references: 0,
+        }; MEMORY_INODES];
+        entries[0].references = references;
+        Entries { entries, used: 1 }
+    }
+
+    /// The place of a referenced inode.
+    pub fn place_of(&self, number: u32) -> Option<usize>
+        ensures { result ≡ position (is_for number) self.now }
+    {
+        place_in(&self.entries[..self.used], number)
+    }
+
+    /// The first free place.
+    pub fn free_place(&self) -> Option<usize>
+        ensures { result ≡ position is_unused self.now }
+    {
+        match free_in(&self.entries[..self.used]) {
+            Some(place) => Some(place),
+            None => if self.used < MEMORY_INODES {
+                Some(self.used)
+            } else {
+                None
+            },
+        }
+    }
+
+    /// How many references stand to the inode at a place.
+    pub fn references(&self, place: usize) -> u32
+        requires { place < MEMORY_INODES }
+        ensures { IfSome (slice_get self.now place) (λ e. result ≡ e.references) }
+    {
+        self.entries[place].references
+    }
+
+    /// A place comes to be an inode's, with one reference.
+    pub fn begin(&mut self, place: usize, number: u32)
+        requires { place < MEMORY_INODES }
+        ensures { self.new ≡ slice_set self.old place (record { number = number; references = 1 }) }
+    {
+        self.entries[place] = Entry {
+            number,
+            references: 1,
+        };
+        self.used = self.used.max(place + 1);
+    }
+
+    /// One reference more at a place where there is one.
+    pub fn count_up(&mut self, place: usize)
+        requires some { IfSome (slice_get self.old place) (λ e. (0 < e.references) × (e.references + 1 < 2 ^ 32)) }
+        requires within { place < MEMORY_INODES }
+        ensures { self.new ≡ change_at place one_more self.old }
+    {
+        self.entries[place].references += 1;
+    }
+
+    /// One reference less at a place.
+    pub fn count_down(&mut self, place: usize)
+        requires some { IfSome (slice_get self.old place) (λ e. 0 < e.references) }
+        requires within { place < MEMORY_INODES }
+        ensures { self.new ≡ change_at place one_less self.old }
+    {
+        self.entries[place].references -= 1;
+    }
+}
+
+fn place_in(entries: &[Entry], number: u32) -> Option<usize>
     ensures { result ≡ position (is_for number) entries.now }
 {
     entries
@@ -187,27 +281,8 @@ pub(crate) fn place_of(entries: &[Entry], number: u32) -> Option<usize>
         .position(|entry| entry.number == number && 0 < entry.references)
 }
 
-/// The first free place.
-pub(crate) fn free_place(entries: &[Entry]) -> Option<usize>
+fn free_in(entries: &[Entry]) -> Option<usize>
     ensures { result ≡ position is_unused entries.now }
 {
     entries.iter().position(|entry| entry.references == 0)
-}
-
-/// One reference more at a place.
-pub(crate) fn count_up(entries: &mut [Entry], place: usize)
-    requires some { IfSome (slice_get entries.old place) (λ e. e.references + 1 < 2 ^ 32) }
-    requires within { place < length entries.old }
-    ensures { entries.new ≡ change_at place one_more entries.old }
-{
-    entries[place].references += 1;
-}
-
-/// One reference less at a place.
-pub(crate) fn count_down(entries: &mut [Entry], place: usize)
-    requires some { IfSome (slice_get entries.old place) (λ e. 0 < e.references) }
-    requires within { place < length entries.old }
-    ensures { entries.new ≡ change_at place one_less entries.old }
-{
-    entries[place].references -= 1;
 }

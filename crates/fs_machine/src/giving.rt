@@ -2,12 +2,8 @@
 ghost use Rattle.std.specs.Prelude.{◌≡◌, ◌+◌, ◌<◌, ◌≤◌, ◌^◌, IfSome, slice_get};
 ghost use Rattle.fs_machine.specs.Vocabulary.{Ran};
 ghost use Rattle.fs_machine.specs.Inodes.{directory_of};
-ghost use Rattle.fs_machine.specs.Lists.{next_full};
-ghost use Rattle.fs_machine.specs.Files.{descriptors_of};
 
-use crate::desk::Desk;
-use crate::desks::{directory_at, place_at, set_descriptor, set_directory};
-use crate::entries::{Reference, count_up, place_of};
+use crate::entries::Reference;
 use crate::limits::DESCRIPTORS;
 use crate::slots::Given;
 use crate::tables::Tables;
@@ -29,7 +25,7 @@ impl Tables {
         ensures past { DESCRIPTORS ≤ from → IsDirectory result }
         ensures others { LeavesLocked self.old self.new }
     {
-        match next_at(&self.desks, hart, from) {
+        match self.desks.next_at(hart, from) {
             Some(fd) => self.give_descriptor(hart, child, fd as u32),
             None => self.give_directory(hart, child),
         }
@@ -43,10 +39,10 @@ impl Tables {
         ensures ran { give_at hart child fd self.old (place_named hart fd self.old) ≡ Ran result self.new }
         ensures others { LeavesLocked self.old self.new }
     {
-        let more = next_at(&self.desks, hart, fd + 1).is_some();
-        match place_at(&self.desks, hart, fd) {
+        let more = self.desks.next_at(hart, fd + 1).is_some();
+        match self.desks.place_at(hart, fd) {
             None => {}
-            Some(place) => set_descriptor(&mut self.desks, child, fd as usize, Some(place)),
+            Some(place) => self.desks.set_descriptor(child, fd as usize, Some(place)),
         }
         Given::Descriptor(fd as u8, more)
     }
@@ -61,25 +57,15 @@ impl Tables {
             ≡ Ran result self.new }
         ensures others { LeavesLocked self.old self.new }
     {
-        let number = directory_at(&self.desks, hart);
-        let old = directory_at(&self.desks, child);
-        match place_of(&self.entries, number) {
+        let number = self.desks.directory_at(hart);
+        let old = self.desks.directory_at(child);
+        match self.entries.place_of(number) {
             None => Given::Directory(Reference::new(old)),
             Some(place) => {
-                count_up(&mut self.entries, place);
-                set_directory(&mut self.desks, child, number);
+                self.entries.count_up(place);
+                self.desks.set_directory(child, number);
                 Given::Directory(Reference::new(old))
             }
         }
     }
-}
-
-// The first descriptor of a hart from this one on that is open.
-fn next_at(desks: &[Desk; HARTS as usize], hart: u8, from: u32) -> Option<usize>
-    requires { hart < HARTS }
-    ensures next { result ≡ next_full from (descriptors_of (slice_get desks.now hart)) }
-    ensures within { IfSome result (λ fd. fd < DESCRIPTORS) }
-    ensures from { IfSome result (λ fd. from ≤ fd) }
-{
-    desks[hart as usize].next(from)
 }

@@ -1,15 +1,13 @@
 // The tables, and the steps on inodes in memory.
-ghost use Rattle.std.specs.Prelude.{◌≡◌, ◌≢◌, ◌+◌, ◌<◌, ◌^◌, ℕ, Some, None, IsSome, IfSome, IfNone, IfOk, is_some, length, replicate, slice_get, slice_set};
+ghost use Rattle.std.specs.Prelude.{◌≡◌, ◌≢◌, ◌+◌, ◌<◌, ◌^◌, Some, None, IsSome, IfSome, IfNone, IfOk, is_some, length, replicate, slice_get, slice_set};
 ghost use Rattle.sleep_lock.specs.SleepLock.{GuardState, filled};
 ghost use Rattle.sleep_lock.specs.Row.{lock_of};
 ghost use Rattle.atomic_programs.specs.Prog.{Ran};
 ghost use Rattle.fs_machine.specs.Inodes.{dying, first_free};
 ghost use Rattle.fs_machine.specs.Soundness.{IsSoundInodes};
 
-use crate::desk::Desk;
-use crate::entries::{
-    Dropped, Entry, Inode, Reference, count_down, count_up, free_place, place_of,
-};
+use crate::desk::Desks;
+use crate::entries::{Dropped, Entries, Inode, Reference};
 use crate::files::FilePlace;
 use crate::limits::{LAST_REFERENCE, MEMORY_INODES, OPEN_FILES, ROOT};
 use buffer_cache::HARTS;
@@ -21,10 +19,10 @@ use std::marker::Model;
 /// locks, the open files, and each hart's desk.
 #[derive(Drop)]
 pub struct Tables {
-    pub(crate) entries: [Entry; MEMORY_INODES],
+    pub(crate) entries: Entries,
     pub(crate) locks: Slots<Inode>,
     pub(crate) files: [FilePlace; OPEN_FILES],
-    pub(crate) desks: [Desk; HARTS as usize],
+    pub(crate) desks: Desks,
 }
 
 impl Model for Tables {
@@ -50,16 +48,11 @@ impl Tables {
         ensures { IfOk result (λ tables. tables ≡ fresh) }
     {
         let locks = Slots::new(alloc, places(alloc)?)?;
-        let mut entries = [Entry {
-            number: ROOT,
-            references: 0,
-        }; MEMORY_INODES];
-        entries[0].references = HARTS as u32;
         Ok(Tables {
-            entries,
+            entries: Entries::new(HARTS as u32),
             locks,
             files: [FilePlace::Free; OPEN_FILES],
-            desks: [Desk::new(); HARTS as usize],
+            desks: Desks::new(),
         })
     }
 
@@ -84,7 +77,7 @@ impl Tables {
         ensures others { LeavesLocked self.old self.new }
         ensures apart { IfSome result (λ _. (guard : GuardState Inode) → IsLocked guard self.old → guard.value.number ≢ number) }
     {
-        match place_of(&self.entries, number) {
+        match self.entries.place_of(number) {
             None => None,
             Some(place) => self.locks.lock(hart, place as u32),
         }
@@ -107,25 +100,26 @@ impl Tables {
     pub fn references(&self, number: u32) -> u32
         ensures { result ≡ references_of number self.now }
     {
-        match place_of(&self.entries, number) {
+        match self.entries.place_of(number) {
             None => 0,
-            Some(place) => self.entries[place].references,
+            Some(place) => self.entries.references(place),
         }
     }
 
     /// One reference more to an inode (xv6: `iget`, `idup`). None where each place is referred to, and then nothing changes.
+    #[inline(always)]
     pub fn up(&mut self, number: u32) -> Option<Reference>
         requires room { references_of number self.old + 1 < 2 ^ 32 }
         ensures ran { up_inode number self.old ≡ Ran result self.new }
         ensures number { IfSome result (λ reference. reference ≡ number) }
         ensures others { LeavesLocked self.old self.new }
     {
-        match place_of(&self.entries, number) {
+        match self.entries.place_of(number) {
             Some(place) => {
-                count_up(&mut self.entries, place);
+                self.entries.count_up(place);
                 Some(Reference::new(number))
             }
-            None => match free_place(&self.entries) {
+            None => match self.entries.free_place() {
                 None => None,
                 Some(free) => {
                     begin(&mut self.entries, &mut self.locks, free, number);
@@ -146,7 +140,7 @@ impl Tables {
         ensures others { LeavesLocked self.old self.new }
         ensures apart { IfDying result (λ _ _. (guard : GuardState Inode) → IsLocked guard self.old → guard.value.number ≢ reference) }
     {
-        match place_of(&self.entries, reference.number()) {
+        match self.entries.place_of(reference.number()) {
             None => {
                 let _ = reference.end();
                 Dropped::Counted
@@ -154,7 +148,7 @@ impl Tables {
             Some(place) => match take_dying(&self.entries, &mut self.locks, hart, place) {
                 Some(guard) => Dropped::Dying(reference, guard),
                 None => {
-                    count_down(&mut self.entries, place);
+                    self.entries.count_down(place);
                     let _ = reference.end();
                     Dropped::Counted
                 }
@@ -170,7 +164,7 @@ impl Tables {
         ensures kept { IfSome result (λ kept. kept ≡ reference) }
         ensures others { LeavesLocked self.old self.new }
     {
-        match place_of(&self.entries, reference.number()) {
+        match self.entries.place_of(reference.number()) {
             None => {
                 let _ = reference.end();
                 None
@@ -179,7 +173,7 @@ impl Tables {
                 if is_dying(&self.entries, &mut self.locks, place) {
                     return Some(reference);
                 }
-                count_down(&mut self.entries, place);
+                self.entries.count_down(place);
                 let _ = reference.end();
                 None
             }
@@ -192,12 +186,12 @@ impl Tables {
         ensures ran { drop_freed reference self.old ≡ Ran Counts self.new }
         ensures others { LeavesLocked self.old self.new }
     {
-        match place_of(&self.entries, reference.number()) {
+        match self.entries.place_of(reference.number()) {
             None => {
                 let _ = reference.end();
             }
             Some(place) => {
-                count_down(&mut self.entries, place);
+                self.entries.count_down(place);
                 let _ = reference.end();
             }
         }
@@ -212,17 +206,17 @@ impl Tables {
 }
 
 // The same of places.
-fn first_free(entries: &[Entry], candidates: &[u32]) -> Option<u32>
+fn first_free(entries: &Entries, candidates: &[u32]) -> Option<u32>
     ensures { result ≡ first_free entries.now candidates.now }
 {
     candidates
         .iter()
         .copied()
-        .find(|number| place_of(entries, *number).is_none())
+        .find(|number| entries.place_of(*number).is_none())
 }
 
 // Whether the last reference to a dead inode is dropped at a place.
-fn is_dying(entries: &[Entry], locks: &mut Slots<Inode>, place: usize) -> bool
+fn is_dying(entries: &Entries, locks: &mut Slots<Inode>, place: usize) -> bool
     requires sound { IsSoundInodes entries.now locks.old }
     requires within { place < length entries.now }
     ensures dying { result ≡ is_some (dying (slice_get entries.now place) (slice_get locks.old place)) }
@@ -249,7 +243,7 @@ fn places(alloc: Global) -> Result<Vec<Inode>, AllocError>
 }
 
 // A free place becomes an inode's, with one reference; nothing of it is loaded yet.
-fn begin(entries: &mut [Entry], locks: &mut Slots<Inode>, place: usize, number: u32)
+fn begin(entries: &mut Entries, locks: &mut Slots<Inode>, place: usize, number: u32)
     requires sound { IsSoundInodes entries.old locks.old }
     requires free { IfSome (slice_get entries.old place) (λ e. e.references ≡ 0) }
     requires within { place < length entries.old }
@@ -263,15 +257,12 @@ fn begin(entries: &mut [Entry], locks: &mut Slots<Inode>, place: usize, number: 
             locks.unlock(guard);
         }
     }
-    entries[place] = Entry {
-        number,
-        references: 1,
-    };
+    entries.begin(place, number);
 }
 
 // The lock of a dead inode, where the last reference to it is dropped.
 fn take_dying(
-    entries: &[Entry],
+    entries: &Entries,
     locks: &mut Slots<Inode>,
     hart: u8,
     place: usize,
@@ -284,7 +275,7 @@ fn take_dying(
     ensures alive { IfNone result (dying (slice_get entries.now place) (slice_get locks.old place) ≡ None) }
     ensures same { IfNone result (locks.new ≡ locks.old) }
 {
-    if entries[place].references != LAST_REFERENCE {
+    if entries.references(place) != LAST_REFERENCE {
         return None;
     }
     match locks.lock(hart, place as u32) {

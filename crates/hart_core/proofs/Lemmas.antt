@@ -13,7 +13,7 @@ pub use Rattle.atomic_programs.proofs.Tables.{honest_here, step_gives}
 pub use Rattle.hart_core.proofs.Histories.{explained, one_each, trace_next, trace_none, trace_whole}
 pub use Rattle.hart_core.proofs.Keeping.{idle_harts_have_nothing, quiet_blocks_are_an_image}
 pub use Rattle.hart_core.proofs.Lasting.{world_left}
-pub use Rattle.hart_core.proofs.Mounted.{handed_back, settled_so}
+pub use Rattle.hart_core.proofs.Mounted.{handed_back, refused_memory, settled_so}
 pub use Rattle.hart_core.proofs.Resting.{world_mounted}
 pub use Rattle.hart_core.proofs.RightCalls.{right_call}
 pub use Rattle.hart_core.proofs.Stopping.{first_marks, leaves_a_beginning, next_marks}

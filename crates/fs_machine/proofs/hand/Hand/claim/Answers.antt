@@ -1,4 +1,4 @@
-use Rattle.fs_machine.proofs.Lemmas.{◌≡◌, ℕ, Some, None, refl, sym, ap, ◌∙◌, subst, inl, Ran, Passes, State, state_of, exec, Honest, HandFits, with_buffer, with_reference, answer_in, block-there, buffer-back, buffer-again, refers, only-buffer, no-buffer, take, GuardState, BufferState}
+use Rattle.fs_machine.proofs.Lemmas.{◌≡◌, ℕ, Some, None, refl, sym, ap, ◌∙◌, subst, inl, Ran, Passes, state_of, exec, Honest, HandFits, with_buffer, with_reference, answer_in, block-there, buffer-back, buffer-again, refers, only-buffer, no-buffer, take, GuardState, BufferState}
 use Rattle.fs_machine.specs.Steps as steps
 use Rattle.fs_machine.proofs.hand.Hand.claim.Goals as goal
 

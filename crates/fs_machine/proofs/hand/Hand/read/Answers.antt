@@ -1,4 +1,4 @@
-use Rattle.fs_machine.proofs.Lemmas.{◌≡◌, ℕ, Some, None, List, refl, sym, ap, ◌∙◌, subst, inr, Ran, Stops, Passes, Fails, State, state_of, exec, Honest, HandFits, buffer_at, bytes_at, with_buffer, answer_in, block-there, bytes-there, buffer-back, buffer-again, buffer-there, buffer-changed, GuardState, BufferState}
+use Rattle.fs_machine.proofs.Lemmas.{◌≡◌, ℕ, Some, None, List, refl, sym, ap, ◌∙◌, subst, inr, Ran, Stops, Passes, Fails, state_of, exec, Honest, HandFits, buffer_at, bytes_at, with_buffer, answer_in, block-there, bytes-there, buffer-back, buffer-again, buffer-there, buffer-changed, GuardState, BufferState}
 use Rattle.fs_machine.specs.Steps as steps
 use Rattle.fs_machine.proofs.hand.Hand.read.Goals as goal
 

@@ -1,4 +1,4 @@
-use Rattle.fs_machine.proofs.Lemmas.{◌≡◌, ℕ, Some, None, List, refl, sym, ap, ◌∙◌, subst, inl, Ran, Passes, State, state_of, exec, Honest, HandFits, with_content, buffer_at, bytes_at, with_buffer, with_txn, answer_in, buffer-given, block-there, bytes-there, buffer-again, txn-back, prepared, held-with, option_map, GuardState, BufferState, IsHeld, IsOwn, LeavesAllBut}
+use Rattle.fs_machine.proofs.Lemmas.{◌≡◌, ℕ, Some, None, List, refl, sym, ap, ◌∙◌, subst, inl, Ran, Passes, state_of, exec, Honest, HandFits, with_content, buffer_at, bytes_at, with_buffer, with_txn, answer_in, buffer-given, block-there, bytes-there, buffer-again, txn-back, prepared, held-with, option_map, GuardState, BufferState, IsHeld, IsOwn, LeavesAllBut}
 use Rattle.fs_machine.specs.Steps as steps
 use Rattle.fs_machine.proofs.hand.Hand.record.Goals as goal
 

@@ -28,7 +28,7 @@ pub returns-in-Some-clause-ran : goal.returns-in-Some-clause-ran
 returns-in-Some-clause-ran c =
     let t : TablesState = record { entries = c.self.inside.entries; locks = c.self.inside.locks; files = c.self.inside.files; desks = c.self.inside.desks } in
     let e : place_of c.args.reference t.entries ≡ Some c.in-Some.place = subst (λ n. place_of n t.entries ≡ Some c.in-Some.place) c.number.ensures (sym c.place_of.ensures ∙ c.in-Some.is) in
-    let after : TablesState = record t { entries = c.count_down.new.entries } in
+    let after : TablesState = record t { entries = c.count_down.new.self } in
     let is : uncounted_at c.in-Some.place t ≡ after = λ i. record t { entries = sym c.count_down.ensures i } in
     subst (λ (v : TablesState). drop_freed c.args.reference v ≡ Ran Counts after) c.self.view_is
     (freed_counted c.args.reference c.in-Some.place t e ∙ ap (λ (v : TablesState). Ran Counts v) is)
@@ -39,6 +39,6 @@ returns-in-Some-clause-others c =
     let e : place_of c.args.reference t.entries ≡ Some c.in-Some.place = subst (λ n. place_of n t.entries ≡ Some c.in-Some.place) c.number.ensures (sym c.place_of.ensures ∙ c.in-Some.is) in
     let f = found c.args.reference t.entries c.in-Some.place e in
     let last : references_of c.args.reference t ≡ 1 → holder_of c.args.reference t ≡ None = subst (λ (v : TablesState). references_of c.args.reference v ≡ 1 → holder_of c.args.reference v ≡ None) (sym c.self.view_is) c.requires in
-    let after : TablesState = record t { entries = c.count_down.new.entries } in
+    let after : TablesState = record t { entries = c.count_down.new.self } in
     subst (λ (v : TablesState). LeavesLocked v after) c.self.view_is
     (subst (λ (l : List Entry). LeavesLocked t (record t { entries = l })) (sym c.count_down.ensures) (uncounted_locked c.args.reference c.in-Some.place t f (last_free c.args.reference c.in-Some.place t f e last)))

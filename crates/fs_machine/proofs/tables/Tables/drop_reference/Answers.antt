@@ -18,7 +18,7 @@ invariant_of-self-in-None-take_dying c =
     let f = found c.args.reference t.entries c.in-Some.place e in
     let last : references_of c.args.reference t ≡ 1 → holder_of c.args.reference t ≡ None = subst (λ (v : TablesState). references_of c.args.reference v ≡ 1 → holder_of c.args.reference v ≡ None) (sym c.self.view_is) c.requires.last in
     record {
-      inodes = subst (λ (l : List (SlotState Inode)). IsSoundInodes c.count_down.new.entries l) (sym c.in-None-take_dying.ensures.same)
+      inodes = subst (λ (l : List (SlotState Inode)). IsSoundInodes c.count_down.new.self l) (sym c.in-None-take_dying.ensures.same)
           (subst (λ (l : List Entry). IsSoundInodes l t.locks) (sym c.count_down.ensures) (uncounted_good c.args.reference c.in-Some.place t.entries t.locks f (last_free c.args.reference c.in-Some.place t f e last) c.self.invariant.inodes));
       files = c.self.invariant.files;
       desks = c.self.invariant.desks;
@@ -61,7 +61,7 @@ pub returns-in-None-take_dying-clause-ran : goal.returns-in-None-take_dying-clau
 returns-in-None-take_dying-clause-ran c =
     let t : TablesState = record { entries = c.self.inside.entries; locks = c.self.inside.locks; files = c.self.inside.files; desks = c.self.inside.desks } in
     let e : place_of c.args.reference t.entries ≡ Some c.in-Some.place = subst (λ n. place_of n t.entries ≡ Some c.in-Some.place) c.number.ensures (sym c.place_of.ensures ∙ c.in-Some.is) in
-    let after : TablesState = record t { entries = c.count_down.new.entries; locks = c.take_dying.new.locks } in
+    let after : TablesState = record t { entries = c.count_down.new.self; locks = c.take_dying.new.locks } in
     let is : uncounted_at c.in-Some.place t ≡ after = λ i. record t { entries = sym c.count_down.ensures i; locks = sym c.in-None-take_dying.ensures.same i } in
     subst (λ (v : TablesState). drop_inode c.args.hart c.args.reference v ≡ Ran Counts after) c.self.view_is
     (drop_counted c.args.hart c.args.reference c.in-Some.place t e c.in-None-take_dying.ensures.alive ∙ ap (λ (v : TablesState). Ran Counts v) is)
@@ -72,7 +72,7 @@ returns-in-None-take_dying-clause-others c g locked =
     let e : place_of c.args.reference t.entries ≡ Some c.in-Some.place = subst (λ n. place_of n t.entries ≡ Some c.in-Some.place) c.number.ensures (sym c.place_of.ensures ∙ c.in-Some.is) in
     let f = found c.args.reference t.entries c.in-Some.place e in
     let last : references_of c.args.reference t ≡ 1 → holder_of c.args.reference t ≡ None = subst (λ (v : TablesState). references_of c.args.reference v ≡ 1 → holder_of c.args.reference v ≡ None) (sym c.self.view_is) c.requires.last in
-    let all : LeavesLocked t (record t { entries = c.count_down.new.entries; locks = c.take_dying.new.locks }) =
-    subst (λ (l : List (SlotState Inode)). LeavesLocked t (record t { entries = c.count_down.new.entries; locks = l })) (sym c.in-None-take_dying.ensures.same)
+    let all : LeavesLocked t (record t { entries = c.count_down.new.self; locks = c.take_dying.new.locks }) =
+    subst (λ (l : List (SlotState Inode)). LeavesLocked t (record t { entries = c.count_down.new.self; locks = l })) (sym c.in-None-take_dying.ensures.same)
     (subst (λ (l : List Entry). LeavesLocked t (record t { entries = l })) (sym c.count_down.ensures) (uncounted_locked c.args.reference c.in-Some.place t f (last_free c.args.reference c.in-Some.place t f e last))) in
     all g (subst (λ v. IsLocked g v) (sym c.self.view_is) locked)

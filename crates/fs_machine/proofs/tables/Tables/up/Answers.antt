@@ -1,4 +1,5 @@
-use Rattle.fs_machine.proofs.Lemmas.{◌≡◌, ◌∙◌, ap, sym, subst, List, Some, None, slice_set, SlotState, Ran, Entry, Inode, TablesState, up_inode, begun_at, LeavesLocked, IsSoundInodes, found, counted_good, counted_locked, free, free_if, begun_good, begun_locked, up_counted, up_begun, up_full}
+use Rattle.fs_machine.proofs.Lemmas.{◌≡◌, ◌∙◌, ap, sym, subst, List, Some, None, slice_set, SlotState, Ran, Entry, Inode, TablesState, up_inode, begun_at, LeavesLocked, IsSoundInodes, found, counted_good, counted_locked, free, free_if, begun_good, begun_locked, up_counted, up_begun, up_full, may_count, references_of}
+use Rattle.std.specs.Prelude.{◌+◌, ◌<◌, ◌^◌}
 use Rattle.fs_machine.proofs.tables.Tables.up.Goals as goal
 
 pub invariant_of-self : goal.invariant_of-self
@@ -10,6 +11,11 @@ invariant_of-self c =
       files = c.self.invariant.files;
       desks = c.self.invariant.desks;
     }
+
+pub count_up-requires-clause-some : goal.count_up-requires-clause-some
+count_up-requires-clause-some c =
+    let t : TablesState = record { entries = c.self.inside.entries; locks = c.self.inside.locks; files = c.self.inside.files; desks = c.self.inside.desks } in
+    may_count c.args.number c.in-Some.place t (sym c.place_of.ensures ∙ c.in-Some.is) (subst (λ (v : TablesState). references_of c.args.number v + 1 < 2 ^ 32) (sym c.self.view_is) c.requires.room)
 
 pub begin-requires-clause-free : goal.begin-requires-clause-free
 begin-requires-clause-free c = free_if c.self.inside.entries c.in-Some-free_place.free (free c.self.inside.entries c.in-Some-free_place.free (sym c.free_place.ensures ∙ c.in-Some-free_place.is))
@@ -29,7 +35,7 @@ invariant_of-self-in-Some-free_place c =
 pub returns-in-Some-clause-ran : goal.returns-in-Some-clause-ran
 returns-in-Some-clause-ran c =
     let t : TablesState = record { entries = c.self.inside.entries; locks = c.self.inside.locks; files = c.self.inside.files; desks = c.self.inside.desks } in
-    let after : TablesState = record t { entries = c.count_up.new.entries } in
+    let after : TablesState = record t { entries = c.count_up.new.self } in
     let counted = ap (λ (l : List Entry). Ran (Some c.args.number) (record t { entries = l })) (sym c.count_up.ensures) in
     let named = ap (λ n. Ran (Some n) after) (sym c.new.ensures) in
     subst (λ (v : TablesState). up_inode c.args.number v ≡ Ran (Some c.new.result) after) c.self.view_is
@@ -39,7 +45,7 @@ pub returns-in-Some-clause-others : goal.returns-in-Some-clause-others
 returns-in-Some-clause-others c =
     let t : TablesState = record { entries = c.self.inside.entries; locks = c.self.inside.locks; files = c.self.inside.files; desks = c.self.inside.desks } in
     let f = found c.args.number t.entries c.in-Some.place (sym c.place_of.ensures ∙ c.in-Some.is) in
-    let after : TablesState = record t { entries = c.count_up.new.entries } in
+    let after : TablesState = record t { entries = c.count_up.new.self } in
     subst (λ (v : TablesState). LeavesLocked v after) c.self.view_is
     (subst (λ (l : List Entry). LeavesLocked t (record t { entries = l })) (sym c.count_up.ensures) (counted_locked c.args.number c.in-Some.place t f))
 
