@@ -133,12 +133,10 @@ impl WritePart {
                 pass(self, writing, so_far, bytes.len());
                 None
             }
-            WritePart::Storing(written, store) => {
-                match store.next(answer, hand) {
-                    None => None,
-                    Some(()) => Some(*written),
-                }
-            }
+            WritePart::Storing(written, store) => match store.next(answer, hand) {
+                None => None,
+                Some(()) => Some(*written),
+            },
         }
     }
 }

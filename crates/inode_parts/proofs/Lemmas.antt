@@ -10,7 +10,7 @@ pub use Rattle.inode_parts.proofs.OnWay.{begins_now, first_runs, next_ends, next
 pub use Rattle.whole_calls.proofs.Shifted.{in_two}
 pub use Rattle.inode_data.proofs.Asking.{asks_bind}
 pub use Rattle.inode_parts.proofs.Locking.{first_seat, lock_on, lock_over, other_free}
-pub use Rattle.inode_parts.proofs.Taking.{is_taken, search_on, search_over, seen_ends, seen_over, take_on, take_over}
+pub use Rattle.inode_parts.proofs.Taking.{begun_so, is_taken, left_begun, search_on, search_over, seen_ends, seen_over, still_begun, take_on, take_over}
 pub use Rattle.inode_parts.proofs.Besides.{inode_over, taken_stays}
 pub use Rattle.inode_parts.specs.Leaving.{heard_if}
 pub use Rattle.file_table.specs.LockingFiles.{FileEnds, file_value}

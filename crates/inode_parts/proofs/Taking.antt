@@ -1,5 +1,9 @@
 -- How an inode that is taken is looked at.
-use Rattle.inode_parts.proofs.Vocabulary.{◌≡◌, ℕ, List, Option, sym, ap, subst, ◌∙◌, Bool, Dinode, Loaded, Searched, Ret, bind, P, Aim, Goes, number_at, Hand, InodePlace, One, Two, index_at, loaded_in, record_in, beside_index, beside_lock, HasLocked, goes_to, goes_with, search_left, Search, Carry, Heard, carry_in, handed, with_note, face_unless_free, IsAlone, Part, beside_in, looked, seen, IsTaken, Note, Notes}
+use Rattle.inode_parts.proofs.Vocabulary.{◌≡◌, ℕ, List, Option, Some, None, true, false, refl, sym, ap, subst, ◌∙◌, Bool, Dinode, Loaded, Searched, Ret, bind, P, Aim, Goes, number_at, Hand, InodePlace, One, Two, index_at, loaded_in, record_in, beside_index, beside_lock, HasLocked, goes_to, goes_with, search_left, Search, Carry, Heard, carry_in, handed, with_note, face_unless_free, IsAlone, Part, beside_in, looked, seen, IsTaken, Note, Notes, TakePart, take_left, left_after}
+use Rattle.std.specs.Prelude.{IfNone}
+use Rattle.inode_parts.specs.Takes.{begun_if, taken_left}
+use Rattle.inode_parts.specs.Vocabulary.{IfBegun}
+use Rattle.inode_parts.specs.Leaving.{heard_if}
 use Rattle.fs_machine.specs.Steps as steps
 use Rattle.path_walk.specs.declared.asks.Heard.TheVariants as heard
 use Rattle.path_walk.specs.declared.asks.Query.{Query}
@@ -66,3 +70,18 @@ pub seen_over : (path : List ℕ) (m m2 : Notes) (k : InodePlace) (h : Hand) (l 
 seen_over path m m2 k h l d found empty x is taken heard_so noted =
     (λ i. seen path (beside_in path m k h) (number_at k h) (record { inode = record_in k h; index = index_there k h i }) l found empty)
     ∙ seen_ends path m m2 k h l d found empty x is taken heard_so noted
+
+-- ---- begun, or seen at once
+
+pub left_begun : (path : List ℕ) (m : Notes) (r : Bool) (p : TakePart) (x : Heard) (h : Hand) → taken_left path m (begun_if r p x) h ≡ left_after (take_left path m) (handed path m) (heard_if r x) p h
+left_begun path m true p x h = refl
+left_begun path m false p x h = refl
+
+pub still_begun : (r : Bool) (p : TakePart) (x : Heard) (On : TakePart → Type 0) → IfBegun On (λ _. Unit {0}) (begun_if r p x) → IfNone (heard_if r x) (On p)
+still_begun true p x On on = tt
+still_begun false p x On on = on
+
+pub begun_so : (r : Bool) (p : TakePart) (x : Heard) (On : TakePart → Type 0) (Over : Heard → Type 0) (Q : Option Heard → Type 0) → IfBegun On (λ _. Unit {0}) (begun_if r p x) → IfBegun (λ _. Unit {0}) Over (begun_if r p x)
+    → (On p → Q None) → (Over x → Q (Some x)) → Q (heard_if r x)
+begun_so true p x On Over Q on over goes_on ends = ends over
+begun_so false p x On Over Q on over goes_on ends = goes_on on

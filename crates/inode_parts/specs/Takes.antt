@@ -1,5 +1,5 @@
 -- An inode locked, and what is looked for found in it, as a part.
-use Rattle.std.specs.Prelude.{◌≡◌, ◌<◌, ◌^◌, ℕ, List, Bool, true, not, Option, Some, None, is_some}
+use Rattle.std.specs.Prelude.{◌≡◌, ◌<◌, ◌^◌, ℕ, List, Bool, true, false, not, Option, Some, None, is_some}
 use Rattle.inode_parts.specs.Vocabulary.{put, Loaded, Searched, Super, Ret, bind, inode_block, begun_of, Begun, Entry, Named, lookup, Found, Hand, InodePlace, Op, inode_at, number_at, HasNoBuffer, number_in, loaded_in, IsLoadedAt, lock_left, lock_asked, lock_seat, LockReady, entries, search_left, search_asked, SearchReady, Carry, number_found, query_in, sight_in, name_in, Heard, Element}
 use Rattle.inode_machine.specs.Inodes as whole
 use Rattle.path_walk.specs.declared.asks.Heard.TheVariants as heard
@@ -12,6 +12,7 @@ use Rattle.inode_parts.specs.declared.note.Note.TheVariants as note
 use Rattle.inode_parts.specs.declared.note.Notes.{Notes}
 use Rattle.inode_parts.specs.declared.take_part.TakePart.{TakePart}
 use Rattle.inode_parts.specs.declared.take_part.TakePart.TheVariants as take
+use Rattle.inode_data.specs.declared.begun.Begun.TheVariants as beginning
 
 -- what was seen of inode n, and what is had of it
 abbrev pub seen : List ℕ → Carry → ℕ → Loaded → Note → Option ℕ → Bool → Part
@@ -47,6 +48,11 @@ take_left path m (take.Listing k s) h =
 -- one that has begun to look, or has seen it at once
 abbrev pub taken_left : List ℕ → Notes → Begun TakePart Heard → Hand → Part
 taken_left path m begun h = begun_of (λ p. take_left path m p h) (λ x. handed path m x h) begun
+
+-- it was seen, or it is still to be looked for
+abbrev pub begun_if : Bool → TakePart → Heard → Begun TakePart Heard
+begun_if true p x = beginning.Is x
+begun_if false p x = beginning.Runs p
 
 abbrev pub take_asked : TakePart → Op
 take_asked (take.Locking q r) = lock_asked r

@@ -92,6 +92,18 @@ impl Lowered {
         if self.ended { Some(self.heard) } else { None }
     }
 
+    /// The same, told in its place: what is large is not moved twice.
+    #[inline(always)]
+    pub fn tell(&self, last: &mut Option<Heard>)
+        ensures { last.new ≡ heard_if self.now.ended self.now.heard }
+    {
+        if self.ended {
+            *last = Some(self.heard);
+        } else {
+            *last = None;
+        }
+    }
+
     /// Whether the call claims an inode for which no place in memory was left, and is to be told so in its next step.
     pub fn lacks_place(&self) -> bool
         ensures { result ≡ lacks_place self.now }

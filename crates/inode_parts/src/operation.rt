@@ -11,7 +11,8 @@ use fs_machine::{Answer, Hand, Op};
 use path_walk::Heard;
 
 /// An operation on whole inodes, run below step by step, that needs nothing more of its call's text once it has begun. It does what
-/// iupdate, itrunc, dirlink, ialloc or ilock does in xv6, or iput with an inode without links, or unlink with a name.
+/// `iupdate`, `itrunc`, `dirlink`, `ialloc`, `ilock` or `stati` does in xv6, or `iput` with an inode without links, `unlink` with a name,
+/// `fileread` or `filewrite` with the lock that it takes.
 pub trait Operation: Drop {
     // The program that is left, in a call with this text, by these notes and with this in hand.
     ghost left: { List ℕ → NotesState → Self → HandState → Part };

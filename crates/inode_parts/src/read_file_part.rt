@@ -60,6 +60,7 @@ impl ReadFilePart {
     }
 
     /// How it goes on, with the call's bytes lent: true where it is over, with what is heard left in `heard`.
+    #[inline(always)]
     pub fn next(&mut self, text: &mut [u8], answer: &Answer, hand: &Hand, heard: &mut Heard) -> bool
         requires told { ReadFileTold text.old self.old }
         requires came { (before : HandState) × ReadFileReady self.old before

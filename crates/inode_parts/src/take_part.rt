@@ -8,10 +8,10 @@ ghost use Rattle.inode_parts.specs.Holding.{IsCounted};
 ghost use Rattle.inode_parts.specs.Leaving.{heard_if, having, StaysOrLeaves};
 ghost use Rattle.inode_parts.specs.Sides.{beside_in};
 ghost use Rattle.inode_parts.specs.Parts.{IsPart};
-ghost use Rattle.inode_parts.specs.Takes.{looked, note_of, taken_left, take_left, take_asked, take_query, take_seat, IsTaken, IsTold, Sees, TakeAmid, TakeBegins, TakeReady, TakeTold};
+ghost use Rattle.inode_parts.specs.Takes.{looked, note_of, begun_if, taken_left, take_left, take_asked, take_query, take_seat, IsTaken, IsTold, Sees, TakeAmid, TakeBegins, TakeReady, TakeTold};
 ghost use Rattle.inode_parts.specs.declared.note.Note.TheVariants as note;
 ghost use Rattle.inode_parts.specs.declared.note.Notes.{Notes as NotesState};
-ghost use Rattle.path_walk.specs.declared.asks.Heard.TheVariants as heard;
+ghost use Rattle.path_walk.specs.declared.asks.Heard.TheVariants as hearing;
 
 use crate::faces::face_unless_free;
 use crate::names::name;
@@ -93,16 +93,10 @@ impl TakePart {
         match self {
             TakePart::Locking(query, lock) => match lock.next(answer, hand) {
                 None => false,
-                Some(seat) => match look(*query, path, second, seat, notes, hand) {
-                    Begun::Is(seen) => {
-                        *heard = seen;
-                        true
-                    }
-                    Begun::Runs(part) => {
-                        *self = part;
-                        false
-                    }
-                },
+                Some(seat) => {
+                    let query = *query;
+                    self.look(query, path, second, seat, notes, hand, heard)
+                }
             },
             TakePart::Naming(seat, element, search) => {
                 let sought = Sought::Name(name(path, second, element));
@@ -110,7 +104,7 @@ impl TakePart {
                     None => false,
                     Some(found) => {
                         let inode = record_at(hand, *seat);
-                        *heard = named(inode, *seat, *element, found, notes);
+                        named(inode, *seat, *element, found, notes, heard);
                         true
                     }
                 }
@@ -120,94 +114,120 @@ impl TakePart {
                     None => false,
                     Some(found) => {
                         let inode = record_at(hand, *seat);
-                        *heard = listed(inode, *seat, found, notes);
+                        listed(inode, *seat, found, notes, heard);
                         true
                     }
                 }
             }
         }
     }
-}
 
-// Looks for this in the inode at a seat, which is locked and loaded, in a call with this path and a second one.
-fn look(
-    query: Query,
-    path: &[u8],
-    second: &[u8],
-    seat: InodePlace,
-    notes: &mut Notes,
-    hand: &Hand,
-) -> Begun<TakePart, Heard>
-    requires taken { IsTaken seat hand.now }
-    requires free { HasNoBuffer hand.now }
-    requires told { IsTold path.now second.now query }
-    ensures program { let text = path.now ++ second.now in taken_left text notes.new result hand.now
-        ≡ looked text query (beside_in text notes.old seat hand.now) (number_at seat hand.now) (loaded_in seat hand.now) }
-    ensures ready { IfBegun (λ p. TakeReady p hand.now) (λ _. Unit {0}) result }
-    ensures told { IfBegun (λ p. TakeTold path.now second.now p) (λ _. Unit {0}) result }
-    ensures looks { IfBegun (λ p. (take_seat p ≡ seat) × (take_query p ≡ query) × (notes.new ≡ notes.old)) (λ _. Unit {0}) result }
-    ensures sees { let text = path.now ++ second.now in
-        IfBegun (λ _. Unit {0}) (λ heard. Sees text (query_in text query) seat heard notes.old notes.new) result }
-{
-    let inode = record_at(hand, seat);
-    match query {
-        Query::Nothing => {
-            notes.set(seat, Note::Nothing);
-            Begun::Is(saw(inode, None, true))
+    // Looks for this in the inode at a seat, which is locked and loaded, in a call with this path and a second one: true where it is seen,
+    // and left in `heard`.
+    fn look(
+        &mut self,
+        query: Query,
+        path: &[u8],
+        second: &[u8],
+        seat: InodePlace,
+        notes: &mut Notes,
+        hand: &Hand,
+        heard: &mut Heard,
+    ) -> bool
+        requires taken { IsTaken seat hand.now }
+        requires free { HasNoBuffer hand.now }
+        requires told { IsTold path.now second.now query }
+        ensures program { let text = path.now ++ second.now in taken_left text notes.new (begun_if result self.new heard.new) hand.now
+            ≡ looked text query (beside_in text notes.old seat hand.now) (number_at seat hand.now) (loaded_in seat hand.now) }
+        ensures ready { IfBegun (λ p. TakeReady p hand.now) (λ _. Unit {0}) (begun_if result self.new heard.new) }
+        ensures told { IfBegun (λ p. TakeTold path.now second.now p) (λ _. Unit {0}) (begun_if result self.new heard.new) }
+        ensures looks { IfBegun (λ p. (take_seat p ≡ seat) × (take_query p ≡ query) × (notes.new ≡ notes.old)) (λ _. Unit {0})
+            (begun_if result self.new heard.new) }
+        ensures sees { let text = path.now ++ second.now in
+            IfBegun (λ _. Unit {0}) (λ x. Sees text (query_in text query) seat x notes.old notes.new)
+            (begun_if result self.new heard.new) }
+    {
+        let inode = record_at(hand, seat);
+        match query {
+            Query::Nothing => {
+                notes.set(seat, Note::Nothing);
+                saw(inode, None, true, heard);
+                true
+            }
+            Query::Name(element) => match Search::lookup(hand, seat, name(path, second, &element)) {
+                Begun::Is(found) => {
+                    named(inode, seat, element, found, notes, heard);
+                    true
+                }
+                Begun::Runs(search) => {
+                    *self = TakePart::Naming(seat, element, search);
+                    false
+                }
+            },
+            Query::Entries => match Search::entries(hand, seat) {
+                Begun::Is(found) => {
+                    listed(inode, seat, found, notes, heard);
+                    true
+                }
+                Begun::Runs(search) => {
+                    *self = TakePart::Listing(seat, search);
+                    false
+                }
+            },
         }
-        Query::Name(element) => match Search::lookup(hand, seat, name(path, second, &element)) {
-            Begun::Is(found) => Begun::Is(named(inode, seat, element, found, notes)),
-            Begun::Runs(search) => Begun::Runs(TakePart::Naming(seat, element, search)),
-        },
-        Query::Entries => match Search::entries(hand, seat) {
-            Begun::Is(found) => Begun::Is(listed(inode, seat, found, notes)),
-            Begun::Runs(search) => Begun::Runs(TakePart::Listing(seat, search)),
-        },
     }
 }
 
-// What was seen of an inode.
-fn saw(inode: &Dinode, found: Option<u32>, empty: bool) -> Heard
-    ensures heard { result ≡ heard.Saw (record { face = face_unless_free inode.now; found = found; empty = empty }) }
-    ensures counted { IsCounted (sight_in result) }
+// What was seen of an inode is heard.
+fn saw(inode: &Dinode, found: Option<u32>, empty: bool, heard: &mut Heard)
+    ensures heard { heard.new ≡ hearing.Saw (record { face = face_unless_free inode.now; found = found; empty = empty }) }
+    ensures counted { IsCounted (sight_in heard.new) }
 {
-    Heard::Saw(Sight {
+    *heard = Heard::Saw(Sight {
         face: face_unless_free(inode),
         found,
         empty,
-    })
+    });
 }
 
 // The same where a name was sought; its slot is noted.
+#[inline(always)]
 fn named(
     inode: &Dinode,
     seat: InodePlace,
     element: Element,
     found: Option<Found>,
     notes: &mut Notes,
-) -> Heard
-    ensures heard { result ≡ heard.Saw (record { face = face_unless_free inode.now; found = number_found found; empty = true }) }
+    heard: &mut Heard,
+)
+    ensures heard { heard.new ≡ hearing.Saw (record { face = face_unless_free inode.now; found = number_found found; empty = true }) }
     ensures notes { notes.new ≡ with_note seat (note_of element found) notes.old }
-    ensures counted { IsCounted (sight_in result) }
+    ensures counted { IsCounted (sight_in heard.new) }
 {
     match found {
         Some(found) => {
             notes.set(seat, Note::Finds(element, found.slot));
-            saw(inode, Some(found.number), true)
+            saw(inode, Some(found.number), true, heard);
         }
         None => {
             notes.set(seat, Note::Nothing);
-            saw(inode, None, true)
+            saw(inode, None, true, heard);
         }
     }
 }
 
 // The same where an entry was sought.
-fn listed(inode: &Dinode, seat: InodePlace, found: Option<Found>, notes: &mut Notes) -> Heard
-    ensures heard { result ≡ heard.Saw (record { face = face_unless_free inode.now; found = None; empty = not (is_some found) }) }
+fn listed(
+    inode: &Dinode,
+    seat: InodePlace,
+    found: Option<Found>,
+    notes: &mut Notes,
+    heard: &mut Heard,
+)
+    ensures heard { heard.new ≡ hearing.Saw (record { face = face_unless_free inode.now; found = None; empty = not (is_some found) }) }
     ensures notes { notes.new ≡ with_note seat note.Nothing notes.old }
-    ensures counted { IsCounted (sight_in result) }
+    ensures counted { IsCounted (sight_in heard.new) }
 {
     notes.set(seat, Note::Nothing);
-    saw(inode, None, found.is_none())
+    saw(inode, None, found.is_none(), heard);
 }

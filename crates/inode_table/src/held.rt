@@ -8,8 +8,8 @@ use fs_layout::Dinode;
 use fs_machine::{Hand, Inode, InodePlace};
 use sleep_lock::Guard;
 
-/// The record of an inode that is loaded, as the holder of its lock has it.
-pub fn record(guard: &Guard<Inode>) -> &Dinode
+// The record of an inode that is loaded, as the holder of its lock has it.
+fn record(guard: &Guard<Inode>) -> &Dinode
     requires { IsSome guard.now.value.content }
     ensures { result.now ≡ record_of guard.now.value }
 {

@@ -14,7 +14,7 @@ mod place;
 mod store_inode;
 mod store_record;
 
-pub use crate::held::{record, record_at, unload_at};
+pub use crate::held::{record_at, unload_at};
 pub use crate::load_inode::LoadInode;
 pub use crate::loading::load_held;
 pub use crate::lock_inode::LockInode;

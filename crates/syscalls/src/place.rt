@@ -139,7 +139,7 @@ impl CallPlace {
             SteppedInPlace::Ran(kind) => SteppedInPlace::Ran(kind),
             SteppedInPlace::Done((), kind) => {
                 self.is_busy = false;
-                *last = self.machine.control.heard();
+                self.machine.control.tell(last);
                 SteppedInPlace::Done(self.machine.control.reply(), kind)
             }
             SteppedInPlace::Stopped => SteppedInPlace::Stopped,

@@ -41,11 +41,11 @@ returns-in-Done g c =
     let at : c.args.self.now ≡ Some c.deref_mut.result.now = busy_is w.is_busy w.machine.value c.args.self.now c.self.view_is c.requires.busy ∙ ap (λ (m : Running). Some m) (sym c.deref_mut.ensures.value) in
     let did = c.in-Done.ensures in
     let says : c.reply.result ≡ reply_to (call_in c.step.new.self.control.call) c.step.new.self.control.says = c.reply.ensures ∙ ap (λ (m : Running). reply_to (call_in m.control.call) m.control.says) c.deref_mut-in-Done.ensures.value in
-    subst (λ (o : Option Running). StepsAt g.D.Device.contents g.D.Device.failures g.D.Device.Called c.args.hart o None (Done c.reply.result c.in-Done.kind) c.heard.result c.args.core.now c.step.new.core) (sym at)
-    (subst (λ (r : Reply). StepsAt g.D.Device.contents g.D.Device.failures g.D.Device.Called c.args.hart (Some c.deref_mut.result.now) None (Done r c.in-Done.kind) c.heard.result c.args.core.now c.step.new.core) (sym says) (
+    subst (λ (o : Option Running). StepsAt g.D.Device.contents g.D.Device.failures g.D.Device.Called c.args.hart o None (Done c.reply.result c.in-Done.kind) c.tell.new.last c.args.core.now c.step.new.core) (sym at)
+    (subst (λ (r : Reply). StepsAt g.D.Device.contents g.D.Device.failures g.D.Device.Called c.args.hart (Some c.deref_mut.result.now) None (Done r c.in-Done.kind) c.tell.new.last c.args.core.now c.step.new.core) (sym says) (
       c.step.new.self,
       refl,
-      record { moves = did.steps.moves; honest = did.steps.honest; still = did.steps.still; fits = tt; others = did.steps.others; called = did.steps.called; tells = (did.tells, c.heard.ensures ∙ ap heard_of c.deref.ensures) },
+      record { moves = did.steps.moves; honest = did.steps.honest; still = did.steps.still; fits = tt; others = did.steps.others; called = did.steps.called; tells = (did.tells, c.tell.ensures ∙ ap heard_of c.deref.ensures) },
     ))
 
 pub returns-in-Stopped : goal.returns-in-Stopped
