@@ -48,6 +48,7 @@ fn raise_in(place: &mut Option<Guard<Inode>>, k: usize, count: usize, block: &Bl
 }
 
 // The block in hand, which is block `k`, was read; so many of its slots are the directory's.
+#[inline(always)]
 fn raise_at(hand: &mut Hand, seat: InodePlace, k: usize, count: usize)
     requires valid { MatchOption hand.old.first ⊥ (λ g. IsSome g.value.content) }
     requires loaded { IsLoadedAt seat hand.old }
@@ -65,6 +66,7 @@ fn raise_at(hand: &mut Hand, seat: InodePlace, k: usize, count: usize)
 }
 
 // What is found in the block in hand, which is block `k`.
+#[inline(always)]
 fn found_at(hand: &Hand, inode: &Dinode, k: usize, sought: Sought) -> Option<Found>
     requires valid { MatchOption hand.now.first ⊥ (λ g. IsSome g.value.content) }
     requires block { k < most_blocks }

@@ -56,6 +56,7 @@ fn name_len(path: &[u8]) -> usize
 }
 
 /// The first element from a place of a path on, cut to the longest name of the version.
+#[inline(always)]
 pub fn next_element(version: Version, path: &[u8], from: usize) -> Option<Element>
     requires from { from ≤ length path.now }
     requires nonzero { All (λ b. b ≢ 0) path.now }

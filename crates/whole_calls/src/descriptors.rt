@@ -23,7 +23,6 @@ impl Dup {
         Dup::Double
     }
 
-    #[inline(always)]
     pub fn ask(&self, fd: u32) -> Ask
         ensures asks { asks (dup_of fd self.now) ≡ Some (op_in [] result) }
         ensures named { (path : List ℕ) → IsNamed path result }
@@ -101,7 +100,6 @@ impl Fstat {
         Fstat::Look
     }
 
-    #[inline(always)]
     pub fn ask(&self, fd: u32) -> Ask
         ensures asks { asks (stat_of fd self.now) ≡ Some (op_in [] result) }
         ensures named { (path : List ℕ) → IsNamed path result }

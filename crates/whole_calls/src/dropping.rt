@@ -16,7 +16,6 @@ pub enum Dropping {
 }
 
 impl Dropping {
-    #[inline(always)]
     pub fn ask(&self) -> Ask
         ensures asks { (path : List ℕ) (k : P Reply) → asks (dropping_of k self.now) ≡ Some (op_in path result) }
         ensures named { (path : List ℕ) → IsNamed path result }

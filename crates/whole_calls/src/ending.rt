@@ -17,7 +17,6 @@ pub enum Freeing {
 }
 
 impl Freeing {
-    #[inline(always)]
     pub fn ask(&self) -> Ask
         ensures asks { (path : List ℕ) (k : P Reply) → asks (freeing_of k self.now) ≡ Some (op_in path result) }
         ensures named { (path : List ℕ) → IsNamed path result }

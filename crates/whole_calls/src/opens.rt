@@ -165,6 +165,7 @@ fn look(at: &mut Open, directory: u32, element: Element)
 }
 
 /// A transaction is joined.
+#[inline(always)]
 fn begin(at: &mut Open, path: &[u8], flags: u32)
     requires { All (λ b. b ≢ 0) path.now }
     ensures program { (text : List ℕ) (heard : Heard)

@@ -24,7 +24,6 @@ impl Read {
         Read::Lock
     }
 
-    #[inline(always)]
     pub fn ask(&self, fd: u32, buffer: &[u8]) -> Ask
         ensures asks { (text : List ℕ) → asks (read_of fd buffer.now self.now) ≡ Some (op_in text result) }
         ensures named { ReadAsks buffer.now self.now result }

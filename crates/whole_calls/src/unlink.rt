@@ -170,9 +170,7 @@ impl Unlink {
                 Walked::Reached(directory, Some(element)) => {
                     reached(self, directory, element, path);
                 }
-                Walked::Reached(_, None) => {
-                    leave(self, Answer::Failed(Cause::NoEntry));
-                }
+                Walked::Reached(_, None) => leave(self, Answer::Failed(Cause::NoEntry)),
                 Walked::Lost(why) => leave(self, stopped(why)),
             },
             Unlink::Dots(directory) => {

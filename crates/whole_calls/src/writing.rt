@@ -88,7 +88,6 @@ impl Write {
         }
     }
 
-    #[inline(always)]
     pub fn ask(&self, fd: u32, bytes: &[u8]) -> Ask
         ensures asks { asks (write_of fd bytes.now self.now) ≡ Some (op_in bytes.now result) }
         ensures named { WriteFits bytes.now self.now → WriteAsks bytes.now result }
