@@ -47,6 +47,7 @@ impl Numbers {
     }
 
     /// Takes the first one out.
+    #[inline(always)]
     pub fn take_first(&mut self) -> Option<u32>
         ensures { MatchOption result ((self.old ≡ []) × (self.new ≡ [])) (λ first. self.old ≡ first ∷ self.new) }
     {

@@ -90,26 +90,14 @@ fn onward(walk: &mut Walk, goal: Goal, directory: u32, path: &[u8], rest: usize)
 pub fn is_directory(sight: &Sight) -> bool
     ensures { result ≡ is_directory_face (sight_of sight.now).face }
 {
-    match sight.face {
-        Some(face) => match face.inode_type {
-            InodeType::Directory => true,
-            _ => false,
-        },
-        None => false,
-    }
+    matches!(sight.face, Some(face) if matches!(face.inode_type, InodeType::Directory))
 }
 
 /// A directory with links was seen.
 pub fn is_live(sight: &Sight) -> bool
     ensures { result ≡ is_live_face (sight_of sight.now).face }
 {
-    match sight.face {
-        Some(face) => match face.inode_type {
-            InodeType::Directory => face.count > 0,
-            _ => false,
-        },
-        None => false,
-    }
+    is_directory(sight) && face_or(sight).count > 0
 }
 
 impl Walk {

@@ -1,9 +1,9 @@
 //! chdir.
-ghost use Rattle.std.specs.Prelude.{◌≡◌, ◌≢◌, ℕ, All, [], List, Option, Some, false};
+ghost use Rattle.std.specs.Prelude.{◌≡◌, ◌≢◌, ℕ, All, List, Option, Some, false};
 ghost use Rattle.plain_tree.specs.declared.call.Call.TheVariants as calls;
 ghost use Rattle.plain_tree.specs.declared.step.Action.TheVariants as steps;
-ghost use Rattle.whole_calls.specs.Vocabulary.{asks, hears, mark_at, marked_as, op_in, stepped, IsNamed, chdir_program};
-ghost use Rattle.whole_calls.specs.Calls.{chdir_of, chdir_stage, Fits, Fresh};
+ghost use Rattle.whole_calls.specs.Vocabulary.{asks, hears, mark_at, marked_as, op_in, stepped, IsNamed};
+ghost use Rattle.whole_calls.specs.Calls.{chdir_of, chdir_stage, Fits};
 
 use crate::dropping::Dropping;
 use crate::ending::Ending;
@@ -21,13 +21,6 @@ pub enum Chdir {
 }
 
 impl Chdir {
-    pub fn new() -> Chdir
-        ensures program { (path : List ℕ) → chdir_of path [] result ≡ chdir_program path }
-        ensures fresh { chdir_stage result ≡ Fresh }
-    {
-        Chdir::Join
-    }
-
     #[inline(always)]
     pub fn ask(&self, path: &[u8]) -> Ask
         ensures asks { (list : List ℕ) → asks (chdir_of path.now list self.now) ≡ Some (op_in path.now result) }

@@ -2,7 +2,7 @@
 ghost use Rattle.std.specs.Prelude.{◌≡◌, ◌≤◌, ℕ, [], List, Option, Some};
 ghost use Rattle.plain_tree.specs.declared.call.Call.TheVariants as calls;
 ghost use Rattle.plain_tree.specs.declared.step.Action.TheVariants as steps;
-ghost use Rattle.whole_calls.specs.Vocabulary.{asks, hears, loan_of, mark_at, marked_as, op_in, stepped, IsNamed, close_program, inherit_program, lend_from, lend_on};
+ghost use Rattle.whole_calls.specs.Vocabulary.{asks, hears, loan_of, mark_at, marked_as, op_in, stepped, IsNamed, inherit_program, lend_from, lend_on};
 ghost use Rattle.whole_calls.specs.Closes.{close_of, inherit_of};
 
 use crate::dropping::Dropping;
@@ -20,12 +20,6 @@ pub enum Close {
 }
 
 impl Close {
-    pub fn new() -> Close
-        ensures { (fd : ℕ) → close_of fd result ≡ close_program fd }
-    {
-        Close::Shut
-    }
-
     #[inline(always)]
     pub fn ask(&self, fd: u32) -> Ask
         ensures asks { asks (close_of fd self.now) ≡ Some (op_in [] result) }

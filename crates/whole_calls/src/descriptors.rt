@@ -2,7 +2,7 @@
 ghost use Rattle.std.specs.Prelude.{◌≡◌, ℕ, [], List, Option, Some};
 ghost use Rattle.plain_tree.specs.declared.call.Call.TheVariants as calls;
 ghost use Rattle.plain_tree.specs.declared.step.Action.TheVariants as steps;
-ghost use Rattle.whole_calls.specs.Vocabulary.{asks, hears, mark_at, marked_as, op_in, stepped, face_of, IsNamed, dup_program, stat_program, stat_of_face};
+ghost use Rattle.whole_calls.specs.Vocabulary.{asks, hears, mark_at, marked_as, op_in, stepped, face_of, IsNamed, stat_of_face};
 ghost use Rattle.whole_calls.specs.Calls.{dup_of, stat_of};
 ghost use Rattle.plain_tree.specs.declared.answer.Answer.TheVariants as answers;
 
@@ -17,12 +17,6 @@ pub enum Dup {
 }
 
 impl Dup {
-    pub fn new() -> Dup
-        ensures { (fd : ℕ) → dup_of fd result ≡ dup_program fd }
-    {
-        Dup::Double
-    }
-
     pub fn ask(&self, fd: u32) -> Ask
         ensures asks { asks (dup_of fd self.now) ≡ Some (op_in [] result) }
         ensures named { (path : List ℕ) → IsNamed path result }
@@ -94,12 +88,6 @@ fn stat_answer(number: u16, face: &Face) -> Answer
 }
 
 impl Fstat {
-    pub fn new() -> Fstat
-        ensures { (fd : ℕ) → stat_of fd result ≡ stat_program fd }
-    {
-        Fstat::Look
-    }
-
     pub fn ask(&self, fd: u32) -> Ask
         ensures asks { asks (stat_of fd self.now) ≡ Some (op_in [] result) }
         ensures named { (path : List ℕ) → IsNamed path result }

@@ -1,8 +1,8 @@
 //! link: the count goes up first, and down again where the name can't be entered.
-ghost use Rattle.std.specs.Prelude.{◌≡◌, ◌≢◌, ◌≤◌, ◌+◌, ◌++◌, ℕ, All, [], List, Option, Some, length, false};
-ghost use Rattle.whole_calls.specs.Vocabulary.{elements, asks, entered_of, face_of, hears, mark_at, marked_as, op_in, reply_to, sight_of, stepped, IsNamedInTwo, name_in, IsElement, face_or, bump_refused, link_at, link_found, link_program, lower, named_on, give_up, tail, Heard};
+ghost use Rattle.std.specs.Prelude.{◌≡◌, ◌≢◌, ◌≤◌, ◌+◌, ◌++◌, ℕ, All, List, Option, Some, length, false};
+ghost use Rattle.whole_calls.specs.Vocabulary.{elements, asks, entered_of, face_of, hears, mark_at, marked_as, op_in, reply_to, sight_of, stepped, IsNamedInTwo, name_in, IsElement, face_or, bump_refused, link_at, link_found, lower, named_on, give_up, tail, Heard};
 ghost use Rattle.plain_tree.specs.declared.call.Call.TheVariants as calls;
-ghost use Rattle.whole_calls.specs.Links.{link_action, link_of, link_stage, LinkFits, Fresh, Past, took};
+ghost use Rattle.whole_calls.specs.Links.{link_action, link_of, link_stage, LinkFits, Past, took};
 ghost use Rattle.whole_calls.specs.declared.link.Link.TheVariants as linking;
 
 use crate::dropping::Dropping;
@@ -116,13 +116,6 @@ fn entered(directory: u32, number: u32, entered: Entered) -> Link
 }
 
 impl Link {
-    pub fn new() -> Link
-        ensures program { (old new : List ℕ) → link_of old new [] result ≡ link_program old new }
-        ensures fresh { link_stage result ≡ Fresh }
-    {
-        Link::Join
-    }
-
     /// The next operation. The new path stands behind the old one.
     #[inline(always)]
     pub fn ask(&self, old: &[u8], new: &[u8]) -> Ask

@@ -1,9 +1,9 @@
 //! mkdir: the new directory with its two entries first, then its name and its parent's count.
 ghost use Rattle.std.specs.Prelude.{◌≡◌, ◌≢◌, ◌≤◌, ℕ, All, [], List, Option, Some, length, false};
-ghost use Rattle.whole_calls.specs.Vocabulary.{elements, asks, claimed_of, entered_of, face_of, hears, mark_at, marked_as, op_in, reply_to, sight_of, stepped, IsNamed, name_in, IsElement, face_or, mkdir_on, mkdir_program, mkdir_refused, mkdir_with, name_directory, give_up, tail, Heard};
+ghost use Rattle.whole_calls.specs.Vocabulary.{elements, asks, claimed_of, entered_of, face_of, hears, mark_at, marked_as, op_in, reply_to, sight_of, stepped, IsNamed, name_in, IsElement, face_or, mkdir_on, mkdir_refused, mkdir_with, name_directory, give_up, tail, Heard};
 ghost use Rattle.plain_tree.specs.declared.call.Call.TheVariants as calls;
 ghost use Rattle.plain_tree.specs.declared.step.Action.TheVariants as steps;
-ghost use Rattle.whole_calls.specs.Calls.{Fits, Fresh, Past};
+ghost use Rattle.whole_calls.specs.Calls.{Fits, Past};
 ghost use Rattle.whole_calls.specs.Makes.{mkdir_of, mkdir_stage};
 ghost use Rattle.whole_calls.specs.declared.mkdir.Mkdir.TheVariants as making;
 
@@ -116,13 +116,6 @@ fn entered(name: NewName, face: Face, entered: Entered) -> Mkdir
 }
 
 impl Mkdir {
-    pub fn new() -> Mkdir
-        ensures program { (path : List ℕ) → mkdir_of path [] result ≡ mkdir_program path }
-        ensures fresh { mkdir_stage result ≡ Fresh }
-    {
-        Mkdir::Join
-    }
-
     #[inline(always)]
     pub fn ask(&self, path: &[u8]) -> Ask
         ensures asks { (list : List ℕ) → asks (mkdir_of path.now list self.now) ≡ Some (op_in path.now result) }

@@ -1,9 +1,9 @@
 //! open: what is there is opened, or a new file made.
 ghost use Rattle.std.specs.Prelude.{◌≡◌, ◌≢◌, ◌≤◌, ℕ, All, [], List, Option, Some, length, ◌==◌, false};
-ghost use Rattle.whole_calls.specs.Vocabulary.{creates, has, elements, asks, claimed_of, entered_of, face_of, hears, mark_at, marked_as, op_in, reply_to, sight_of, type_of, stepped, IsNamed, name_in, IsElement, face_or, open_refusal, create_found, create_in, empties, make_on, make_with, open_at, open_face, open_program, give_up, tail, Heard};
+ghost use Rattle.whole_calls.specs.Vocabulary.{creates, has, elements, asks, claimed_of, entered_of, face_of, hears, mark_at, marked_as, op_in, reply_to, sight_of, type_of, stepped, IsNamed, name_in, IsElement, face_or, open_refusal, create_found, empties, make_on, make_with, open_face, give_up, tail, Heard};
 ghost use Rattle.plain_tree.specs.declared.call.Call.TheVariants as calls;
 ghost use Rattle.plain_tree.specs.declared.step.Action.TheVariants as steps;
-ghost use Rattle.whole_calls.specs.Calls.{Fits, Fresh, Past};
+ghost use Rattle.whole_calls.specs.Calls.{Fits, Past};
 ghost use Rattle.whole_calls.specs.Opens.{installed, open_goal, open_of, open_stage};
 ghost use Rattle.whole_calls.specs.declared.opens.Open.TheVariants as opening;
 
@@ -125,45 +125,6 @@ fn refuse(at: &mut Open, number: u32, answer: Answer)
     *at = Open::Ends(Ending::Gives(Dropping::UnlockInode(number), answer));
 }
 
-/// Leaves the transaction, and answers this.
-#[inline(always)]
-fn leave(at: &mut Open, answer: Answer)
-    ensures program { (path : List ℕ) (flags : ℕ) (list : List ℕ)
-        → open_of path flags list at.new ≡ tail list (reply_to (calls.Open path flags) answer) }
-    ensures past { open_stage at.new ≡ Past }
-{
-    *at = Open::Ends(Ending::Leaves(answer));
-}
-
-/// Gives a new inode and its directory up, and answers this.
-#[inline(always)]
-fn refuse_new(at: &mut Open, number: u32, directory: u32, answer: Answer)
-    ensures program { (path : List ℕ) (flags : ℕ) (list : List ℕ)
-        → open_of path flags list at.new ≡ give_up number (give_up directory (tail list (reply_to (calls.Open path flags) answer))) }
-    ensures past { open_stage at.new ≡ Past }
-{
-    *at = Open::Ends(Ending::GivesTwo(Dropping::UnlockInode(number), directory, answer));
-}
-
-/// What is there is taken.
-#[inline(always)]
-fn take(at: &mut Open, number: u32)
-    ensures program { (path : List ℕ) (flags : ℕ) (list : List ℕ) → open_of path flags list at.new ≡ open_at path flags number list }
-    ensures past { open_stage at.new ≡ Past }
-{
-    *at = Open::Take(number);
-}
-
-/// The parent is reached, with the name that is to be made.
-#[inline(always)]
-fn look(at: &mut Open, directory: u32, element: Element)
-    ensures program { (path : List ℕ) (flags : ℕ) (list : List ℕ)
-        → open_of path flags list at.new ≡ create_in path flags directory (name_in path element) list }
-    ensures fits { (path list : List ℕ) → IsElement path element → Fits path list (open_stage at.new) }
-{
-    *at = Open::Look(directory, element);
-}
-
 /// A transaction is joined.
 #[inline(always)]
 fn begin(at: &mut Open, path: &[u8], flags: u32)
@@ -173,7 +134,7 @@ fn begin(at: &mut Open, path: &[u8], flags: u32)
     ensures fits { length (elements path.now) ≤ MOST_LISTED → Fits path.now [] (open_stage at.new) }
 {
     if has_flag(flags, CREATE) && next_element(Version::One, path, 0).is_none() {
-        leave(at, Answer::Failed(Cause::NoEntry));
+        *at = Open::Ends(Ending::Leaves(Answer::Failed(Cause::NoEntry)));
     } else {
         *at = Open::Walks(Walk::Start);
     }
@@ -274,13 +235,6 @@ fn entered(at: &mut Open, name: NewName, inode_type: InodeType, entered: Entered
 }
 
 impl Open {
-    pub fn new() -> Open
-        ensures program { (path : List ℕ) (flags : ℕ) → open_of path flags [] result ≡ open_program path flags }
-        ensures fresh { open_stage result ≡ Fresh }
-    {
-        Open::Join
-    }
-
     #[inline(always)]
     pub fn ask(&self, path: &[u8], flags: u32) -> Ask
         ensures asks { (list : List ℕ) → asks (open_of path.now flags list self.now) ≡ Some (op_in path.now result) }
@@ -329,9 +283,11 @@ impl Open {
             Open::Join => begin(self, path, flags),
             Open::Walks(walk) => match walk.step(goal(flags), heard, path, list) {
                 Walked::Walks => {}
-                Walked::Reached(number, None) => take(self, number),
-                Walked::Reached(directory, Some(element)) => look(self, directory, element),
-                Walked::Lost(why) => leave(self, stopped(why)),
+                Walked::Reached(number, None) => *self = Open::Take(number),
+                Walked::Reached(directory, Some(element)) => {
+                    *self = Open::Look(directory, element);
+                }
+                Walked::Lost(why) => *self = Open::Ends(Ending::Leaves(stopped(why))),
             },
             Open::Take(number) => {
                 let number = *number;
@@ -350,10 +306,7 @@ impl Open {
                 installed(self, found, flags, heard.start());
             }
             Open::Empty(number, fd) => *self = Open::UnlockInode(*number, *fd),
-            Open::UnlockInode(_, fd) => {
-                let fd = *fd;
-                leave(self, Answer::Fd(fd));
-            }
+            Open::UnlockInode(_, fd) => *self = Open::Ends(Ending::Leaves(Answer::Fd(*fd))),
             Open::Look(directory, element) => {
                 let (directory, element) = (*directory, *element);
                 let sight = heard.sight();
@@ -373,8 +326,7 @@ impl Open {
             }
             Open::GiveParent(dropping, number) => {
                 if dropping.step(heard) {
-                    let number = *number;
-                    take(self, number);
+                    *self = Open::Take(*number);
                 }
             }
             Open::Claim(directory, element) => {
@@ -403,8 +355,8 @@ impl Open {
                 }
             }
             Open::Unmake(number, directory, answer) => {
-                let (number, directory, answer) = (*number, *directory, *answer);
-                refuse_new(self, number, directory, answer);
+                let dropping = Dropping::UnlockInode(*number);
+                *self = Open::Ends(Ending::GivesTwo(dropping, *directory, *answer));
             }
             Open::Ends(ending) => return ending.step(heard, list, says),
         }

@@ -2,7 +2,7 @@
 ghost use Rattle.std.specs.Prelude.{◌≡◌, ◌<◌, ◌^◌, ℕ, [], List, Option, Some, length, false};
 ghost use Rattle.plain_tree.specs.declared.call.Call.TheVariants as calls;
 ghost use Rattle.plain_tree.specs.declared.step.Action.TheVariants as steps;
-ghost use Rattle.whole_calls.specs.Vocabulary.{asks, hears, mark_at, marked_as, op_in, stepped, read_program};
+ghost use Rattle.whole_calls.specs.Vocabulary.{asks, hears, mark_at, marked_as, op_in, stepped};
 ghost use Rattle.whole_calls.specs.Reads.{FilledFrom, HasRoomIn, ReadAsks, ReadFits, read_of};
 
 use path_walk::{Ask, Heard, Locked, Mark};
@@ -17,13 +17,6 @@ pub enum Read {
 }
 
 impl Read {
-    pub fn new() -> Read
-        ensures program { (fd : ℕ) (buffer : List ℕ) → read_of fd buffer result ≡ read_program fd buffer }
-        ensures fits { (buffer : List ℕ) → ReadFits buffer result }
-    {
-        Read::Lock
-    }
-
     pub fn ask(&self, fd: u32, buffer: &[u8]) -> Ask
         ensures asks { (text : List ℕ) → asks (read_of fd buffer.now self.now) ≡ Some (op_in text result) }
         ensures named { ReadAsks buffer.now self.now result }

@@ -2,8 +2,8 @@
 ghost use Rattle.std.specs.Prelude.{◌≡◌, ◌≢◌, ◌≤◌, ℕ, All, [], List, Option, Some, length, false};
 ghost use Rattle.plain_tree.specs.declared.call.Call.TheVariants as calls;
 ghost use Rattle.plain_tree.specs.declared.step.Action.TheVariants as steps;
-ghost use Rattle.whole_calls.specs.Vocabulary.{asks, face_of, hears, mark_at, marked_as, op_in, stepped, reply_to, sight_of, IsNamed, is_directory_type, face_or, unlink_program, unlink_found, IsElement, give_up, tail, name_in, elements};
-ghost use Rattle.whole_calls.specs.Calls.{Fits, Fresh, Past, unlink_stage, cleared, gave_parent, is_dots, unlink_in, unlink_of};
+ghost use Rattle.whole_calls.specs.Vocabulary.{asks, face_of, hears, mark_at, marked_as, op_in, stepped, reply_to, sight_of, IsNamed, is_directory_type, face_or, unlink_found, IsElement, give_up, tail, name_in, elements};
+ghost use Rattle.whole_calls.specs.Calls.{Fits, Past, unlink_stage, cleared, gave_parent, is_dots, unlink_in, unlink_of};
 ghost use Rattle.whole_calls.specs.declared.unlink.Unlink.TheVariants as unlinking;
 
 use crate::dropping::Dropping;
@@ -53,22 +53,10 @@ fn refuse(at: &mut Unlink, directory: u32, answer: Answer)
     *at = Unlink::Ends(Ending::Gives(Dropping::UnlockInode(directory), answer));
 }
 
-/// Leaves the transaction, and answers this.
-#[inline(always)]
-fn leave(at: &mut Unlink, answer: Answer)
-    ensures program { (path list : List ℕ) → unlink_of path list at.new ≡ tail list (reply_to (calls.Unlink path) answer) }
-    ensures past { unlink_stage at.new ≡ Past }
-{
-    *at = Unlink::Ends(Ending::Leaves(answer));
-}
-
 fn is_directory(face: &Face) -> bool
     ensures { result ≡ is_directory_type (face_of face.now).inode_type }
 {
-    match face.inode_type {
-        InodeType::Directory => true,
-        _ => false,
-    }
+    matches!(face.inode_type, InodeType::Directory)
 }
 
 /// "." or "..".
@@ -115,13 +103,6 @@ fn cleared(at: &mut Unlink, name: Name, number: u32, face: Face)
 }
 
 impl Unlink {
-    pub fn new() -> Unlink
-        ensures program { (path : List ℕ) → unlink_of path [] result ≡ unlink_program path }
-        ensures fresh { unlink_stage result ≡ Fresh }
-    {
-        Unlink::Join
-    }
-
     #[inline(always)]
     pub fn ask(&self, path: &[u8]) -> Ask
         ensures asks { (list : List ℕ) → asks (unlink_of path.now list self.now) ≡ Some (op_in path.now result) }
@@ -170,8 +151,10 @@ impl Unlink {
                 Walked::Reached(directory, Some(element)) => {
                     reached(self, directory, element, path);
                 }
-                Walked::Reached(_, None) => leave(self, Answer::Failed(Cause::NoEntry)),
-                Walked::Lost(why) => leave(self, stopped(why)),
+                Walked::Reached(_, None) => {
+                    *self = Unlink::Ends(Ending::Leaves(Answer::Failed(Cause::NoEntry)));
+                }
+                Walked::Lost(why) => *self = Unlink::Ends(Ending::Leaves(stopped(why))),
             },
             Unlink::Dots(directory) => {
                 let directory = *directory;
@@ -279,7 +262,7 @@ fn begin(at: &mut Unlink, path: &[u8])
     ensures fits { length (elements path.now) ≤ MOST_LISTED → Fits path.now [] (unlink_stage at.new) }
 {
     match next_element(Version::One, path, 0) {
-        None => leave(at, Answer::Failed(Cause::NoEntry)),
+        None => *at = Unlink::Ends(Ending::Leaves(Answer::Failed(Cause::NoEntry))),
         Some(_) => *at = Unlink::Walks(Walk::Start),
     }
 }

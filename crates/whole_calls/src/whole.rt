@@ -41,12 +41,12 @@ impl Whole {
     {
         match call {
             Call::Open { path, flags } => {
-                let at = Open::new();
+                let at = Open::Join;
                 Whole::Open { path, flags, at }
             }
             Call::Read { fd, buf } => {
                 let buf = buf.into_vec();
-                let at = Read::new();
+                let at = Read::Lock;
                 Whole::Read { fd, buf, at }
             }
             Call::Write { fd, bytes } => {
@@ -54,31 +54,31 @@ impl Whole {
                 Whole::Write { fd, bytes, at }
             }
             Call::Link { old, new } => {
-                let at = Link::new();
+                let at = Link::Join;
                 Whole::Link { old, new, at }
             }
             Call::Unlink { path } => {
-                let at = Unlink::new();
+                let at = Unlink::Join;
                 Whole::Unlink { path, at }
             }
             Call::Mkdir { path } => {
-                let at = Mkdir::new();
+                let at = Mkdir::Join;
                 Whole::Mkdir { path, at }
             }
             Call::Chdir { path } => {
-                let at = Chdir::new();
+                let at = Chdir::Join;
                 Whole::Chdir { path, at }
             }
             Call::Dup { fd } => {
-                let at = Dup::new();
+                let at = Dup::Double;
                 Whole::Dup { fd, at }
             }
             Call::Fstat { fd } => {
-                let at = Fstat::new();
+                let at = Fstat::Look;
                 Whole::Fstat { fd, at }
             }
             Call::Close { fd } => {
-                let at = Close::new();
+                let at = Close::Shut;
                 Whole::Close { fd, at }
             }
             Call::Inherit { child } => {
