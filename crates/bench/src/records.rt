@@ -143,6 +143,7 @@ pub fn take_last_block() -> Result<u64, WorkloadError> {
     for _ in 0..SEARCHES {
         clear(&mut block, LAST_BLOCK);
         if let Some(b) = first_clear(&block, LAST_BLOCK + 1) {
+            let b = b as usize;
             set(&mut block, b);
             right = right.saturating_add(u32::from(b == LAST_BLOCK));
         }

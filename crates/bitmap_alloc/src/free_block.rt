@@ -1,14 +1,11 @@
 //! A block given back.
 ghost use Rattle.std.specs.Prelude.{◌≡◌, ℕ, None, IsSome, IfSome, IfNone};
-ghost use Rattle.bitmap_alloc.specs.Vocabulary.{MatchOption, bytes_of, buffer_at, bytes_at, with_buffer, with_bytes, with_content, IsAfter, answer_in, Goes, left_after, bare, Hand as HandState};
-ghost use Rattle.bitmap_alloc.specs.Bytes.{without_bit};
+ghost use Rattle.bitmap_alloc.specs.Vocabulary.{buffer_at, with_buffer, IsAfter, answer_in, Goes, left_after, bare, Hand as HandState};
 ghost use Rattle.bitmap_alloc.specs.Programs.{free_block};
 ghost use Rattle.bitmap_alloc.specs.FreeingBlocks.{free_left, free_asked, free_place, FreeReady};
 
 use crate::bits::clear;
-use buffer_cache::Buffer;
 use fs_machine::{Answer, Fetch, Hand, Op, Part, Place};
-use sleep_lock::Guard;
 
 /// Clears a block's bit, so that it may be taken.
 #[derive(Clone, Copy, Drop)]
@@ -55,7 +52,7 @@ impl Part for FreeBlock {
         match self {
             FreeBlock::Bitmap(_, fetch) => fetch.op(hand),
             FreeBlock::Unmark(b, place) => {
-                clear_at(hand, *place, *b as usize);
+                clear(hand.block_mut(*place), *b as usize);
                 Op::Record(*place)
             }
         }
@@ -66,39 +63,11 @@ impl Part for FreeBlock {
         match self {
             FreeBlock::Bitmap(b, fetch) => {
                 let b = *b;
-                match fetch.next(answer, hand) {
-                    None => None,
-                    Some(fetched) => {
-                        *self = FreeBlock::Unmark(b, fetched.place);
-                        None
-                    }
-                }
+                let place = fetch.next(answer, hand)?.place;
+                *self = FreeBlock::Unmark(b, place);
+                None
             }
             FreeBlock::Unmark(_, _) => Some(()),
         }
-    }
-}
-
-// Clears a bit of the bitmap.
-fn clear_in(guard: &mut Guard<Buffer>, b: usize)
-    requires { IsSome guard.old.value.content }
-    ensures { guard.new ≡ with_content (without_bit b (bytes_of guard.old)) guard.old }
-{
-    clear(guard.value_mut().bytes_mut(), b);
-}
-
-fn clear_at(hand: &mut Hand, place: Place, b: usize)
-    requires { MatchOption (buffer_at place hand.old) ⊥ (λ g. IsSome g.value.content) }
-    ensures { hand.new ≡ with_bytes place (without_bit b (bytes_at place hand.old)) hand.old }
-{
-    match place {
-        Place::First => match &mut hand.first {
-            Some(guard) => clear_in(guard, b),
-            None => unreachable!(),
-        },
-        Place::Second => match &mut hand.second {
-            Some(guard) => clear_in(guard, b),
-            None => unreachable!(),
-        },
     }
 }

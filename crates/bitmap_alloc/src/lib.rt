@@ -8,7 +8,6 @@
 mod bits;
 mod free_block;
 pub mod laws;
-mod place;
 mod search;
 mod take_block;
 

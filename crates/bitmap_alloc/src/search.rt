@@ -33,7 +33,7 @@ fn lowest_clear(byte: u8) -> usize
 }
 
 /// The first clear bit below a limit. Bytes without a clear bit are passed over whole.
-pub fn first_clear(bitmap: &Block, limit: usize) -> Option<usize>
+pub fn first_clear(bitmap: &Block, limit: usize) -> Option<u32>
     requires { limit ≤ BITS_PER_BLOCK }
     ensures first { result ≡ first_clear_below limit bitmap.now }
     ensures below { IfSome result (λ b. b < limit) }
@@ -43,5 +43,5 @@ pub fn first_clear(bitmap: &Block, limit: usize) -> Option<usize>
         return None;
     }
     let bit = 8 * byte + lowest_clear(bitmap[byte]);
-    if bit < limit { Some(bit) } else { None }
+    if bit < limit { Some(bit as u32) } else { None }
 }

@@ -4,7 +4,8 @@ ghost use Rattle.bitmap_alloc.specs.Vocabulary.{bits_per_block, buffer_at, with_
 ghost use Rattle.bitmap_alloc.specs.Programs.{take_block};
 ghost use Rattle.bitmap_alloc.specs.Taking.{take_left, take_asked, take_place, TakeReady};
 
-use crate::place::{clear_at, set_at, zero_at};
+use crate::bits::{set, zero};
+use crate::search::first_clear;
 use fs_machine::{Answer, Fetch, Hand, Op, Part, Place};
 
 /// Takes a free block and fills it with zeros. None where no block is free.
@@ -60,13 +61,13 @@ impl Part for TakeBlock {
             TakeBlock::Mark(found, place) => match found {
                 None => Op::Give(*place),
                 Some(b) => {
-                    set_at(hand, *place, *b as usize);
+                    set(hand.block_mut(*place), *b as usize);
                     Op::Record(*place)
                 }
             },
             TakeBlock::Block(_, fetch) => fetch.op(hand),
             TakeBlock::Zero(_, place) => {
-                zero_at(hand, *place);
+                zero(hand.block_mut(*place));
                 Op::Record(*place)
             }
         }
@@ -77,18 +78,10 @@ impl Part for TakeBlock {
     fn next(&mut self, answer: &Answer, hand: &Hand) -> Option<Option<u32>> {
         match self {
             TakeBlock::Bitmap(size, fetch) => {
-                let size = *size;
-                match fetch.next(answer, hand) {
-                    None => None,
-                    Some(fetched) => {
-                        let found = match clear_at(hand, fetched.place, size as usize) {
-                            None => None,
-                            Some(b) => Some(b as u32),
-                        };
-                        *self = TakeBlock::Mark(found, fetched.place);
-                        None
-                    }
-                }
+                let size = *size as usize;
+                let place = fetch.next(answer, hand)?.place;
+                *self = TakeBlock::Mark(first_clear(hand.block(place), size), place);
+                None
             }
             TakeBlock::Mark(found, place) => match *found {
                 None => Some(None),
@@ -99,13 +92,9 @@ impl Part for TakeBlock {
             },
             TakeBlock::Block(b, fetch) => {
                 let b = *b;
-                match fetch.next(answer, hand) {
-                    None => None,
-                    Some(fetched) => {
-                        *self = TakeBlock::Zero(b, fetched.place);
-                        None
-                    }
-                }
+                let place = fetch.next(answer, hand)?.place;
+                *self = TakeBlock::Zero(b, place);
+                None
             }
             TakeBlock::Zero(b, _) => Some(Some(*b)),
         }

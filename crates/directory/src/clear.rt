@@ -4,11 +4,11 @@ ghost use Rattle.directory.specs.Vocabulary.{Dinode as DinodeState, Free, inode_
 ghost use Rattle.directory.specs.Programs.{most_slots, put_entry, with_slot};
 ghost use Rattle.directory.specs.Clearing.{clear_left, clear_asked, ClearReady};
 
-use crate::place::clear_at;
-use fs_layout::Dinode;
+use fs_layout::{Dinode, Dirent, write_dirent};
 use fs_machine::{Answer, Hand, Op, Part, Place, Routine};
+use image_versions::Version;
 use image_versions::one::{DIRENT_LEN, DIRENTS_PER_BLOCK};
-use inode_data::{FetchBlock, fetch_of};
+use inode_data::FetchBlock;
 use inode_table::StoreInode;
 
 /// A slot of a directory.
@@ -42,7 +42,7 @@ impl Clear {
         ensures program { (h : HandState) → clear_left result h ≡ put_entry slot.inodestart slot.number slot.inode slot.slot Free }
         ensures ready { (h : HandState) → NoBuffers h → IsSome h.txn → ClearReady result h }
     {
-        let fetch = fetch_of(&slot.inode, slot.slot as usize / DIRENTS_PER_BLOCK);
+        let fetch = FetchBlock::new(&slot.inode, slot.slot as usize / DIRENTS_PER_BLOCK);
         Clear::Fetching(slot, fetch)
     }
 }
@@ -68,11 +68,18 @@ impl Routine for Clear {
 
     ghost Ends = { λ _ _ h. NoBuffers h };
 
+    #[tactic(auto, unfolding(crate::specs::Programs::with_dirent))]
     fn op(&self, hand: &mut Hand) -> Op {
         match self {
             Clear::Fetching(_, fetch) => fetch.op(hand),
             Clear::Write(slot) => {
-                clear_at(hand, slot.slot as usize % DIRENTS_PER_BLOCK);
+                let place = slot.slot as usize % DIRENTS_PER_BLOCK;
+                write_dirent(
+                    Version::One,
+                    hand.block_mut(Place::First),
+                    place,
+                    &Dirent::Free,
+                );
                 Op::Record(Place::First)
             }
             Clear::Storing(_, store) => store.op(hand),
@@ -82,13 +89,11 @@ impl Routine for Clear {
     #[tactic(auto, using(fs_machine::proofs::Going::goes_bind))]
     fn next(&mut self, answer: &Answer, hand: &mut Hand) -> Option<Dinode> {
         match self {
-            Clear::Fetching(slot, fetch) => match fetch.next(answer, hand) {
-                None => None,
-                Some(_) => {
-                    *self = Clear::Write(*slot);
-                    None
-                }
-            },
+            Clear::Fetching(slot, fetch) => {
+                fetch.next(answer, hand)?;
+                *self = Clear::Write(*slot);
+                None
+            }
             Clear::Write(slot) => {
                 let inode = slotted(slot);
                 let store = StoreInode::new(slot.inodestart, slot.number, inode, Place::First);
@@ -97,10 +102,8 @@ impl Routine for Clear {
             }
             Clear::Storing(inode, store) => {
                 let inode = *inode;
-                match store.next(answer, hand) {
-                    None => None,
-                    Some(()) => Some(inode),
-                }
+                store.next(answer, hand)?;
+                Some(inode)
             }
         }
     }

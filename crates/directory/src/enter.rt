@@ -134,23 +134,19 @@ impl Routine for Enter {
     fn next(&mut self, answer: &Answer, hand: &mut Hand) -> Option<Entered> {
         match self {
             Enter::Searching(entering, search) => {
-                match search.next(entering.seat, Sought::Free, answer, hand) {
-                    None => None,
-                    Some(found) => match place(entering, found, hand) {
-                        Begun::Is(entered) => Some(entered),
-                        Begun::Runs(enter) => {
-                            *self = enter;
-                            None
-                        }
-                    },
+                let found = search.next(entering.seat, Sought::Free, answer, hand)?;
+                match place(entering, found, hand) {
+                    Begun::Is(entered) => Some(entered),
+                    Begun::Runs(enter) => {
+                        *self = enter;
+                        None
+                    }
                 }
             }
             Enter::Writing(placing, part) => {
                 let placing = *placing;
-                match part.next(&placing.entry, answer, hand) {
-                    None => None,
-                    Some(written) => Some(room_in(&placing, &written, hand)),
-                }
+                let written = part.next(&placing.entry, answer, hand)?;
+                Some(room_in(&placing, &written, hand))
             }
         }
     }

@@ -1,5 +1,5 @@
 //! The names of a new directory, written.
-ghost use Rattle.std.specs.Prelude.{◌≡◌, ◌≤◌, ◌<◌, ◌^◌, Some, None, IsSome, IfSome, IfNone};
+ghost use Rattle.std.specs.Prelude.{◌≡◌, ◌≤◌, ◌<◌, ◌^◌, Some, IsSome, IfSome, IfNone};
 ghost use Rattle.directory.specs.Vocabulary.{bits_per_block, inode_block, IsAfter, answer_in, Goes, left_after, bare, Hand as HandState, beside_buffers, NoBuffers, written_as};
 ghost use Rattle.directory.specs.Filling.{dots, fill, fill_left, fill_asked, filled_in, FillReady};
 ghost use Rattle.directory.specs.declared.fill.Filled.{Filled as FilledState};
@@ -69,10 +69,8 @@ impl Routine for Fill {
 
     #[tactic(auto, using(fs_machine::proofs::Going::goes_bind))]
     fn next(&mut self, answer: &Answer, hand: &mut Hand) -> Option<Filled> {
-        match self.part.next(&self.bytes, answer, hand) {
-            None => None,
-            Some(written) => Some(whole_in(&written)),
-        }
+        let written = self.part.next(&self.bytes, answer, hand)?;
+        Some(whole_in(&written))
     }
 }
 

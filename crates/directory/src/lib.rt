@@ -15,7 +15,6 @@ mod fill;
 mod found;
 mod index;
 pub mod laws;
-mod place;
 mod search;
 mod seat;
 mod slots;

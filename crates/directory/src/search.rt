@@ -9,7 +9,7 @@ use crate::found::{Found, Sought, block_count, is_directory, is_live_directory};
 use crate::index::first_of;
 use crate::seat::{index_at, look_at};
 use fs_machine::{Answer, Hand, InodePlace, Op, Part, Place};
-use inode_data::{Begun, FetchBlock, fetch_of};
+use inode_data::{Begun, FetchBlock};
 use inode_table::record_at;
 
 /// The blocks of a directory that a search has to look at yet.
@@ -125,14 +125,12 @@ impl Search {
         match self {
             Search::Fetching(at, fetch) => {
                 let at = *at;
-                match fetch.next(answer, hand) {
-                    None => None,
-                    Some(_) => {
-                        let found = look_at(hand, seat, at.block, sought);
-                        *self = Search::Giving(at, found);
-                        None
-                    }
-                }
+                let Some(_) = fetch.next(answer, hand) else {
+                    return None;
+                };
+                let found = look_at(hand, seat, at.block, sought);
+                *self = Search::Giving(at, found);
+                None
             }
             Search::Giving(at, found) => {
                 let at = *at;
@@ -164,7 +162,7 @@ fn next(hand: &Hand, seat: InodePlace, block: usize, left: usize) -> Begun<Searc
     if left == 0 {
         return Begun::Is(None);
     }
-    let fetch = fetch_of(record_at(hand, seat), block);
+    let fetch = FetchBlock::new(record_at(hand, seat), block);
     let at = Blocks {
         block,
         left: left - 1,

@@ -1,6 +1,6 @@
 //! The index of the directory whose lock is at a seat.
 ghost use Rattle.std.specs.Prelude.{◌≡◌, ◌<◌, ◌≤◌, IsSome};
-ghost use Rattle.directory.specs.Vocabulary.{MatchOption, option_map, option_map_or, bytes_at, dirents_per_block, index_at, index_of, indexed, no_inode, most_blocks, record_in, with_index, First, IsLoadedAt};
+ghost use Rattle.directory.specs.Vocabulary.{MatchOption, option_map, bytes_at, dirents_per_block, index_at, index_of, indexed, most_blocks, record_in, with_index, First, IsLoadedAt};
 ghost use Rattle.directory.specs.Programs.{found_in, most_slots, slots_in};
 ghost use Rattle.directory.specs.Indexes.{cleared, raised, used_in, with_block, with_entry};
 ghost use Rattle.directory.specs.Sought.{aim_of, IsSlot, IsSought};
@@ -9,30 +9,17 @@ use crate::found::{Found, Sought, found_in, slots_in};
 use crate::index::{clear, enter, raise};
 use fs_layout::Dinode;
 use fs_layout::widths::Block;
-use fs_machine::{Hand, Inode, InodePlace, NameIndex};
+use fs_machine::{Hand, Inode, InodePlace, NameIndex, Place};
 use image_versions::one::DIRENT_LEN;
 use inode_table::record_at;
 use sleep_lock::Guard;
-
-fn index_in(place: &Option<Guard<Inode>>) -> &NameIndex
-    requires { MatchOption place.now ⊥ (λ g. IsSome g.value.content) }
-    ensures { result.now ≡ index_of (option_map_or (λ g. g.value) place.now no_inode) }
-{
-    match place {
-        Some(guard) => guard.value().index(),
-        None => unreachable!(),
-    }
-}
 
 // The index.
 pub(crate) fn index_at(hand: &Hand, seat: InodePlace) -> &NameIndex
     requires { IsLoadedAt seat hand.now }
     ensures { result.now ≡ index_at seat hand.now }
 {
-    match seat {
-        InodePlace::One => index_in(&hand.one),
-        InodePlace::Two => index_in(&hand.two),
-    }
+    hand.inode(seat).index()
 }
 
 fn raise_in(place: &mut Option<Guard<Inode>>, k: usize, count: usize, block: &Block)
@@ -74,10 +61,7 @@ fn found_at(hand: &Hand, inode: &Dinode, k: usize, sought: Sought) -> Option<Fou
     ensures found { result ≡ found_in (aim_of sought.entry) inode.now k (bytes_at First hand.now) }
     ensures slot { IsSlot result }
 {
-    match &hand.first {
-        Some(guard) => found_in(guard.value().bytes(), inode, k, sought),
-        None => unreachable!(),
-    }
+    found_in(hand.block(Place::First), inode, k, sought)
 }
 
 // The same where the block is indexed besides, if it may be.
@@ -100,37 +84,13 @@ pub(crate) fn look_at(hand: &mut Hand, seat: InodePlace, k: usize, sought: Sough
     found
 }
 
-fn enter_in(place: &mut Option<Guard<Inode>>, slot: usize, bytes: &[u8; DIRENT_LEN])
-    requires loaded { MatchOption place.old ⊥ (λ g. IsSome g.value.content) }
-    requires slot { slot < most_slots }
-    ensures { place.new ≡ option_map (λ g. indexed (with_entry slot bytes.now (index_of g.value)) g) place.old }
-{
-    match place {
-        Some(guard) => enter(guard.value_mut().index_mut(), slot, bytes),
-        None => unreachable!(),
-    }
-}
-
 // An entry of these bytes was put into a slot.
 pub(crate) fn enter_at(hand: &mut Hand, seat: InodePlace, slot: usize, bytes: &[u8; DIRENT_LEN])
     requires loaded { IsLoadedAt seat hand.old }
     requires slot { slot < most_slots }
     ensures { hand.new ≡ with_index seat (with_entry slot bytes.now (index_at seat hand.old)) hand.old }
 {
-    match seat {
-        InodePlace::One => enter_in(&mut hand.one, slot, bytes),
-        InodePlace::Two => enter_in(&mut hand.two, slot, bytes),
-    }
-}
-
-fn clear_in(place: &mut Option<Guard<Inode>>, slot: u32)
-    requires { MatchOption place.old ⊥ (λ g. IsSome g.value.content) }
-    ensures { place.new ≡ option_map (λ g. indexed (cleared slot (index_of g.value)) g) place.old }
-{
-    match place {
-        Some(guard) => clear(guard.value_mut().index_mut(), slot),
-        None => unreachable!(),
-    }
+    enter(hand.index_mut(seat), slot, bytes);
 }
 
 /// A slot of the directory was cleared, and goes from its index.
@@ -138,8 +98,5 @@ pub fn clear_in_index(hand: &mut Hand, seat: InodePlace, slot: u32)
     requires { IsLoadedAt seat hand.old }
     ensures { hand.new ≡ with_index seat (cleared slot (index_at seat hand.old)) hand.old }
 {
-    match seat {
-        InodePlace::One => clear_in(&mut hand.one, slot),
-        InodePlace::Two => clear_in(&mut hand.two, slot),
-    }
+    clear(hand.index_mut(seat), slot);
 }

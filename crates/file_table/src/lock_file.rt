@@ -89,13 +89,9 @@ impl Routine for LockFile {
             }
             LockFile::Loading(file, load) => {
                 let file = *file;
-                match load.next(answer, hand) {
-                    None => None,
-                    Some(inode) => {
-                        hand.set_record(file.seat, inode);
-                        Some(FileLocked::Locked(file))
-                    }
-                }
+                let inode = load.next(answer, hand)?;
+                hand.set_record(file.seat, inode);
+                Some(FileLocked::Locked(file))
             }
         }
     }

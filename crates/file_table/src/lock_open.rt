@@ -74,13 +74,9 @@ impl Routine for LockOpen {
             }
             LockOpen::Loading(file, load) => {
                 let file = *file;
-                match load.next(answer, hand) {
-                    None => None,
-                    Some(inode) => {
-                        hand.set_record(file.seat, inode);
-                        Some(file)
-                    }
-                }
+                let inode = load.next(answer, hand)?;
+                hand.set_record(file.seat, inode);
+                Some(file)
             }
         }
     }

@@ -1,14 +1,18 @@
 // What a hart has in hand between two operations.
 ghost use Rattle.std.specs.Prelude.{◌≡◌, ◌≢◌, [], Some, None, IfOk, IsSome, is_some};
 ghost use Rattle.fs_machine.specs.Vocabulary.{MatchOption, option_map, option_map_or};
+ghost use Rattle.std.specs.Borrow.{sem};
+ghost use Rattle.fs_machine.specs.Lending.{LendsBlock, LendsIndexAt};
 ghost use Rattle.fs_machine.specs.Ops.{content_at};
-ghost use Rattle.fs_machine.specs.Hands.{empty_hand, HasNothing, buffer_at, with_buffer, inode_at, with_inode, reference_at, with_aside, with_first, with_reference, with_seated, with_txn, inode_in, no_inode, recorded, with_record};
+ghost use Rattle.fs_machine.specs.Tied.{bytes_of};
+ghost use Rattle.fs_machine.specs.Hands.{empty_hand, HasNothing, buffer_at, bytes_at, with_buffer, inode_at, with_inode, reference_at, with_aside, with_first, with_reference, with_seated, with_txn, index_at, inode_in, no_inode, recorded, with_record};
 
 use crate::queue::Queue;
-use crate::{Inode, Reference, RetiredCore};
+use crate::{Inode, NameIndex, Reference, RetiredCore};
 use atomic_programs::machines::put;
 use buffer_cache::Buffer;
 use fs_layout::Dinode;
+use fs_layout::widths::Block;
 use group_log::Txn;
 use sleep_lock::Guard;
 use std::alloc::{AllocError, Global};
@@ -104,6 +108,35 @@ impl Hand {
         match place {
             Place::First => is_valid(&self.first),
             Place::Second => is_valid(&self.second),
+        }
+    }
+
+    /// The bytes of the valid buffer at a place.
+    pub fn block(&self, place: Place) -> &Block
+        requires { MatchOption (buffer_at place self.now) ⊥ (λ g. IsSome g.value.content) }
+        ensures { result.now ≡ bytes_at place self.now }
+    {
+        match place {
+            Place::First => bytes(&self.first),
+            Place::Second => bytes(&self.second),
+        }
+    }
+
+    /// The same, to be changed.
+    pub fn block_mut(&mut self, place: Place) -> &mut Block
+        requires { MatchOption (buffer_at place self.old) ⊥ (λ g. IsSome g.value.content) }
+        ensures* writes_back { sem 𝓛 (LendsBlock self.entry place result) }
+        ensures value { result.now ≡ bytes_at place self.old }
+    {
+        match place {
+            Place::First => match &mut self.first {
+                Some(guard) => guard.value_mut().bytes_mut(),
+                None => unreachable!(),
+            },
+            Place::Second => match &mut self.second {
+                Some(guard) => guard.value_mut().bytes_mut(),
+                None => unreachable!(),
+            },
         }
     }
 
@@ -203,14 +236,32 @@ impl Hand {
         }
     }
 
-    /// The number of the inode at a seat.
-    pub fn number(&self, seat: InodePlace) -> u32
+    /// The inode at a seat.
+    pub fn inode(&self, seat: InodePlace) -> &Inode
         requires { IsSome (inode_at seat self.now) }
-        ensures { result ≡ (inode_in seat self.now).number }
+        ensures { result.now ≡ inode_in seat self.now }
     {
         match seat {
-            InodePlace::One => number_of(&self.one),
-            InodePlace::Two => number_of(&self.two),
+            InodePlace::One => inode_of(&self.one),
+            InodePlace::Two => inode_of(&self.two),
+        }
+    }
+
+    /// The index of the names of the loaded inode at a seat, to be changed.
+    pub fn index_mut(&mut self, seat: InodePlace) -> &mut NameIndex
+        requires { MatchOption (inode_at seat self.old) ⊥ (λ g. IsSome g.value.content) }
+        ensures* writes_back { sem 𝓛 (LendsIndexAt self.entry seat result) }
+        ensures value { result.now ≡ index_at seat self.old }
+    {
+        match seat {
+            InodePlace::One => match &mut self.one {
+                Some(guard) => guard.value_mut().index_mut(),
+                None => unreachable!(),
+            },
+            InodePlace::Two => match &mut self.two {
+                Some(guard) => guard.value_mut().index_mut(),
+                None => unreachable!(),
+            },
         }
     }
 
@@ -283,6 +334,16 @@ impl Hand {
     }
 }
 
+fn bytes(place: &Option<Guard<Buffer>>) -> &Block
+    requires { MatchOption place.now ⊥ (λ g. IsSome g.value.content) }
+    ensures { result.now ≡ option_map_or bytes_of place.now [] }
+{
+    match place {
+        Some(guard) => guard.value().bytes(),
+        None => unreachable!(),
+    }
+}
+
 fn is_valid(place: &Option<Guard<Buffer>>) -> bool
     ensures { result ≡ is_some (option_map_or (λ g. g.value.content) place.now None) }
 {
@@ -301,12 +362,12 @@ fn is_loaded(place: &Option<Guard<Inode>>) -> bool
     }
 }
 
-fn number_of(place: &Option<Guard<Inode>>) -> u32
+fn inode_of(place: &Option<Guard<Inode>>) -> &Inode
     requires { IsSome place.now }
-    ensures { result ≡ (option_map_or (λ g. g.value) place.now no_inode).number }
+    ensures { result.now ≡ option_map_or (λ g. g.value) place.now no_inode }
 {
     match place {
-        Some(guard) => guard.value().number(),
+        Some(guard) => guard.value(),
         None => unreachable!(),
     }
 }

@@ -51,6 +51,7 @@ impl<D: Device> Core<D> {
 
     /// One reference more to an inode (xv6: `iget`, `idup`). None where each of the fifty places is referred to.
     #[tactic(auto, unfolding(crate::specs::Premises::May))]
+    #[inline(always)]
     pub fn up(&mut self, hart: u8, number: u32) -> Option<Reference>
         requires may { May hart (Up (Number number)) (state_of D.contents D.failures self.old) }
         ensures ran { (x : Outside)

@@ -158,6 +158,7 @@ impl Tables {
 
     /// Drops a reference within a walk (xv6: the `iput` of `namex`). Where it is the last one to a dead inode it is kept, and nothing
     /// changes.
+    #[inline(always)]
     pub fn drop_walked(&mut self, reference: Reference) -> Option<Reference>
         requires last { references_of reference self.old ≡ 1 → holder_of reference self.old ≡ None }
         ensures ran { drop_walked reference self.old ≡ Ran (kept_as result) self.new }

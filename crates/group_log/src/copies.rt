@@ -89,6 +89,7 @@ fn write_copy<D: Device>(cache: &mut Cache<D>, guard: &Guard<Buffer>, at: u32) -
 }
 
 /// Writes a recorded block, as it is seen, to its own place, and gives its pin back.
+#[inline(always)]
 pub(crate) fn copy_home<D: Device>(cache: &mut Cache<D>, hart: u8, recorded: Recorded) -> Written
     requires hart { hart < HARTS }
     requires few { count_of (is_held_by hart) cache.old.seats ≤ 1 }

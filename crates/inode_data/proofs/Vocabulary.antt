@@ -41,4 +41,4 @@ pub use Rattle.inode_table.specs.HeldInodes.{without_content}
 pub use Rattle.std.proofs.lemmas.Bool.{le-ltb, lt-ltb}
 pub use Rattle.std.proofs.lemmas.List.{drop-append-le, length-drop, length-take, take_all}
 pub use Rattle.fs_machine.specs.declared.hand.InodePlace.TheVariants.{One, Two}
-pub use Rattle.inode_table.specs.declared.store_inode.StoreInode.{StoreInode}
+pub use Rattle.inode_table.specs.declared.storing_inodes.StoreInode.{StoreInode}

@@ -1,6 +1,6 @@
 -- A block of a content, taken where it is missing.
 use Rattle.std.specs.Prelude.{◌≡◌, ◌<◌, ◌≤◌, ℕ, Option, Some, None, IsSome}
-use Rattle.inode_data.specs.Vocabulary.{MatchOption, Dinode, bits_per_block, numbers_per_block, Ret, Do, bind, unmarked, P, HandState as Hand, First, Second, Op, buffer_at, block_at, bytes_at, with_buffer, fetch_left, fetch_asked, fetch_block, fetch_place, FetchReady, marks, take_left, take_asked, take_place, TakeReady, TakeBlock}
+use Rattle.inode_data.specs.Vocabulary.{MatchOption, Dinode, bits_per_block, numbers_per_block, Do, bind, unmarked, P, HandState as Hand, First, Second, Op, buffer_at, block_at, bytes_at, with_buffer, fetch_left, fetch_asked, fetch_block, fetch_place, FetchReady, marks, take_left, take_asked, take_place, TakeReady, TakeBlock}
 use Rattle.fs_machine.specs.Steps as steps
 use Rattle.inode_data.specs.Widths.{direct}
 use Rattle.inode_data.specs.Writing.{located, with_address, name_direct, name_in_table, look_up, with_table}
@@ -9,8 +9,6 @@ use Rattle.fs_machine.specs.declared.op.Op.TheVariants as ops
 use Rattle.inode_data.specs.declared.locate.Locate.{Locate}
 use Rattle.inode_data.specs.declared.locate.Stage.{Stage}
 use Rattle.inode_data.specs.declared.locate.Stage.TheVariants.{Direct, NewTable, Table, NewEntry, Name, Give}
-use Rattle.inode_data.specs.declared.locate.Begun.{Begun}
-use Rattle.inode_data.specs.declared.locate.Begun.TheVariants.{Is, Runs}
 
 abbrev pub stage_left : Locate → Stage → Hand → P Located
 stage_left l (Direct i m) h = bind (take_left m h) (name_direct i l.inode)
@@ -55,15 +53,6 @@ LocateReady l h = StageReady l.stage h × (l.sizes.size ≤ bits_per_block)
 -- nothing but the buffers changes in hand
 abbrev pub Leaves : Hand → Hand → Type 0
 Leaves before h = with_buffer First None (with_buffer Second None h) ≡ with_buffer First None (with_buffer Second None before)
-
--- one that has begun
-abbrev pub begun_left : Begun → Hand → P Located
-begun_left (Is l) h = Ret l
-begun_left (Runs m) h = locate_left m h
-
-abbrev pub IfBegun : (Locate → Type 0) → Begun → Type 0
-IfBegun P (Is l) = Unit {0}
-IfBegun P (Runs m) = P m
 
 abbrev pub named_direct : ℕ → Dinode → Option ℕ → Located
 named_direct i d None = record { inode = d; number = None }

@@ -3,6 +3,7 @@ ghost use Rattle.inode_data.specs.Vocabulary.{MatchOption, numbers_in, numbers_p
 ghost use Rattle.std.specs.Prelude.{IsSome, ◌≡◌, ◌<◌, ℕ, Some, None, IfSome, IfNone, slice_index};
 ghost use Rattle.inode_data.specs.Widths.{most_blocks};
 ghost use Rattle.inode_data.specs.Programs.{FetchedBlock, fetch_block};
+ghost use Rattle.inode_data.specs.InHand.{FetchesFirst, NoBuffers};
 ghost use Rattle.inode_data.specs.FetchingBlocks.{block_left, block_asked, block_place, BlockReady, fetched_block};
 
 use crate::addresses::{Address, DIRECT, address_of};
@@ -22,15 +23,17 @@ pub enum FetchBlock {
 }
 
 impl FetchBlock {
-    /// Block `k` of the content of this inode.
-    pub fn new(inode: &Dinode, k: usize, place: Place) -> FetchBlock
+    /// Block `k` of the content of this inode, by way of the first place.
+    pub fn new(inode: &Dinode, k: usize) -> FetchBlock
         requires { k < most_blocks }
         ensures program { (h : HandState) → block_left result h ≡ fetch_block inode.now k }
-        ensures ready { (h : HandState) → buffer_at place h ≡ None → BlockReady result h }
+        ensures ready { (h : HandState) → NoBuffers h → FetchesFirst result h }
     {
         match address_of(k) {
-            Address::Direct(i) => FetchBlock::Block(Fetch::Get(place, inode.addrs[i])),
-            Address::InTable(i) => FetchBlock::Table(i, Fetch::Get(place, inode.addrs[DIRECT])),
+            Address::Direct(i) => FetchBlock::Block(Fetch::Get(Place::First, inode.addrs[i])),
+            Address::InTable(i) => {
+                FetchBlock::Table(i, Fetch::Get(Place::First, inode.addrs[DIRECT]))
+            }
         }
     }
 }
@@ -69,14 +72,12 @@ impl Part for FetchBlock {
         match self {
             FetchBlock::Table(i, fetch) => {
                 let i = *i;
-                match fetch.next(answer, hand) {
-                    None => None,
-                    Some(fetched) => {
-                        let number = number_at(hand, fetched.place, i);
-                        *self = FetchBlock::Number(number, fetched.place);
-                        None
-                    }
-                }
+                let Some(fetched) = fetch.next(answer, hand) else {
+                    return None;
+                };
+                let number = number_at(hand, fetched.place, i);
+                *self = FetchBlock::Number(number, fetched.place);
+                None
             }
             FetchBlock::Number(number, place) => {
                 *self = FetchBlock::Block(Fetch::Get(*place, *number));

@@ -67,22 +67,16 @@ impl Routine for FreeInode {
     #[tactic(auto, using(fs_machine::proofs::Going::goes_bind))]
     fn next(&mut self, answer: &Answer, hand: &mut Hand) -> Option<()> {
         match self {
-            FreeInode::Truncating(truncate) => match truncate.next(answer, hand) {
-                None => None,
-                Some(emptying) => {
-                    *self = store_free(emptying, hand);
-                    None
-                }
-            },
+            FreeInode::Truncating(truncate) => {
+                let emptying = truncate.next(answer, hand)?;
+                *self = store_free(emptying, hand);
+                None
+            }
             FreeInode::Storing(emptying, store) => {
                 let seat = emptying.seat;
-                match store.next(answer, hand) {
-                    None => None,
-                    Some(()) => {
-                        unload_at(hand, seat);
-                        Some(())
-                    }
-                }
+                store.next(answer, hand)?;
+                unload_at(hand, seat);
+                Some(())
             }
         }
     }

@@ -4,9 +4,13 @@ ghost use Rattle.inode_data.specs.Vocabulary.{bits_per_block, with_buffer, IsAft
 ghost use Rattle.inode_data.specs.Widths.{direct, most_blocks};
 ghost use Rattle.inode_data.specs.Writing.{with_address, locate};
 ghost use Rattle.inode_data.specs.declared.locate.Located.{Located as LocatedState};
-ghost use Rattle.inode_data.specs.Locating.{begun_left, locate_left, locate_asked, named_direct, IfBegun, LocateReady, Leaves};
+ghost use Rattle.inode_data.specs.Beginnings.{begun_of, IfBegun};
+ghost use Rattle.inode_data.specs.InHand.{NoBuffers};
+ghost use Rattle.inode_data.specs.Locating.{locate_left, locate_asked, named_direct, LocateReady, Leaves};
+ghost use Rattle.inode_data.specs.declared.begun.Begun.TheVariants as begun;
 
 use crate::addresses::{Address, DIRECT, address_of};
+use crate::begun::Begun;
 use crate::place::{name_at, number_at};
 use bitmap_alloc::TakeBlock;
 use fs_layout::{Dinode, Super};
@@ -45,20 +49,13 @@ pub struct Locate {
     pub stage: Stage,
 }
 
-/// One that has begun, or has its result at once.
-#[derive(Clone, Copy, Drop)]
-pub enum Begun {
-    Is(Located),
-    Runs(Locate),
-}
-
 impl Locate {
     /// Block `k` of the content of this inode, on a disk with this superblock.
-    pub fn begin(inode: &Dinode, sizes: &Super, k: usize) -> Begun
+    pub fn begin(inode: &Dinode, sizes: &Super, k: usize) -> Begun<Locate, Located>
         requires block { k < most_blocks }
         requires size { sizes.now.size ≤ bits_per_block }
-        ensures program { (h : HandState) → begun_left result h ≡ locate sizes.now inode.now k }
-        ensures ready { (h : HandState) → h.first ≡ None → h.second ≡ None → IsSome h.txn → IfBegun (λ m. LocateReady m h) result }
+        ensures program { (h : HandState) → begun_of (λ m. locate_left m h) (λ l. l) result ≡ locate sizes.now inode.now k }
+        ensures ready { (h : HandState) → NoBuffers h → IsSome h.txn → IfBegun (λ m. LocateReady m h) (λ _. Unit {0}) result }
     {
         match address_of(k) {
             Address::Direct(i) => {
@@ -70,27 +67,16 @@ impl Locate {
                     });
                 }
                 let take = TakeBlock::new(sizes.bmapstart, sizes.size, Place::First);
-                Begun::Runs(Locate {
-                    inode: *inode,
-                    sizes: *sizes,
-                    stage: Stage::Direct(i, take),
-                })
+                runs(inode, sizes, Stage::Direct(i, take))
             }
             Address::InTable(i) => {
                 let table = inode.addrs[DIRECT];
                 if table != 0 {
-                    return Begun::Runs(Locate {
-                        inode: *inode,
-                        sizes: *sizes,
-                        stage: Stage::Table(i, Fetch::Get(Place::Second, table)),
-                    });
+                    let fetch = Fetch::Get(Place::Second, table);
+                    return runs(inode, sizes, Stage::Table(i, fetch));
                 }
                 let take = TakeBlock::new(sizes.bmapstart, sizes.size, Place::First);
-                Begun::Runs(Locate {
-                    inode: *inode,
-                    sizes: *sizes,
-                    stage: Stage::NewTable(i, take),
-                })
+                runs(inode, sizes, Stage::NewTable(i, take))
             }
         }
     }
@@ -148,10 +134,8 @@ impl Control for Locate {
         match &mut self.stage {
             Stage::Direct(i, take) => {
                 let i = *i;
-                match take.next(answer, hand) {
-                    None => None,
-                    Some(number) => Some(direct_named(self.inode, i, number)),
-                }
+                let number = take.next(answer, hand)?;
+                Some(direct_named(self.inode, i, number))
             }
             Stage::NewTable(i, take) => {
                 let i = *i;
@@ -170,33 +154,21 @@ impl Control for Locate {
             }
             Stage::Table(i, fetch) => {
                 let i = *i;
-                match fetch.next(answer, hand) {
-                    None => None,
-                    Some(_) => {
-                        let number = number_at(hand, Place::Second, i);
-                        if number == 0 {
-                            let take = TakeBlock::new(
-                                self.sizes.bmapstart,
-                                self.sizes.size,
-                                Place::First,
-                            );
-                            self.stage = Stage::NewEntry(i, take);
-                            return None;
-                        }
-                        self.stage = Stage::Give(number);
-                        None
-                    }
+                fetch.next(answer, hand)?;
+                let number = number_at(hand, Place::Second, i);
+                if number == 0 {
+                    let take = TakeBlock::new(self.sizes.bmapstart, self.sizes.size, Place::First);
+                    self.stage = Stage::NewEntry(i, take);
+                    return None;
                 }
+                self.stage = Stage::Give(number);
+                None
             }
             Stage::NewEntry(i, take) => {
                 let i = *i;
-                match take.next(answer, hand) {
-                    None => None,
-                    Some(number) => {
-                        self.stage = Stage::Name(i, number);
-                        None
-                    }
-                }
+                let number = take.next(answer, hand)?;
+                self.stage = Stage::Name(i, number);
+                None
             }
             Stage::Name(_, number) => Some(Located {
                 inode: self.inode,
@@ -221,4 +193,16 @@ fn direct_named(inode: Dinode, place: usize, number: Option<u32>) -> Located
         Some(b) => inode.addrs[place] = b,
     }
     Located { inode, number }
+}
+
+// A search that stands so.
+#[inline(always)]
+fn runs(inode: &Dinode, sizes: &Super, stage: Stage) -> Begun<Locate, Located>
+    ensures { result ≡ begun.Runs (record { inode = inode.now; sizes = sizes.now; stage = stage }) }
+{
+    Begun::Runs(Locate {
+        inode: *inode,
+        sizes: *sizes,
+        stage,
+    })
 }

@@ -1,6 +1,6 @@
 //! A part of a content read.
-ghost use Rattle.std.specs.Prelude.{◌≡◌, ◌+◌, ◌-◌, ◌≤◌, ℕ, List, length, Some, None, IsSome, IfSome, IfNone};
-ghost use Rattle.inode_data.specs.Vocabulary.{MatchOption, asks, Dinode as DinodeState, bytes_at, op_in, answer_in, CanDo, Prepared, IsAfter, Goes, left_after, HandState, First};
+ghost use Rattle.std.specs.Prelude.{◌≡◌, ◌+◌, ◌-◌, ◌≤◌, ℕ, List, length, Some, None, IfSome, IfNone};
+ghost use Rattle.inode_data.specs.Vocabulary.{asks, Dinode as DinodeState, op_in, answer_in, CanDo, Prepared, IsAfter, Goes, left_after, HandState, First};
 ghost use Rattle.inode_data.specs.Beginnings.{begun_of, IfBegun};
 ghost use Rattle.inode_data.specs.Programs.{end_of, read_blocks, read_from};
 ghost use Rattle.inode_data.specs.Locating.{Leaves};
@@ -10,7 +10,7 @@ ghost use Rattle.inode_data.specs.PartReading.{filled_in, filled_to, in_all, rea
 use crate::addresses::MOST_BLOCKS;
 use crate::begun::Begun;
 use crate::fetch_block::FetchBlock;
-use crate::place::{blocks, copy_into, fetch_of};
+use crate::place::{blocks, copy_into};
 use fs_layout::Dinode;
 use fs_layout::widths::{BLOCK_LEN, Block};
 use fs_machine::{Answer, Hand, Op, Part, Place};
@@ -73,6 +73,7 @@ impl ReadPart {
     }
 
     /// How it goes on.
+    #[inline(always)]
     #[tactic(auto, using(fs_machine::proofs::Going::goes_bind))]
     pub fn next(
         &mut self,
@@ -96,14 +97,12 @@ impl ReadPart {
             → Leaves before hand.now }
     {
         match self {
-            ReadPart::Fetching(reading, fetch) => match fetch.next(answer, hand) {
-                None => None,
-                Some(_) => {
-                    let reading = copied(reading, memory, hand);
-                    *self = ReadPart::Giving(reading);
-                    None
-                }
-            },
+            ReadPart::Fetching(reading, fetch) => {
+                fetch.next(answer, hand)?;
+                let reading = copied(reading, memory, hand.block(Place::First));
+                *self = ReadPart::Giving(reading);
+                None
+            }
             ReadPart::Giving(reading) => match next(inode, reading) {
                 Begun::Is(count) => Some(count),
                 Begun::Runs(part) => {
@@ -133,25 +132,12 @@ fn next(inode: &Dinode, reading: &Reading) -> Begun<ReadPart, usize>
         left: reading.left - 1,
         ..*reading
     };
-    let fetch = fetch_of(inode, reading.from / BLOCK_LEN);
+    let fetch = FetchBlock::new(inode, reading.from / BLOCK_LEN);
     Begun::Runs(ReadPart::Fetching(reading, fetch))
 }
 
-// Copies the part of the block in hand behind what was read before.
-fn copied(reading: &Reading, memory: &mut [u8], hand: &Hand) -> Reading
-    requires ready { IsReading (reading.now.left + 1) reading.now }
-    requires room { HasRoom reading.now memory.old }
-    requires valid { MatchOption hand.now.first ⊥ (λ g. IsSome g.value.content) }
-    ensures { HasRead reading.now memory.old (bytes_at First hand.now) result memory.new }
-{
-    match &hand.first {
-        Some(guard) => copied_from(reading, memory, guard.value().bytes()),
-        None => unreachable!(),
-    }
-}
-
 // Copies the block's part behind what was read before.
-fn copied_from(reading: &Reading, memory: &mut [u8], block: &Block) -> Reading
+fn copied(reading: &Reading, memory: &mut [u8], block: &Block) -> Reading
     requires ready { IsReading (reading.now.left + 1) reading.now }
     requires room { HasRoom reading.now memory.old }
     ensures { HasRead reading.now memory.old block.now result memory.new }

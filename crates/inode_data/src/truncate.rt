@@ -99,34 +99,22 @@ impl Routine for Truncate {
             Truncate::Own(emptying, at, free) => {
                 let emptying = *emptying;
                 let at = *at;
-                match free.next(answer, hand) {
-                    None => None,
-                    Some(()) => {
-                        *self = free_own(emptying, at + 1, hand);
-                        None
-                    }
-                }
+                free.next(answer, hand)?;
+                *self = free_own(emptying, at + 1, hand);
+                None
             }
             Truncate::Indirect(emptying, fetch) => {
                 let emptying = *emptying;
-                match fetch.next(answer, hand) {
-                    None => None,
-                    Some(_) => {
-                        *self = free_listed(emptying, 0, hand);
-                        None
-                    }
-                }
+                fetch.next(answer, hand)?;
+                *self = free_listed(emptying, 0, hand);
+                None
             }
             Truncate::Listed(emptying, at, free) => {
                 let emptying = *emptying;
                 let at = *at;
-                match free.next(answer, hand) {
-                    None => None,
-                    Some(()) => {
-                        *self = free_listed(emptying, at + 1, hand);
-                        None
-                    }
-                }
+                free.next(answer, hand)?;
+                *self = free_listed(emptying, at + 1, hand);
+                None
             }
             Truncate::GiveBack(emptying, table) => {
                 let emptying = *emptying;
@@ -136,20 +124,14 @@ impl Routine for Truncate {
             }
             Truncate::Table(emptying, free) => {
                 let emptying = *emptying;
-                match free.next(answer, hand) {
-                    None => None,
-                    Some(()) => {
-                        *self = store(emptying, hand);
-                        None
-                    }
-                }
+                free.next(answer, hand)?;
+                *self = store(emptying, hand);
+                None
             }
             Truncate::Record(emptying, store) => {
                 let emptying = *emptying;
-                match store.next(answer, hand) {
-                    None => None,
-                    Some(()) => Some(emptying),
-                }
+                store.next(answer, hand)?;
+                Some(emptying)
             }
         }
     }

@@ -10,7 +10,6 @@ ghost use Rattle.inode_data.specs.PartWriting.{after_location, blocks_behind, st
 
 use crate::begun::Begun;
 use crate::locate::{Locate, Located};
-use crate::locating::seek;
 use crate::place::{blocks, write_at};
 use fs_layout::widths::BLOCK_LEN;
 use fs_layout::{Dinode, Super};
@@ -112,31 +111,27 @@ impl WritePart {
             → IsAfter (write_asked self.old) before answer.now hand.old → Leaves before hand.old }
     {
         match self {
-            WritePart::Locating(writing, locate) => match locate.next(answer, hand) {
-                None => None,
-                Some(located) => {
-                    let writing = *writing;
-                    seek_on(self, writing, &located);
-                    None
-                }
-            },
-            WritePart::Fetching(writing, so_far, fetch) => match fetch.next(answer, hand) {
-                None => None,
-                Some(_) => {
-                    let (writing, so_far) = (*writing, *so_far);
-                    fetch_on(self, writing, so_far);
-                    None
-                }
-            },
+            WritePart::Locating(writing, locate) => {
+                let located = locate.next(answer, hand)?;
+                let writing = *writing;
+                seek_on(self, writing, &located);
+                None
+            }
+            WritePart::Fetching(writing, so_far, fetch) => {
+                fetch.next(answer, hand)?;
+                let (writing, so_far) = (*writing, *so_far);
+                fetch_on(self, writing, so_far);
+                None
+            }
             WritePart::There(writing, so_far) => {
                 let (writing, so_far) = (*writing, *so_far);
                 pass(self, writing, so_far, bytes.len());
                 None
             }
-            WritePart::Storing(written, store) => match store.next(answer, hand) {
-                None => None,
-                Some(()) => Some(*written),
-            },
+            WritePart::Storing(written, store) => {
+                store.next(answer, hand)?;
+                Some(*written)
+            }
         }
     }
 }
@@ -195,7 +190,7 @@ fn next_of(writing: &Writing, so_far: &Dinode) -> WritePart
         left: writing.left - 1,
         ..*writing
     };
-    match seek(so_far, &writing.sizes, writing.at / BLOCK_LEN) {
+    match Locate::begin(so_far, &writing.sizes, writing.at / BLOCK_LEN) {
         Begun::Runs(locate) => WritePart::Locating(writing, locate),
         Begun::Is(located) => found(&writing, &located),
     }

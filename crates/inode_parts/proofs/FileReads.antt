@@ -1,12 +1,12 @@
 -- A part of an open file read: it is a part, and goes on.
-use Rattle.inode_parts.proofs.Vocabulary.{◌≡◌, ℕ, ◌+◌, ◌-◌, ◌<◌, ◌≤◌, List, [], ◌++◌, length, drop, Option, Some, None, sym, ap, subst, ◌∙◌, arith, ◌^◌, take-append_seam, drop_of_length-le, append-nil, Dinode, Super, Ret, Do, bind, plain, unmarked, Handover, bind-assoc, Inode, record_of, FilledMemory, blocks_between, end_of, read_from, Goes, inode_at, inode_in, with_inode, Hand, record_in, goes_with, beside_buffers, filled_to, read_count, read_left, ReadReady, ReadPart, give_read, Carry, nothing, record_had, carry_in, handed, read_file_left, read_over, FillsFrom, MayMove, moved, HasLock, other, seat_of_lock, answer_by, IsPart, Message, Part, LockedFile, Notes, Reading, Ending}
+use Rattle.inode_parts.proofs.Vocabulary.{◌≡◌, ℕ, ◌+◌, ◌-◌, ◌<◌, ◌≤◌, List, [], ◌++◌, length, drop, Option, Some, None, sym, ap, subst, ◌∙◌, arith, ◌^◌, take-append_seam, drop_of_length-le, append-nil, Dinode, Super, Ret, Do, bind, plain, unmarked, Handover, bind-assoc, Inode, record_of, FilledMemory, blocks_between, end_of, read_from, Goes, inode_at, inode_in, Hand, record_in, goes_with, beside_buffers, read_count, read_left, ReadReady, ReadPart, give_read, Carry, nothing, record_had, carry_in, read_file_left, read_over, FillsFrom, MayMove, moved, HasLock, other, seat_of_lock, answer_by, IsPart, Message, Part, LockedFile, Notes, Reading}
 use Rattle.fs_machine.specs.Machines as code
 use Rattle.fs_machine.specs.Steps as steps
 use Rattle.inode_data.specs.declared.read_part.ReadPart.TheVariants.{Fetching, Giving}
 use Rattle.inode_machine.specs.World as above
 use Rattle.path_walk.specs.declared.asks.Heard.TheVariants as heard
 use Rattle.inode_parts.proofs.Basics.{lock_is, blocks_fill, blocks_same, within}
-use Rattle.inode_parts.proofs.LockedFiles.{gone, gone_then, inode_still}
+use Rattle.inode_parts.proofs.LockedFiles.{gone, inode_still}
 
 -- ---- it is a part
 
@@ -99,10 +99,3 @@ module _ (text new : List ℕ) (f : LockedFile) (p : ReadPart) (before h : Hand)
 
   pub read_on : (q : ReadPart) → Goes (read_left (record_in f.seat h) text p before) answer (read_left (record_in f.seat h) new q h) → Goes (read_file_left text (Reading f p) before) answer (read_file_left new (Reading f q) h)
   read_on q goes = goes_so (read_left (record_in f.seat h) new q h) goes
-
-  pub read_ends : (count : ℕ) → Goes (read_left (record_in f.seat h) text p before) answer (Ret (filled_to count new)) → Goes (read_file_left text (Reading f p) before) answer (read_file_left new (Ending f count) h)
-  read_ends count goes = goes_so (Ret (filled_to count new)) goes
-
-pub read_gone : (text : List ℕ) (m : Notes) (f : LockedFile) (count : ℕ) (before h : Hand) (answer : (o : steps.Op) → steps.Answer o) → inode_at (other f.seat) before ≡ None → h ≡ with_inode f.seat None before
-    → Goes (read_file_left text (Ending f count) before) answer (Ret (handed text m (heard.Read count) h))
-read_gone text m f count before h answer only after = λ i. Ret (record { answer = (text, heard.Read count); carry = gone_then text m f.seat before h only after i })

@@ -1,5 +1,5 @@
 -- A piece of bytes written to an open file: it is a part, and goes on.
-use Rattle.inode_parts.proofs.Vocabulary.{◌≡◌, ℕ, ◌+◌, ◌-◌, ◌==◌, ◌≤◌, Bool, true, false, if◌then◌else◌, List, length, Option, Some, None, refl, sym, ap, subst, ◌∙◌, arith, IsSome, option_map, unwrap_or, piece, Cause, put, Dinode, Super, Ret, Do, bind, plain, unmarked, Handover, bind-assoc, GuardState, Inode, Loaded, unindexed, with_inode_of, record_of, store_inode, blocks_between, WriteResult, grown, store_written, write_blocks, write_part, Goes, inode_at, inode_in, recorded, with_inode, with_record, Hand, InodePlace, One, Two, HasNoBuffer, record_in, goes_to, goes_with, recorded-in, beside_buffers, write_left, written_as, WriteReady, WritePart, Written, Acts, Apart, Carry, nothing, record_had, give_written, refused_in, write_unless, wrote_to, wrote_of, Wrote, carry_in, handed, ended_as, write_done, write_file_left, write_over, wrote_upto, WriteFileReady, moved, HasLock, other, seat_of_lock, answer_by, IsPart, Message, LockedFile, Notes, Denied, Writing}
+use Rattle.inode_parts.proofs.Vocabulary.{◌≡◌, ℕ, ◌+◌, ◌-◌, ◌==◌, ◌≤◌, Bool, true, false, if◌then◌else◌, List, length, Option, Some, None, refl, sym, ap, subst, ◌∙◌, arith, IsSome, unwrap_or, piece, Cause, put, Dinode, Super, Ret, Do, bind, plain, unmarked, Handover, bind-assoc, Inode, Loaded, unindexed, with_inode_of, record_of, store_inode, blocks_between, WriteResult, grown, store_written, write_blocks, write_part, Goes, inode_at, inode_in, recorded, with_record, Hand, InodePlace, record_in, goes_to, goes_with, recorded-in, beside_buffers, write_left, written_as, WriteReady, WritePart, Written, Acts, Apart, Carry, nothing, record_had, give_written, refused_in, write_unless, wrote_to, wrote_of, Wrote, carry_in, ended_as, write_done, write_file_left, write_over, wrote_upto, moved, HasLock, other, seat_of_lock, answer_by, IsPart, Message, LockedFile, Notes, Denied, Writing}
 use Rattle.fs_machine.specs.Machines as code
 use Rattle.fs_machine.specs.Steps as steps
 use Rattle.inode_data.specs.declared.write_part.WritePart.TheVariants as write
@@ -7,9 +7,8 @@ use Rattle.inode_machine.specs.World as above
 use Rattle.inode_table.specs.Programs.{no_record}
 use Rattle.path_walk.specs.declared.asks.Heard.TheVariants as heard
 use Rattle.path_walk.specs.declared.asks.Wrote.TheVariants as wrote
-use Rattle.inode_parts.specs.declared.write_file_part.WriteFilePart.TheVariants.{Ending}
 use Rattle.inode_parts.proofs.Basics.{lock_is, plain_store, plain_writes, then_plain}
-use Rattle.inode_parts.proofs.LockedFiles.{gone, gone_then, inode_still}
+use Rattle.inode_parts.proofs.LockedFiles.{gone, inode_still}
 
 -- ---- it is a part
 
@@ -130,25 +129,3 @@ module _ (text : List ℕ) (f : LockedFile) (at : ℕ) (p : WritePart) (before h
       goes_to (write_file_left text (Writing f at p) before) (write_over text f (piece text at) (inode_in f.seat h) (written_as r)) (write_file_left text (ended_as f (piece text at) r) after) answer
       (goes_so (Ret (written_as r)) goes)
       (λ i. moved f ((sym (recorded-in f.seat r.inode h there) ∙ ap (inode_in f.seat) (sym set)) i) r.upto text (heard.Wrote (wrote_upto f.offset (piece text at) r.upto)))
-
--- the inode has its new record in hand
-pub ended_ready : (f : LockedFile) (bytes : List ℕ) (r : Written) (h after : Hand) → IsSome (inode_at f.seat h) → inode_at (other f.seat) h ≡ None → HasNoBuffer h → after ≡ with_record f.seat r.inode h → WriteFileReady (ended_as f bytes r) after
-ended_ready f bytes r h after there only none set =
-    subst (λ (g : Hand). IsSome (inode_at f.seat g) × (inode_at (other f.seat) g ≡ None) × HasNoBuffer g) (sym set) (at f.seat there only)
-  where
-    some : (o : Option (GuardState Inode)) → IsSome o → IsSome (option_map (recorded r.inode) o)
-    some None is = absurd (cc is)
-    some (Some g) is = refl
-
-    at : (k : InodePlace) → IsSome (inode_at k h) → inode_at (other k) h ≡ None → let g : Hand = with_record k r.inode h in IsSome (inode_at k g) × (inode_at (other k) g ≡ None) × HasNoBuffer g
-    at One there only = (some h.one there, only, none)
-    at Two there only = (some h.two there, only, none)
-
-module _ (text : List ℕ) (m : Notes) (before h : Hand) (answer : (o : steps.Op) → steps.Answer o) where
-  pub write_gone : (f : LockedFile) (upto : ℕ) (w : Wrote) → inode_at (other f.seat) before ≡ None → h ≡ with_inode f.seat None before
-      → Goes (write_file_left text (Ending f upto w) before) answer (Ret (handed text m (heard.Wrote w) h))
-  write_gone f upto w only after = λ i. Ret (record { answer = (text, heard.Wrote w); carry = gone_then text m f.seat before h only after i })
-
-  pub deny_gone : (k : InodePlace) (why : Cause) → inode_at (other k) before ≡ None → h ≡ with_inode k None before
-      → Goes (write_file_left text (Denied k why) before) answer (Ret (handed text m (heard.Wrote (wrote.Refused why)) h))
-  deny_gone k why only after = λ i. Ret (record { answer = (text, heard.Wrote (wrote.Refused why)); carry = gone_then text m k before h only after i })

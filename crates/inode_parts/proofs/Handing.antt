@@ -1,5 +1,5 @@
 -- What is in hand after one operation.
-use Rattle.inode_parts.proofs.Vocabulary.{◌≡◌, ℕ, List, Bool, true, false, Option, Some, None, refl, sym, ap, ◌∙◌, subst, ◌==◌, if◌then◌else◌, IsSome, option_map_or, put, eq_is, GuardState, Inode, Hand, Place, First, Second, InodePlace, One, Two, inode_at, inode_in, no_inode, with_aside, with_buffer, with_inode, with_reference, with_seated, with_txn, dropped_by, kept_by, is_dying, is_listed, Had, Apart, carry_in, had_at, had_of, with_note, IsAlone, locks, Note, Notes}
+use Rattle.inode_parts.proofs.Vocabulary.{◌≡◌, ℕ, List, Bool, true, false, Option, Some, None, refl, sym, ap, ◌∙◌, subst, ◌==◌, if◌then◌else◌, IsSome, option_map_or, put, eq_is, GuardState, Inode, Hand, Place, First, Second, InodePlace, One, Two, inode_at, inode_in, no_inode, with_aside, with_buffer, with_inode, with_reference, with_seated, with_txn, kept_by, is_listed, Had, Apart, carry_in, had_at, had_of, with_note, IsAlone, locks, Note, Notes}
 
 -- the locks are as they were
 pub still_in : (path : List ℕ) (m : Notes) (before h : Hand) → before.one ≡ h.one → before.two ≡ h.two → carry_in path m before ≡ carry_in path m h
@@ -71,7 +71,3 @@ held path m Two l g before free alone = λ j i. at i (i == g.value.number) refl 
 pub listed_so : (b : Bool) → is_listed (kept_by b) ≡ b
 listed_so true = refl
 listed_so false = refl
-
-pub dying_so : (b : Bool) (v : Inode) → is_dying (dropped_by b v) ≡ b
-dying_so true v = refl
-dying_so false v = refl

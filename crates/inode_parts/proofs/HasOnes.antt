@@ -2,10 +2,10 @@
 use Rattle.inode_parts.proofs.Vocabulary.{ℕ, List, piece, HasOne, first, finish_has, Hand, file_has, open_has, freeing_has, truncate_has, read_has, write_has, lock_has, new_has, record_has, truncate_left, finish_left, freeing_left, file_left, open_left, lock_left, new_left, record_left, clear_has, enter_has, fill_has, search_has, clear_left, enter_left, fill_left, read_left, write_left, search_left, text_in, lowered_left, LoweredReady, read_file_left, write_file_left, part_left, PartReady, step_left, relock_left, take_left, Lowered, Notes, OneStep, InodePart, ReadFilePart, RelockPart, TakePart, WriteFilePart}
 use Rattle.inode_parts.specs.declared.one_step.OneStep.TheVariants as step
 use Rattle.inode_parts.specs.declared.part.InodePart.TheVariants as part
-use Rattle.inode_parts.specs.declared.read_file_part.ReadFilePart.TheVariants as reads
+use Rattle.inode_parts.specs.declared.file_bytes.ReadFilePart.TheVariants as reads
 use Rattle.inode_parts.specs.declared.relock_part.RelockPart.TheVariants as relock
 use Rattle.inode_parts.specs.declared.take_part.TakePart.TheVariants as take
-use Rattle.inode_parts.specs.declared.write_file_part.WriteFilePart.TheVariants as writes
+use Rattle.inode_parts.specs.declared.file_bytes.WriteFilePart.TheVariants as writes
 
 step_has : (path : List ℕ) (m : Notes) (s : OneStep) (h : Hand) → HasOne (step_left path m s h)
 step_has path m (step.UnlockInode k) h = tt

@@ -15,7 +15,7 @@ pub use Rattle.inode_parts.proofs.Besides.{inode_over, taken_stays}
 pub use Rattle.inode_parts.specs.Leaving.{heard_if}
 pub use Rattle.file_table.specs.LockingFiles.{FileEnds, file_value}
 pub use Rattle.file_table.specs.declared.lock_file.FileLocked.{FileLocked}
-pub use Rattle.inode_parts.specs.Beginnings.{PartHasBegun, PartHasStarted, PartMayBegin, PartMayStart}
+pub use Rattle.inode_parts.specs.Beginnings.{PartHasBegun, PartMayBegin}
 pub use Rattle.inode_parts.proofs.Begins.{alone, is_part, is_ready, other_fills, short_begins, short_fills, short_so, told_for}
 pub use Rattle.inode_parts.proofs.Seeing.{comes_between, comes_on_search, counted_face, sees_entries, sees_name, sees_nothing, take_leaves}
 pub use Rattle.inode_parts.proofs.StepLeaves.{step_leaves, under_way}

@@ -8,11 +8,6 @@ pub other_stays : (k : InodePlace) (before h : Hand) → beside_lock k h ≡ bes
 other_stays One before h same = sym (ap (λ (h : Hand). h.two) same)
 other_stays Two before h same = sym (ap (λ (h : Hand). h.one) same)
 
--- and the second place
-pub second_stays : (k : InodePlace) (before h : Hand) → beside_lock k h ≡ beside_lock k before → before.second ≡ h.second
-second_stays One before h same = sym (ap (λ (h : Hand). h.second) same)
-second_stays Two before h same = sym (ap (λ (h : Hand). h.second) same)
-
 pub alone_none : (n : ℕ) (k : InodePlace) (h : Hand) → inode_at (other k) h ≡ None → IsAlone n k h
 alone_none n k h e = ap (locks n) e
 

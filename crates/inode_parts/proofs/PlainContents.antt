@@ -1,6 +1,6 @@
 -- Contents written and directories searched: without marks the programs are the code's.
 use Rattle.inode_data.specs.Widths.{most_blocks}
-use Rattle.inode_parts.proofs.Vocabulary.{◌≡◌, ℕ, zero, suc, ◌+◌, ◌-◌, ◌/◌, ◌≤◌, ◌==◌, nat_lt, Bool, true, false, if◌then◌else◌, List, length, drop, Option, Some, None, refl, ◌∙◌, ap, arith, slice_index, nat_tests, Dinode, Super, numbers_in, block_len, Ret, Do, bind, plain, unmarked, bind-assoc, plain-bind, fetch, marked_by, first_clear_below, give_zeros, take_first, zero_found, Address, Direct, InTable, address, table_of, fetch_block, direct, WriteResult, front_of, locate, locate_at, locate_in_table, located, look_up, name_direct, name_in_table, put_part, take_one, with_address, with_table, write_blocks, write_in, write_located, Found, Aim, Unused, block_count, found_in, look_at, or_next, search, search_from, slot_count, look_last, search_full, seek_free, seek_full, Acts, IndexState, Loaded, Searched, few_known, first_of, raised, most_slots}
+use Rattle.inode_parts.proofs.Vocabulary.{◌≡◌, ℕ, zero, suc, ◌+◌, ◌-◌, ◌/◌, ◌≤◌, ◌==◌, nat_lt, Bool, true, false, if◌then◌else◌, List, length, drop, Option, Some, None, refl, ◌∙◌, ap, arith, slice_index, nat_tests, Dinode, Super, numbers_in, block_len, Ret, Do, bind, plain, unmarked, plain-bind, fetch, marked_by, first_clear_below, give_zeros, take_first, zero_found, Address, Direct, InTable, address, table_of, fetch_block, direct, WriteResult, front_of, locate, locate_at, locate_in_table, located, look_up, name_direct, name_in_table, put_part, take_one, with_address, with_table, write_blocks, write_in, write_located, Found, Aim, Unused, block_count, found_in, look_at, or_next, search, search_from, slot_count, look_last, search_full, seek_free, seek_full, Acts, IndexState, Loaded, Searched, few_known, first_of, raised, most_slots}
 use Rattle.fs_machine.specs.Machines as code
 use Rattle.fs_machine.specs.Steps as steps
 use Rattle.inode_data.specs.Writing.{with_part}
@@ -10,10 +10,6 @@ use Rattle.inode_parts.proofs.Plain.{plain_block, plain_fetch}
 -- one program after the other
 pub then_plain : {A B : Type 0} (p : P A) (q : code.P A) (f : A → P B) (g : A → code.P B) → plain p ≡ q → ((a : A) → plain (f a) ≡ g a) → plain (bind p f) ≡ bind q g
 then_plain p q f g same each = plain-bind p f ∙ (λ i. bind (same i) (λ a. each a i))
-
--- and a third one after both
-pub after_plain : {A B C : Type 0} (p : P A) (q : code.P A) (f : A → P B) (h : B → P C) (g : A → code.P C) → plain p ≡ q → ((a : A) → plain (bind (f a) h) ≡ g a) → plain (bind (bind p f) h) ≡ bind q g
-after_plain p q f h g same each = ap plain (bind-assoc p f h) ∙ then_plain p q (λ a. bind (f a) h) g same each
 
 -- what was found, or what comes then
 pub plain_or_next : (o : Option Found) (x : IndexState) (p : IndexState → P Searched) (q : IndexState → code.P Searched) → ((x : IndexState) → plain (p x) ≡ q x) → plain (or_next o x p) ≡ or_next o x q

@@ -1,7 +1,6 @@
 -- How parts of several steps go on: each is under way, or leaves what its operation does.
-use Rattle.inode_parts.proofs.Vocabulary.{◌≡◌, ℕ, List, [], Option, Some, None, refl, sym, ◌∙◌, subst, with_txn, Hand, Finish, AtNothing, Query, InodeType, Name, answer_to, Heard, ClaimAmid, ClearAmid, EmptyAmid, EnterAmid, LockFileAmid, LockOpenAmid, StatAmid, ReadFileAmid, WriteFileAmid, FillAmid, FreeAmid, RelockAmid, StoreAmid, TakeAmid, Having, Leaves, having, StaysOrLeaves, GoesOrLeaves, UnderWay, ClaimPart, ClearPart, EmptyPart, EnterPart, FillPart, FreePart, LockFilePart, LockOpenPart, Notes, InodePart, ReadFilePart, RelockPart, StatFilePart, StorePart, TakePart, WriteFilePart}
+use Rattle.inode_parts.proofs.Vocabulary.{◌≡◌, ℕ, List, [], Option, Some, None, refl, sym, ◌∙◌, subst, Hand, AtNothing, Query, InodeType, Name, answer_to, Heard, ClaimAmid, ClearAmid, EmptyAmid, EnterAmid, LockFileAmid, LockOpenAmid, StatAmid, ReadFileAmid, WriteFileAmid, FillAmid, FreeAmid, RelockAmid, StoreAmid, TakeAmid, Having, Leaves, having, StaysOrLeaves, GoesOrLeaves, UnderWay, ClaimPart, ClearPart, EmptyPart, EnterPart, FillPart, FreePart, LockFilePart, LockOpenPart, Notes, InodePart, ReadFilePart, RelockPart, StatFilePart, StorePart, TakePart, WriteFilePart}
 use Rattle.inode_machine.specs.World as above
-use Rattle.path_walk.specs.declared.asks.Heard.TheVariants as heard
 use Rattle.inode_parts.specs.declared.part.InodePart.TheVariants as part
 
 -- it began with what was learned then, and so it goes on
@@ -71,16 +70,3 @@ module _ (path : List ℕ) (start : Having) (before h : Hand) (m m2 : Notes) (o 
   pub writes : (p r : WriteFilePart) → ((fd n offset : ℕ) (bytes : List ℕ) → WriteFileAmid n start.hand p before → StaysOrLeaves (WriteFileAmid n start.hand r) path (above.WriteFile fd n offset bytes) o (having start.hand m) (having h m2)) → Goes (part.WriteFile p) (part.WriteFile r)
   writes p r on (above.WriteFile fd n offset bytes) under = went path (above.WriteFile fd n offset bytes) start (WriteFileAmid n start.hand r) (part.WriteFile r) m m2 h o under.1 (λ stays. stays) (on fd n offset bytes under.0)
   writes p r on op under = absurd under.0
-
--- a transaction is left
-no_txn : (h : Hand) → h.txn ≡ None → h ≡ with_txn None h
-no_txn h e = λ i. record h { txn = e i }
-
-module _ (path : List ℕ) (m : Notes) (start : Having) (before h : Hand) (f g : Finish) (same : with_txn None h ≡ with_txn None before) where
-  pub leave_stays : (op : above.Op) → UnderWay path op start (part.Leave f) (having before m) → UnderWay path op start (part.Leave g) (having h m)
-  leave_stays above.Leave under = (same ∙ under.0, under.1)
-  leave_stays op under = absurd under.0
-
-  pub leave_leaves : (op : above.Op) → UnderWay path op start (part.Leave f) (having before m) → h.txn ≡ None → Leaves path op (answer_to [] op heard.WasDone) start (having h m)
-  leave_leaves above.Leave under gone = (no_txn h gone ∙ same ∙ under.0, under.1)
-  leave_leaves op under gone = absurd under.0

@@ -41,9 +41,9 @@ pub use Rattle.inode_parts.specs.FileWrites.{WriteBegins, WriteFileAmid, WriteFi
 pub use Rattle.inode_parts.specs.InodeParts.{AskTold, FillsAs, PartReady, PartTold, ReadsInto, ends_with, is_short, one_or_leave, part_for, part_left, part_left_after}
 pub use Rattle.inode_parts.specs.Takes.{IsTaken, Sees, TakeAmid, TakeBegins, listed_ends, looked, named_ends, note_of, seen, take_left}
 pub use Rattle.inode_parts.specs.declared.one_step.OneStep.{OneStep}
-pub use Rattle.inode_parts.specs.declared.read_file_part.ReadFilePart.{ReadFilePart}
+pub use Rattle.inode_parts.specs.declared.file_bytes.ReadFilePart.{ReadFilePart}
 pub use Rattle.inode_parts.specs.declared.take_part.TakePart.{TakePart}
-pub use Rattle.inode_parts.specs.declared.write_file_part.WriteFilePart.{WriteFilePart}
+pub use Rattle.inode_parts.specs.declared.file_bytes.WriteFilePart.{WriteFilePart}
 pub use Rattle.path_walk.specs.Asks.{asks, bool_in, claimed_in, claimed_of, face_of, hears, joined_in, loan_in, shut_in, start_in, wrote_of}
 pub use Rattle.std.proofs.Math.Seq.{drop-append_seam, take-append_seam}
 pub use Rattle.fs_machine.specs.Ops.{IsDown, IsHanded, IsJoined, IsKept, IsLent, IsOpened, dropped_by, kept_by}
@@ -54,15 +54,15 @@ pub use Rattle.inode_parts.specs.FileLocks.{LockBegins, LockFileAmid, LockOpenAm
 pub use Rattle.inode_parts.specs.Frees.{FreeAmid, FreeBegins, free_ends}
 pub use Rattle.inode_parts.specs.LockedFiles.{moved}
 pub use Rattle.inode_parts.specs.Relocks.{MayRelock, RelockAmid, RelockBegins, RelockReady, relock_left}
-pub use Rattle.inode_parts.specs.declared.clear_part.ClearPart.{ClearPart}
-pub use Rattle.inode_parts.specs.declared.empty_part.EmptyPart.{EmptyPart}
-pub use Rattle.inode_parts.specs.declared.enter_part.EnterPart.{EnterPart}
-pub use Rattle.inode_parts.specs.declared.fill_part.FillPart.{FillPart}
-pub use Rattle.inode_parts.specs.declared.lock_file_part.LockFilePart.{LockFilePart}
-pub use Rattle.inode_parts.specs.declared.locked_file.LockedFile.{LockedFile}
+pub use Rattle.inode_parts.specs.declared.changing_directories.ClearPart.{ClearPart}
+pub use Rattle.inode_parts.specs.declared.changing_inodes.EmptyPart.{EmptyPart}
+pub use Rattle.inode_parts.specs.declared.changing_directories.EnterPart.{EnterPart}
+pub use Rattle.inode_parts.specs.declared.changing_directories.FillPart.{FillPart}
+pub use Rattle.inode_parts.specs.declared.locking_files.LockFilePart.{LockFilePart}
+pub use Rattle.inode_parts.specs.declared.file_bytes.LockedFile.{LockedFile}
 pub use Rattle.inode_parts.specs.declared.relock_part.RelockPart.{RelockPart}
-pub use Rattle.inode_parts.specs.declared.stat_file_part.StatFilePart.{StatFilePart}
-pub use Rattle.inode_parts.specs.declared.store_part.StorePart.{StorePart}
+pub use Rattle.inode_parts.specs.declared.locking_files.StatFilePart.{StatFilePart}
+pub use Rattle.inode_parts.specs.declared.changing_inodes.StorePart.{StorePart}
 pub use Rattle.inodes_on_blocks.specs.Entering.{seek_free, seek_full}
 pub use Rattle.whole_calls.specs.Wholes.{WholeAsks}
 pub use Rattle.atomic_programs.proofs.Below.{part_begins}
@@ -88,12 +88,12 @@ pub use Rattle.inode_parts.specs.FileStats.{StatAmid, stat_ends, stat_left}
 pub use Rattle.inode_parts.specs.Fills.{FillAmid, fill_part_left, filled}
 pub use Rattle.inode_parts.specs.Sizes.{IsSized}
 pub use Rattle.inode_parts.specs.Stores.{StoreAmid, store_part_left}
-pub use Rattle.inode_parts.specs.declared.claim_part.ClaimPart.{ClaimPart}
-pub use Rattle.inode_parts.specs.declared.free_part.FreePart.{FreePart}
-pub use Rattle.inode_parts.specs.declared.lock_open_part.LockOpenPart.{LockOpenPart}
+pub use Rattle.inode_parts.specs.declared.changing_inodes.ClaimPart.{ClaimPart}
+pub use Rattle.inode_parts.specs.declared.changing_inodes.FreePart.{FreePart}
+pub use Rattle.inode_parts.specs.declared.locking_files.LockOpenPart.{LockOpenPart}
 pub use Rattle.inode_parts.specs.declared.lowered.Lowered.{Lowered}
-pub use Rattle.inode_parts.specs.declared.read_file_part.ReadFilePart.TheVariants.{Ending, Reading}
-pub use Rattle.inode_parts.specs.declared.write_file_part.WriteFilePart.TheVariants.{Denied, Writing}
+pub use Rattle.inode_parts.specs.declared.file_bytes.ReadFilePart.TheVariants.{Ending, Reading}
+pub use Rattle.inode_parts.specs.declared.file_bytes.WriteFilePart.TheVariants.{Denied, Writing}
 pub use Rattle.inode_table.proofs.Goings.{loaded-there, recorded-in}
 pub use Rattle.inode_table.proofs.HasOnes.{lock_has, new_has}
 pub use Rattle.inode_table.specs.HeldInodes.{HasBlock, counted}
@@ -124,7 +124,7 @@ pub use Rattle.inode_data.specs.declared.addresses.Address.TheVariants.{Direct, 
 pub use Rattle.inode_data.specs.declared.free_inode.FreeInode.{FreeInode}
 pub use Rattle.inode_data.specs.declared.read_part.ReadPart.{ReadPart}
 pub use Rattle.inode_data.specs.declared.truncate.Emptying.{Emptying}
-pub use Rattle.inode_table.specs.declared.lock_inode.LockInode.{LockInode}
+pub use Rattle.inode_table.specs.declared.locking_inodes.LockInode.{LockInode}
 pub use Rattle.inode_table.specs.declared.new_inode.NewInode.{NewInode}
 pub use Rattle.plain_tree.specs.declared.answer.Cause.{Cause}
 pub use Rattle.plain_tree.specs.declared.answer.Full.TheVariants.{Descriptors}

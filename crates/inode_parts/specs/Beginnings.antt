@@ -29,11 +29,3 @@ pub record PartHasBegun (sizes : Super) (first second : List ℕ) (a : Ask) (m :
   pub known : Begins (above_op (first ++ second) a) before → (p ≡ part_for (above_op (first ++ second) a) before) × (after ≡ before)
   pub under : UnderWay (first ++ second) (above_op (first ++ second) a) (having before m) p (having after m)
   pub hand : bare after ≡ bare before
-
--- the same of an ask that reads neither the paths nor what was noted
-abbrev pub PartMayStart : Super → Ask → Hand → Type 0
-PartMayStart sizes a h = (first second : List ℕ) × (m : Notes) × PartMayBegin sizes first second a m h
-
-abbrev pub PartHasStarted : Super → Ask → Hand → InodePart → Hand → Type 0
-PartHasStarted sizes a before p after =
-    (first second : List ℕ) (m : Notes) → PartMayBegin sizes first second a m before → PartHasBegun sizes first second a m before p after

@@ -5,7 +5,7 @@ use Rattle.inode_table.specs.declared.new_inode.Made.TheVariants as made
 use Rattle.path_walk.specs.declared.asks.Claimed.TheVariants as claimed
 use Rattle.path_walk.specs.declared.asks.Heard.TheVariants as heard
 use Rattle.inode_parts.specs.Basics.{carry_in, HasFreeSeat, free_seat, Part}
-use Rattle.inode_parts.specs.declared.claim_part.ClaimPart.{ClaimPart}
+use Rattle.inode_parts.specs.declared.changing_inodes.ClaimPart.{ClaimPart}
 use Rattle.inode_parts.specs.declared.note.Notes.{Notes}
 
 abbrev pub claimed_by : Made → Claimed

@@ -6,7 +6,7 @@ use Rattle.inode_parts.specs.Basics.{note_at, changed, IsAmid, MayChange, seat_o
 use Rattle.inode_parts.specs.declared.note.Note.{Note}
 use Rattle.inode_parts.specs.declared.note.Note.TheVariants as note
 use Rattle.inode_parts.specs.declared.note.Notes.{Notes}
-use Rattle.inode_parts.specs.declared.clear_part.ClearPart.{ClearPart}
+use Rattle.inode_parts.specs.declared.changing_directories.ClearPart.{ClearPart}
 
 -- the directory has this record, and this slot no more in its index
 abbrev pub cleared_at : List ℕ → Notes → InodePlace → (slot : ℕ) → Hand → Dinode → Part

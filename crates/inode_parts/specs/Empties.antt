@@ -4,7 +4,7 @@ use Rattle.inode_parts.specs.Vocabulary.{Super, bind, Hand, InodePlace, Op, trun
 use Rattle.path_walk.specs.declared.asks.Heard.TheVariants as heard
 use Rattle.inode_parts.specs.Basics.{rewritten, IsAmid, MayChange, Part}
 use Rattle.inode_parts.specs.declared.note.Notes.{Notes}
-use Rattle.inode_parts.specs.declared.empty_part.EmptyPart.{EmptyPart}
+use Rattle.inode_parts.specs.declared.changing_inodes.EmptyPart.{EmptyPart}
 
 abbrev pub empty_seat : EmptyPart → InodePlace
 empty_seat p = (emptying_of p.truncate).seat

@@ -6,7 +6,7 @@ use Rattle.path_walk.specs.declared.asks.Entered.TheVariants as entry
 use Rattle.path_walk.specs.declared.asks.Heard.TheVariants as heard
 use Rattle.inode_parts.specs.Basics.{handed, changed, IsAmid, MayChange, Part, StandsIn}
 use Rattle.inode_parts.specs.declared.note.Notes.{Notes}
-use Rattle.inode_parts.specs.declared.enter_part.EnterPart.{EnterPart}
+use Rattle.inode_parts.specs.declared.changing_directories.EnterPart.{EnterPart}
 
 -- what is heard of the room for it; without a slot the directory is as it was, and this is its index
 abbrev pub entered_so : List ℕ → Notes → InodePlace → Hand → Dinode → IndexState → Room → Part

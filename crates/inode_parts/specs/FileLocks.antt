@@ -4,8 +4,8 @@ use Rattle.inode_parts.specs.Vocabulary.{put, Loaded, Super, Ret, bind, LockedSt
 use Rattle.path_walk.specs.declared.asks.Heard.TheVariants as heard
 use Rattle.path_walk.specs.declared.asks.Locked.TheVariants as locked
 use Rattle.inode_parts.specs.Basics.{had_of, Comes, other, Part, beside_in}
-use Rattle.inode_parts.specs.declared.lock_file_part.LockFilePart.{LockFilePart}
-use Rattle.inode_parts.specs.declared.lock_open_part.LockOpenPart.{LockOpenPart}
+use Rattle.inode_parts.specs.declared.locking_files.LockFilePart.{LockFilePart}
+use Rattle.inode_parts.specs.declared.locking_files.LockOpenPart.{LockOpenPart}
 use Rattle.inode_parts.specs.declared.note.Note.TheVariants as note
 use Rattle.inode_parts.specs.declared.note.Notes.{Notes}
 

@@ -4,9 +4,9 @@ use Rattle.inode_parts.specs.Vocabulary.{Reply, bind, Handover, P, FilledMemory,
 use Rattle.fs_machine.specs.declared.op.Op.TheVariants as ops
 use Rattle.path_walk.specs.declared.asks.Heard.TheVariants as heard
 use Rattle.inode_parts.specs.Basics.{IsAmid, moved, IsOnly, Message, Part}
-use Rattle.inode_parts.specs.declared.locked_file.LockedFile.{LockedFile}
-use Rattle.inode_parts.specs.declared.read_file_part.ReadFilePart.{ReadFilePart}
-use Rattle.inode_parts.specs.declared.read_file_part.ReadFilePart.TheVariants.{Reading, Ending}
+use Rattle.inode_parts.specs.declared.file_bytes.LockedFile.{LockedFile}
+use Rattle.inode_parts.specs.declared.file_bytes.ReadFilePart.{ReadFilePart}
+use Rattle.inode_parts.specs.declared.file_bytes.ReadFilePart.TheVariants.{Reading, Ending}
 
 -- the file moves past the bytes that were read
 abbrev pub read_over : LockedFile → Hand → FilledMemory → Part

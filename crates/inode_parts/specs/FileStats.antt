@@ -5,7 +5,7 @@ use Rattle.path_walk.specs.declared.asks.Heard.TheVariants as heard
 use Rattle.inode_parts.specs.Basics.{had_of, Comes, face_by, other, Part, beside_in}
 use Rattle.inode_parts.specs.declared.note.Note.TheVariants as note
 use Rattle.inode_parts.specs.declared.note.Notes.{Notes}
-use Rattle.inode_parts.specs.declared.stat_file_part.StatFilePart.{StatFilePart}
+use Rattle.inode_parts.specs.declared.locking_files.StatFilePart.{StatFilePart}
 
 -- the state of inode n
 abbrev pub state_by : ℕ → Loaded → ℕ × Face

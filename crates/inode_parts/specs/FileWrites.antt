@@ -9,9 +9,9 @@ use Rattle.path_walk.specs.declared.asks.Wrote.TheVariants as wrote
 use Rattle.inode_parts.specs.Basics.{IsAmid, moved, IsOnly, other, Part}
 use Rattle.inode_parts.specs.Expecting.{HasOpened}
 use Rattle.inode_parts.specs.Holding.{Having}
-use Rattle.inode_parts.specs.declared.locked_file.LockedFile.{LockedFile}
-use Rattle.inode_parts.specs.declared.write_file_part.WriteFilePart.{WriteFilePart}
-use Rattle.inode_parts.specs.declared.write_file_part.WriteFilePart.TheVariants.{Denied, Writing, Ending}
+use Rattle.inode_parts.specs.declared.file_bytes.LockedFile.{LockedFile}
+use Rattle.inode_parts.specs.declared.file_bytes.WriteFilePart.{WriteFilePart}
+use Rattle.inode_parts.specs.declared.file_bytes.WriteFilePart.TheVariants.{Denied, Writing, Ending}
 
 -- what is heard where these bytes were written from an offset up to another one
 abbrev pub wrote_upto : (offset : ℕ) → List ℕ → (upto : ℕ) → Wrote

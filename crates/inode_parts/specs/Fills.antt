@@ -4,7 +4,7 @@ use Rattle.inode_parts.specs.Vocabulary.{bits_per_block, Super, bind, Hand, Inod
 use Rattle.path_walk.specs.declared.asks.Heard.TheVariants as heard
 use Rattle.inode_parts.specs.Basics.{changed, IsAmid, MayChange, Part}
 use Rattle.inode_parts.specs.declared.note.Notes.{Notes}
-use Rattle.inode_parts.specs.declared.fill_part.FillPart.{FillPart}
+use Rattle.inode_parts.specs.declared.changing_directories.FillPart.{FillPart}
 
 -- whether both were written is heard; none of the directory's names is indexed
 abbrev pub filled : List ℕ → Notes → InodePlace → Hand → Filled → Part

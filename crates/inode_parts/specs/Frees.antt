@@ -4,7 +4,7 @@ use Rattle.inode_parts.specs.Vocabulary.{put, Super, Ret, bind, Hand, Op, inode_
 use Rattle.path_walk.specs.declared.asks.Heard.TheVariants as heard
 use Rattle.inode_parts.specs.Basics.{IsAmid, HasLock, IsAlone, seat_of_lock, Part, beside_in}
 use Rattle.inode_parts.specs.declared.note.Notes.{Notes}
-use Rattle.inode_parts.specs.declared.free_part.FreePart.{FreePart}
+use Rattle.inode_parts.specs.declared.changing_inodes.FreePart.{FreePart}
 
 -- nothing is had of it then
 abbrev pub free_ends : List ℕ → Carry → ℕ → Unit {0} → Part

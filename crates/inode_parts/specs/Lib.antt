@@ -28,6 +28,7 @@ pub mod FileWrites
 pub mod InodeParts
 pub mod Coming
 pub mod UnderWay
+pub mod Starts
 pub mod Beginnings
 pub mod Calls
 pub mod Telling

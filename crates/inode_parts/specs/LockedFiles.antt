@@ -4,7 +4,7 @@ use Rattle.inode_parts.specs.Vocabulary.{Ret, Do, unmarked, Inode, Hand, inode_a
 use Rattle.fs_machine.specs.Steps as steps
 use Rattle.inode_parts.specs.OneSteps.{other}
 use Rattle.inode_parts.specs.Parts.{Part}
-use Rattle.inode_parts.specs.declared.locked_file.LockedFile.{LockedFile}
+use Rattle.inode_parts.specs.declared.file_bytes.LockedFile.{LockedFile}
 
 -- no other lock is in hand
 abbrev pub IsOnly : LockedFile → Hand → Type 0

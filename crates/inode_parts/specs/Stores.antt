@@ -5,7 +5,7 @@ use Rattle.path_walk.specs.declared.asks.Heard.TheVariants as heard
 use Rattle.inode_parts.specs.Basics.{handed, with_note, IsAmid, MayChange, Part}
 use Rattle.inode_parts.specs.declared.note.Note.TheVariants as note
 use Rattle.inode_parts.specs.declared.note.Notes.{Notes}
-use Rattle.inode_parts.specs.declared.store_part.StorePart.{StorePart}
+use Rattle.inode_parts.specs.declared.changing_inodes.StorePart.{StorePart}
 
 -- the record is in hand already
 abbrev pub store_part_left : List ℕ → Notes → StorePart → Hand → Part

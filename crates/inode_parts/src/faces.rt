@@ -3,24 +3,19 @@ ghost use Rattle.std.specs.Prelude.{◌≡◌, ◌<◌, ◌^◌, IfSome};
 ghost use Rattle.inode_parts.specs.Vocabulary.{natural};
 ghost use Rattle.inode_parts.specs.Faces.{face_by, face_unless_free, type_by_number};
 
+use crate::opening::{DIRECTORY, FILE};
 use fs_layout::Dinode;
 use path_walk::{Face, InodeType};
 
 const FREE: i16 = 0;
 
-const DIRECTORY: i16 = 1;
-
-const FILE: i16 = 2;
-
 fn inode_type(inode: &Dinode) -> InodeType
     ensures { result ≡ type_by_number inode.now.kind inode.now.major }
 {
-    if inode.kind == DIRECTORY {
-        InodeType::Directory
-    } else if inode.kind == FILE {
-        InodeType::File
-    } else {
-        InodeType::Device(inode.major)
+    match inode.kind {
+        DIRECTORY => InodeType::Directory,
+        FILE => InodeType::File,
+        _ => InodeType::Device(inode.major),
     }
 }
 

@@ -10,7 +10,7 @@ ghost use Rattle.inode_parts.specs.UnderWay.{GoesOrLeaves, UnderWay};
 ghost use Rattle.inode_parts.specs.Sizes.{IsSized};
 ghost use Rattle.inode_parts.specs.Telling.{BeginsAsking, LoweredTells, lacks_place};
 
-use crate::claim_part::ClaimPart;
+use crate::changing_inodes::ClaimPart;
 use crate::note::Notes;
 use crate::part::InodePart;
 use fs_layout::Super;

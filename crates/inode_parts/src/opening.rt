@@ -6,9 +6,9 @@ use fs_machine::NewFile;
 use path_walk::InodeType;
 
 /// The numbers of an inode's type.
-const DIRECTORY: i16 = 1;
+pub(crate) const DIRECTORY: i16 = 1;
 
-const FILE: i16 = 2;
+pub(crate) const FILE: i16 = 2;
 
 const DEVICE: i16 = 3;
 

@@ -1,8 +1,8 @@
 //! Operations on whole inodes, each as a part over blocks.
 ghost use Rattle.std.specs.Prelude.{◌≡◌, ◌++◌, ℕ, List, Some, None, IfSome, IfNone};
-ghost use Rattle.inode_parts.specs.Vocabulary.{Super as SuperState, Ret, asks, op_in, answer_in, CanDo, Prepared, IsAfter, Goes, bare, Hand as HandState, OpAbove, Take, above_op, query_in, first_in, second_in, text_in};
+ghost use Rattle.inode_parts.specs.Vocabulary.{Ret, asks, op_in, answer_in, CanDo, Prepared, IsAfter, Goes, bare, Hand as HandState, OpAbove, Take, above_op, query_in, first_in, second_in, text_in};
 ghost use Rattle.inode_parts.specs.Expecting.{BeginsWith};
-ghost use Rattle.inode_parts.specs.Beginnings.{PartHasBegun, PartHasStarted, PartMayBegin, PartMayStart};
+ghost use Rattle.inode_parts.specs.Beginnings.{PartHasBegun, PartMayBegin};
 ghost use Rattle.inode_parts.specs.Carries.{carry_in};
 ghost use Rattle.inode_parts.specs.Holding.{Having};
 ghost use Rattle.inode_parts.specs.Leaving.{having, heard_if};
@@ -12,30 +12,21 @@ ghost use Rattle.inode_parts.specs.Takes.{IsTold};
 ghost use Rattle.inode_parts.specs.InodeParts.{is_short, part_for, part_left, part_left_after, part_asked, ChangesNone, MayGoOn, PartReady, PartTold, ReadsInto};
 ghost use Rattle.inode_parts.specs.UnderWay.{GoesOrLeaves, UnderWay};
 ghost use Rattle.inode_parts.specs.declared.note.Notes.{Notes as NotesState};
-ghost use Rattle.path_walk.specs.declared.asks.Ask.TheVariants as asking;
 
-use crate::claim_part::ClaimPart;
-use crate::clear_part::ClearPart;
-use crate::empty_part::EmptyPart;
-use crate::enter_part::EnterPart;
-use crate::fill_part::FillPart;
-use crate::free_part::FreePart;
-use crate::lock_file_part::LockFilePart;
-use crate::lock_open_part::LockOpenPart;
-use crate::names::name;
+use crate::call_text::name;
+use crate::changing_directories::{ClearPart, EnterPart, FillPart};
+use crate::changing_inodes::{ClaimPart, EmptyPart, FreePart, StorePart};
+use crate::file_bytes::{ReadFilePart, WriteFilePart};
+use crate::locking_files::{LockFilePart, LockOpenPart, StatFilePart};
 use crate::note::Notes;
 use crate::one_step::OneStep;
 use crate::operation::Operation;
 use crate::places::{reference_seat, refers_at};
-use crate::read_file_part::ReadFilePart;
 use crate::relock_part::RelockPart;
-use crate::stat_file_part::StatFilePart;
-use crate::store_part::StorePart;
 use crate::take_part::TakePart;
-use crate::write_file_part::WriteFilePart;
 use fs_layout::Super;
 use fs_machine::{Answer, Control, Finish, Hand, Op};
-use path_walk::{Ask, Element, Heard, InodeType, Query};
+use path_walk::{Ask, Heard, Query};
 use whole_calls::Whole;
 
 /// The operation of a call under way, whichever it is.
@@ -108,7 +99,8 @@ impl InodePart {
             Ask::Store(number, count) => self.begin_store(number, count, sizes, hand),
             Ask::Empty(number) => self.begin_empty(number, sizes, hand),
             Ask::Enter(number, element, child) => {
-                self.begin_enter(number, element, child, sizes, call, hand);
+                let name = name(call.text(), call.second(), &element);
+                self.begin_enter(number, child, name, sizes, hand);
             }
             Ask::Clear(number, _) => self.begin_clear(number, sizes, notes, hand),
             Ask::Fill(number, parent) => self.begin_fill(number, parent, sizes, hand),
@@ -122,138 +114,10 @@ impl InodePart {
                 self.begin_read_file(fd, number, count, notes, hand);
             }
             Ask::WriteFile(fd, number, _, index) => {
-                self.begin_write_file(fd, number, index, sizes, call, notes, hand);
+                self.begin_write_file(fd, number, index, call.text(), sizes, notes, hand);
             }
             _ => self.begin_short(ask, hand),
         }
-    }
-
-    #[inline(always)]
-    fn begin_store(&mut self, number: u32, count: u32, sizes: &Super, hand: &mut Hand)
-        requires { PartMayStart sizes.now (asking.Store number count) hand.old }
-        ensures { PartHasStarted sizes.now (asking.Store number count) hand.old self.new hand.new }
-    {
-        *self = InodePart::Store(StorePart::begin(number, count, sizes, hand));
-    }
-
-    #[inline(always)]
-    fn begin_empty(&mut self, number: u32, sizes: &Super, hand: &mut Hand)
-        requires { PartMayStart sizes.now (asking.Empty number) hand.old }
-        ensures { PartHasStarted sizes.now (asking.Empty number) hand.old self.new hand.new }
-    {
-        *self = InodePart::Empty(EmptyPart::begin(number, sizes, hand));
-    }
-
-    #[inline(always)]
-    fn begin_enter(
-        &mut self,
-        number: u32,
-        element: Element,
-        child: u32,
-        sizes: &Super,
-        call: &Whole,
-        hand: &Hand,
-    )
-        requires { (notes : NotesState)
-            × PartMayBegin sizes.now (first_in call.now) (second_in call.now) (asking.Enter number element child) notes hand.now }
-        ensures { (notes : NotesState) → let a = asking.Enter number element child in
-            PartMayBegin sizes.now (first_in call.now) (second_in call.now) a notes hand.now
-            → PartHasBegun sizes.now (first_in call.now) (second_in call.now) a notes hand.now self.new hand.now }
-    {
-        let name = name(call.text(), call.second(), &element);
-        *self = InodePart::Enter(EnterPart::begin(number, child, name, sizes, hand));
-    }
-
-    #[inline(always)]
-    fn begin_clear(&mut self, number: u32, sizes: &Super, notes: &Notes, hand: &Hand)
-        requires { (first second : List ℕ) × (element : Element)
-            × PartMayBegin sizes.now first second (asking.Clear number element) notes.now hand.now }
-        ensures { (first second : List ℕ) (element : Element) → let a = asking.Clear number element in
-            PartMayBegin sizes.now first second a notes.now hand.now
-            → PartHasBegun sizes.now first second a notes.now hand.now self.new hand.now }
-    {
-        *self = InodePart::Clear(ClearPart::begin(number, sizes, notes, hand));
-    }
-
-    #[inline(always)]
-    fn begin_fill(&mut self, number: u32, parent: u32, sizes: &Super, hand: &Hand)
-        requires { PartMayStart sizes.now (asking.Fill number parent) hand.now }
-        ensures { PartHasStarted sizes.now (asking.Fill number parent) hand.now self.new hand.now }
-    {
-        *self = InodePart::Fill(FillPart::begin(number, parent, sizes, hand));
-    }
-
-    #[inline(always)]
-    fn begin_free(&mut self, number: u32, sizes: &Super, hand: &mut Hand)
-        requires { PartMayStart sizes.now (asking.Free number) hand.old }
-        ensures { PartHasStarted sizes.now (asking.Free number) hand.old self.new hand.new }
-    {
-        *self = InodePart::Free(FreePart::begin(number, sizes, hand));
-    }
-
-    #[inline(always)]
-    fn begin_claim(&mut self, inode_type: InodeType, sizes: &Super, hand: &Hand)
-        requires { PartMayStart sizes.now (asking.Claim inode_type) hand.now }
-        ensures { PartHasStarted sizes.now (asking.Claim inode_type) hand.now self.new hand.now }
-    {
-        *self = InodePart::Claim(ClaimPart::begin(inode_type, sizes, hand));
-    }
-
-    #[inline(always)]
-    fn begin_lock_open(&mut self, fd: u32, sizes: &Super, hand: &Hand)
-        requires { (number : ℕ) × PartMayStart sizes.now (asking.LockOpen fd number) hand.now }
-        ensures { (number : ℕ) → PartHasStarted sizes.now (asking.LockOpen fd number) hand.now self.new hand.now }
-    {
-        *self = InodePart::LockOpen(LockOpenPart::begin(fd, sizes, hand));
-    }
-
-    #[inline(always)]
-    fn begin_lock_file(&mut self, fd: u32, sizes: &Super, hand: &Hand)
-        requires { PartMayStart sizes.now (asking.LockFile fd) hand.now }
-        ensures { PartHasStarted sizes.now (asking.LockFile fd) hand.now self.new hand.now }
-    {
-        *self = InodePart::LockFile(LockFilePart::begin(fd, sizes, hand));
-    }
-
-    #[inline(always)]
-    fn begin_stat_file(&mut self, fd: u32, sizes: &Super, hand: &Hand)
-        requires { PartMayStart sizes.now (asking.StatFile fd) hand.now }
-        ensures { PartHasStarted sizes.now (asking.StatFile fd) hand.now self.new hand.now }
-    {
-        *self = InodePart::StatFile(StatFilePart::begin(fd, sizes, hand));
-    }
-
-    #[inline(always)]
-    fn begin_read_file(&mut self, fd: u32, number: u32, count: usize, notes: &Notes, hand: &Hand)
-        requires { (sizes : SuperState) × (first second : List ℕ) × (offset : ℕ)
-            × PartMayBegin sizes first second (asking.ReadFile fd number offset count) notes.now hand.now }
-        ensures { (sizes : SuperState) (first second : List ℕ) (offset : ℕ) → let a = asking.ReadFile fd number offset count in
-            PartMayBegin sizes first second a notes.now hand.now
-            → PartHasBegun sizes first second a notes.now hand.now self.new hand.now }
-    {
-        *self = InodePart::ReadFile(ReadFilePart::begin(fd, number, count, notes, hand));
-    }
-
-    #[inline(always)]
-    fn begin_write_file(
-        &mut self,
-        fd: u32,
-        number: u32,
-        index: usize,
-        sizes: &Super,
-        call: &Whole,
-        notes: &Notes,
-        hand: &Hand,
-    )
-        requires { (offset : ℕ)
-            × PartMayBegin sizes.now (first_in call.now) (second_in call.now) (asking.WriteFile fd number offset index) notes.now hand.now }
-        ensures { (offset : ℕ) → let a = asking.WriteFile fd number offset index in
-            PartMayBegin sizes.now (first_in call.now) (second_in call.now) a notes.now hand.now
-            → PartHasBegun sizes.now (first_in call.now) (second_in call.now) a notes.now hand.now self.new hand.now }
-    {
-        let text = call.text();
-        let part = WriteFilePart::begin(fd, number, index, text, sizes, notes, hand);
-        *self = InodePart::WriteFile(part);
     }
 
     // That of an operation which is one below, or leaves a transaction. Where one below was here before, it alone is written.
@@ -375,14 +239,10 @@ impl InodePart {
             InodePart::LockOpen(part) => part.next(notes, answer, hand, heard),
             InodePart::LockFile(part) => part.next(notes, answer, hand, heard),
             InodePart::StatFile(part) => part.next(notes, answer, hand, heard),
-            InodePart::Take(part) => part.next(
-                call.text(),
-                call.second(),
-                notes,
-                answer,
-                hand,
-                heard,
-            ),
+            InodePart::Take(part) => {
+                let (path, second) = (call.text(), call.second());
+                part.next(path, second, notes, answer, hand, heard)
+            }
             InodePart::Relock(part) => part.next(notes, answer, hand, heard),
             InodePart::ReadFile(_) => unreachable!(),
             InodePart::WriteFile(part) => part.next(call.text(), answer, hand, heard),

@@ -1,13 +1,12 @@
 // Inodes changed whose locks are in hand.
 ghost use Rattle.std.specs.Prelude.{◌≡◌, IsSome};
-ghost use Rattle.inode_parts.specs.Vocabulary.{MatchOption, option_map, option_map_or, bare, indexed, inode_at, no_index, no_inode, with_index, with_record, IsLoadedAt};
+ghost use Rattle.inode_parts.specs.Vocabulary.{option_map_or, bare, inode_at, no_index, no_inode, with_index, with_record, IsLoadedAt};
 ghost use Rattle.inode_parts.specs.Carries.{with_note};
 ghost use Rattle.inode_parts.specs.declared.note.Note.TheVariants as note;
 
 use crate::note::{Note, Notes};
 use fs_layout::Dinode;
-use fs_machine::{Hand, Inode, InodePlace};
-use sleep_lock::Guard;
+use fs_machine::{Hand, InodePlace};
 
 // The inode at a seat has this record from now on, and nothing more is known of it.
 #[tactic(auto, using(crate::proofs::Changing::bare_record))]
@@ -21,16 +20,6 @@ pub(crate) fn change(seat: InodePlace, inode: Dinode, notes: &mut Notes, hand: &
     notes.set(seat, Note::Nothing);
 }
 
-fn clear_index(place: &mut Option<Guard<Inode>>)
-    requires { MatchOption place.old ⊥ (λ g. IsSome g.value.content) }
-    ensures { place.new ≡ option_map (indexed no_index) place.old }
-{
-    match place {
-        Some(guard) => guard.value_mut().index_mut().clear(),
-        None => unreachable!(),
-    }
-}
-
 // None of the names of the directory at a seat is indexed from now on.
 #[tactic(auto, using(crate::proofs::Changing::bare_index))]
 pub(crate) fn clear_index_at(seat: InodePlace, hand: &mut Hand)
@@ -38,8 +27,5 @@ pub(crate) fn clear_index_at(seat: InodePlace, hand: &mut Hand)
     ensures index { hand.new ≡ with_index seat no_index hand.old }
     ensures hand { bare hand.new ≡ bare hand.old }
 {
-    match seat {
-        InodePlace::One => clear_index(&mut hand.one),
-        InodePlace::Two => clear_index(&mut hand.two),
-    }
+    hand.index_mut(seat).clear();
 }

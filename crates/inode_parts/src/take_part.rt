@@ -13,8 +13,8 @@ ghost use Rattle.inode_parts.specs.declared.note.Note.TheVariants as note;
 ghost use Rattle.inode_parts.specs.declared.note.Notes.{Notes as NotesState};
 ghost use Rattle.path_walk.specs.declared.asks.Heard.TheVariants as hearing;
 
+use crate::call_text::name;
 use crate::faces::face_unless_free;
-use crate::names::name;
 use crate::note::{Note, Notes};
 use crate::places::reference_seat;
 use directory::{Found, Search, Sought};

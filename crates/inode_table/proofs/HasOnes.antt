@@ -1,10 +1,10 @@
 -- Each part has an operation to make.
 use Rattle.inode_table.proofs.Vocabulary.{HasOne, first, fetch_has, Hand, fetch_left, load_left, lock_left, new_left, store_left, record_left, LoadInode, LockInode, NewInode, StoreInode, StoreRecord}
-use Rattle.inode_table.specs.declared.load_inode.LoadInode.TheVariants as load
-use Rattle.inode_table.specs.declared.lock_inode.LockInode.TheVariants as lock
+use Rattle.inode_table.specs.declared.locking_inodes.LoadInode.TheVariants as load
+use Rattle.inode_table.specs.declared.locking_inodes.LockInode.TheVariants as lock
 use Rattle.inode_table.specs.declared.new_inode.NewInode.TheVariants as new
-use Rattle.inode_table.specs.declared.store_inode.StoreInode.TheVariants as store
-use Rattle.inode_table.specs.declared.store_record.StoreRecord.TheVariants as stored
+use Rattle.inode_table.specs.declared.storing_inodes.StoreInode.TheVariants as store
+use Rattle.inode_table.specs.declared.storing_inodes.StoreRecord.TheVariants as stored
 
 pub load_has : (m : LoadInode) (h : Hand) → HasOne (load_left m h)
 load_has (load.Fetching n f) h = first (fetch_left f h) _ (fetch_has f h)

@@ -14,11 +14,11 @@ pub use Rattle.inode_table.specs.Programs.{load, load_unless, place_of, record_o
 unfoldable pub use Rattle.inode_table.specs.Programs.{with_dinode}
 pub use Rattle.inode_table.specs.Storing.{store_left}
 pub use Rattle.inode_table.specs.StoringRecords.{record_left}
-pub use Rattle.inode_table.specs.declared.load_inode.LoadInode.{LoadInode}
-pub use Rattle.inode_table.specs.declared.lock_inode.LockInode.{LockInode}
+pub use Rattle.inode_table.specs.declared.locking_inodes.LoadInode.{LoadInode}
+pub use Rattle.inode_table.specs.declared.locking_inodes.LockInode.{LockInode}
 pub use Rattle.inode_table.specs.declared.new_inode.NewInode.{NewInode}
-pub use Rattle.inode_table.specs.declared.store_inode.StoreInode.{StoreInode}
-pub use Rattle.inode_table.specs.declared.store_record.StoreRecord.{StoreRecord}
+pub use Rattle.inode_table.specs.declared.storing_inodes.StoreInode.{StoreInode}
+pub use Rattle.inode_table.specs.declared.storing_inodes.StoreRecord.{StoreRecord}
 pub use Rattle.fs_layout.specs.declared.inode.Dinode.{Dinode}
 pub use Rattle.fs_machine.specs.InMemory.{Inode, Loaded, stands_so, unindexed, with_inode_of}
 pub use Rattle.fs_machine.specs.declared.hand.Hand.{Hand}

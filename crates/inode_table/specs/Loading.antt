@@ -4,8 +4,8 @@ use Rattle.inode_table.specs.Vocabulary.{Loaded, unindexed, Ret, Do, bind, unmar
 use Rattle.fs_machine.specs.Steps as steps
 use Rattle.inode_table.specs.Programs.{give_back}
 use Rattle.fs_machine.specs.declared.op.Op.TheVariants as ops
-use Rattle.inode_table.specs.declared.load_inode.LoadInode.{LoadInode}
-use Rattle.inode_table.specs.declared.load_inode.LoadInode.TheVariants.{Fetching, Give}
+use Rattle.inode_table.specs.declared.locking_inodes.LoadInode.{LoadInode}
+use Rattle.inode_table.specs.declared.locking_inodes.LoadInode.TheVariants.{Fetching, Give}
 
 abbrev pub load_left : LoadInode → Hand → P Loaded
 load_left (Fetching n f) h = bind (fetch_left f h) (give_back (fetch_block f) n)

@@ -3,7 +3,7 @@ use Rattle.std.specs.Prelude.{◌≡◌, Option, Some, None, IsSome}
 use Rattle.inode_table.specs.Vocabulary.{Loaded, Ret, P, Hand, First, InodePlace, inode_at, inode_in, with_buffer, with_inode}
 use Rattle.inode_table.specs.HeldInodes.{loaded_in, IsLoadedAt}
 use Rattle.inode_table.specs.Loading.{load_left, load_place, LoadReady}
-use Rattle.inode_table.specs.declared.load_inode.LoadInode.{LoadInode}
+use Rattle.inode_table.specs.declared.locking_inodes.LoadInode.{LoadInode}
 
 -- a loading that has begun, where there is one
 abbrev pub begun_left : Option LoadInode → InodePlace → Hand → P Loaded

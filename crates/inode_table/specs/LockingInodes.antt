@@ -7,8 +7,8 @@ use Rattle.fs_machine.specs.declared.op.Op.TheVariants as ops
 use Rattle.inode_table.specs.HeldInodes.{number_in, loaded_in, IsLoadedAt}
 use Rattle.inode_table.specs.Loading.{load_left, load_asked}
 use Rattle.inode_table.specs.LoadingHeld.{IsLoading}
-use Rattle.inode_table.specs.declared.lock_inode.LockInode.{LockInode}
-use Rattle.inode_table.specs.declared.lock_inode.LockInode.TheVariants.{Lock, Loading}
+use Rattle.inode_table.specs.declared.locking_inodes.LockInode.{LockInode}
+use Rattle.inode_table.specs.declared.locking_inodes.LockInode.TheVariants.{Lock, Loading}
 
 -- the lock of inode n is taken, and it is loaded where it isn't
 abbrev pub lock_loaded : (inodestart n : ℕ) → P Loaded

@@ -3,8 +3,8 @@ use Rattle.std.specs.Prelude.{IsSome}
 use Rattle.inode_table.specs.Vocabulary.{MatchOption, bind, P, Hand, Place, Op, buffer_at, block_at, bytes_at, fetch_left, fetch_asked, FetchReady, fetch_block, fetch_place}
 use Rattle.inode_table.specs.Programs.{put_inode}
 use Rattle.fs_machine.specs.declared.op.Op.TheVariants as ops
-use Rattle.inode_table.specs.declared.store_inode.StoreInode.{StoreInode}
-use Rattle.inode_table.specs.declared.store_inode.StoreInode.TheVariants.{Fetching, Write}
+use Rattle.inode_table.specs.declared.storing_inodes.StoreInode.{StoreInode}
+use Rattle.inode_table.specs.declared.storing_inodes.StoreInode.TheVariants.{Fetching, Write}
 
 abbrev pub store_left : StoreInode → Hand → P (Unit {0})
 store_left (Fetching n d f) h = bind (fetch_left f h) (put_inode (fetch_block f) n d)

@@ -4,8 +4,8 @@ use Rattle.inode_table.specs.Vocabulary.{MatchOption, bind, P, Hand, Place, Inod
 use Rattle.inode_table.specs.Programs.{put_inode}
 use Rattle.fs_machine.specs.declared.op.Op.TheVariants as ops
 use Rattle.inode_table.specs.HeldInodes.{number_in, record_in, IsLoadedAt}
-use Rattle.inode_table.specs.declared.store_record.StoreRecord.{StoreRecord}
-use Rattle.inode_table.specs.declared.store_record.StoreRecord.TheVariants.{Fetching, Write}
+use Rattle.inode_table.specs.declared.storing_inodes.StoreRecord.{StoreRecord}
+use Rattle.inode_table.specs.declared.storing_inodes.StoreRecord.TheVariants.{Fetching, Write}
 
 abbrev pub record_left : StoreRecord → Hand → P (Unit {0})
 record_left (Fetching k f) h = bind (fetch_left f h) (put_inode (fetch_block f) (number_in k h) (record_in k h))

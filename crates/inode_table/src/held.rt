@@ -1,40 +1,18 @@
 // Inodes whose locks are in hand.
 ghost use Rattle.std.specs.Prelude.{◌≡◌, Some, None, IsSome};
-ghost use Rattle.inode_table.specs.Vocabulary.{option_map, option_map_or, MatchOption, inode_at, no_inode};
-ghost use Rattle.inode_table.specs.Programs.{record_of};
+ghost use Rattle.inode_table.specs.Vocabulary.{option_map, inode_at};
 ghost use Rattle.inode_table.specs.HeldInodes.{record_in, without_content, unloaded, IsLoadedAt};
 
 use fs_layout::Dinode;
 use fs_machine::{Hand, Inode, InodePlace};
 use sleep_lock::Guard;
 
-// The record of an inode that is loaded, as the holder of its lock has it.
-fn record(guard: &Guard<Inode>) -> &Dinode
-    requires { IsSome guard.now.value.content }
-    ensures { result.now ≡ record_of guard.now.value }
-{
-    guard.value().record()
-}
-
-fn record_of(place: &Option<Guard<Inode>>) -> &Dinode
-    requires { MatchOption place.now ⊥ (λ g. IsSome g.value.content) }
-    ensures { result.now ≡ record_of (option_map_or (λ g. g.value) place.now no_inode) }
-{
-    match place {
-        Some(guard) => record(guard),
-        None => unreachable!(),
-    }
-}
-
 /// The record of the inode at a seat.
 pub fn record_at(hand: &Hand, seat: InodePlace) -> &Dinode
     requires { IsLoadedAt seat hand.now }
     ensures { result.now ≡ record_in seat hand.now }
 {
-    match seat {
-        InodePlace::One => record_of(&hand.one),
-        InodePlace::Two => record_of(&hand.two),
-    }
+    hand.inode(seat).record()
 }
 
 fn unload(place: &mut Option<Guard<Inode>>)

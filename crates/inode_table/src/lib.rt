@@ -6,18 +6,12 @@
 
 mod held;
 pub mod laws;
-mod load_inode;
-mod loading;
-mod lock_inode;
+mod locking_inodes;
 mod new_inode;
 mod place;
-mod store_inode;
-mod store_record;
+mod storing_inodes;
 
 pub use crate::held::{record_at, unload_at};
-pub use crate::load_inode::LoadInode;
-pub use crate::loading::load_held;
-pub use crate::lock_inode::LockInode;
+pub use crate::locking_inodes::{LoadInode, LockInode, load_held};
 pub use crate::new_inode::{Looking, Made, NewInode, as_new, free_numbers};
-pub use crate::store_inode::StoreInode;
-pub use crate::store_record::StoreRecord;
+pub use crate::storing_inodes::{StoreInode, StoreRecord};

@@ -108,14 +108,10 @@ impl Routine for NewInode {
             NewInode::Fetching(seat, looking, fetch) => {
                 let seat = *seat;
                 let looking = *looking;
-                match fetch.next(answer, hand) {
-                    None => None,
-                    Some(_) => {
-                        hold_free(looking, hand);
-                        *self = NewInode::Look(seat, looking);
-                        None
-                    }
-                }
+                fetch.next(answer, hand)?;
+                hold_free(looking, hand);
+                *self = NewInode::Look(seat, looking);
+                None
             }
             NewInode::Look(seat, looking) => {
                 let seat = *seat;
@@ -164,10 +160,9 @@ fn after(looking: Looking) -> Looking
     ensures { result ≡ record looking { before = looking.before + 1; left = looking.left - 1 } }
 {
     Looking {
-        kind: looking.kind,
-        sizes: looking.sizes,
         before: looking.before + 1,
         left: looking.left - 1,
+        ..looking
     }
 }
 
@@ -187,10 +182,8 @@ fn hold_free(looking: Looking, hand: &mut Hand)
     ensures free { HasFree looking hand.new }
     ensures hand { hand.new ≡ record hand.old { numbers = hand.new.numbers; count = hand.new.count } }
 {
-    let (numbers, count) = match &hand.first {
-        Some(guard) => free_numbers(guard.value().bytes(), looking.sizes.ninodes, looking.before),
-        None => unreachable!(),
-    };
+    let block = hand.block(Place::First);
+    let (numbers, count) = free_numbers(block, looking.sizes.ninodes, looking.before);
     hand.numbers = numbers;
     hand.count = count as u8;
 }

@@ -44,14 +44,14 @@ use Rattle.inode_parts.specs.declared.one_step.OneStep.{OneStep}
 use Rattle.inode_parts.specs.declared.one_step.OneStep.TheVariants as step
 use Rattle.inode_parts.specs.declared.part.InodePart.{InodePart}
 use Rattle.inode_parts.specs.declared.part.InodePart.TheVariants as part
-use Rattle.inode_parts.specs.declared.read_file_part.ReadFilePart.{ReadFilePart}
-use Rattle.inode_parts.specs.declared.read_file_part.ReadFilePart.TheVariants as reads
+use Rattle.inode_parts.specs.declared.file_bytes.ReadFilePart.{ReadFilePart}
+use Rattle.inode_parts.specs.declared.file_bytes.ReadFilePart.TheVariants as reads
 use Rattle.inode_parts.specs.declared.relock_part.RelockPart.{RelockPart}
 use Rattle.inode_parts.specs.declared.relock_part.RelockPart.TheVariants as relock
 use Rattle.inode_parts.specs.declared.take_part.TakePart.{TakePart}
 use Rattle.inode_parts.specs.declared.take_part.TakePart.TheVariants as take
-use Rattle.inode_parts.specs.declared.write_file_part.WriteFilePart.{WriteFilePart}
-use Rattle.inode_parts.specs.declared.write_file_part.WriteFilePart.TheVariants as writes
+use Rattle.inode_parts.specs.declared.file_bytes.WriteFilePart.{WriteFilePart}
+use Rattle.inode_parts.specs.declared.file_bytes.WriteFilePart.TheVariants as writes
 use Rattle.inode_table.specs.Making.{new_left, rest_of}
 use Rattle.inode_table.specs.NewInodes.{inode_blocks, look_in, make_in}
 unfoldable use Rattle.inode_table.specs.NewInodes.{new_from}

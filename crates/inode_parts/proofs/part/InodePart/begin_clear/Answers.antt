@@ -1,23 +1,17 @@
-use Rattle.inode_parts.proofs.Lemmas.{◌++◌, rules, refl, ◌<◌, ◌^◌, name_in, may_change}
+use Rattle.inode_parts.proofs.Lemmas.{ℕ, ap, ◌∙◌, Free, Dinode, P, put_entry, InodePlace, record_in, note_at, slot_in, seat_of_lock, clear_is_part}
 use Rattle.inode_parts.proofs.part.InodePart.begin_clear.Goals as goal
 
-pub begin-requires : goal.begin-requires
-begin-requires c =
-    let path = c.requires.0 ++ c.requires.1 in
-    let may = c.requires.3 in
-    let few : c.args.number < 2 ^ 32 = search rules in
-    record { begins = (path, name_in path c.requires.2, (may_change c.args.sizes.now may.sized c.args.number c.args.hand.now few may.begins.0, may.begins.1)) }
-
-pub returns : goal.returns
-returns c first second element may =
-    let path = first ++ second in
-    let few : c.args.number < 2 ^ 32 = search rules in
-    record {
-      part = c.begin.ensures.part path (name_in path element) (may_change c.args.sizes.now may.sized c.args.number c.args.hand.now few may.begins.0, may.begins.1);
-      ready = c.begin.ensures.ready;
-      told = tt;
-      fills = tt;
-      known = λ none. absurd none;
-      under = (c.begin.ensures.amid, refl);
-      hand = refl;
-    }
+pub returns-clause-part : goal.returns-clause-part
+returns-clause-part c path name begins =
+    let sizes = c.args.sizes.now in
+    let n = c.args.number in
+    let m = c.args.notes.now in
+    let before = c.args.hand.now in
+    let is = c.lock_seat-seat.ensures in
+    let there = c.record_at.ensures ∙ ap (λ (k : InodePlace). record_in k before) is in
+    let slot = c.found_slot-slot.ensures ∙ ap (λ (k : InodePlace). slot_in (note_at k m)) is in
+    let program =
+    c.new-clear.ensures.program before
+    ∙ ap (λ (d : Dinode). let p : P Dinode = put_entry sizes.inodestart n d c.found_slot-slot.result Free in p) there
+    ∙ ap (λ (s : ℕ). let p : P Dinode = put_entry sizes.inodestart n (record_in (seat_of_lock n before) before) s Free in p) slot in
+    clear_is_part sizes path m n name before (record { seat = c.lock_seat-seat.result; slot = c.found_slot-slot.result; clear = c.new-clear.result }) begins is slot program

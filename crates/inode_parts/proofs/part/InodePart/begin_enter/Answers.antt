@@ -1,29 +1,20 @@
-use Rattle.inode_parts.proofs.Lemmas.{◌++◌, ℕ, List, ap, rules, refl, sym, subst, ◌∙◌, ◌<◌, ◌^◌, Name, Enter, IsPart, carry_in, enter_part_left, first_in, second_in, name_in, may_change}
-use Rattle.inode_parts.specs.Vocabulary.{IsName}
+use Rattle.inode_parts.proofs.Lemmas.{ap, refl, ◌∙◌, P, EnteredState, enter, InodePlace, loaded_in, entered_as, enter_is_part, never_over}
 use Rattle.inode_parts.proofs.part.InodePart.begin_enter.Goals as goal
 
-pub begin-requires : goal.begin-requires
-begin-requires c =
-    let may = c.requires.1 in
-    let few : c.args.number < 2 ^ 32 = search rules in
-    let first = first_in c.args.call.now in
-    let second = second_in c.args.call.now in
-    let is = c.name-name.ensures ∙ ap (λ (t : List ℕ). name_in (t ++ c.second.result.now) c.args.element) c.text.ensures ∙ ap (λ (t : List ℕ). name_in (first ++ t) c.args.element) c.second.ensures in
-    record { begins = (may_change c.args.sizes.now may.sized c.args.number c.args.hand.now few may.begins.0, may.sized.size, subst (λ (name : Name). IsName name) (sym is) may.begins.1) }
-
-pub returns : goal.returns
-returns c m may =
-    let first = first_in c.args.call.now in
-    let second = second_in c.args.call.now in
-    let is = c.name-name.ensures ∙ ap (λ (t : List ℕ). name_in (t ++ c.second.result.now) c.args.element) c.text.ensures ∙ ap (λ (t : List ℕ). name_in (first ++ t) c.args.element) c.second.ensures in
-    let path = first ++ second in
+pub unreachable-requires : goal.unreachable-requires
+unreachable-requires c =
     let h = c.args.hand.now in
-    record {
-      part = subst (λ (name : Name). IsPart c.args.sizes.now (carry_in path m h) (Enter c.args.number name c.args.child) (enter_part_left path m c.begin.result h)) is (c.begin.ensures.part path m);
-      ready = c.begin.ensures.ready;
-      told = tt;
-      fills = tt;
-      known = λ none. absurd none;
-      under = (c.begin.ensures.amid, refl);
-      hand = refl;
-    }
+    never_over c.args.sizes.now c.args.number (loaded_in c.lock_seat-seat.result h) c.args.child c.args.name.now (entered_as c.in-Is.field-0 h) c.in-Is.ensures.program
+
+pub returns-clause-part : goal.returns-clause-part
+returns-clause-part c path notes =
+    let sizes = c.args.sizes.now in
+    let n = c.args.number in
+    let name = c.args.name.now in
+    let before = c.args.hand.now in
+    let is = c.lock_seat-seat.ensures in
+    let program = c.in-Runs.ensures.program ∙ ap (λ (k : InodePlace). let p : P EnteredState = enter sizes n (loaded_in k before) c.args.child name in p) is in
+    enter_is_part sizes path notes n name c.args.child before (record { enter = c.in-Runs.enter }) c.requires.begins.0.0 (c.in-Runs.ensures.seat ∙ is) program
+
+pub returns-clause-under : goal.returns-clause-under
+returns-clause-under c path m = ((c.in-Runs.ensures.seat ∙ c.lock_seat-seat.ensures, c.requires.begins.0.4, refl), refl)

@@ -1,20 +1,12 @@
-use Rattle.inode_parts.proofs.Lemmas.{◌++◌, rules, refl, ◌<◌, ◌^◌, may_change}
+use Rattle.inode_parts.proofs.Lemmas.{ap, ◌∙◌, Dinode, InodePlace, record_in, fill, fill_is_part}
 use Rattle.inode_parts.proofs.part.InodePart.begin_fill.Goals as goal
 
-pub begin-requires : goal.begin-requires
-begin-requires c =
-    let may = c.requires.3 in
-    let few : c.args.number < 2 ^ 32 = search rules in
-    record { begins = (may_change c.args.sizes.now may.sized c.args.number c.args.hand.now few may.begins, may.sized.size) }
-
-pub returns : goal.returns
-returns c first second m may =
-    record {
-      part = c.begin.ensures.part (first ++ second) m;
-      ready = c.begin.ensures.ready;
-      told = tt;
-      fills = tt;
-      known = λ none. absurd none;
-      under = (c.begin.ensures.amid, refl);
-      hand = refl;
-    }
+pub returns-clause-part : goal.returns-clause-part
+returns-clause-part c path notes =
+    let sizes = c.args.sizes.now in
+    let n = c.args.number in
+    let before = c.args.hand.now in
+    let is = c.lock_seat-seat.ensures in
+    let there = c.record_at-inode.ensures ∙ ap (λ (k : InodePlace). record_in k before) is in
+    let program = c.new-fill.ensures.program before ∙ ap (λ (d : Dinode). fill sizes n d c.args.parent) there in
+    fill_is_part sizes path notes n c.args.parent before (record { seat = c.lock_seat-seat.result; fill = c.new-fill.result }) c.requires.begins.0.0 is program

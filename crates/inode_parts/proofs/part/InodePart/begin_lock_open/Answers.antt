@@ -1,19 +1,18 @@
-use Rattle.inode_parts.proofs.Lemmas.{◌++◌, refl, may_lock}
+use Rattle.inode_parts.proofs.Lemmas.{refl, open_seat, lock_open_is_part, comes_first, first_seat}
 use Rattle.inode_parts.proofs.part.InodePart.begin_lock_open.Goals as goal
 
-pub begin-requires : goal.begin-requires
-begin-requires c =
-    let may = c.requires.1.3 in
-    record { begins = may_lock c.args.sizes.now may.sized c.args.hand.now may.begins }
+pub returns-clause-part : goal.returns-clause-part
+returns-clause-part c path m n =
+    let free = first_seat (open_seat c.new-lock.result) c.args.hand.now c.new-lock.ensures.seat c.requires.begins.1 c.requires.begins.2 in
+    lock_open_is_part c.args.sizes.now path m c.args.fd c.args.hand.now c.new-lock.result n (c.new-lock.ensures.program c.args.hand.now) free.0
 
-pub returns : goal.returns
-returns c number first second m may =
-    record {
-      part = c.begin.ensures.part (first ++ second) m number;
-      ready = c.begin.ensures.ready;
-      told = tt;
-      fills = tt;
-      known = λ none. absurd none;
-      under = (c.begin.ensures.amid, refl);
-      hand = refl;
-    }
+pub returns-clause-ready : goal.returns-clause-ready
+returns-clause-ready c =
+    let free = first_seat (open_seat c.new-lock.result) c.args.hand.now c.new-lock.ensures.seat c.requires.begins.1 c.requires.begins.2 in
+    (c.new-lock.ensures.ready c.args.hand.now c.requires.begins.1 c.requires.begins.3, free.1)
+
+pub returns-clause-under : goal.returns-clause-under
+returns-clause-under c path m n =
+    let k = open_seat c.new-lock.result in
+    let free = first_seat k c.args.hand.now c.new-lock.ensures.seat c.requires.begins.1 c.requires.begins.2 in
+    ((refl, comes_first k c.args.hand.now free.0 c.requires.begins.3), refl)

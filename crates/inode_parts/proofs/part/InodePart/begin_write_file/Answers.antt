@@ -1,30 +1,29 @@
-use Rattle.std.specs.Prelude.{◌*◌, ◌≤◌, length}
-use Rattle.inode_parts.proofs.Lemmas.{ℕ, List, rules, refl, sym, subst, ◌∙◌, ◌<◌, ◌^◌, IsPart, WriteFile, carry_in, first_in, second_in, having, piece, piece_len, write_file_left, alone, may_write, WriteFileTold}
+use Rattle.inode_parts.proofs.Lemmas.{refl, length, sym, ap, ◌∙◌, piece, write_left, begun_deny, begun_write, done_so}
 use Rattle.inode_parts.proofs.part.InodePart.begin_write_file.Goals as goal
 
-pub begin-part-requires : goal.begin-part-requires
-begin-part-requires c =
-    let may = c.requires.1 in
-    let few : c.args.number < 2 ^ 32 = search rules in
-    record {
-      stands = subst (λ (t : List ℕ). piece_len * c.args.index ≤ length t) (sym c.text-text.ensures) may.stands.0;
-      begins = (c.requires.0, may_write c.args.sizes.now may.sized c.args.number c.args.fd c.requires.0 (having c.args.hand.now c.args.notes.now) few may.begins);
-    }
+pub returns-in-Some-clause-part : goal.returns-in-Some-clause-part
+returns-in-Some-clause-part c offset begins =
+    let f = c.locked_file-file in
+    let text = c.args.text.now in
+    let bytes = piece text c.args.index in
+    let refused = sym (c.refused.ensures.is bytes (ap length (sym c.piece-len.ensures.is))) ∙ c.in-Some.is in
+    begun_deny c.args.sizes.now text c.args.notes.now c.args.number c.args.fd offset bytes c.args.hand.now begins.0.0 begins.0.4 f.result c.record_at-inode.result.now
+    f.ensures.seat f.ensures.fd (f.ensures.offset offset begins.0.3) c.record_at-inode.ensures c.in-Some.why refused
 
-pub returns : goal.returns
-returns c offset may =
-    let n = c.args.number in
-    let m = c.args.notes.now in
+pub returns-in-None-clause-part : goal.returns-in-None-clause-part
+returns-in-None-clause-part c offset begins =
+    let f = c.locked_file-file in
+    let text = c.args.text.now in
     let h = c.args.hand.now in
-    let few : n < 2 ^ 32 = search rules in
-    record {
-      part = subst (λ (t : List ℕ). IsPart c.args.sizes.now (carry_in t m h) (WriteFile c.args.fd n offset (piece t c.args.index)) (write_file_left t c.begin-part.result h))
-          (c.text-text.ensures ∙ alone (first_in c.args.call.now) (second_in c.args.call.now) may.stands.1)
-          (c.begin-part.ensures.part offset (may_write c.args.sizes.now may.sized n c.args.fd offset (having h m) few may.begins));
-      ready = c.begin-part.ensures.ready;
-      told = (subst (λ (t : List ℕ). WriteFileTold t c.begin-part.result) c.text-text.ensures c.begin-part.ensures.told, may.stands.1);
-      fills = tt;
-      known = λ none. absurd none;
-      under = (c.begin-part.ensures.amid, refl);
-      hand = refl;
-    }
+    let bytes = piece text c.args.index in
+    let len = ap length (sym c.piece-len.ensures.is) in
+    let fits = sym (c.refused.ensures.is bytes len) ∙ c.in-None.is in
+    begun_write c.args.sizes.now text c.args.notes.now c.args.number c.args.fd offset bytes h begins.0.0 begins.0.4 f.result c.record_at-inode.result.now
+    f.ensures.seat f.ensures.fd (f.ensures.offset offset begins.0.3) c.record_at-inode.ensures (write_left bytes c.begin-part.result h) fits (c.begin-part.ensures.program bytes h len)
+
+pub returns-in-None-clause-told : goal.returns-in-None-clause-told
+returns-in-None-clause-told c =
+    let h = c.args.hand.now in
+    let begins = c.requires.begins.1 in
+    let bytes = piece c.args.text.now c.args.index in
+    ((c.requires.stands, done_so bytes c.begin-part.result h (c.begin-part.ensures.ready bytes h begins.0.2 begins.1)), refl)
