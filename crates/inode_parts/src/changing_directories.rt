@@ -2,7 +2,7 @@
 ghost use Rattle.std.specs.Prelude.{◌≡◌, ℕ, List};
 ghost use Rattle.inode_parts.specs.Vocabulary.{Name, Ret, bare, Hand as HandState, HasNoBuffer, IsLoadedAt, entered_as};
 ghost use Rattle.inode_machine.specs.World as world;
-ghost use Rattle.inode_parts.specs.Starts.{carry_in, having, part_left, IsPart, Notes as NotesState, PartReady, PartTold, UnderWay};
+ghost use Rattle.inode_parts.specs.Starts.{carry_in, having, part_left, HasStarted, IsPart, PartReady, PartTold, UnderWay};
 ghost use Rattle.inode_parts.specs.Carries.{handed, note_at};
 ghost use Rattle.inode_parts.specs.Changes.{IsAmid};
 ghost use Rattle.inode_parts.specs.Enters.{enter_part_left, enter_part_asked, entered, EnterAmid, EnterBegins, EnterPartReady};
@@ -39,14 +39,8 @@ impl InodePart {
         sizes: &Super,
         hand: &Hand,
     )
-        requires begins { EnterBegins sizes.now number name.now hand.now }
-        ensures part { (path : List ℕ) (notes : NotesState)
-            → IsPart sizes.now (carry_in path notes hand.now) (world.Enter number name.now child)
-            (part_left path notes self.new hand.now) }
-        ensures ready { PartReady self.new hand.now }
-        ensures told { (first second : List ℕ) → PartTold first second self.new }
-        ensures under { (path : List ℕ) (notes : NotesState)
-            → UnderWay path (world.Enter number name.now child) (having hand.now notes) self.new (having hand.now notes) }
+        requires { EnterBegins sizes.now number name.now hand.now }
+        ensures { HasStarted sizes.now (world.Enter number name.now child) hand.now self.new hand.now }
     {
         let seat = lock_seat(hand, number);
         match Enter::begin(number, seat, sizes, child, name, hand) {
@@ -208,13 +202,8 @@ impl InodePart {
     #[inline(always)]
     #[tactic(auto, using(crate::proofs::Fills::fill_is_part))]
     pub(crate) fn begin_fill(&mut self, number: u32, parent: u32, sizes: &Super, hand: &Hand)
-        requires begins { FillBegins sizes.now number hand.now }
-        ensures part { (path : List ℕ) (notes : NotesState)
-            → IsPart sizes.now (carry_in path notes hand.now) (world.Fill number parent) (part_left path notes self.new hand.now) }
-        ensures ready { PartReady self.new hand.now }
-        ensures told { (first second : List ℕ) → PartTold first second self.new }
-        ensures under { (path : List ℕ) (notes : NotesState)
-            → UnderWay path (world.Fill number parent) (having hand.now notes) self.new (having hand.now notes) }
+        requires { FillBegins sizes.now number hand.now }
+        ensures { HasStarted sizes.now (world.Fill number parent) hand.now self.new hand.now }
     {
         let seat = lock_seat(hand, number);
         let inode = record_at(hand, seat);

@@ -1,7 +1,7 @@
 //! Operations that change an inode, each as a part: its count is put, it is emptied, freed, or made.
-ghost use Rattle.std.specs.Prelude.{◌≡◌, ℕ, List};
-ghost use Rattle.inode_parts.specs.Vocabulary.{bare, Store, Empty, Free, Hand as HandState, new_value, Claim, type_of};
-ghost use Rattle.inode_parts.specs.Starts.{carry_in, having, part_left, IsPart, Notes as NotesState, PartReady, PartTold, UnderWay};
+ghost use Rattle.std.specs.Prelude.{◌≡◌, ℕ};
+ghost use Rattle.inode_parts.specs.Vocabulary.{Store, Empty, Free, Hand as HandState, new_value, Claim, type_of};
+ghost use Rattle.inode_parts.specs.Starts.{HasStarted};
 ghost use Rattle.inode_parts.specs.Stores.{store_part_left, store_part_asked, StoreAmid, StoreBegins, StorePartReady};
 ghost use Rattle.inode_parts.specs.Empties.{empty_part_left, empty_part_asked, EmptyAmid, EmptyBegins, EmptyPartReady};
 ghost use Rattle.inode_parts.specs.Frees.{free_left, free_asked, FreeAmid, FreeBegins, FreeReady};
@@ -31,14 +31,8 @@ impl InodePart {
     #[inline(always)]
     #[tactic(auto, using(crate::proofs::Stores::store_is_part))]
     pub(crate) fn begin_store(&mut self, number: u32, count: u32, sizes: &Super, hand: &mut Hand)
-        requires begins { StoreBegins sizes.now number count hand.old }
-        ensures part { (path : List ℕ) (notes : NotesState)
-            → IsPart sizes.now (carry_in path notes hand.old) (Store number count) (part_left path notes self.new hand.new) }
-        ensures ready { PartReady self.new hand.new }
-        ensures told { (first second : List ℕ) → PartTold first second self.new }
-        ensures under { (path : List ℕ) (notes : NotesState)
-            → UnderWay path (Store number count) (having hand.old notes) self.new (having hand.new notes) }
-        ensures hand { bare hand.new ≡ bare hand.old }
+        requires { StoreBegins sizes.now number count hand.old }
+        ensures { HasStarted sizes.now (Store number count) hand.old self.new hand.new }
     {
         let seat = lock_seat(hand, number);
         let store = StoreRecord::with_count(sizes.inodestart, hand, seat, count, Place::First);
@@ -95,14 +89,8 @@ impl InodePart {
     #[inline(always)]
     #[tactic(auto, using(crate::proofs::Empties::empty_is_part))]
     pub(crate) fn begin_empty(&mut self, number: u32, sizes: &Super, hand: &mut Hand)
-        requires begins { EmptyBegins sizes.now number hand.old }
-        ensures part { (path : List ℕ) (notes : NotesState)
-            → IsPart sizes.now (carry_in path notes hand.old) (Empty number) (part_left path notes self.new hand.new) }
-        ensures ready { PartReady self.new hand.new }
-        ensures told { (first second : List ℕ) → PartTold first second self.new }
-        ensures under { (path : List ℕ) (notes : NotesState)
-            → UnderWay path (Empty number) (having hand.old notes) self.new (having hand.new notes) }
-        ensures hand { bare hand.new ≡ bare hand.old }
+        requires { EmptyBegins sizes.now number hand.old }
+        ensures { HasStarted sizes.now (Empty number) hand.old self.new hand.new }
     {
         let seat = lock_seat(hand, number);
         let truncate = Truncate::begin(hand, seat, sizes);
@@ -158,14 +146,8 @@ impl InodePart {
     /// That of the inode of this number, on a disk of these sizes.
     #[inline(always)]
     pub(crate) fn begin_free(&mut self, number: u32, sizes: &Super, hand: &mut Hand)
-        requires begins { FreeBegins sizes.now number hand.old }
-        ensures part { (path : List ℕ) (notes : NotesState)
-            → IsPart sizes.now (carry_in path notes hand.old) (Free number) (part_left path notes self.new hand.new) }
-        ensures ready { PartReady self.new hand.new }
-        ensures told { (first second : List ℕ) → PartTold first second self.new }
-        ensures under { (path : List ℕ) (notes : NotesState)
-            → UnderWay path (Free number) (having hand.old notes) self.new (having hand.new notes) }
-        ensures hand { bare hand.new ≡ bare hand.old }
+        requires { FreeBegins sizes.now number hand.old }
+        ensures { HasStarted sizes.now (Free number) hand.old self.new hand.new }
     {
         let seat = lock_seat(hand, number);
         let free = FreeInode::begin(hand, seat, sizes);
@@ -219,13 +201,8 @@ impl InodePart {
     /// One of this type, on a disk of these sizes.
     #[inline(always)]
     pub(crate) fn begin_claim(&mut self, inode_type: InodeType, sizes: &Super, hand: &Hand)
-        requires begins { ClaimBegins sizes.now hand.now }
-        ensures part { (path : List ℕ) (notes : NotesState)
-            → IsPart sizes.now (carry_in path notes hand.now) (Claim (type_of inode_type)) (part_left path notes self.new hand.now) }
-        ensures ready { PartReady self.new hand.now }
-        ensures told { (first second : List ℕ) → PartTold first second self.new }
-        ensures under { (path : List ℕ) (notes : NotesState)
-            → UnderWay path (Claim (type_of inode_type)) (having hand.now notes) self.new (having hand.now notes) }
+        requires { ClaimBegins sizes.now hand.now }
+        ensures { HasStarted sizes.now (Claim (type_of inode_type)) hand.now self.new hand.now }
     {
         let claim = NewInode::new(kind(inode_type), sizes, free_seat(hand));
         *self = InodePart::Claim(ClaimPart { claim });

@@ -1,7 +1,7 @@
 //! Operations that lock what a descriptor names, each as a part: to write it, to read it, and to tell its state.
-ghost use Rattle.std.specs.Prelude.{ℕ, List};
+ghost use Rattle.std.specs.Prelude.{ℕ};
 ghost use Rattle.inode_parts.specs.Vocabulary.{LockOpen as LocksOpen, LockFile as Locks, Stats};
-ghost use Rattle.inode_parts.specs.Starts.{carry_in, having, part_left, IsPart, Notes as NotesState, PartReady, PartTold, UnderWay};
+ghost use Rattle.inode_parts.specs.Starts.{HasStarted};
 ghost use Rattle.inode_parts.specs.FileLocks.{lock_open_left, lock_open_asked, LockBegins, LockOpenAmid, LockOpenReady, lock_file_left, lock_file_asked, LockFileAmid, LockFileReady};
 ghost use Rattle.inode_parts.specs.FileStats.{stat_left, stat_asked, StatAmid, StatReady};
 
@@ -27,13 +27,8 @@ impl InodePart {
     /// On a disk of these sizes.
     #[inline(always)]
     pub(crate) fn begin_lock_open(&mut self, fd: u32, sizes: &Super, hand: &Hand)
-        requires begins { LockBegins sizes.now hand.now }
-        ensures part { (path : List ℕ) (notes : NotesState) (number : ℕ)
-            → IsPart sizes.now (carry_in path notes hand.now) (LocksOpen fd number) (part_left path notes self.new hand.now) }
-        ensures ready { PartReady self.new hand.now }
-        ensures told { (first second : List ℕ) → PartTold first second self.new }
-        ensures under { (path : List ℕ) (notes : NotesState) (number : ℕ)
-            → UnderWay path (LocksOpen fd number) (having hand.now notes) self.new (having hand.now notes) }
+        requires { LockBegins sizes.now hand.now }
+        ensures { (number : ℕ) → HasStarted sizes.now (LocksOpen fd number) hand.now self.new hand.now }
     {
         let lock = LockOpen::new(sizes.inodestart, InodePlace::One, fd);
         *self = InodePart::LockOpen(LockOpenPart { fd, lock });
@@ -88,13 +83,8 @@ impl InodePart {
     /// On a disk of these sizes.
     #[inline(always)]
     pub(crate) fn begin_lock_file(&mut self, fd: u32, sizes: &Super, hand: &Hand)
-        requires begins { LockBegins sizes.now hand.now }
-        ensures part { (path : List ℕ) (notes : NotesState)
-            → IsPart sizes.now (carry_in path notes hand.now) (Locks fd) (part_left path notes self.new hand.now) }
-        ensures ready { PartReady self.new hand.now }
-        ensures told { (first second : List ℕ) → PartTold first second self.new }
-        ensures under { (path : List ℕ) (notes : NotesState)
-            → UnderWay path (Locks fd) (having hand.now notes) self.new (having hand.now notes) }
+        requires { LockBegins sizes.now hand.now }
+        ensures { HasStarted sizes.now (Locks fd) hand.now self.new hand.now }
     {
         let lock = LockFile::new(sizes.inodestart, InodePlace::One, Want::Read, fd);
         *self = InodePart::LockFile(LockFilePart { fd, lock });
@@ -152,13 +142,8 @@ impl InodePart {
     /// That of this descriptor, on a disk of these sizes.
     #[inline(always)]
     pub(crate) fn begin_stat_file(&mut self, fd: u32, sizes: &Super, hand: &Hand)
-        requires begins { LockBegins sizes.now hand.now }
-        ensures part { (path : List ℕ) (notes : NotesState)
-            → IsPart sizes.now (carry_in path notes hand.now) (Stats fd) (part_left path notes self.new hand.now) }
-        ensures ready { PartReady self.new hand.now }
-        ensures told { (first second : List ℕ) → PartTold first second self.new }
-        ensures under { (path : List ℕ) (notes : NotesState)
-            → UnderWay path (Stats fd) (having hand.now notes) self.new (having hand.now notes) }
+        requires { LockBegins sizes.now hand.now }
+        ensures { HasStarted sizes.now (Stats fd) hand.now self.new hand.now }
     {
         let lock = LockFile::new(sizes.inodestart, InodePlace::One, Want::Stat, fd);
         *self = InodePart::StatFile(StatFilePart { lock });

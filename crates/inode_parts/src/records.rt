@@ -1,6 +1,6 @@
 // Inodes changed whose locks are in hand.
 ghost use Rattle.std.specs.Prelude.{◌≡◌, IsSome};
-ghost use Rattle.inode_parts.specs.Vocabulary.{option_map_or, bare, inode_at, no_index, no_inode, with_index, with_record, IsLoadedAt};
+ghost use Rattle.inode_parts.specs.Vocabulary.{bare, inode_at, no_index, with_index, with_record, IsLoadedAt};
 ghost use Rattle.inode_parts.specs.Carries.{with_note};
 ghost use Rattle.inode_parts.specs.declared.note.Note.TheVariants as note;
 

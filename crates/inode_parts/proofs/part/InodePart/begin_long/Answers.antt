@@ -8,7 +8,7 @@ pub begin_store-requires : goal.begin_store-requires
 begin_store-requires c =
     let may = rw c.in-Store.is at c.requires in
     let few : c.in-Store.number < 2 ^ 32 = search rules in
-    record { begins = (may_change c.args.sizes.now may.sized c.in-Store.number c.args.hand.now few may.begins.0, may.begins.1) }
+    (may_change c.args.sizes.now may.sized c.in-Store.number c.args.hand.now few may.begins.0, may.begins.1)
 
 pub returns-in-Store : goal.returns-in-Store
 returns-in-Store c =
@@ -21,7 +21,7 @@ pub begin_empty-requires : goal.begin_empty-requires
 begin_empty-requires c =
     let may = rw c.in-Empty.is at c.requires in
     let few : c.in-Empty.number < 2 ^ 32 = search rules in
-    record { begins = may_change c.args.sizes.now may.sized c.in-Empty.number c.args.hand.now few may.begins }
+    may_change c.args.sizes.now may.sized c.in-Empty.number c.args.hand.now few may.begins
 
 pub returns-in-Empty : goal.returns-in-Empty
 returns-in-Empty c =
@@ -34,20 +34,20 @@ pub begin_fill-requires : goal.begin_fill-requires
 begin_fill-requires c =
     let may = rw c.in-Fill.is at c.requires in
     let few : c.in-Fill.number < 2 ^ 32 = search rules in
-    record { begins = (may_change c.args.sizes.now may.sized c.in-Fill.number c.args.hand.now few may.begins, may.sized.size) }
+    (may_change c.args.sizes.now may.sized c.in-Fill.number c.args.hand.now few may.begins, may.sized.size)
 
 pub returns-in-Fill : goal.returns-in-Fill
 returns-in-Fill c =
     let path = first_in c.args.call.now ++ second_in c.args.call.now in
     let m = c.args.notes.now in
     let did = c.begin_fill.ensures in
-    rw c.in-Fill.is (record { part = did.part path m; ready = did.ready; told = did.told (first_in c.args.call.now) (second_in c.args.call.now); fills = tt; known = λ none. absurd none; under = did.under path m; hand = refl })
+    rw c.in-Fill.is (record { part = did.part path m; ready = did.ready; told = did.told (first_in c.args.call.now) (second_in c.args.call.now); fills = tt; known = λ none. absurd none; under = did.under path m; hand = did.hand })
 
 pub begin_free-requires : goal.begin_free-requires
 begin_free-requires c =
     let may = rw c.in-Free.is at c.requires in
     let few : c.in-Free.number < 2 ^ 32 = search rules in
-    record { begins = may_free c.args.sizes.now may.sized c.in-Free.number c.args.hand.now few may.begins }
+    may_free c.args.sizes.now may.sized c.in-Free.number c.args.hand.now few may.begins
 
 pub returns-in-Free : goal.returns-in-Free
 returns-in-Free c =
@@ -59,50 +59,50 @@ returns-in-Free c =
 pub begin_claim-requires : goal.begin_claim-requires
 begin_claim-requires c =
     let may = rw c.in-Claim.is at c.requires in
-    record { begins = may_claim c.args.sizes.now may.sized c.args.hand.now may.begins }
+    may_claim c.args.sizes.now may.sized c.args.hand.now may.begins
 
 pub returns-in-Claim : goal.returns-in-Claim
 returns-in-Claim c =
     let path = first_in c.args.call.now ++ second_in c.args.call.now in
     let m = c.args.notes.now in
     let did = c.begin_claim.ensures in
-    rw c.in-Claim.is (record { part = did.part path m; ready = did.ready; told = did.told (first_in c.args.call.now) (second_in c.args.call.now); fills = tt; known = λ none. absurd none; under = did.under path m; hand = refl })
+    rw c.in-Claim.is (record { part = did.part path m; ready = did.ready; told = did.told (first_in c.args.call.now) (second_in c.args.call.now); fills = tt; known = λ none. absurd none; under = did.under path m; hand = did.hand })
 
 pub begin_lock_file-requires : goal.begin_lock_file-requires
 begin_lock_file-requires c =
     let may = rw c.in-LockFile.is at c.requires in
-    record { begins = may_lock c.args.sizes.now may.sized c.args.hand.now may.begins }
+    may_lock c.args.sizes.now may.sized c.args.hand.now may.begins
 
 pub returns-in-LockFile : goal.returns-in-LockFile
 returns-in-LockFile c =
     let path = first_in c.args.call.now ++ second_in c.args.call.now in
     let m = c.args.notes.now in
     let did = c.begin_lock_file.ensures in
-    rw c.in-LockFile.is (record { part = did.part path m; ready = did.ready; told = did.told (first_in c.args.call.now) (second_in c.args.call.now); fills = tt; known = λ none. absurd none; under = did.under path m; hand = refl })
+    rw c.in-LockFile.is (record { part = did.part path m; ready = did.ready; told = did.told (first_in c.args.call.now) (second_in c.args.call.now); fills = tt; known = λ none. absurd none; under = did.under path m; hand = did.hand })
 
 pub begin_stat_file-requires : goal.begin_stat_file-requires
 begin_stat_file-requires c =
     let may = rw c.in-StatFile.is at c.requires in
-    record { begins = may_lock c.args.sizes.now may.sized c.args.hand.now may.begins }
+    may_lock c.args.sizes.now may.sized c.args.hand.now may.begins
 
 pub returns-in-StatFile : goal.returns-in-StatFile
 returns-in-StatFile c =
     let path = first_in c.args.call.now ++ second_in c.args.call.now in
     let m = c.args.notes.now in
     let did = c.begin_stat_file.ensures in
-    rw c.in-StatFile.is (record { part = did.part path m; ready = did.ready; told = did.told (first_in c.args.call.now) (second_in c.args.call.now); fills = tt; known = λ none. absurd none; under = did.under path m; hand = refl })
+    rw c.in-StatFile.is (record { part = did.part path m; ready = did.ready; told = did.told (first_in c.args.call.now) (second_in c.args.call.now); fills = tt; known = λ none. absurd none; under = did.under path m; hand = did.hand })
 
 pub begin_lock_open-requires : goal.begin_lock_open-requires
 begin_lock_open-requires c =
     let may = rw c.in-LockOpen.is at c.requires in
-    record { begins = may_lock c.args.sizes.now may.sized c.args.hand.now may.begins }
+    may_lock c.args.sizes.now may.sized c.args.hand.now may.begins
 
 pub returns-in-LockOpen : goal.returns-in-LockOpen
 returns-in-LockOpen c =
     let path = first_in c.args.call.now ++ second_in c.args.call.now in
     let m = c.args.notes.now in
-    let did = c.begin_lock_open.ensures in
-    rw c.in-LockOpen.is (record { part = did.part path m c.in-LockOpen.field-1; ready = did.ready; told = did.told (first_in c.args.call.now) (second_in c.args.call.now); fills = tt; known = λ none. absurd none; under = did.under path m c.in-LockOpen.field-1; hand = refl })
+    let did = c.begin_lock_open.ensures c.in-LockOpen.field-1 in
+    rw c.in-LockOpen.is (record { part = did.part path m; ready = did.ready; told = did.told (first_in c.args.call.now) (second_in c.args.call.now); fills = tt; known = λ none. absurd none; under = did.under path m; hand = did.hand })
 
 pub begin_clear-requires : goal.begin_clear-requires
 begin_clear-requires c =
@@ -126,7 +126,7 @@ begin_enter-requires c =
     let few : c.in-Enter.number < 2 ^ 32 = search rules in
     let first = first_in c.args.call.now in
     let is = c.name-name.ensures ∙ ap (λ (t : List ℕ). name_in (t ++ c.second.result.now) c.in-Enter.element) c.text.ensures ∙ ap (λ (t : List ℕ). name_in (first ++ t) c.in-Enter.element) c.second.ensures in
-    record { begins = (may_change c.args.sizes.now may.sized c.in-Enter.number c.args.hand.now few may.begins.0, may.sized.size, subst (λ (name : Name). IsName name) (sym is) may.begins.1) }
+    (may_change c.args.sizes.now may.sized c.in-Enter.number c.args.hand.now few may.begins.0, may.sized.size, subst (λ (name : Name). IsName name) (sym is) may.begins.1)
 
 pub returns-in-Enter : goal.returns-in-Enter
 returns-in-Enter c =
@@ -139,7 +139,7 @@ returns-in-Enter c =
     let is = c.name-name.ensures ∙ ap (λ (t : List ℕ). name_in (t ++ c.second.result.now) c.in-Enter.element) c.text.ensures ∙ ap (λ (t : List ℕ). name_in (first ++ t) c.in-Enter.element) c.second.ensures in
     let part = subst (λ (name : Name). IsPart c.args.sizes.now (carry_in path m h) (Enter c.in-Enter.number name c.in-Enter.child) (part_left path m p h)) is (did.part path m) in
     let under = subst (λ (name : Name). UnderWay path (Enter c.in-Enter.number name c.in-Enter.child) (having h m) p (having h m)) is (did.under path m) in
-    rw c.in-Enter.is (record { part = part; ready = did.ready; told = did.told (first_in c.args.call.now) (second_in c.args.call.now); fills = tt; known = λ none. absurd none; under = under; hand = refl })
+    rw c.in-Enter.is (record { part = part; ready = did.ready; told = did.told (first_in c.args.call.now) (second_in c.args.call.now); fills = tt; known = λ none. absurd none; under = under; hand = did.hand })
 
 pub begin_read_file-requires : goal.begin_read_file-requires
 begin_read_file-requires c = let may = rw c.in-ReadFile.is at c.requires in record { count = may.stands.1; begins = (c.in-ReadFile.field-2, may.begins) }

@@ -122,13 +122,13 @@ pub next-requires-in-Take-clause-told : goal.next-requires-in-Take-clause-told
 next-requires-in-Take-clause-told c =
     let w = c.args.call.now in
     let told = subst (λ (q : InodePart). PartTold (first_in w) (second_in w) q) c.in-Take.is c.requires.told in
-    subst (λ (second : List ℕ). TakeTold c.text.result.now second c.in-Take.part) (sym c.second.ensures)
-    (subst (λ (path : List ℕ). TakeTold path (second_in w) c.in-Take.part) (sym c.text.ensures) told)
+    subst (λ (second : List ℕ). TakeTold c.text-path.result.now second c.in-Take.part) (sym c.second-second.ensures)
+    (subst (λ (path : List ℕ). TakeTold path (second_in w) c.in-Take.part) (sym c.text-path.ensures) told)
 
 pub returns-in-Take-clause-goes : goal.returns-in-Take-clause-goes
 returns-in-Take-clause-goes c before =
     let w = c.args.call.now in
-    let path = c.text.result.now ++ c.second.result.now in
+    let path = c.text-path.result.now ++ c.second-second.result.now in
     let m = c.args.notes.now in
     let p = c.in-Take.part in
     let did = c.next-in-Take in
@@ -136,7 +136,7 @@ returns-in-Take-clause-goes c before =
     let answer = answer_in (take_asked p) c.args.answer.now c.args.hand.now in
     rw c.in-Take.is (λ ready after.
     subst (λ (text : List ℕ). Goes (take_left text m p before) answer (part_left_after text did.new.notes o (part.Take did.new.self) did.new.hand))
-    (read_text w c.text.result.now c.second.result.now c.text.ensures c.second.ensures)
+    (read_text w c.text-path.result.now c.second-second.result.now c.text-path.ensures c.second-second.ensures)
     (subst (λ (q : Part). Goes (take_left path m p before) answer q)
     (take_after path did.new.notes o did.new.self did.new.hand) (did.ensures.goes before ready after)))
 
@@ -147,10 +147,10 @@ returns-in-Take-clause-under c op start before =
     let p = c.in-Take.part in
     let did = c.next-in-Take in
     let o = heard_if did.result did.new.heard in
-    let read = read_text w c.text.result.now c.second.result.now c.text.ensures c.second.ensures in
+    let read = read_text w c.text-path.result.now c.second-second.result.now c.text-path.ensures c.second-second.ensures in
     rw c.in-Take.is (λ under ready after.
     subst (λ (text : List ℕ). GoesOrLeaves text op start o (part.Take did.new.self) (having did.new.hand did.new.notes)) read
-    (takes (c.text.result.now ++ c.second.result.now) start before did.new.hand m did.new.notes o p did.new.self (λ n looking amid. did.ensures.leaves n looking start.hand before amid ready after) op
+    (takes (c.text-path.result.now ++ c.second-second.result.now) start before did.new.hand m did.new.notes o p did.new.self (λ n looking amid. did.ensures.leaves n looking start.hand before amid ready after) op
     (subst (λ (text : List ℕ). UnderWay text op start (part.Take p) (having before m)) (sym read) under)))
 
 pub returns-in-Take-clause-told : goal.returns-in-Take-clause-told
@@ -158,14 +158,14 @@ returns-in-Take-clause-told c =
     let w = c.args.call.now in
     let did = c.next-in-Take in
     let o = heard_if did.result did.new.heard in
-    subst (λ (second : List ℕ). IfNone o (TakeTold (first_in w) second did.new.self)) c.second.ensures
-    (subst (λ (path : List ℕ). IfNone o (TakeTold path c.second.result.now did.new.self)) c.text.ensures did.ensures.told)
+    subst (λ (second : List ℕ). IfNone o (TakeTold (first_in w) second did.new.self)) c.second-second.ensures
+    (subst (λ (path : List ℕ). IfNone o (TakeTold path c.second-second.result.now did.new.self)) c.text-path.ensures did.ensures.told)
 
 pub next-requires-in-WriteFile-clause-told : goal.next-requires-in-WriteFile-clause-told
 next-requires-in-WriteFile-clause-told c =
     let w = c.args.call.now in
     let told = subst (λ (q : InodePart). PartTold (first_in w) (second_in w) q) c.in-WriteFile.is c.requires.told in
-    subst (λ (text : List ℕ). WriteFileTold text c.in-WriteFile.part) (sym c.text-in-WriteFile.ensures) told.0
+    subst (λ (text : List ℕ). WriteFileTold text c.in-WriteFile.part) (sym c.text.ensures) told.0
 
 pub returns-in-WriteFile-clause-told : goal.returns-in-WriteFile-clause-told
 returns-in-WriteFile-clause-told c =
@@ -173,20 +173,20 @@ returns-in-WriteFile-clause-told c =
     let did = c.next-in-WriteFile in
     let o = heard_if did.result did.new.heard in
     let told = subst (λ (q : InodePart). PartTold (first_in w) (second_in w) q) c.in-WriteFile.is c.requires.told in
-    let on = subst (λ (text : List ℕ). IfNone o (WriteFileTold text did.new.self)) c.text-in-WriteFile.ensures did.ensures.told in
+    let on = subst (λ (text : List ℕ). IfNone o (WriteFileTold text did.new.self)) c.text.ensures did.ensures.told in
     beside_none o (WriteFileTold (first_in w) did.new.self) (second_in w ≡ []) on told.1
 
 pub returns-in-WriteFile-clause-goes : goal.returns-in-WriteFile-clause-goes
 returns-in-WriteFile-clause-goes c before =
     let w = c.args.call.now in
-    let path = c.text-in-WriteFile.result.now in
+    let path = c.text.result.now in
     let m = c.args.notes.now in
     let p = c.in-WriteFile.part in
     let did = c.next-in-WriteFile in
     let o = heard_if did.result did.new.heard in
     let answer = answer_in (write_file_asked p) c.args.answer.now c.args.hand.now in
     let told = subst (λ (q : InodePart). PartTold (first_in w) (second_in w) q) c.in-WriteFile.is c.requires.told in
-    let text : path ≡ text_in w = c.text-in-WriteFile.ensures ∙ alone (first_in w) (second_in w) told.1 ∙ read_text w (first_in w) (second_in w) refl refl in
+    let text : path ≡ text_in w = c.text.ensures ∙ alone (first_in w) (second_in w) told.1 ∙ read_text w (first_in w) (second_in w) refl refl in
     rw c.in-WriteFile.is (λ ready after.
     subst (λ (text : List ℕ). Goes (write_file_left text p before) answer (part_left_after text m o (part.WriteFile did.new.self) did.new.hand)) text
     (subst (λ (q : Part). Goes (write_file_left path p before) answer q)
