@@ -237,8 +237,9 @@ fn start(world: &mut World<MemoryDisk>, rows: &mut [Row]) -> Result<(), Workload
 
 // The same of one hart, which nobody else's turns come between.
 fn make_call(world: &mut World<MemoryDisk>, row: &mut Row) -> Result<(), WorkloadError> {
+    let hart = row.hart;
     for _ in 0..MOST_TURNS {
-        match world.step(row.hart) {
+        match world.step(hart) {
             Outcome::Done(reply) => return take(row, reply),
             Outcome::Stopped(_) => return Err(WorkloadError::Device),
             _ => {}
