@@ -29,7 +29,7 @@ pub struct EnterPart {
 }
 
 impl InodePart {
-    /// Inode `child` by this name, in directory `number`, on a disk with this superblock.
+    /// Begins to enter inode `child` by this name in directory `number`, on a disk with this superblock.
     #[inline(always)]
     pub(crate) fn begin_enter(
         &mut self,
@@ -115,7 +115,7 @@ pub struct ClearPart {
 }
 
 impl InodePart {
-    /// The slot that was found in directory `number`, on a disk with this superblock.
+    /// Begins to clear the slot that was found in directory `number`, on a disk with this superblock.
     #[inline(always)]
     #[tactic(auto, using(crate::proofs::Clears::clear_is_part))]
     pub(crate) fn begin_clear(&mut self, number: u32, sizes: &Super, notes: &Notes, hand: &Hand)
@@ -198,7 +198,7 @@ pub struct FillPart {
 }
 
 impl InodePart {
-    /// Directory `number`, which stands in this one, on a disk with this superblock.
+    /// Begins to write the two names of directory `number`, which stands in this one, on a disk with this superblock.
     #[inline(always)]
     #[tactic(auto, using(crate::proofs::Fills::fill_is_part))]
     pub(crate) fn begin_fill(&mut self, number: u32, parent: u32, sizes: &Super, hand: &Hand)

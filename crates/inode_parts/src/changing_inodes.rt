@@ -27,7 +27,7 @@ pub struct StorePart {
 }
 
 impl InodePart {
-    /// Inode `number`, which has this count from now on, on a disk with this superblock.
+    /// Begins to store inode `number`, which has this count from now on, on a disk with this superblock.
     #[inline(always)]
     #[tactic(auto, using(crate::proofs::Stores::store_is_part))]
     pub(crate) fn begin_store(&mut self, number: u32, count: u32, sizes: &Super, hand: &mut Hand)
@@ -85,7 +85,7 @@ pub struct EmptyPart {
 }
 
 impl InodePart {
-    /// Inode `number`, on a disk with this superblock.
+    /// Begins to give back all blocks of inode `number`, on a disk with this superblock.
     #[inline(always)]
     #[tactic(auto, using(crate::proofs::Empties::empty_is_part))]
     pub(crate) fn begin_empty(&mut self, number: u32, sizes: &Super, hand: &mut Hand)
@@ -143,7 +143,7 @@ pub struct FreePart {
 }
 
 impl InodePart {
-    /// That of the inode of this number, on a disk of these sizes.
+    /// Begins to free the inode of this number, on a disk of these sizes.
     #[inline(always)]
     pub(crate) fn begin_free(&mut self, number: u32, sizes: &Super, hand: &mut Hand)
         requires { FreeBegins sizes.now number hand.old }
@@ -198,7 +198,7 @@ pub struct ClaimPart {
 }
 
 impl InodePart {
-    /// One of this type, on a disk of these sizes.
+    /// Begins to seek a free inode, which is to have this type, on a disk of these sizes.
     #[inline(always)]
     pub(crate) fn begin_claim(&mut self, inode_type: InodeType, sizes: &Super, hand: &Hand)
         requires { ClaimBegins sizes.now hand.now }

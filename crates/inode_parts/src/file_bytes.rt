@@ -53,7 +53,7 @@ pub enum ReadFilePart {
 }
 
 impl InodePart {
-    /// At most `count` bytes of the file that this descriptor names, whose inode has this number.
+    /// Begins to read at most `count` bytes of the file that this descriptor names, whose inode has this number.
     #[inline(always)]
     pub(crate) fn begin_read_file(
         &mut self,
@@ -149,8 +149,8 @@ pub enum WriteFilePart {
 }
 
 impl InodePart {
-    /// The piece at this place of a call with these bytes, to the file that this descriptor names, whose inode has this number, on a disk
-    /// with this superblock.
+    /// Begins to write the piece at this place of a call with these bytes to the file that this descriptor names, whose inode has this
+    /// number, on a disk with this superblock.
     #[inline(always)]
     pub(crate) fn begin_write_file(
         &mut self,

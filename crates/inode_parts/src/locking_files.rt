@@ -24,7 +24,7 @@ pub struct LockOpenPart {
 }
 
 impl InodePart {
-    /// On a disk of these sizes.
+    /// Begins to lock what this descriptor names, which is known to be open, on a disk of these sizes.
     #[inline(always)]
     pub(crate) fn begin_lock_open(&mut self, fd: u32, sizes: &Super, hand: &Hand)
         requires { LockBegins sizes.now hand.now }
@@ -80,7 +80,7 @@ pub struct LockFilePart {
 }
 
 impl InodePart {
-    /// On a disk of these sizes.
+    /// Begins to lock what this descriptor names, where that may be read, on a disk of these sizes.
     #[inline(always)]
     pub(crate) fn begin_lock_file(&mut self, fd: u32, sizes: &Super, hand: &Hand)
         requires { LockBegins sizes.now hand.now }
@@ -139,7 +139,7 @@ pub struct StatFilePart {
 }
 
 impl InodePart {
-    /// That of this descriptor, on a disk of these sizes.
+    /// Begins to lock what this descriptor names, where that has a state to tell, on a disk of these sizes.
     #[inline(always)]
     pub(crate) fn begin_stat_file(&mut self, fd: u32, sizes: &Super, hand: &Hand)
         requires { LockBegins sizes.now hand.now }
