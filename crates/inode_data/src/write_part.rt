@@ -168,6 +168,7 @@ fn pass(at: &mut WritePart, writing: Writing, so_far: Dinode, count: usize)
 }
 
 // Goes on with the next block, or with the store.
+#[inline(always)]
 fn onward(writing: &Writing, so_far: &Dinode) -> WritePart
     requires { IsWriting writing.now.left writing.now }
     ensures program { (bytes : List ℕ) (h : HandState) → write_left bytes result h ≡ write_rest writing.now so_far.now bytes }
@@ -180,6 +181,7 @@ fn onward(writing: &Writing, so_far: &Dinode) -> WritePart
 }
 
 // Goes on with the next block, which is sought.
+#[inline(always)]
 fn next_of(writing: &Writing, so_far: &Dinode) -> WritePart
     requires ready { IsWriting writing.now.left writing.now }
     requires some { writing.now.left ≢ 0 }
@@ -197,6 +199,7 @@ fn next_of(writing: &Writing, so_far: &Dinode) -> WritePart
 }
 
 // Goes on where the next block was sought.
+#[inline(always)]
 fn found(writing: &Writing, located: &Located) -> WritePart
     requires { IsWriting (writing.now.left + 1) writing.now }
     ensures program { (bytes : List ℕ) (h : HandState) → write_left bytes result h ≡ after_location writing.now bytes located.now }

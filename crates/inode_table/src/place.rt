@@ -23,7 +23,9 @@ fn place_in(number: u32) -> usize
     number as usize % INODES_PER_BLOCK
 }
 
-// Writes the inode into its block's buffer, at a place of the hand.
+// Writes the inode into its block's buffer, at a place of the hand. It stays a function, so that what asks for it is small enough to be
+// put into its callers.
+#[inline(never)]
 #[tactic(auto, unfolding(crate::specs::Programs::with_dinode))]
 pub(crate) fn write_dinode_at(hand: &mut Hand, place: Place, number: u32, inode: &Dinode)
     requires { MatchOption (buffer_at place hand.old) ⊥ (λ g. IsSome g.value.content) }

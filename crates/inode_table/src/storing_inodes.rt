@@ -100,6 +100,7 @@ impl Part for StoreRecord {
 
     ghost Ends = { λ m _ h. (buffer_at (record_place m) h ≡ None) × IsLoadedAt (record_seat m) h };
 
+    #[inline(never)]
     fn op(&self, hand: &mut Hand) -> Op {
         match self {
             StoreRecord::Fetching(_, fetch) => fetch.op(hand),
