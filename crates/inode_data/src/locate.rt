@@ -23,6 +23,15 @@ pub struct Located {
     pub number: Option<u32>,
 }
 
+impl Located {
+    #[inline(always)]
+    fn new(inode: Dinode, number: Option<u32>) -> Located
+        ensures { result ≡ (record { inode = inode; number = number }) }
+    {
+        Located { inode, number }
+    }
+}
+
 /// Where it stands.
 #[derive(Clone, Copy, Drop)]
 pub enum Stage {
@@ -61,10 +70,7 @@ impl Locate {
             Address::Direct(i) => {
                 let number = inode.addrs[i];
                 if number != 0 {
-                    return Begun::Is(Located {
-                        inode: *inode,
-                        number: Some(number),
-                    });
+                    return Begun::Is(Located::new(*inode, Some(number)));
                 }
                 let take = TakeBlock::new(sizes.bmapstart, sizes.size, Place::First);
                 runs(inode, sizes, Stage::Direct(i, take))
@@ -141,10 +147,7 @@ impl Control for Locate {
                 let i = *i;
                 match take.next(answer, hand) {
                     None => None,
-                    Some(None) => Some(Located {
-                        inode: self.inode,
-                        number: None,
-                    }),
+                    Some(None) => Some(Located::new(self.inode, None)),
                     Some(Some(table)) => {
                         self.inode.addrs[DIRECT] = table;
                         self.stage = Stage::Table(i, Fetch::Get(Place::Second, table));
@@ -170,14 +173,8 @@ impl Control for Locate {
                 self.stage = Stage::Name(i, number);
                 None
             }
-            Stage::Name(_, number) => Some(Located {
-                inode: self.inode,
-                number: *number,
-            }),
-            Stage::Give(number) => Some(Located {
-                inode: self.inode,
-                number: Some(*number),
-            }),
+            Stage::Name(_, number) => Some(Located::new(self.inode, *number)),
+            Stage::Give(number) => Some(Located::new(self.inode, Some(*number))),
         }
     }
 }
@@ -192,7 +189,7 @@ fn direct_named(inode: Dinode, place: usize, number: Option<u32>) -> Located
         None => {}
         Some(b) => inode.addrs[place] = b,
     }
-    Located { inode, number }
+    Located::new(inode, number)
 }
 
 // A search that stands so.

@@ -5,13 +5,6 @@ use Rattle.path_walk.specs.Names.{IsName}
 use Rattle.path_walk.specs.Vocabulary.{Name}
 use Rattle.path_walk.specs.declared.elements.Element.{Element}
 
--- bytes of the longest path, and the elements that it has at most
-abbrev pub longest_path : ℕ
-longest_path = 127
-
-abbrev pub most_elements : ℕ
-most_elements = 64
-
 -- the name of an element
 abbrev pub name_in : List ℕ → Element → Name
 name_in path e = slice_range path e.start e.end

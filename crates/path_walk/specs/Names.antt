@@ -7,9 +7,6 @@ use Rattle.path_walk.specs.Vocabulary.{list_all}
 abbrev pub slash : ℕ
 slash = 47
 
-abbrev pub is_zero : ℕ → Bool
-is_zero b = b == 0
-
 -- neither 0 nor '/'
 abbrev pub is_name_byte : ℕ → Bool
 is_name_byte b = not (b == 0) && not (b == slash)

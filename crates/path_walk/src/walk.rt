@@ -133,24 +133,22 @@ impl Walk {
         ensures stands { StandsAt path.now self.new result }
     {
         match self {
-            Walk::Start => match heard.start() {
-                Some(directory) => onward(self, goal, directory, path, 0),
-                None => Walked::Lost(Lost::NoMemory),
-            },
-            Walk::Look(directory, element) => {
-                match heard.sight().found {
-                    Some(number) => *self = Walk::Up(*directory, number, element.rest),
-                    None => *self = Walk::UnlockInode(*directory, Next::Quits(Lost::NotThere)),
-                }
-                Walked::Walks
+            Walk::Start => {
+                return match heard.start() {
+                    Some(directory) => onward(self, goal, directory, path, 0),
+                    None => Walked::Lost(Lost::NoMemory),
+                };
             }
+            Walk::Look(directory, element) => match heard.sight().found {
+                Some(number) => *self = Walk::Up(*directory, number, element.rest),
+                None => *self = Walk::UnlockInode(*directory, Next::Quits(Lost::NotThere)),
+            },
             Walk::See(directory, element) => {
                 if is_directory(&heard.sight()) {
                     *self = Walk::Leave(*directory, *element);
                 } else {
                     *self = Walk::UnlockInode(*directory, Next::Quits(Lost::NotThere));
                 }
-                Walked::Walks
             }
             Walk::Up(directory, number, rest) => {
                 if heard.is() {
@@ -158,23 +156,20 @@ impl Walk {
                 } else {
                     *self = Walk::UnlockInode(*directory, Next::Quits(Lost::NoMemory));
                 }
-                Walked::Walks
             }
-            Walk::UnlockInode(directory, next) => {
-                *self = Walk::Down(*directory, *next);
-                Walked::Walks
-            }
+            Walk::UnlockInode(directory, next) => *self = Walk::Down(*directory, *next),
             Walk::Down(directory, next) => {
                 if heard.is() {
                     list.push(*directory);
                 }
-                match *next {
+                return match *next {
                     Next::Go(directory, rest) => onward(self, goal, directory, path, rest),
                     Next::Quits(why) => Walked::Lost(why),
-                }
+                };
             }
-            Walk::Leave(directory, element) => Walked::Reached(*directory, Some(*element)),
+            Walk::Leave(directory, element) => return Walked::Reached(*directory, Some(*element)),
         }
+        Walked::Walks
     }
 
     /// The move of the walk that is made here, if one is.

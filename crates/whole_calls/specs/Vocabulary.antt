@@ -2,7 +2,7 @@
 pub use Rattle.path_walk.specs.Vocabulary.{Do, UnlockInode, Name, P, Ret, Take, elements, face_or, file_for, piece, stopped, unmarked}
 pub use Rattle.inode_machine.specs.Vocabulary.{creates, dot, dotdot, has, piece_count, piece_len}
 unfoldable pub use Rattle.inode_machine.specs.Vocabulary.{same_name}
-pub use Rattle.path_walk.specs.Asks.{IsNamed, IsNamedInTwo, asks, checked_in, claimed_of, count_in, entered_of, face_of, hears, joined_of, loan_of, mark_at, marked_as, op_in, reply_to, sight_of, type_of, stepped, wrote_of}
+pub use Rattle.path_walk.specs.Asks.{IsNamed, IsNamedInTwo, asks, checked_in, claimed_of, count_in, entered_in, entered_of, face_of, hears, joined_of, loan_of, mark_at, marked_as, op_in, reply_to, sight_of, type_of, stepped, wrote_of}
 pub use Rattle.inode_machine.specs.Parts.{done, drop, failed, free_all, free_listed, full, give_up, mends_if_full, own_step, say, tail}
 pub use Rattle.path_walk.specs.Elements.{name_in}
 pub use Rattle.path_walk.specs.VersionOne.{IsElement}

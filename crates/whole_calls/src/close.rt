@@ -1,5 +1,5 @@
 //! close and inherit.
-ghost use Rattle.std.specs.Prelude.{◌≡◌, ◌≤◌, ℕ, [], List, Option, Some};
+ghost use Rattle.std.specs.Prelude.{◌≡◌, ℕ, [], List, Option, Some};
 ghost use Rattle.plain_tree.specs.declared.call.Call.TheVariants as calls;
 ghost use Rattle.plain_tree.specs.declared.step.Action.TheVariants as steps;
 ghost use Rattle.whole_calls.specs.Vocabulary.{asks, hears, loan_of, mark_at, marked_as, op_in, stepped, IsNamed, inherit_program, lend_from, lend_on};
@@ -87,7 +87,7 @@ pub enum Inherit {
     Release,
 }
 
-/// At most so many descriptors more, from this one on.
+// At most so many descriptors more, from this one on.
 fn lend(left: u8, from: u32) -> Inherit
     ensures { (child : ℕ) → inherit_of child result ≡ lend_from child left from }
 {

@@ -1,6 +1,6 @@
 //! The end of a call with a transaction.
 ghost use Rattle.std.specs.Prelude.{◌≡◌, ℕ, List, Option, Some};
-ghost use Rattle.whole_calls.specs.Vocabulary.{Reply, Call, Action, asks, hears, mark_at, marked_as, op_in, reply_to, stepped, IsNamed, P, free_all, say, tail};
+ghost use Rattle.whole_calls.specs.Vocabulary.{Reply, Call, Action, asks, hears, mark_at, marked_as, op_in, reply_to, stepped, IsNamed, P, free_all, say};
 ghost use Rattle.whole_calls.specs.Ends.{after_free, ending_of, freeing_of};
 
 use crate::dropping::Dropping;
@@ -66,7 +66,7 @@ pub enum Ending {
     Says(Answer),
 }
 
-/// The next inode of the list is freed, or the reply is given.
+// The next inode of the list is freed, or the reply is given.
 #[inline(always)]
 fn free_next(at: &mut Ending, list: &mut Numbers, answer: Answer)
     ensures { (call : Call) → ending_of call list.new at.new ≡ free_all list.old (say (reply_to call answer)) }

@@ -1,4 +1,4 @@
-//! Calls over whole inodes, as controls: what a call asks next, and how it goes on with what it hears.
+//! Calls over whole inodes (xv6's sysfile.c, and what it calls of file.c): what a call asks next, and how it goes on with what it hears.
 #![tactic(auto)]
 
 mod chdir;

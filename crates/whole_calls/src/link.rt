@@ -1,6 +1,6 @@
 //! link: the count goes up first, and down again where the name can't be entered.
 ghost use Rattle.std.specs.Prelude.{◌≡◌, ◌≢◌, ◌≤◌, ◌+◌, ◌++◌, ℕ, All, List, Option, Some, length, false};
-ghost use Rattle.whole_calls.specs.Vocabulary.{elements, asks, entered_of, face_of, hears, mark_at, marked_as, op_in, reply_to, sight_of, stepped, IsNamedInTwo, name_in, IsElement, face_or, bump_refused, link_at, link_found, lower, named_on, give_up, tail, Heard};
+ghost use Rattle.whole_calls.specs.Vocabulary.{elements, asks, entered_in, face_of, hears, mark_at, marked_as, op_in, reply_to, sight_of, stepped, IsNamedInTwo, IsElement, face_or, bump_refused, lower, named_on, give_up, tail, Heard};
 ghost use Rattle.plain_tree.specs.declared.call.Call.TheVariants as calls;
 ghost use Rattle.whole_calls.specs.Links.{link_action, link_of, link_stage, LinkFits, Past, took};
 ghost use Rattle.whole_calls.specs.declared.link.Link.TheVariants as linking;
@@ -15,6 +15,8 @@ use path_walk::{
 use plain_tree::{Answer, Cause, Full};
 
 const COUNT_LIMIT: u16 = 32767;
+
+const NO_ENTRY: Answer = Answer::Failed(Cause::NoEntry);
 
 /// The number is that of what gets the name.
 #[derive(Clone, Copy)]
@@ -35,6 +37,7 @@ pub enum Link {
     Ends(Ending),
 }
 
+// Gives an inode up, and answers this.
 fn refuse(number: u32, answer: Answer) -> Link
     ensures program { (old new list : List ℕ)
         → link_of old new list result ≡ give_up number (tail list (reply_to (calls.Link old new) answer)) }
@@ -43,7 +46,7 @@ fn refuse(number: u32, answer: Answer) -> Link
     Link::Ends(Ending::Gives(Dropping::UnlockInode(number), answer))
 }
 
-/// Why a link isn't raised: there are too many.
+// Why a link isn't raised: there are too many.
 fn refusal(face: &Face) -> Option<Cause>
     ensures { result ≡ bump_refused (face_of face.now) }
 {
@@ -54,7 +57,7 @@ fn refusal(face: &Face) -> Option<Cause>
     }
 }
 
-/// What is to get the name was taken.
+// What is to get the name was taken.
 fn took(number: u32, sight: &Sight) -> Link
     ensures program { (old new list : List ℕ) → link_of old new list result ≡ took old new number list (face_or (sight_of sight.now).face) }
     ensures fits { (old new list : List ℕ) → length list + length (elements new) ≤ MOST_LISTED → LinkFits old new list (link_stage result) }
@@ -69,7 +72,7 @@ fn took(number: u32, sight: &Sight) -> Link
     }
 }
 
-/// It was given up with its count raised.
+// It was given up with its count raised.
 fn gave(number: u32, new: &[u8]) -> Link
     requires { All (λ b. b ≢ 0) new.now }
     ensures program { (text : List ℕ) (old list : List ℕ) (heard : Heard)
@@ -78,12 +81,12 @@ fn gave(number: u32, new: &[u8]) -> Link
         → LinkFits old new.now list (link_stage result) }
 {
     match next_element(Version::One, new, 0) {
-        None => Link::TakeRaised(number, Answer::Failed(Cause::NoEntry)),
+        None => Link::TakeRaised(number, NO_ENTRY),
         Some(_) => Link::WalksNew(Walk::Start, number),
     }
 }
 
-/// The directory is given up, and the count goes down again.
+// The directory is given up, and the count goes down again.
 fn fail(directory: u32, number: u32, answer: Answer) -> Link
     ensures program { (old new list : List ℕ)
         → link_of old new list result ≡ give_up directory (lower old new number (reply_to (calls.Link old new) answer) list) }
@@ -92,23 +95,29 @@ fn fail(directory: u32, number: u32, answer: Answer) -> Link
     Link::GiveFailed(Dropping::UnlockInode(directory), number, answer)
 }
 
-/// What the directory has under the name.
-fn looked(directory: u32, element: Element, number: u32, found: Option<u32>) -> Link
-    ensures program { (old new list : List ℕ)
-        → link_of old new list result ≡ link_found old new number directory (name_in new element) list found }
+// What the directory has under the name.
+fn looked(directory: u32, element: Element, number: u32, heard: &Heard) -> Link
+    ensures program { (text old new list : List ℕ)
+        → hears text (link_of old new list (linking.Look directory element number)) heard.now ≡ link_of old new list result }
     ensures fits { (old new list : List ℕ) → IsElement new element → LinkFits old new list (link_stage result) }
 {
-    match found {
+    let sight = heard.sight();
+    if !is_live(&sight) {
+        return fail(directory, number, NO_ENTRY);
+    }
+    match sight.found {
         Some(_) => fail(directory, number, Answer::Failed(Cause::Exists)),
         None => Link::Enter(directory, element, number),
     }
 }
 
-fn entered(directory: u32, number: u32, entered: Entered) -> Link
-    ensures program { (old new list : List ℕ) → link_of old new list result ≡ named_on old new number directory list (entered_of entered) }
+// The name was to be entered.
+fn entered(directory: u32, number: u32, heard: &Heard) -> Link
+    ensures program { (old new list : List ℕ)
+        → link_of old new list result ≡ named_on old new number directory list (entered_in heard.now) }
     ensures past { link_stage result ≡ Past }
 {
-    match entered {
+    match heard.entered() {
         Entered::InPlace => Link::GiveNamed(Dropping::UnlockInode(directory), number),
         Entered::NoBlock => fail(directory, number, Answer::Full(Full::Blocks)),
         Entered::NoSlot => fail(directory, number, Answer::Full(Full::Directory)),
@@ -178,22 +187,13 @@ impl Link {
                 Walked::Reached(directory, Some(element)) => {
                     *self = Link::Look(directory, element, *number);
                 }
-                Walked::Reached(_, None) => {
-                    *self = Link::TakeRaised(*number, Answer::Failed(Cause::NoEntry));
-                }
+                Walked::Reached(_, None) => *self = Link::TakeRaised(*number, NO_ENTRY),
                 Walked::Lost(why) => *self = Link::TakeRaised(*number, stopped(why)),
             },
             Link::Look(directory, element, number) => {
-                let sight = heard.sight();
-                *self = if is_live(&sight) {
-                    looked(*directory, *element, *number, sight.found)
-                } else {
-                    fail(*directory, *number, Answer::Failed(Cause::NoEntry))
-                };
+                *self = looked(*directory, *element, *number, heard);
             }
-            Link::Enter(directory, _, number) => {
-                *self = entered(*directory, *number, heard.entered());
-            }
+            Link::Enter(directory, _, number) => *self = entered(*directory, *number, heard),
             Link::GiveNamed(dropping, number) => {
                 if dropping.step(heard) {
                     *self = Link::Ends(Ending::Gives(Dropping::Down(*number), Answer::Done));
@@ -207,9 +207,7 @@ impl Link {
             Link::TakeRaised(number, answer) => {
                 *self = Link::Lower(*number, face_or(&heard.sight()), *answer);
             }
-            Link::Lower(number, _, answer) => {
-                *self = Link::Ends(Ending::Gives(Dropping::UnlockInode(*number), *answer));
-            }
+            Link::Lower(number, _, answer) => *self = refuse(*number, *answer),
             Link::Ends(ending) => return ending.step(heard, list, says),
         }
         false

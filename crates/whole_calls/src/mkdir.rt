@@ -1,6 +1,6 @@
 //! mkdir: the new directory with its two entries first, then its name and its parent's count.
 ghost use Rattle.std.specs.Prelude.{◌≡◌, ◌≢◌, ◌≤◌, ℕ, All, [], List, Option, Some, length, false};
-ghost use Rattle.whole_calls.specs.Vocabulary.{elements, asks, claimed_of, entered_of, face_of, hears, mark_at, marked_as, op_in, reply_to, sight_of, stepped, IsNamed, name_in, IsElement, face_or, mkdir_on, mkdir_refused, mkdir_with, name_directory, give_up, tail, Heard};
+ghost use Rattle.whole_calls.specs.Vocabulary.{elements, asks, claimed_of, entered_of, face_of, hears, mark_at, marked_as, op_in, reply_to, sight_of, stepped, IsNamed, name_in, IsElement, face_or, mkdir_refused, mkdir_with, name_directory, give_up, tail, Heard};
 ghost use Rattle.plain_tree.specs.declared.call.Call.TheVariants as calls;
 ghost use Rattle.plain_tree.specs.declared.step.Action.TheVariants as steps;
 ghost use Rattle.whole_calls.specs.Calls.{Fits, Past};
@@ -54,7 +54,7 @@ fn begin(path: &[u8]) -> Mkdir
     }
 }
 
-/// Why a directory isn't made: its name is there, or its parent has all its links.
+// Why a directory isn't made: its name is there, or its parent has all its links.
 fn refusal(sight: &Sight) -> Option<Cause>
     ensures { result ≡ mkdir_refused sight.now.found (face_or (sight_of sight.now).face) }
 {
@@ -70,16 +70,19 @@ fn refusal(sight: &Sight) -> Option<Cause>
     }
 }
 
-/// What the directory has under the name.
-fn looked(directory: u32, element: Element, sight: &Sight) -> Mkdir
-    ensures program { (path list : List ℕ) → mkdir_of path list result ≡
-        mkdir_on path directory (name_in path element) list (face_or (sight_of sight.now).face)
-        (mkdir_refused sight.now.found (face_or (sight_of sight.now).face)) }
+// What the directory has under the name.
+fn looked(directory: u32, element: Element, heard: &Heard) -> Mkdir
+    ensures program { (text path list : List ℕ)
+        → hears text (mkdir_of path list (making.Look directory element)) heard.now ≡ mkdir_of path list result }
     ensures fits { (path list : List ℕ) → IsElement path element → Fits path list (mkdir_stage result) }
 {
-    match refusal(sight) {
+    let sight = heard.sight();
+    if !is_live(&sight) {
+        return refuse(directory, Answer::Failed(Cause::NoEntry));
+    }
+    match refusal(&sight) {
         Some(cause) => refuse(directory, Answer::Failed(cause)),
-        None => Mkdir::Claim(directory, element, face_or(sight)),
+        None => Mkdir::Claim(directory, element, face_or(&sight)),
     }
 }
 
@@ -164,14 +167,7 @@ impl Mkdir {
                 }
                 Walked::Lost(why) => *self = Mkdir::Ends(Ending::Leaves(stopped(why))),
             },
-            Mkdir::Look(directory, element) => {
-                let sight = heard.sight();
-                *self = if is_live(&sight) {
-                    looked(*directory, *element, &sight)
-                } else {
-                    refuse(*directory, Answer::Failed(Cause::NoEntry))
-                };
-            }
+            Mkdir::Look(directory, element) => *self = looked(*directory, *element, heard),
             Mkdir::Claim(directory, element, face) => {
                 *self = claimed(*directory, *element, *face, heard.claimed());
             }

@@ -1,6 +1,6 @@
 //! open: what is there is opened, or a new file made.
 ghost use Rattle.std.specs.Prelude.{◌≡◌, ◌≢◌, ◌≤◌, ℕ, All, [], List, Option, Some, length, ◌==◌, false};
-ghost use Rattle.whole_calls.specs.Vocabulary.{creates, has, elements, asks, claimed_of, entered_of, face_of, hears, mark_at, marked_as, op_in, reply_to, sight_of, type_of, stepped, IsNamed, name_in, IsElement, face_or, open_refusal, create_found, empties, make_on, make_with, open_face, give_up, tail, Heard};
+ghost use Rattle.whole_calls.specs.Vocabulary.{has, elements, asks, claimed_of, entered_of, hears, mark_at, marked_as, op_in, reply_to, sight_of, type_of, stepped, IsNamed, name_in, IsElement, face_or, open_refusal, empties, make_on, make_with, open_face, give_up, tail, Heard};
 ghost use Rattle.plain_tree.specs.declared.call.Call.TheVariants as calls;
 ghost use Rattle.plain_tree.specs.declared.step.Action.TheVariants as steps;
 ghost use Rattle.whole_calls.specs.Calls.{Fits, Past};
@@ -31,6 +31,19 @@ pub struct Found {
     pub made: bool,
 }
 
+impl Found {
+    #[inline(always)]
+    fn new(number: u32, inode_type: InodeType, made: bool) -> Found
+        ensures { result ≡ (record { number = number; inode_type = inode_type; made = made }) }
+    {
+        Found {
+            number,
+            inode_type,
+            made,
+        }
+    }
+}
+
 /// A name that is to stand for a new inode.
 #[derive(Clone, Copy)]
 pub struct NewName {
@@ -39,6 +52,7 @@ pub struct NewName {
     pub number: u32,
 }
 
+/// An open (xv6: `sys_open` and `create`).
 #[derive(Clone, Copy)]
 pub enum Open {
     Join,
@@ -65,7 +79,7 @@ pub enum Open {
     Ends(Ending),
 }
 
-/// The flags have this bit.
+// The flags have this bit.
 fn has_flag(flags: u32, bit: u32) -> bool
     ensures { result ≡ has flags bit }
 {
@@ -82,7 +96,7 @@ fn goal(flags: u32) -> Goal
     }
 }
 
-/// A file is emptied.
+// A file is emptied.
 fn is_emptied(flags: u32, inode_type: InodeType) -> bool
     ensures { result ≡ empties flags (type_of inode_type) }
 {
@@ -92,7 +106,7 @@ fn is_emptied(flags: u32, inode_type: InodeType) -> bool
     }
 }
 
-/// Why what is of this type isn't opened.
+// Why what is of this type isn't opened.
 fn refusal(flags: u32, inode_type: InodeType) -> Option<Cause>
     ensures { result ≡ open_refusal (flags == 0) (type_of inode_type) }
 {
@@ -115,9 +129,9 @@ fn refusal(flags: u32, inode_type: InodeType) -> Option<Cause>
     }
 }
 
-/// Gives an inode up, and answers this.
+// Gives an inode up, and answers this.
 #[inline(always)]
-fn refuse(at: &mut Open, number: u32, answer: Answer)
+fn refuse(number: u32, answer: Answer, at: &mut Open)
     ensures program { (path : List ℕ) (flags : ℕ) (list : List ℕ)
         → open_of path flags list at.new ≡ give_up number (tail list (reply_to (calls.Open path flags) answer)) }
     ensures past { open_stage at.new ≡ Past }
@@ -125,9 +139,9 @@ fn refuse(at: &mut Open, number: u32, answer: Answer)
     *at = Open::Ends(Ending::Gives(Dropping::UnlockInode(number), answer));
 }
 
-/// A transaction is joined.
+// A transaction is joined.
 #[inline(always)]
-fn begin(at: &mut Open, path: &[u8], flags: u32)
+fn begin(path: &[u8], flags: u32, at: &mut Open)
     requires { All (λ b. b ≢ 0) path.now }
     ensures program { (text : List ℕ) (heard : Heard)
         → hears text (open_of path.now flags [] opening.Join) heard ≡ open_of path.now flags [] at.new }
@@ -140,9 +154,9 @@ fn begin(at: &mut Open, path: &[u8], flags: u32)
     }
 }
 
-/// What is there was taken.
+// What is there was taken.
 #[inline(always)]
-fn took(at: &mut Open, number: u32, flags: u32, sight: &Sight)
+fn took(number: u32, flags: u32, sight: &Sight, at: &mut Open)
     ensures program { (path list : List ℕ) → open_of path flags list at.new ≡
         open_face path flags number list (face_or (sight_of sight.now).face).inode_type
         (open_refusal (flags == 0) (face_or (sight_of sight.now).face).inode_type) }
@@ -150,25 +164,33 @@ fn took(at: &mut Open, number: u32, flags: u32, sight: &Sight)
 {
     let inode_type = face_or(sight).inode_type;
     match refusal(flags, inode_type) {
-        Some(cause) => refuse(at, number, Answer::Failed(cause)),
-        None => {
-            *at = Open::Slot(Found {
-                number,
-                inode_type,
-                made: false,
-            });
-        }
+        Some(cause) => refuse(number, Answer::Failed(cause), at),
+        None => *at = Open::Slot(Found::new(number, inode_type, false)),
     }
 }
 
-/// A descriptor was wanted.
+// A place for an open file was wanted.
 #[inline(always)]
-fn installed(at: &mut Open, found: Found, flags: u32, fd: Option<u32>)
+fn placed(found: Found, heard: &Heard, at: &mut Open)
+    ensures program { (text path : List ℕ) (flags : ℕ) (list : List ℕ)
+        → hears text (open_of path flags list (opening.Slot found)) heard.now ≡ open_of path flags list at.new }
+    ensures past { open_stage at.new ≡ Past }
+{
+    if heard.is() {
+        *at = Open::Install(found);
+    } else {
+        refuse(found.number, Answer::Full(Full::OpenFiles), at);
+    }
+}
+
+// A descriptor was wanted.
+#[inline(always)]
+fn installed(found: Found, flags: u32, fd: Option<u32>, at: &mut Open)
     ensures program { (path list : List ℕ) → open_of path flags list at.new ≡ installed path flags list found fd }
     ensures past { open_stage at.new ≡ Past }
 {
     match fd {
-        None => refuse(at, found.number, Answer::Full(Full::Descriptors)),
+        None => refuse(found.number, Answer::Full(Full::Descriptors), at),
         Some(fd) => {
             if !found.made && is_emptied(flags, found.inode_type) {
                 *at = Open::Empty(found.number, fd);
@@ -179,29 +201,47 @@ fn installed(at: &mut Open, found: Found, flags: u32, fd: Option<u32>)
     }
 }
 
-/// What the directory has under the name.
+// What the directory has under the name.
 #[inline(always)]
-fn looked(at: &mut Open, directory: u32, element: Element, number: Option<u32>)
-    ensures program { (path : List ℕ) (flags : ℕ) (list : List ℕ)
-        → open_of path flags list at.new ≡ create_found path flags directory (name_in path element) list number }
+fn looked(directory: u32, element: Element, heard: &Heard, at: &mut Open)
+    ensures program { (text path : List ℕ) (flags : ℕ) (list : List ℕ)
+        → hears text (open_of path flags list (opening.Look directory element)) heard.now ≡ open_of path flags list at.new }
     ensures fits { (path list : List ℕ) → IsElement path element → Fits path list (open_stage at.new) }
 {
-    match number {
+    let sight = heard.sight();
+    if !is_live(&sight) {
+        return refuse(directory, Answer::Failed(Cause::NoEntry), at);
+    }
+    match sight.found {
         None => *at = Open::Claim(directory, element),
         Some(number) => *at = Open::Up(directory, number),
     }
 }
 
-/// A new inode was wanted.
+// A reference to what has the name was wanted.
 #[inline(always)]
-fn claimed(at: &mut Open, directory: u32, element: Element, claimed: Claimed)
+fn referred(directory: u32, number: u32, heard: &Heard, at: &mut Open)
+    ensures program { (text path : List ℕ) (flags : ℕ) (list : List ℕ)
+        → hears text (open_of path flags list (opening.Up directory number)) heard.now ≡ open_of path flags list at.new }
+    ensures past { open_stage at.new ≡ Past }
+{
+    if heard.is() {
+        *at = Open::GiveParent(Dropping::UnlockInode(directory), number);
+    } else {
+        refuse(directory, Answer::Full(Full::MemInodes), at);
+    }
+}
+
+// A new inode was wanted.
+#[inline(always)]
+fn claimed(directory: u32, element: Element, claimed: Claimed, at: &mut Open)
     ensures program { (path : List ℕ) (flags : ℕ) (list : List ℕ)
         → open_of path flags list at.new ≡ make_with path flags directory (name_in path element) list (claimed_of claimed) }
     ensures fits { (path list : List ℕ) → IsElement path element → Fits path list (open_stage at.new) }
 {
     match claimed {
-        Claimed::NoInode => refuse(at, directory, Answer::Full(Full::DiskInodes)),
-        Claimed::NoPlace => refuse(at, directory, Answer::Full(Full::MemInodes)),
+        Claimed::NoInode => refuse(directory, Answer::Full(Full::DiskInodes), at),
+        Claimed::NoPlace => refuse(directory, Answer::Full(Full::MemInodes), at),
         Claimed::New(number) if number == directory => *at = Open::ForgetSame(directory),
         Claimed::New(number) => {
             *at = Open::TakeNew(NewName {
@@ -213,9 +253,9 @@ fn claimed(at: &mut Open, directory: u32, element: Element, claimed: Claimed)
     }
 }
 
-/// The name was to be entered.
+// The name was to be entered.
 #[inline(always)]
-fn entered(at: &mut Open, name: NewName, inode_type: InodeType, entered: Entered)
+fn entered(name: NewName, inode_type: InodeType, entered: Entered, at: &mut Open)
     ensures program { (path : List ℕ) (flags : ℕ) (list : List ℕ)
         → open_of path flags list at.new ≡ make_on path flags name.number (type_of inode_type) name.directory list (entered_of entered) }
     ensures past { open_stage at.new ≡ Past }
@@ -280,78 +320,35 @@ impl Open {
         ensures fits { result ≡ false → Fits path.now list.new (open_stage self.new) }
     {
         match self {
-            Open::Join => begin(self, path, flags),
+            Open::Join => begin(path, flags, self),
             Open::Walks(walk) => match walk.step(goal(flags), heard, path, list) {
                 Walked::Walks => {}
                 Walked::Reached(number, None) => *self = Open::Take(number),
-                Walked::Reached(directory, Some(element)) => {
-                    *self = Open::Look(directory, element);
-                }
+                Walked::Reached(number, Some(element)) => *self = Open::Look(number, element),
                 Walked::Lost(why) => *self = Open::Ends(Ending::Leaves(stopped(why))),
             },
-            Open::Take(number) => {
-                let number = *number;
-                took(self, number, flags, &heard.sight());
-            }
-            Open::Slot(found) => {
-                if heard.is() {
-                    *self = Open::Install(*found);
-                } else {
-                    let number = found.number;
-                    refuse(self, number, Answer::Full(Full::OpenFiles));
-                }
-            }
-            Open::Install(found) => {
-                let found = *found;
-                installed(self, found, flags, heard.start());
-            }
+            Open::Take(number) => took(*number, flags, &heard.sight(), self),
+            Open::Slot(found) => placed(*found, heard, self),
+            Open::Install(found) => installed(*found, flags, heard.start(), self),
             Open::Empty(number, fd) => *self = Open::UnlockInode(*number, *fd),
             Open::UnlockInode(_, fd) => *self = Open::Ends(Ending::Leaves(Answer::Fd(*fd))),
-            Open::Look(directory, element) => {
-                let (directory, element) = (*directory, *element);
-                let sight = heard.sight();
-                if is_live(&sight) {
-                    looked(self, directory, element, sight.found);
-                } else {
-                    refuse(self, directory, Answer::Failed(Cause::NoEntry));
-                }
-            }
-            Open::Up(directory, number) => {
-                if heard.is() {
-                    *self = Open::GiveParent(Dropping::UnlockInode(*directory), *number);
-                } else {
-                    let directory = *directory;
-                    refuse(self, directory, Answer::Full(Full::MemInodes));
-                }
-            }
+            Open::Look(directory, element) => looked(*directory, *element, heard, self),
+            Open::Up(directory, number) => referred(*directory, *number, heard, self),
             Open::GiveParent(dropping, number) => {
                 if dropping.step(heard) {
                     *self = Open::Take(*number);
                 }
             }
-            Open::Claim(directory, element) => {
-                let (directory, element) = (*directory, *element);
-                claimed(self, directory, element, heard.claimed());
-            }
-            Open::ForgetSame(directory) => {
-                let directory = *directory;
-                refuse(self, directory, Answer::Full(Full::MemInodes));
-            }
+            Open::Claim(directory, element) => claimed(*directory, *element, heard.claimed(), self),
+            Open::ForgetSame(directory) => refuse(*directory, Answer::Full(Full::MemInodes), self),
             Open::TakeNew(name) => {
                 *self = Open::StoreNew(*name, face_or(&heard.sight()).inode_type);
             }
             Open::StoreNew(name, inode_type) => *self = Open::Enter(*name, *inode_type),
-            Open::Enter(name, inode_type) => {
-                let (name, inode_type) = (*name, *inode_type);
-                entered(self, name, inode_type, heard.entered());
-            }
+            Open::Enter(name, inode_type) => entered(*name, *inode_type, heard.entered(), self),
             Open::GiveEntered(dropping, number, inode_type) => {
                 if dropping.step(heard) {
-                    *self = Open::Slot(Found {
-                        number: *number,
-                        inode_type: *inode_type,
-                        made: true,
-                    });
+                    *self = Open::Slot(Found::new(*number, *inode_type, true));
                 }
             }
             Open::Unmake(number, directory, answer) => {
@@ -381,13 +378,8 @@ impl Open {
             Open::Slot(_) | Open::Up(_, _) => { if heard.is() { None } else { Some(Mark::Mends) } }
             Open::Install(found) => match heard.start() {
                 None => Some(Mark::Mends),
-                Some(fd) => {
-                    if found.made && has_flag(flags, EMPTY) {
-                        Some(Mark::Truncate(fd))
-                    } else {
-                        None
-                    }
-                }
+                Some(fd) if found.made && has_flag(flags, EMPTY) => Some(Mark::Truncate(fd)),
+                Some(_) => None,
             },
             Open::Empty(_, fd) => Some(Mark::Truncate(*fd)),
             Open::Look(_, _) => {

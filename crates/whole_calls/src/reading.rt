@@ -1,5 +1,5 @@
 //! read: the inode is locked, then a part read, and the offset moves; or the descriptor isn't for that.
-ghost use Rattle.std.specs.Prelude.{◌≡◌, ◌<◌, ◌^◌, ℕ, [], List, Option, Some, length, false};
+ghost use Rattle.std.specs.Prelude.{◌≡◌, ◌<◌, ◌^◌, ℕ, List, Option, Some, length, false};
 ghost use Rattle.plain_tree.specs.declared.call.Call.TheVariants as calls;
 ghost use Rattle.plain_tree.specs.declared.step.Action.TheVariants as steps;
 ghost use Rattle.whole_calls.specs.Vocabulary.{asks, hears, mark_at, marked_as, op_in, stepped};
@@ -8,6 +8,7 @@ ghost use Rattle.whole_calls.specs.Reads.{FilledFrom, HasRoomIn, ReadAsks, ReadF
 use path_walk::{Ask, Heard, Locked, Mark};
 use plain_tree::Answer;
 
+/// A read (xv6: `fileread`).
 #[derive(Clone, Copy)]
 pub enum Read {
     Lock,

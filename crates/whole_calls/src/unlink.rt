@@ -3,7 +3,7 @@ ghost use Rattle.std.specs.Prelude.{◌≡◌, ◌≢◌, ◌≤◌, ℕ, All, [
 ghost use Rattle.plain_tree.specs.declared.call.Call.TheVariants as calls;
 ghost use Rattle.plain_tree.specs.declared.step.Action.TheVariants as steps;
 ghost use Rattle.whole_calls.specs.Vocabulary.{asks, face_of, hears, mark_at, marked_as, op_in, stepped, reply_to, sight_of, IsNamed, is_directory_type, face_or, unlink_found, IsElement, give_up, tail, name_in, elements};
-ghost use Rattle.whole_calls.specs.Calls.{Fits, Past, unlink_stage, cleared, gave_parent, is_dots, unlink_in, unlink_of};
+ghost use Rattle.whole_calls.specs.Calls.{Fits, Past, unlink_stage, cleared, is_dots, unlink_in, unlink_of};
 ghost use Rattle.whole_calls.specs.declared.unlink.Unlink.TheVariants as unlinking;
 
 use crate::dropping::Dropping;
@@ -43,9 +43,9 @@ pub enum Unlink {
     Ends(Ending),
 }
 
-/// Gives the directory up, and answers this.
+// Gives the directory up, and answers this.
 #[inline(always)]
-fn refuse(at: &mut Unlink, directory: u32, answer: Answer)
+fn refuse(directory: u32, answer: Answer, at: &mut Unlink)
     ensures program { (path list : List ℕ)
         → unlink_of path list at.new ≡ give_up directory (tail list (reply_to (calls.Unlink path) answer)) }
     ensures past { unlink_stage at.new ≡ Past }
@@ -59,7 +59,7 @@ fn is_directory(face: &Face) -> bool
     matches!(face.inode_type, InodeType::Directory)
 }
 
-/// "." or "..".
+// "." or "..".
 fn is_dots(name: &[u8]) -> bool
     ensures { result ≡ is_dots name.now }
 {
@@ -73,9 +73,9 @@ fn is_dots(name: &[u8]) -> bool
     false
 }
 
-/// The parent is reached, with the name that is to go.
+// The parent is reached, with the name that is to go.
 #[inline(always)]
-fn reached(at: &mut Unlink, directory: u32, element: Element, path: &[u8])
+fn reached(directory: u32, element: Element, path: &[u8], at: &mut Unlink)
     requires { IsElement path.now element }
     ensures program { (list : List ℕ)
         → unlink_of path.now list at.new ≡ unlink_in path.now directory (Some (name_in path.now element)) list }
@@ -88,9 +88,53 @@ fn reached(at: &mut Unlink, directory: u32, element: Element, path: &[u8])
     }
 }
 
-/// Once the name is gone.
+// "." or ".." stays, where its directory has links.
 #[inline(always)]
-fn cleared(at: &mut Unlink, name: Name, number: u32, face: Face)
+fn stays(directory: u32, heard: &Heard, at: &mut Unlink)
+    ensures program { (text path list : List ℕ)
+        → hears text (unlink_of path list (unlinking.Dots directory)) heard.now ≡ unlink_of path list at.new }
+    ensures past { unlink_stage at.new ≡ Past }
+{
+    if is_live(&heard.sight()) {
+        refuse(directory, Answer::Failed(Cause::DotName), at);
+    } else {
+        refuse(directory, Answer::Failed(Cause::NoEntry), at);
+    }
+}
+
+// A reference to what has the name was wanted.
+#[inline(always)]
+fn referred(name: Name, number: u32, heard: &Heard, at: &mut Unlink)
+    ensures program { (text path list : List ℕ)
+        → hears text (unlink_of path list (unlinking.Up name number)) heard.now ≡ unlink_of path list at.new }
+    ensures past { unlink_stage at.new ≡ Past }
+{
+    if heard.is() {
+        *at = Unlink::Take(name, number);
+    } else {
+        refuse(name.directory, Answer::Full(Full::MemInodes), at);
+    }
+}
+
+// What has the name was taken. A directory with entries stays.
+#[inline(always)]
+fn took(name: Name, number: u32, heard: &Heard, at: &mut Unlink)
+    ensures program { (text path list : List ℕ)
+        → hears text (unlink_of path list (unlinking.Take name number)) heard.now ≡ unlink_of path list at.new }
+    ensures past { unlink_stage at.new ≡ Past }
+{
+    if heard.sight().empty {
+        *at = Unlink::Clear(name, number, face_or(&heard.sight()));
+    } else {
+        let dropping = Dropping::UnlockInode(number);
+        let answer = Answer::Failed(Cause::NotEmpty);
+        *at = Unlink::Ends(Ending::GivesTwo(dropping, name.directory, answer));
+    }
+}
+
+// Once the name is gone.
+#[inline(always)]
+fn cleared(name: Name, number: u32, face: Face, at: &mut Unlink)
     ensures program { (path list : List ℕ)
         → unlink_of path list at.new ≡ cleared path name.directory list (face_of name.face) number (face_of face) }
     ensures past { unlink_stage at.new ≡ Past }
@@ -145,50 +189,22 @@ impl Unlink {
         ensures fits { result ≡ false → Fits path.now list.new (unlink_stage self.new) }
     {
         match self {
-            Unlink::Join => begin(self, path),
+            Unlink::Join => begin(path, self),
             Unlink::Walks(walk) => match walk.step(Goal::Parent, heard, path, list) {
                 Walked::Walks => {}
                 Walked::Reached(directory, Some(element)) => {
-                    reached(self, directory, element, path);
+                    reached(directory, element, path, self);
                 }
                 Walked::Reached(_, None) => {
                     *self = Unlink::Ends(Ending::Leaves(Answer::Failed(Cause::NoEntry)));
                 }
                 Walked::Lost(why) => *self = Unlink::Ends(Ending::Leaves(stopped(why))),
             },
-            Unlink::Dots(directory) => {
-                let directory = *directory;
-                if is_live(&heard.sight()) {
-                    refuse(self, directory, Answer::Failed(Cause::DotName));
-                } else {
-                    refuse(self, directory, Answer::Failed(Cause::NoEntry));
-                }
-            }
-            Unlink::Look(directory, element) => {
-                let (directory, element) = (*directory, *element);
-                found(self, directory, element, &heard.sight());
-            }
-            Unlink::Up(name, number) => {
-                if heard.is() {
-                    *self = Unlink::Take(*name, *number);
-                } else {
-                    let directory = name.directory;
-                    refuse(self, directory, Answer::Full(Full::MemInodes));
-                }
-            }
-            Unlink::Take(name, number) => {
-                if heard.sight().empty {
-                    *self = Unlink::Clear(*name, *number, face_or(&heard.sight()));
-                } else {
-                    let dropping = Dropping::UnlockInode(*number);
-                    let answer = Answer::Failed(Cause::NotEmpty);
-                    *self = Unlink::Ends(Ending::GivesTwo(dropping, name.directory, answer));
-                }
-            }
-            Unlink::Clear(name, number, face) => {
-                let (name, number, face) = (*name, *number, *face);
-                cleared(self, name, number, face);
-            }
+            Unlink::Dots(directory) => stays(*directory, heard, self),
+            Unlink::Look(directory, element) => found(*directory, *element, &heard.sight(), self),
+            Unlink::Up(name, number) => referred(*name, *number, heard, self),
+            Unlink::Take(name, number) => took(*name, *number, heard, self),
+            Unlink::Clear(name, number, face) => cleared(*name, *number, *face, self),
             Unlink::LowerParent(name, number, face) => {
                 let dropping = Dropping::UnlockInode(name.directory);
                 *self = Unlink::GiveParent(dropping, *number, *face);
@@ -254,8 +270,8 @@ impl Unlink {
     }
 }
 
-/// A transaction is joined.
-fn begin(at: &mut Unlink, path: &[u8])
+// A transaction is joined.
+fn begin(path: &[u8], at: &mut Unlink)
     requires { All (λ b. b ≢ 0) path.now }
     ensures program { (text : List ℕ) (heard : Heard)
         → hears text (unlink_of path.now [] unlinking.Join) heard ≡ unlink_of path.now [] at.new }
@@ -267,18 +283,18 @@ fn begin(at: &mut Unlink, path: &[u8])
     }
 }
 
-/// What the directory has under the name.
+// What the directory has under the name.
 #[inline(always)]
-fn found(at: &mut Unlink, directory: u32, element: Element, sight: &Sight)
+fn found(directory: u32, element: Element, sight: &Sight, at: &mut Unlink)
     ensures program { (path list : List ℕ)
         → unlink_of path list at.new
         ≡ unlink_found path directory (name_in path element) list (face_or (sight_of sight.now).face) sight.now.found }
     ensures past { unlink_stage at.new ≡ Past }
 {
     match sight.found {
-        None => refuse(at, directory, Answer::Failed(Cause::NoEntry)),
+        None => refuse(directory, Answer::Failed(Cause::NoEntry), at),
         Some(number) if number == directory => {
-            refuse(at, directory, Answer::Failed(Cause::NoEntry));
+            refuse(directory, Answer::Failed(Cause::NoEntry), at);
         }
         Some(number) => {
             let name = Name {

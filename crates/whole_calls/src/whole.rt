@@ -1,5 +1,5 @@
 //! A call under way over whole inodes, whichever it is.
-ghost use Rattle.std.specs.Prelude.{◌≡◌, ◌≤◌, ℕ, [], List, Option, Some, length, false};
+ghost use Rattle.std.specs.Prelude.{◌≡◌, ℕ, [], List, Option, Some, false};
 ghost use Rattle.whole_calls.specs.Vocabulary.{Call, asks, hears, mark_at, marked_as, op_in, reply_to, program};
 ghost use Rattle.whole_calls.specs.Wholes.{HasRoomFor, IsCall, WholeAsks, WholeFits, action_in, call_in, first_in, second_in, text_in, went_to, whole_of};
 

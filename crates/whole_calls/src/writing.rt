@@ -1,6 +1,6 @@
 //! write: each piece in a transaction of its own; the first that is refused, or finds no block, ends the call.
-ghost use Rattle.std.specs.Prelude.{◌≡◌, ◌≢◌, ◌+◌, ◌<◌, ◌^◌, ℕ, [], List, Option, Some, length, false};
-ghost use Rattle.whole_calls.specs.Vocabulary.{piece_count, asks, checked_in, hears, mark_at, marked_as, op_in, reply_to, stepped, wrote_of, checked_reply, write_from, write_program, wrote_on};
+ghost use Rattle.std.specs.Prelude.{◌≡◌, ◌+◌, ◌<◌, ◌^◌, ℕ, [], List, Option, Some, length, false};
+ghost use Rattle.whole_calls.specs.Vocabulary.{piece_count, asks, checked_in, hears, mark_at, marked_as, op_in, reply_to, stepped, wrote_of, checked_reply, write_program, wrote_on};
 ghost use Rattle.plain_tree.specs.declared.call.Call.TheVariants as calls;
 ghost use Rattle.plain_tree.specs.declared.step.Action.TheVariants as steps;
 ghost use Rattle.whole_calls.specs.Writes.{IsPieceOf, WriteAsks, WriteFits, more_after, write_of};
@@ -18,6 +18,7 @@ pub struct Piece {
     pub more: usize,
 }
 
+/// A write (xv6: `filewrite`).
 #[derive(Clone, Copy)]
 pub enum Write {
     /// Of no bytes the descriptor alone is looked up.
@@ -30,7 +31,7 @@ pub enum Write {
     Says(Answer),
 }
 
-/// How many pieces bytes have.
+// How many pieces bytes have.
 fn pieces(bytes: &[u8]) -> usize
     requires { length bytes.now < 2 ^ 31 }
     ensures { result ≡ piece_count bytes.now }
@@ -42,7 +43,7 @@ fn pieces(bytes: &[u8]) -> usize
     }
 }
 
-/// A piece's transaction was left.
+// A piece's transaction was left.
 fn left(piece: Piece, wrote: Wrote, bytes: &[u8]) -> Write
     requires short { length bytes.now < 2 ^ 31 }
     requires piece { IsPieceOf bytes.now piece }
@@ -66,7 +67,7 @@ fn left(piece: Piece, wrote: Wrote, bytes: &[u8]) -> Write
     }
 }
 
-/// Of no bytes the descriptor was looked up.
+// Of no bytes the descriptor was looked up.
 fn checked(heard: &Heard) -> Answer
     ensures { (fd : ℕ) → reply_to (calls.Write fd []) result ≡ checked_reply fd (checked_in heard.now) }
 {
