@@ -25,5 +25,5 @@ pub use Rattle.hart_core.specs.Telling.{NotesRun, SetsAt, StaysAt, TellsEvent, T
 pub use Rattle.std.proofs.Common.{append-nil, vec_len}
 pub use Rattle.std.proofs.lemmas.Grind.{common_steps}
 pub use Rattle.std.specs.Vec.{vec_capacity}
-pub use Rattle.hart_core.proofs.Telling.{done_tells, none_there, notes_more, notes_none, ran_tells, set-own, stays_same, stops_tells, waits_tells}
+pub use Rattle.hart_core.proofs.Telling.{done_others, done_tells, none_there, notes_more, notes_none, ran_tells, set-own, stays_same, stops_tells, waits_tells}
 pub use Rattle.syscalls.specs.Places.{HasBegun}

@@ -2,6 +2,7 @@
 use Rattle.hart_core.proofs.Vocabulary.{◌≡◌, ℕ, zero, suc, List, [], ◌∷◌, ◌++◌, Super, HartsOf, Option, Some, None, refl, sym, ◌∙◌, ap, subst, get_or, set, slice_get, Reply, Kind, Core, Heard, state_of, Running, StepsAt}
 use Rattle.atomic_programs.specs.declared.machines.SteppedInPlace.TheVariants.{Waits, Ran, Done, Stopped}
 use Rattle.fs_machine.specs.Steps.{State}
+use Rattle.hart_core.specs.Vocabulary.{LeavesTied}
 use Rattle.hart_core.specs.Telling.{NotesEvent, NotesRun, RanAt, StaysAt, TellsOutcome, heard_at}
 use Rattle.hart_core.specs.declared.events.Came.{Came}
 use Rattle.hart_core.specs.declared.events.Event.{Event}
@@ -48,6 +49,11 @@ module _ {D : Type 0} (contents : D → List (List ℕ)) (failures : D → ℕ) 
       → TellsOutcome h o (outcome.Done reply) (heard_at last p) p s t
   done_tells kind reply None p steps = absurd steps
   done_tells kind reply (Some m) p steps = (steps.0, steps.2.tells.0, ap (heard_at last) steps.1 ∙ steps.2.tells.1, steps.1)
+
+  pub done_others : (kind : Kind) (reply : Reply) (o p : Option Running) → StepsAt contents failures Called h o p (Done reply kind) last old new
+      → LeavesTied h s t
+  done_others kind reply None p steps = absurd steps
+  done_others kind reply (Some m) p steps = steps.2.others
 
 -- ---- of a run
 

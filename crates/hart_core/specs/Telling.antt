@@ -51,6 +51,11 @@ heard_by w h = heard_at w.last (get_or w.harts.calls h None)
 abbrev pub some_lacks_place : {D : Type 0} → HartsOf D → Bool
 some_lacks_place w = list_any lacks_place_at w.calls
 
+-- what a call heard last stays until one replies
+abbrev pub KeepsLast : Outcome → Option Heard → Option Heard → Type 0
+KeepsLast (outcome.Done reply) was last = Unit {0}
+KeepsLast outcome was last = last ≡ was
+
 -- ---- of an event
 
 abbrev pub TellsStart : Super → Call → Option Running → Came → Option Running → Type 0

@@ -13,7 +13,7 @@ ghost use Rattle.syscalls.specs.Places.{HasBegun};
 ghost use Rattle.whole_calls.specs.Wholes.{IsCall};
 ghost use Rattle.hart_core.specs.Blocks.{blocks, code};
 ghost use Rattle.hart_core.specs.Harts.{outcome_of, said, AreIdle, HartFits};
-ghost use Rattle.hart_core.specs.Telling.{TellsOutcome, heard_at};
+ghost use Rattle.hart_core.specs.Telling.{KeepsLast, TellsOutcome, heard_at};
 
 use crate::in_place::step;
 use crate::outcome::Outcome;
@@ -149,6 +149,7 @@ impl Calls {
         ensures tells { TellsOutcome hart (get_or self.old hart None) result
             (heard_at last.new (get_or self.new hart None)) (get_or self.new hart None) (state_of D.contents D.failures core.old)
             (state_of D.contents D.failures core.new) }
+        ensures last { KeepsLast result last.old last.new }
     {
         step(&mut self.places[hart as usize], last, hart, core, stopped)
     }

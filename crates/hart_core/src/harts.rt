@@ -9,7 +9,7 @@ ghost use Rattle.inode_machine.specs.Exec.{is_at};
 ghost use Rattle.calls_on_blocks.specs.Theory.{block_calls, has_file, reserved};
 ghost use Rattle.hart_core.specs.Harts.{outcome_of, said, shared_of, programs_of, busy_in, children_in, AreHarts, AreIdle};
 ghost use Rattle.hart_core.specs.Starts.{fault_of};
-ghost use Rattle.hart_core.specs.Telling.{SetsAt, TellsOutcome, heard_at, some_lacks_place};
+ghost use Rattle.hart_core.specs.Telling.{KeepsLast, SetsAt, TellsOutcome, heard_at, some_lacks_place};
 ghost use Rattle.inode_parts.specs.Sizes.{IsSized};
 ghost use Rattle.syscalls.specs.Places.{HasBegun};
 ghost use Rattle.atomic_programs.specs.Prog.{plain};
@@ -151,6 +151,7 @@ impl<D: Device> Harts<D> {
         ensures tells { TellsOutcome hart (get_or self.old.calls hart None) result
             (heard_at last.new (get_or self.new.calls hart None)) (get_or self.new.calls hart None)
             (shared_of D.contents D.failures self.old) (shared_of D.contents D.failures self.new) }
+        ensures last { KeepsLast result last.old last.new }
         ensures others { SetsAt hart self.old.calls self.new.calls }
     {
         // What holds of the harts is needed in both cases.

@@ -3,7 +3,7 @@ ghost use Rattle.std.specs.Prelude.{◌≡◌, ◌<◌, false};
 ghost use Rattle.hart_core.specs.Vocabulary.{PlainHonestStep, MayOf, hart_step, program_at, state_of, CallsOnce, LeavesTied, running_of};
 ghost use Rattle.hart_core.specs.Blocks.{blocks, code};
 ghost use Rattle.hart_core.specs.Harts.{outcome_of, said, HartFits};
-ghost use Rattle.hart_core.specs.Telling.{TellsOutcome, heard_at};
+ghost use Rattle.hart_core.specs.Telling.{KeepsLast, TellsOutcome, heard_at};
 
 use crate::outcome::{Outcome, Stop};
 use atomic_programs::machines::SteppedInPlace;
@@ -42,6 +42,7 @@ pub(crate) fn step<D: Device>(
     ensures called { CallsOnce D.Called core.old.log.cache.device core.new.log.cache.device }
     ensures tells { TellsOutcome hart place.old result (heard_at last.new place.new) place.new
         (state_of D.contents D.failures core.old) (state_of D.contents D.failures core.new) }
+    ensures last { KeepsLast result last.old last.new }
 {
     if !place.is_busy() {
         return Outcome::Idle;

@@ -10,7 +10,7 @@ ghost use Rattle.hart_core.specs.Harts.{outcome_of, said, shared_of, AreHarts};
 ghost use Rattle.hart_core.specs.Mounting.{HandsBack, Rests};
 ghost use Rattle.hart_core.specs.Promised.{IdleHartsHaveNothing, QuietBlocksAreAnImage, WaitsByTheRule};
 ghost use Rattle.hart_core.specs.Starts.{child_refusal, fault_of, others_refusal, refusal_of, start_outcome, IsOfBytes};
-ghost use Rattle.hart_core.specs.Telling.{SetsAt, TellsOutcome, heard_by, some_lacks_place};
+ghost use Rattle.hart_core.specs.Telling.{KeepsLast, SetsAt, TellsOutcome, heard_by, some_lacks_place};
 ghost use Rattle.hart_core.specs.Worlds.{Makes, Answers};
 ghost use Rattle.syscalls.specs.Places.{HasBegun};
 
@@ -132,6 +132,7 @@ impl<D: Device> World<D> {
         ensures begun { IfOk result (λ _. (get_or self.old.harts.calls hart None ≡ None)
             × HasBegun self.old.sizes call (get_or self.new.harts.calls hart None) × (fault_of call ≡ None)
             × SetsAt hart self.old.harts.calls self.new.harts.calls) }
+        ensures last { self.new.last ≡ self.old.last }
         ensures back { IfErr result (λ e. (e.0 ≡ call) × (self.new ≡ self.old)) }
     {
         match self.find_start_refusal(hart, &call) {
@@ -157,6 +158,7 @@ impl<D: Device> World<D> {
         ensures tells { TellsOutcome hart (get_or self.old.harts.calls hart None) result (heard_by self.new hart)
             (get_or self.new.harts.calls hart None) (shared_of D.contents D.failures self.old.harts)
             (shared_of D.contents D.failures self.new.harts) }
+        ensures last { KeepsLast result self.old.last self.new.last }
         ensures others { SetsAt hart self.old.harts.calls self.new.harts.calls }
     {
         self.harts.step(&mut self.last, hart)

@@ -21,6 +21,11 @@ left_in (Ran kind) m = Some m
 left_in (Done reply kind) m = None
 left_in Stopped m = Some m
 
+-- what a call heard last stays until one replies
+abbrev pub KeepsLast : SteppedInPlace Reply Kind → Option Heard → Option Heard → Type 0
+KeepsLast (Done reply kind) was last = Unit {0}
+KeepsLast result was last = last ≡ was
+
 -- What a step tells: one that ran, where the call has replied also that what it heard is left here; any other leaves all as it was.
 abbrev pub TellsStep : ℕ → Running → SteppedInPlace Reply Kind → Running → Option Heard → (old new : State) → Type 0
 TellsStep hart m Waits left last old new = (left.control ≡ m.control) × (left.hand ≡ m.hand)

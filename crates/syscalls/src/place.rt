@@ -7,7 +7,7 @@ ghost use Rattle.whole_calls.specs.Wholes.{IsCall};
 ghost use Rattle.fs_machine.specs.Empty.{IsEmpty};
 ghost use Rattle.inode_parts.specs.Sizes.{IsSized};
 ghost use Rattle.syscalls.specs.Machines.{heard_of, lacks_place_at, running_of, RunningFits};
-ghost use Rattle.syscalls.specs.Places.{HasBegun, StepsAt};
+ghost use Rattle.syscalls.specs.Places.{HasBegun, KeepsLast, StepsAt};
 
 use crate::calls_run_by_parts;
 use atomic_programs::machines::SteppedInPlace;
@@ -22,8 +22,7 @@ use std::alloc::{AllocError, AllocFailed, Global};
 use std::marker::Model;
 
 /// The place of a hart's call. It is idle, or a call is under way there, with the part of its present operation and all that its hart has
-/// in
-/// hand. The memory for that is taken once: to begin a call takes none, and a call that has replied leaves the place as it found it. A
+/// in hand. The memory for that is taken once: to begin a call takes none, and a call that has replied leaves the place as it found it. A
 /// contract sees the call under way, if one is.
 ///
 /// Code that lets a place go doesn't compile: an idle one is ended, or any after all that harts share has ended.
@@ -132,7 +131,8 @@ impl CallPlace {
         requires busy { IsSome self.old }
         requires may { MatchOption self.old ⊥ (λ call. MayNext hart (running_of call) (state_of D.contents D.failures core.old)) }
         requires fits { MatchOption self.old ⊥ (λ call. RunningFits hart (state_of D.contents D.failures core.old) call) }
-        ensures { StepsAt D.contents D.failures D.Called hart self.old self.new result last.new core.old core.new }
+        ensures steps { StepsAt D.contents D.failures D.Called hart self.old self.new result last.new core.old core.new }
+        ensures last { KeepsLast result last.old last.new }
     {
         match self.machine.step(hart, core) {
             SteppedInPlace::Waits => SteppedInPlace::Waits,

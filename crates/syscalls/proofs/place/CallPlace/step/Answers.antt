@@ -8,9 +8,9 @@ step-requires-clause-may g c =
     let at : c.args.self.now ≡ Some c.deref_mut.result.now = busy_is w.is_busy w.machine.value c.args.self.now c.self.view_is c.requires.busy ∙ ap (λ (m : Running). Some m) (sym c.deref_mut.ensures.value) in
     subst (λ (o : Option Running). MatchOption o ⊥ (λ m. MayNext c.args.hart (running_of m) (state_of g.D.Device.contents g.D.Device.failures c.args.core.now))) at c.requires.may
 
-pub returns-in-Waits : goal.returns-in-Waits
+pub returns-in-Waits-clause-steps : goal.returns-in-Waits-clause-steps
 unfolding running_of
-returns-in-Waits g c =
+returns-in-Waits-clause-steps g c =
     let w = c.self.inside in
     let at : c.args.self.now ≡ Some c.deref_mut.result.now = busy_is w.is_busy w.machine.value c.args.self.now c.self.view_is c.requires.busy ∙ ap (λ (m : Running). Some m) (sym c.deref_mut.ensures.value) in
     let left = c.step.new.self in
@@ -21,9 +21,9 @@ returns-in-Waits g c =
       record { moves = did.steps.moves; honest = did.steps.honest; still = did.steps.still; fits = record { ready = did.steps.fits; fits = did.fits }; others = did.steps.others; called = did.steps.called; tells = did.tells },
     )
 
-pub returns-in-Ran : goal.returns-in-Ran
+pub returns-in-Ran-clause-steps : goal.returns-in-Ran-clause-steps
 unfolding running_of
-returns-in-Ran g c =
+returns-in-Ran-clause-steps g c =
     let w = c.self.inside in
     let at : c.args.self.now ≡ Some c.deref_mut.result.now = busy_is w.is_busy w.machine.value c.args.self.now c.self.view_is c.requires.busy ∙ ap (λ (m : Running). Some m) (sym c.deref_mut.ensures.value) in
     let left = c.step.new.self in
@@ -34,9 +34,9 @@ returns-in-Ran g c =
       record { moves = did.steps.moves; honest = did.steps.honest; still = did.steps.still; fits = record { ready = did.steps.fits; fits = did.fits }; others = did.steps.others; called = did.steps.called; tells = did.tells },
     )
 
-pub returns-in-Done : goal.returns-in-Done
+pub returns-in-Done-clause-steps : goal.returns-in-Done-clause-steps
 unfolding running_of
-returns-in-Done g c =
+returns-in-Done-clause-steps g c =
     let w = c.self.inside in
     let at : c.args.self.now ≡ Some c.deref_mut.result.now = busy_is w.is_busy w.machine.value c.args.self.now c.self.view_is c.requires.busy ∙ ap (λ (m : Running). Some m) (sym c.deref_mut.ensures.value) in
     let did = c.in-Done.ensures in
@@ -48,9 +48,9 @@ returns-in-Done g c =
       record { moves = did.steps.moves; honest = did.steps.honest; still = did.steps.still; fits = tt; others = did.steps.others; called = did.steps.called; tells = (did.tells, c.tell.ensures ∙ ap heard_of c.deref.ensures) },
     ))
 
-pub returns-in-Stopped : goal.returns-in-Stopped
+pub returns-in-Stopped-clause-steps : goal.returns-in-Stopped-clause-steps
 unfolding running_of
-returns-in-Stopped g c =
+returns-in-Stopped-clause-steps g c =
     let w = c.self.inside in
     let at : c.args.self.now ≡ Some c.deref_mut.result.now = busy_is w.is_busy w.machine.value c.args.self.now c.self.view_is c.requires.busy ∙ ap (λ (m : Running). Some m) (sym c.deref_mut.ensures.value) in
     let left = c.step.new.self in
