@@ -65,6 +65,11 @@ module _ {D : Type 0} (contents : D → List (List ℕ)) (failures : D → ℕ) 
       (history : List (EventOf Call Outside)) × IsHistory contents failures sizes old events outcomes new history
       × (marks_in sizes 0 history (calls_of contents failures sizes old) no_marks ≡ m)
 
+  -- a history of a run, whose marks give this cut and this doubt
+  abbrev pub HasCut : Super → HartsOf D → List Event → List Came → HartsOf D → Option ℕ → Option ℕ → Type 0
+  HasCut sizes old events outcomes new cut doubt =
+      (m : Marks) × HasMarks sizes old events outcomes new m × (cut ≡ last_of m.cut) × (doubt ≡ doubt_of m.doubt)
+
   -- the marks of a mounted world's events
   abbrev pub marks_of : WorldOf D → List (EventOf Call Outside) → Marks
   marks_of w history = marks_at (contents w.harts.core.log.cache.device) (failures w.harts.core.log.cache.device) history

@@ -3,7 +3,7 @@ ghost use Rattle.std.specs.Prelude.{◌≡◌, ◌≤◌, ℕ, IfOk, IfErr, Opti
 ghost use Rattle.hart_core.specs.Vocabulary.{vec_capacity};
 ghost use Rattle.hart_core.specs.Harts.{shared_of, AreHarts};
 ghost use Rattle.hart_core.specs.Runs.{HasHistory, OneHistory};
-ghost use Rattle.hart_core.specs.Stops.{HasMarks, RunLeavesABeginning};
+ghost use Rattle.hart_core.specs.Stops.{HasCut, HasMarks, RunLeavesABeginning};
 ghost use Rattle.hart_core.specs.Telling.{NotesRun, hart_of, heard_by, heard_in};
 ghost use Rattle.hart_core.specs.declared.events.Came.{Came as CameState};
 ghost use Rattle.path_walk.specs.declared.asks.Heard.{Heard as HeardState};
@@ -133,6 +133,8 @@ pub fn run<D: Device>(
     ensures history { IfOk result
         (λ r. HasHistory D.contents D.failures world.sizes world.harts events.now r.outcomes.items r.world.harts) }
     ensures explained { IfOk result (λ r. OneHistory D.contents D.failures world events.now r.outcomes.items r.world.harts) }
+    ensures cut { IfOk result
+        (λ r. HasCut D.contents D.failures world.sizes world.harts events.now r.outcomes.items r.world.harts r.cut r.doubt) }
     ensures stops { IfOk result
         (λ r. RunLeavesABeginning D.contents D.failures world events.now r.outcomes.items r.world.harts r.cut r.doubt) }
     ensures each { IfOk result (λ r. length r.outcomes.items ≡ length events.now) }
@@ -154,6 +156,8 @@ pub fn run_noted<D: Device, O: Observer>(
     ensures history { IfOk result
         (λ r. HasHistory D.contents D.failures world.sizes world.harts events.now r.outcomes.items r.world.harts) }
     ensures explained { IfOk result (λ r. OneHistory D.contents D.failures world events.now r.outcomes.items r.world.harts) }
+    ensures cut { IfOk result
+        (λ r. HasCut D.contents D.failures world.sizes world.harts events.now r.outcomes.items r.world.harts r.cut r.doubt) }
     ensures stops { IfOk result
         (λ r. RunLeavesABeginning D.contents D.failures world events.now r.outcomes.items r.world.harts r.cut r.doubt) }
     ensures each { IfOk result (λ r. length r.outcomes.items ≡ length events.now) }

@@ -18,6 +18,12 @@ returns-in-Ok-with_capacity-clause-stops g c =
     (subst (λ (doubt : Option ℕ). RunLeavesABeginning g.D.Device.contents g.D.Device.failures c.args.world c.args.events.now r.outcomes.items r.world.harts (last_of r.marks.cut) doubt) (sym c.doubt_of.ensures)
     (leaves_a_beginning g.D.Device.contents g.D.Device.failures c.args.world c.args.events.now r.outcomes.items r.world.harts r.marks h))
 
+pub returns-in-Ok-with_capacity-clause-cut : goal.returns-in-Ok-with_capacity-clause-cut
+returns-in-Ok-with_capacity-clause-cut g c =
+    let r = c.run_all-world.result in
+    let h = subst (λ (es : List Event). HasMarks g.D.Device.contents g.D.Device.failures c.args.world.sizes c.args.world.harts es r.outcomes.items r.world.harts r.marks) c.in-Ok.ensures c.run_all-world.ensures.history in
+    (r.marks, h, c.last_of.ensures, c.doubt_of.ensures)
+
 pub returns-in-Ok-with_capacity-clause-notes : goal.returns-in-Ok-with_capacity-clause-notes
 returns-in-Ok-with_capacity-clause-notes g c =
     let r = c.run_all-world.result in
