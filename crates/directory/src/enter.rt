@@ -6,7 +6,7 @@ ghost use Rattle.directory.specs.Entering.{EnteredState, enter, enter_at, entere
 ghost use Rattle.directory.specs.Searching.{beside_index, found_with};
 ghost use Rattle.directory.specs.EnterParts.{entered_as, enter_left, enter_asked, enter_seat, entered_in, EnterReady, IsEntering};
 
-use crate::found::{Found, MOST_SLOTS, Sought};
+use crate::found::{Found, MOST_SLOTS, Sought, slot_count};
 use crate::search::Search;
 use crate::seat::enter_at;
 use byteorder::{ByteOrder, LittleEndian};
@@ -188,7 +188,7 @@ fn slot_for(inode: &Dinode, found: Option<Found>) -> usize
 {
     match found {
         Some(free) => free.slot as usize,
-        None => MOST_SLOTS.min(inode.size as usize / DIRENT_LEN),
+        None => slot_count(inode),
     }
 }
 

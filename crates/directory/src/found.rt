@@ -45,7 +45,7 @@ pub(crate) fn slot_count(inode: &Dinode) -> usize
     MOST_SLOTS.min(inode.size as usize / DIRENT_LEN)
 }
 
-// How many blocks have them.
+/// How many blocks have a directory's slots.
 pub fn block_count(inode: &Dinode) -> usize
     ensures count { result ≡ block_count inode.now }
     ensures bound { result ≤ most_blocks }
@@ -90,7 +90,7 @@ fn found_at(block: &Block, k: usize, place: usize) -> Found
     }
 }
 
-// What is found in block k of a directory.
+/// What is found in block `k` of a directory.
 #[inline(always)]
 #[tactic(auto, unfolding(crate::specs::Programs::found_in))]
 pub fn found_in(block: &Block, inode: &Dinode, k: usize, sought: Sought) -> Option<Found>

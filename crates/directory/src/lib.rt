@@ -1,7 +1,7 @@
 //! The names of a directory (xv6's `dirlookup`, `dirlink` and `isdirempty` of fs.c and sysfile.c).
 //!
-//! `specs/Programs` and `specs/Entering` say what is done, operation by operation; `Search`, `Enter`, `Clear` and `Fill` are parts that do
-//! it. A block's 64 slots are compared where they stand, in the buffer.
+//! `specs/Programs` and `specs/Entering` say what is done, operation by operation; `Search`, `Enter`, `Clear` and `Fill` do it.
+//! A block's 64 slots are compared where they stand, in the buffer.
 //! What is found is the first slot of a name, the first free one, or the first used one from a place on. What has no link, or is no
 //! directory, finds nothing and is not touched.
 //!

@@ -1,6 +1,6 @@
 //! Open files locked by their descriptors (what xv6's `fileread`, `filewrite` and `filestat` of file.c begin with).
 //!
-//! `LockFile` and `LockOpen` are parts: the inode of an open file is locked, and loaded where it isn't. The table of open files itself
+//! By `LockFile` and `LockOpen` the inode of an open file is locked, and loaded where it isn't. The table of open files itself
 //! is fs_machine's.
 #![tactic(auto)]
 

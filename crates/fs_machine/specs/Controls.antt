@@ -20,10 +20,11 @@ abbrev pub left_after : {C O A : Type 0} → (C → Hand → P A) → (O → Han
 left_after left value None c h = left c h
 left_after left value (Some out) c h = Ret (value out h)
 
--- what is in hand, but for what the inodes have, and for numbers of which one is to be claimed
+-- the lock of an inode, with nothing loaded
 abbrev pub without_record : GuardState Inode → GuardState Inode
 without_record g = record g { value = record g.value { content = None } }
 
+-- what is in hand, but for what the inodes have, and for numbers of which one is to be claimed
 abbrev pub bare : Hand → Hand
 bare h = record h { one = option_map without_record h.one; two = option_map without_record h.two; numbers = []; count = 0 }
 

@@ -95,10 +95,11 @@ block_at p h = option_map_or (λ (g : GuardState BufferState). g.value.block) (b
 abbrev pub bytes_at : Place → Hand → List ℕ
 bytes_at p h = option_map_or bytes_of (buffer_at p h) []
 
--- the inode at a seat
+-- what an empty seat is said to have
 abbrev pub no_inode : Inode
 no_inode = record { number = 0; content = None }
 
+-- the inode at a seat
 abbrev pub inode_in : InodePlace → Hand → Inode
 inode_in k h = option_map_or (λ (g : GuardState Inode). g.value) (inode_at k h) no_inode
 

@@ -120,11 +120,12 @@ directory_of (Some d) = d.directory
 unfoldable pub up_directory : ℕ → TablesState → ExecResult (Option ℕ) TablesState
 up_directory h t = up_inode (directory_of (slice_get t.desks h)) t
 
--- an inode that is loaded, and has no link
+-- above zero
 abbrev pub is_positive : ℤ → Bool
 is_positive (pos n) = nat_lt 0 n
 is_positive (negsuc n) = false
 
+-- an inode that is loaded, and has no link
 abbrev pub dead_of : Option Loaded → Option Loaded
 dead_of None = None
 dead_of (Some l) = if is_positive l.inode.nlink then None else Some l
@@ -180,21 +181,21 @@ freed_at t (Some k) = Ran Counts (uncounted_at k t)
 unfoldable pub drop_freed : ℕ → TablesState → ExecResult DroppedState TablesState
 drop_freed n t = freed_at t (place_of n t.entries)
 
--- the lock is given back with this inode, which becomes the hart's current directory; the old one is answered
 abbrev pub with_directory : ℕ → Desk → Desk
 with_directory n d = record d { directory = n }
 
 abbrev pub settled : ℕ → ℕ → TablesState → ExecResult ℕ TablesState
 settled h n t = Ran (directory_of (slice_get t.desks h)) (with_desk h (with_directory n) t)
 
+-- the lock is given back with this inode, which becomes the hart's current directory; the old one is answered
 unfoldable pub settle_inode : ℕ → Inode → TablesState → ExecResult ℕ TablesState
 settle_inode h v t = settled h v.number (unlock_inode h v None t)
 
 -- ---- inodes to be claimed
 
--- the first of these to which no reference stands
 abbrev pub is_unreferenced : List Entry → ℕ → Bool
 is_unreferenced entries n = is_none (place_of n entries)
 
+-- the first of these to which no reference stands
 abbrev pub first_free : List Entry → List ℕ → Option ℕ
 first_free entries candidates = find (is_unreferenced entries) candidates

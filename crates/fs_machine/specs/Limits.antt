@@ -1,7 +1,7 @@
 -- The numbers of the tables, said here once more: a wrong one in the code is refused.
 use Rattle.std.specs.Prelude.{ℕ}
 
--- places for inodes in memory, for open files, and desks
+-- places for inodes in memory
 abbrev pub inode_places : ℕ
 inode_places = 50
 
@@ -9,12 +9,15 @@ inode_places = 50
 abbrev pub listed_places : ℕ
 listed_places = 128
 
+-- places for open files
 abbrev pub file_places : ℕ
 file_places = 100
 
+-- desks, one for each hart
 abbrev pub desk_count : ℕ
 desk_count = 8
 
+-- descriptors of a hart
 abbrev pub descriptor_count : ℕ
 descriptor_count = 16
 

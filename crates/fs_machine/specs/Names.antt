@@ -8,10 +8,11 @@ use Rattle.fs_machine.specs.Files.{is_at}
 abbrev pub byte_count : ℕ
 byte_count = 256
 
+-- how many descriptors of all harts name this place
 abbrev pub named : ℕ → List Desk → ℕ
 named p desks = sum_by (λ (d : Desk). count_by (is_at p) d.descriptors) desks
 
--- these counts say it
+-- for each place so many descriptors name it
 pub record AreCounted (counts : List ℕ) (desks : List Desk) : Type 0 where
   pub eight : length desks ≡ desk_count
   pub descriptors : (k : ℕ) (d : Desk) → slice_get desks k ≡ Some d → length d.descriptors ≡ descriptor_count

@@ -30,6 +30,7 @@ AreFreeFrom n [] = Unit {0}
 AreFreeFrom zero (e ∷ es) = (e.references ≡ 0) × AreFreeFrom zero es
 AreFreeFrom (suc n) (e ∷ es) = AreFreeFrom n es
 
+-- the places that are in use stand below this one: from it on all are free
 pub record AreUsedBelow (n : ℕ) (entries : List Entry) : Type 0 where
   pub places : length entries ≡ inode_places
   pub within : n ≤ inode_places
@@ -56,7 +57,6 @@ one_more e = record e { references = e.references + 1 }
 abbrev pub one_less : Entry → Entry
 one_less e = record e { references = e.references - 1 }
 
--- how many of them the tables themselves have: open files and current directories
 abbrev pub is_file_of : ℕ → FilePlace → Bool
 is_file_of n Free = false
 is_file_of n Taken = false
@@ -65,6 +65,7 @@ is_file_of n (Open f) = f.number == n
 abbrev pub is_directory_of : ℕ → Desk → Bool
 is_directory_of n d = d.directory == n
 
+-- how many references to an inode the tables themselves have: open files and current directories
 abbrev pub owed : ℕ → TablesState → ℕ
 owed n t = count_by (is_file_of n) t.files + count_by (is_directory_of n) t.desks
 

@@ -25,7 +25,7 @@ pub enum Place {
     Second,
 }
 
-/// A place for an inode: a reference to it, and its lock.
+/// A place for an inode, called a seat: a reference to it, and its lock.
 #[derive(Clone, Copy)]
 pub enum InodePlace {
     One,
@@ -184,7 +184,7 @@ impl Hand {
         }
     }
 
-    /// A reference, or none, for a seat that is empty.
+    /// A reference for a seat that is empty.
     pub(crate) fn hold_reference(&mut self, seat: InodePlace, reference: Reference)
         requires { reference_at seat self.old ≡ None }
         ensures { self.new ≡ with_reference seat (Some reference) self.old }

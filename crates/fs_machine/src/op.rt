@@ -30,9 +30,9 @@ pub enum Op {
     Up(InodePlace, u32),
     /// The same where no seat is free: it is aside.
     UpAside(u32),
-    /// Drops it; where it is the last one to a dead inode the inode's lock is taken in its place.
+    /// Drops the reference at this seat; where it is the last one to a dead inode the inode's lock is taken in its place.
     Down(InodePlace),
-    /// The same where this descriptor may be written.
+    /// Joins a transaction, where this descriptor may be written.
     JoinToWrite(u32),
     /// Takes the lock of what a descriptor names, where it may be had for this.
     LockFile(InodePlace, Want, u32),
@@ -75,7 +75,8 @@ pub enum Op {
 #[derive(Clone, Copy)]
 pub enum Answer {
     Nothing,
-    /// Whether a commit begins, or has ended; and so on.
+    /// A commit begins, or has ended; a dropped reference was the last one to a dead inode; there was a place for an open file; a
+    /// descriptor was its file's last; the directory was handed on. Of a claim: no place in memory was left.
     Is(bool),
     Refused(Refused),
     Number(u32),

@@ -49,6 +49,7 @@ fn prepare<D: Device>(alloc: Global, device: &mut D) -> Result<Ready, MountFault
             return Err(MountFault::from(fault));
         }
     }
+    // It ensures that each block has its bytes, which is needed below.
     let _count = device.blocks();
     logs_may_begin();
     Ok(Ready {

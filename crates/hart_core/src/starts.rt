@@ -3,7 +3,7 @@ ghost use Rattle.std.specs.Prelude.{◌≡◌, true, None};
 ghost use Rattle.hart_core.specs.Vocabulary.{child_of, are_bytes};
 ghost use Rattle.hart_core.specs.Starts.{fault_of, path_fault, part_fault, IsOfBytes};
 
-use plain_tree::{Bytes, Call};
+use plain_tree::Call;
 
 /// The longest path, in bytes.
 const LONGEST_PATH: usize = 127;
@@ -14,7 +14,7 @@ const LONGEST_PART: usize = 524_288;
 /// Why a call isn't started. Nothing has changed.
 #[derive(Clone, Copy, PartialEq, Eq, Debug)]
 pub enum StartRefused {
-    /// The hart has a call, or takes part in another's inherit.
+    /// The hart, or the child of its inherit, has a call or takes part in another's inherit; or the child is the hart itself.
     Busy = 41,
     /// A path has more than 127 bytes.
     PathTooLong = 42,
@@ -22,7 +22,7 @@ pub enum StartRefused {
     ZeroInPath = 43,
     /// More than 524,288 bytes are asked for.
     TooLong = 44,
-    /// There are eight harts.
+    /// The number of the hart, or of the child of its inherit, is past 7: there are eight harts.
     NoSuchHart = 45,
     /// The child of an inherit has descriptors.
     NotEmptyHart = 46,
@@ -36,16 +36,16 @@ pub fn find_fault(call: &Call) -> Option<StartRefused>
     ensures bytes { result ≡ None → IsOfBytes call.now }
 {
     match call {
-        Call::Open { path, flags: _ } => find_path_fault(path),
-        Call::Read { fd: _, buf } => find_part_fault(buf),
-        Call::Write { fd: _, bytes } => find_part_fault(bytes),
-        Call::Link { old, new } => match find_path_fault(old) {
+        Call::Open { path, flags: _ } => find_path_fault(path.as_slice()),
+        Call::Read { fd: _, buf } => find_part_fault(buf.as_slice()),
+        Call::Write { fd: _, bytes } => find_part_fault(bytes.as_slice()),
+        Call::Link { old, new } => match find_path_fault(old.as_slice()) {
             Some(why) => Some(why),
-            None => find_path_fault(new),
+            None => find_path_fault(new.as_slice()),
         },
-        Call::Unlink { path } => find_path_fault(path),
-        Call::Mkdir { path } => find_path_fault(path),
-        Call::Chdir { path } => find_path_fault(path),
+        Call::Unlink { path } => find_path_fault(path.as_slice()),
+        Call::Mkdir { path } => find_path_fault(path.as_slice()),
+        Call::Chdir { path } => find_path_fault(path.as_slice()),
         Call::Dup { fd: _ } => None,
         Call::Fstat { fd: _ } => None,
         Call::Close { fd: _ } => None,
@@ -63,14 +63,7 @@ pub(crate) fn find_child(call: &Call) -> Option<u8>
     }
 }
 
-fn find_path_fault(path: &Bytes) -> Option<StartRefused>
-    ensures fault { result ≡ path_fault path.now }
-    ensures bytes { are_bytes path.now ≡ true }
-{
-    find_fault_in(path.as_slice())
-}
-
-fn find_fault_in(path: &[u8]) -> Option<StartRefused>
+fn find_path_fault(path: &[u8]) -> Option<StartRefused>
     ensures fault { result ≡ path_fault path.now }
     ensures bytes { are_bytes path.now ≡ true }
 {
@@ -83,14 +76,7 @@ fn find_fault_in(path: &[u8]) -> Option<StartRefused>
     None
 }
 
-fn find_part_fault(bytes: &Bytes) -> Option<StartRefused>
-    ensures fault { result ≡ part_fault bytes.now }
-    ensures bytes { are_bytes bytes.now ≡ true }
-{
-    find_length_fault(bytes.as_slice())
-}
-
-fn find_length_fault(part: &[u8]) -> Option<StartRefused>
+fn find_part_fault(part: &[u8]) -> Option<StartRefused>
     ensures fault { result ≡ part_fault part.now }
     ensures bytes { are_bytes part.now ≡ true }
 {

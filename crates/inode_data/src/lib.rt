@@ -1,8 +1,9 @@
 //! The content of an inode: its blocks found, read, written and given back (xv6's `bmap`, `readi`, `writei` and `itrunc` of fs.c).
 //!
 //! `specs/Programs`, `specs/Writing` and `specs/Freeing` say what is done, operation by operation; `FetchBlock`, `Locate`, `ReadPart`,
-//! `WritePart`, `Truncate` and `FreeInode` are parts that do it. A part is told what the inode's record is, and which memory a content
-//! is read into or written from; it uses the places for buffers and changes nothing else in hand.
+//! `WritePart`, `Truncate` and `FreeInode` do it. The first four are told what the inode's record is, `ReadPart` and `WritePart` also which
+//! memory is read into or written from; they use the places for buffers and change nothing else in hand. `Truncate` and `FreeInode` are
+//! told at which seat the inode's lock is, and change its record in hand too.
 #![tactic(auto)]
 
 mod addresses;

@@ -1,7 +1,7 @@
 //! Inodes loaded from their blocks and stored into them, locked, and new ones taken (xv6's `ilock`, `iupdate` and `ialloc` of fs.c).
 //!
 //! `specs/Programs` and `specs/NewInodes` say what is done, operation by operation; `LoadInode`, `StoreInode`, `StoreRecord`, `LockInode`
-//! and `NewInode` are parts that do it, with what a hart has in hand.
+//! and `NewInode` do it, with what a hart has in hand.
 #![tactic(auto)]
 
 mod held;

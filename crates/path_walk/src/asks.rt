@@ -52,7 +52,7 @@ pub enum Ask {
     /// Its inode is locked; this piece of the call's bytes is written, from this offset on.
     LockOpen(u32, u32),
     WriteFile(u32, u32, u64, usize),
-    /// A descriptor is free.
+    /// A descriptor is closed.
     Shut(u32),
     /// The caller's first descriptor from here on goes to the child; the directory does; the child may start again.
     Lend(u8, u32),
@@ -186,6 +186,8 @@ pub enum Heard {
     Old(u32),
 }
 
+/// What an answer says, asked for as one kind. One of another kind says nothing: nothing was seen, there is no number, or zero, and a piece
+/// was written whole.
 impl Heard {
     pub fn sight(&self) -> Sight
         ensures { sight_of result ≡ sight_in self.now }

@@ -1,5 +1,5 @@
 use Rattle.hart_core.proofs.Lemmas.{arith, bytes_below}
-use Rattle.hart_core.proofs.starts.find_fault_in.Goals as goal
+use Rattle.hart_core.proofs.starts.find_path_fault.Goals as goal
 
 pub returns-then-path-gt-LONGEST_PATH-clause-bytes : goal.returns-then-path-gt-LONGEST_PATH-clause-bytes
 returns-then-path-gt-LONGEST_PATH-clause-bytes c = bytes_below c.args.path.now (λ k. omega (arith, c.type_inv.path k))
