@@ -218,25 +218,6 @@ before : GivesNumbers mkfs_line
 before = record {
   size = record {
     plain = refl;
-    numbers = (differs _ refl, ((λ _. (refl, refl, refl, refl)), (differs _ refl, (differs _ refl, (differs _ refl, (differs _ refl, (differs _ refl, tt)))))));
-    default = refl;
-  };
-  inodes = record {
-    plain = refl;
-    numbers = (differs _ refl, (differs _ refl, ((λ _. (refl, refl, refl, refl)), (differs _ refl, (differs _ refl, (differs _ refl, (differs _ refl, tt)))))));
-    default = refl;
-  };
-  version = record {
-    plain = refl;
-    numbers = (differs _ refl, (differs _ refl, (differs _ refl, ((λ _. (refl, refl, refl, refl)), (differs _ refl, (differs _ refl, (differs _ refl, tt)))))));
-    default = refl;
-  };
-}
-
-after : GivesNumbers (built mkfs_line)
-after = record {
-  size = record {
-    plain = refl;
     numbers = (differs _ refl, ((λ _. (refl, refl, refl, refl)), (differs _ refl, (differs _ refl, (differs _ refl, (differs _ refl, (differs _ refl, (differs _ refl, tt))))))));
     default = refl;
   };
@@ -248,6 +229,25 @@ after = record {
   version = record {
     plain = refl;
     numbers = (differs _ refl, (differs _ refl, (differs _ refl, ((λ _. (refl, refl, refl, refl)), (differs _ refl, (differs _ refl, (differs _ refl, (differs _ refl, tt))))))));
+    default = refl;
+  };
+}
+
+after : GivesNumbers (built mkfs_line)
+after = record {
+  size = record {
+    plain = refl;
+    numbers = (differs _ refl, ((λ _. (refl, refl, refl, refl)), (differs _ refl, (differs _ refl, (differs _ refl, (differs _ refl, (differs _ refl, (differs _ refl, (differs _ refl, tt)))))))));
+    default = refl;
+  };
+  inodes = record {
+    plain = refl;
+    numbers = (differs _ refl, (differs _ refl, ((λ _. (refl, refl, refl, refl)), (differs _ refl, (differs _ refl, (differs _ refl, (differs _ refl, (differs _ refl, (differs _ refl, tt)))))))));
+    default = refl;
+  };
+  version = record {
+    plain = refl;
+    numbers = (differs _ refl, (differs _ refl, (differs _ refl, ((λ _. (refl, refl, refl, refl)), (differs _ refl, (differs _ refl, (differs _ refl, (differs _ refl, (differs _ refl, tt)))))))));
     default = refl;
   };
 }

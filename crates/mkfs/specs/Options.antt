@@ -1,8 +1,8 @@
--- The command line: IMAGE [--size N] [--inodes N] [--version N] [--migrate OLD] [FILE..], and what it gives.
+-- The command line: IMAGE [--size N] [--inodes N] [--version N] [--migrate OLD] [--force] [FILE..], and what it gives.
 use Rattle.std.specs.Prelude.{◌≡◌, ℕ, ◌-◌, ◌^◌, ◌<◌, List, [], ◌∷◌, Some, true, codes, pos}
 use Rattle.clap.specs.declared.builder.action.ArgAction.TheVariants as actions
 use Rattle.image_versions.specs.Versions.{number_of}
-use Rattle.mkfs.specs.Vocabulary.{One, Two, Version, version_of_number, IsNumeral, digits_value, without_leading_plus, usize_max, App, Rule, Text, found_of, new_app, new_rule, one_text, with_rule, Set, Signed, ArgMatches}
+use Rattle.mkfs.specs.Vocabulary.{One, Two, Version, version_of_number, IsNumeral, digits_value, without_leading_plus, usize_max, App, Rule, Text, found_of, new_app, new_rule, one_text, with_rule, Set, SetTrue, Signed, ArgMatches}
 
 -- the file to write
 abbrev pub image_rule : Rule
@@ -29,6 +29,10 @@ version_rule = record (number_rule (codes "version") (codes "1")) { parser = Som
 abbrev pub migrate_rule : Rule
 migrate_rule = record (new_rule (codes "migrate")) { long = Some (codes "migrate"); value_names = 1 }
 
+-- a file that is no image is replaced too
+abbrev pub force_rule : Rule
+force_rule = record (new_rule (codes "force")) { long = Some (codes "force"); action = Some SetTrue }
+
 -- the program tells what it is
 abbrev pub about_rule : Rule
 about_rule = record (new_rule (codes "about")) { short = Some 86; long = Some (codes "about"); action = Some actions.Version }
@@ -49,9 +53,13 @@ abbrev pub sized_app : App
 sized_app =
     with_rule (with_rule (with_rule mkfs_app image_rule) (number_rule (codes "size") (codes "2000"))) (number_rule (codes "inodes") (codes "200"))
 
+-- and how it is made
+abbrev pub versioned_app : App
+versioned_app = with_rule (with_rule (with_rule sized_app version_rule) migrate_rule) force_rule
+
 -- the whole command line
 abbrev pub mkfs_line : App
-mkfs_line = with_rule (with_rule (with_rule (with_rule sized_app version_rule) migrate_rule) about_rule) files_rule
+mkfs_line = with_rule (with_rule versioned_app about_rule) files_rule
 
 -- the number that a decimal text is, where one `+` may stand before it
 abbrev pub number_in : List ℕ → ℕ

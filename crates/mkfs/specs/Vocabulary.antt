@@ -18,7 +18,7 @@ pub use Rattle.fs_layout.specs.Super.{spell_super}
 pub use Rattle.plain_tree.specs.Widths.{root}
 pub use Rattle.std.specs.List.{range_with_len}
 pub use Rattle.clap.specs.Lexer.{usize_max}
-pub use Rattle.clap.specs.declared.builder.action.ArgAction.TheVariants.{Set}
+pub use Rattle.clap.specs.declared.builder.action.ArgAction.TheVariants.{Set, SetTrue}
 pub use Rattle.clap.specs.declared.builder.value_parser.ValueParser.TheVariants.{Signed}
 pub use Rattle.clap.specs.declared.parser.matches.ArgMatches.{ArgMatches}
 pub use Rattle.image_tree.specs.Damage.{IsWellFormed}

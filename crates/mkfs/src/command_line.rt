@@ -1,7 +1,7 @@
 //! The command line.
 ghost use Rattle.std.specs.Prelude.{◌≡◌, codes, false, map, string_bytes, IfOk};
 ghost use Rattle.mkfs.specs.Vocabulary.{app_of, fault_of, found_of, matches_of, rows_of, rule_of, FailsBy};
-ghost use Rattle.mkfs.specs.Options.{about_rule, files_rule, image_rule, migrate_rule, mkfs_app, mkfs_line, number_in, number_rule, sized_app, version_rule, HasNumber, HasVersion};
+ghost use Rattle.mkfs.specs.Options.{about_rule, files_rule, force_rule, image_rule, migrate_rule, mkfs_app, mkfs_line, number_in, number_rule, sized_app, version_rule, versioned_app, HasNumber, HasVersion};
 
 use clap::{Arg, ArgAction, ArgMatches, Command, Error};
 use image_versions::Version;
@@ -39,6 +39,9 @@ pub const MIGRATE: &str = "migrate";
 
 // The program's own version is printed.
 const ABOUT: &str = "about";
+
+/// A file that is no image is replaced too.
+pub const FORCE: &str = "force";
 
 /// The file that the image is written to.
 pub const IMAGE: &str = "image";
@@ -83,6 +86,17 @@ fn migrate_option<'a>(alloc: Global) -> Arg<'a>
         .help(
             "Migrate this image: IMAGE gets its tree, in version 2 and of its size where none is given",
         )
+}
+
+// What stands in the image's place may be anything.
+fn force<'a>(alloc: Global) -> Arg<'a>
+    ensures rule { rule_of result ≡ force_rule }
+    ensures local { result.global ≡ false }
+{
+    Arg::new(alloc, FORCE)
+        .long(FORCE)
+        .action(ArgAction::SetTrue)
+        .help("Replace also a file that is no image")
 }
 
 // What the program is.
@@ -143,15 +157,22 @@ fn sized<'a>(alloc: Global) -> Result<Command<'a>, AllocError>
         .arg(option(alloc, INODES, "200", "How many inodes it has"))
 }
 
-fn command<'a>(alloc: Global) -> Result<Command<'a>, AllocError>
-    ensures { IfOk result (λ command. app_of command ≡ mkfs_line) }
+// And how it is made.
+fn versioned<'a>(alloc: Global) -> Result<Command<'a>, AllocError>
+    ensures { IfOk result (λ command. app_of command ≡ versioned_app) }
 {
     let sized = sized(alloc)?;
     sized
         .arg(version_option(alloc))?
         .arg(migrate_option(alloc))?
-        .arg(about(alloc))?
-        .arg(files(alloc))
+        .arg(force(alloc))
+}
+
+fn command<'a>(alloc: Global) -> Result<Command<'a>, AllocError>
+    ensures { IfOk result (λ command. app_of command ≡ mkfs_line) }
+{
+    let versioned = versioned(alloc)?;
+    versioned.arg(about(alloc))?.arg(files(alloc))
 }
 
 /// Reads a command line, the program's name first. After an `Ok` the values are those that the words give, and the numbers

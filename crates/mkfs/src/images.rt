@@ -1,6 +1,9 @@
 //! How an image's file is read.
 ghost use Rattle.std.specs.Prelude.{◌≤◌, length, IfOk};
 
+use crate::read_at_most;
+use block_device::{Device, MemoryDisk};
+use fs_layout::read_version;
 use image_versions::widths::{BLOCK_LEN, MOST_DISK_BLOCKS};
 use std::fs::File;
 use std::io::{ErrorKind, Read};
@@ -12,6 +15,12 @@ const LONGEST_IMAGE: u64 = MOST_DISK_BLOCKS as u64 * BLOCK_LEN as u64;
 
 /// The longest file that is taken for an image, in bytes: 4 GiB.
 const LONGEST_FILE: u64 = 4_294_967_296;
+
+/// The block of an image that has its magic number.
+const SUPER_BLOCK: u32 = 1;
+
+/// How many bytes come before the end of that block.
+const FRONT_BYTES: usize = 2 * BLOCK_LEN;
 
 /// Why the file of an image isn't taken.
 #[derive(Debug, Drop, Error)]
@@ -68,4 +77,26 @@ pub fn read_image(rt: &HostRuntime, path: &str) -> Result<ImageFile, ImageRefuse
         return Err(ImageRefused::TooLarge(LONGEST_IMAGE));
     }
     Ok(ImageFile { bytes, rest: file })
+}
+
+// Whether these bytes begin as an image does: their superblock has the magic number of a version.
+fn begin_image(bytes: Vec<u8>) -> bool {
+    let mut disk = MemoryDisk::new(bytes);
+    if disk.blocks() <= SUPER_BLOCK {
+        return false;
+    }
+    let mut block = [0; BLOCK_LEN];
+    disk.read(SUPER_BLOCK, &mut block).is_ok() && read_version(&block).is_some()
+}
+
+/// Whether a regular file of this name is there that isn't empty, and is no image, also a damaged one; or can't be read.
+pub fn is_other_file(rt: &HostRuntime, path: &str) -> bool {
+    match fs::metadata(rt, path) {
+        Ok(metadata) if metadata.is_file() && metadata.len() > 0 => {}
+        _ => return false,
+    }
+    match read_at_most(rt, path, FRONT_BYTES) {
+        Ok(bytes) => !begin_image(bytes),
+        Err(_) => true,
+    }
 }

@@ -17,14 +17,15 @@ mod parts;
 mod refused;
 mod replacing;
 pub mod widths;
+mod words;
 
 ghost use Rattle.std.specs.Prelude.{◌≤◌, ◌+◌, length, IfOk};
 
 pub use crate::appends::push_many;
 pub use crate::command_line::{
-    FILES, IMAGE, INODES, MIGRATE, SIZE, VERSION, number, options, version,
+    FILES, FORCE, IMAGE, INODES, MIGRATE, SIZE, VERSION, number, options, version,
 };
-pub use crate::images::{ImageFile, ImageRefused, read_image};
+pub use crate::images::{ImageFile, ImageRefused, is_other_file, read_image};
 pub use crate::judges::is_file_name;
 pub use crate::layout::{data_start, node_blocks};
 pub use crate::made::{made_blocks, made_front, made_inodes, make, make_as, push_front};
@@ -32,6 +33,7 @@ pub use crate::new_file::NewFile;
 pub use crate::parts::{addresses, push_bitmap, push_content, push_entry};
 pub use crate::refused::MakeRefused;
 pub use crate::replacing::{SaveRefused, save, try_to_save};
+pub use crate::words::{WordsRefused, read_words};
 use std::fs::{File, Files};
 use std::io;
 use std::io::Read;

@@ -1,9 +1,15 @@
 //! How a file is replaced.
 use std::alloc::{AllocError, Global};
 use std::fs::{File, Metadata, OpenOptions};
-use std::io::{ErrorKind, Write};
+use std::io::{ErrorKind, Read, Seek, SeekFrom, Write};
 use std::{fs, io, process};
 use thiserror::Error;
+
+/// How many bytes are looked at together: where all are zeros, none is written. A page of most hosts.
+const PIECE: usize = 4096;
+
+/// How many bytes are copied from file to file at once.
+const COPIED: usize = 16 * PIECE;
 
 /// Why a file wasn't written. What stood in its place is there still.
 #[derive(Debug, Drop, Error)]
@@ -96,13 +102,61 @@ struct Content<'a> {
     rest: Option<File>,
 }
 
+fn are_zeros(bytes: &[u8]) -> bool {
+    bytes.iter().all(|byte| *byte == 0)
+}
+
+// Writes bytes at the file's place, and steps over pieces of zeros: so a file system that can leaves them out.
+fn write_sparse(file: &mut File, bytes: &[u8]) -> io::Result<()> {
+    for piece in bytes.chunks(PIECE) {
+        if are_zeros(piece) {
+            file.seek(SeekFrom::Current(piece.len() as i64))?;
+        } else {
+            file.write_all(piece)?;
+        }
+    }
+    Ok(())
+}
+
+// The next bytes of a file, as many as it gives at once; none at its end.
+fn read_some(file: &mut File, buffer: &mut [u8]) -> io::Result<usize> {
+    for _again in 0..u64::MAX {
+        match file.read(buffer) {
+            Err(error) if error.kind() == ErrorKind::Interrupted => {}
+            ended => return ended,
+        }
+    }
+    Ok(0)
+}
+
+// Writes all that is left of the other file.
+fn copy_sparse(alloc: Global, file: &mut File, rest: &mut File) -> io::Result<()> {
+    let mut buffer = vec![in alloc; 0; COPIED]?;
+    for _part in 0..u64::MAX {
+        let count = read_some(rest, buffer.as_mut_slice())?;
+        match buffer.as_slice().get(..count) {
+            Some(bytes) if !bytes.is_empty() => write_sparse(file, bytes)?,
+            _ => break,
+        }
+    }
+    Ok(())
+}
+
 // Writes this, and gives the file the mode of the one that it is to replace.
-fn fill(file: &mut File, old: Option<&Metadata>, content: Content) -> io::Result<()> {
-    file.write_all(content.bytes)?;
+fn fill(
+    alloc: Global,
+    file: &mut File,
+    old: Option<&Metadata>,
+    content: Content,
+) -> io::Result<()> {
+    write_sparse(file, content.bytes)?;
     if let Some(rest) = content.rest {
         let mut rest = rest;
-        io::copy(&mut rest, file)?;
+        copy_sparse(alloc, file, &mut rest)?;
     }
+    // Where it ends in zeros, they were stepped over.
+    let end = file.stream_position()?;
+    file.set_len(end)?;
     match old {
         Some(metadata) => file.set_permissions(metadata.permissions()),
         None => Ok(()),
@@ -113,7 +167,7 @@ fn fill(file: &mut File, old: Option<&Metadata>, content: Content) -> io::Result
 fn replace(rt: &HostRuntime, place: &Place, content: Content) -> Result<(), SaveRefused> {
     let beside = place.beside(rt)?;
     let written = match place.new_file(rt, beside.as_str()) {
-        Ok(mut file) => fill(&mut file, place.old.as_ref(), content),
+        Ok(mut file) => fill(rt.alloc(), &mut file, place.old.as_ref(), content),
         Err(refused) => return Err(refused),
     };
     let moved = match written {
@@ -137,7 +191,8 @@ pub fn try_to_save(rt: &HostRuntime, name: &str) -> Result<(), SaveRefused> {
 
 /// Replaces the regular file with this name, or makes a new one. A link is followed, and what it leads to is replaced. The
 /// mode of a file that was there stays. Until the whole file is written what stood there stays, also where this fails. It gets
-/// these bytes, and behind them what is left of `rest`, copied from file to file.
+/// these bytes, and behind them what is left of `rest`, copied from file to file. Pieces of zeros are left out, where the file system can
+/// leave them out.
 pub fn save(
     rt: &HostRuntime,
     name: &str,
