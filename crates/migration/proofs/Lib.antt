@@ -10,5 +10,6 @@ pub mod NewNumbers
 pub mod NewContents
 pub mod OldNodes
 pub mod LikeImages
+pub mod RootBlocks
 pub mod NewImages
 pub mod MigratedImages

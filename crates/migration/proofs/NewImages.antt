@@ -28,6 +28,7 @@ use Rattle.migration.proofs.NewInodes.{inode-new, place_of}
 use Rattle.migration.proofs.NewNumbers.{content-new, each-inode, named-new}
 use Rattle.migration.proofs.OldNodes.{content_long, first_two, in_directory, in_none, is_new, is_none, node_at, node_sound, slots_readable}
 use Rattle.migration.proofs.PlainNodes.{IsLaid, IsSound}
+use Rattle.migration.proofs.RootBlocks.{root_there}
 
 -- ---- what an inode says of its node
 
@@ -284,10 +285,7 @@ module _ (w v : Version) (size : ℕ) (disk : List (List ℕ)) (whole : HasWhole
       refl
 
   root_node : is_node disk 1 ≡ true
-  root_node =
-      let root : HasRoot disk = well.0.0.0.0.0.0.0.1 in
-      let some : 2 ≤ (sizes_of disk).ninodes = well.0.0.0.0.0.0.0.0.0.0.0.1.1.few_inodes in
-      node_from disk 1 (record { low = omega arith; bound = omega (arith, some); used = ap (is_number 0) root.0 })
+  root_node = root_there w disk well
 
   root_live : is_live (inode_of disk 1) ≡ true
   root_live =

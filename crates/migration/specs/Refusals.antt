@@ -1,6 +1,6 @@
 -- What can be migrated from version w to version v, and the first reason why not.
-use Rattle.std.specs.Prelude.{◌≡◌, ℕ, ◌+◌, ◌/◌, ◌<◌, ◌≤◌, true, List, codes, Result, Ok, Err}
-use Rattle.migration.specs.Vocabulary.{Version, number_of as version_number, dirent_len_of, most_slots_of, most_disk_blocks, IsWellFormed, JudgesFault, fault_count_of, fault_name, fault_number, inode_of, is_live_directory, sizes_of, data_start}
+use Rattle.std.specs.Prelude.{◌≡◌, ℕ, ◌+◌, ◌*◌, ◌/◌, ◌<◌, ◌≤◌, true, List, codes, Result, Ok, Err}
+use Rattle.migration.specs.Vocabulary.{Version, number_of as version_number, dirent_len_of, most_slots_of, most_disk_blocks, IsWellFormed, JudgesFault, fault_count_of, fault_name, fault_number, inode_of, is_live_directory, sizes_of, data_start, node_blocks}
 use Rattle.migration.specs.Image.{used_by}
 use Rattle.migration.specs.Kept.{new_nodes}
 use Rattle.migration.specs.declared.refused.MigrateRefused.{MigrateRefused}
@@ -12,18 +12,26 @@ use Rattle.migration.specs.declared.refused.MigrateRefused.TheVariants.{Fault, A
 abbrev pub IsLater : Version → Version → Type 0
 IsLater w v = version_number w < version_number v
 
--- not too many blocks, and those before the data and one for the root fit
-pub record HasGoodSizes (size ninodes : ℕ) : Type 0 where
+-- the blocks that the root has in version v, its indirect block among them: it keeps its slots
+abbrev pub root_blocks : Version → Version → List (List ℕ) → ℕ
+root_blocks w v disk = node_blocks (dirent_len_of v * ((inode_of disk 1).size / dirent_len_of w))
+
+-- not too many blocks, and those before the data and the root's fit
+pub record HasGoodSizes (w v : Version) (size : ℕ) (disk : List (List ℕ)) : Type 0 where
   pub few : size ≤ most_disk_blocks
-  pub room : data_start ninodes + 1 ≤ size
+  pub room : data_start (sizes_of disk).ninodes + root_blocks w v disk ≤ size
 
 -- no live directory has more slots than one of version v may
 abbrev pub HasGoodDirectories : Version → Version → List (List ℕ) → Type 0
 HasGoodDirectories w v disk = (i : ℕ) → is_live_directory disk i ≡ true → (inode_of disk i).size / dirent_len_of w ≤ most_slots_of v
 
--- the blocks suffice: those before the data, and the nodes'
+-- how many blocks there are at least: those before the data, and the nodes'
+abbrev pub least_size : Version → Version → List (List ℕ) → ℕ
+least_size w v disk = used_by (data_start (sizes_of disk).ninodes) (new_nodes w v disk)
+
+-- the blocks suffice
 abbrev pub HasBlocks : Version → Version → ℕ → List (List ℕ) → Type 0
-HasBlocks w v size disk = used_by (data_start (sizes_of disk).ninodes) (new_nodes w v disk) ≤ size
+HasBlocks w v size disk = least_size w v disk ≤ size
 
 -- ---- all up to one of them
 
@@ -32,7 +40,7 @@ pub record UpToLater (w v : Version) (disk : List (List ℕ)) : Type 0 where
   pub later : IsLater w v
 
 abbrev pub UpToSizes : Version → Version → ℕ → List (List ℕ) → Type 0
-UpToSizes w v size disk = UpToLater w v disk × HasGoodSizes size (sizes_of disk).ninodes
+UpToSizes w v size disk = UpToLater w v disk × HasGoodSizes w v size disk
 
 abbrev pub UpToDirectories : Version → Version → ℕ → List (List ℕ) → Type 0
 UpToDirectories w v size disk = UpToSizes w v size disk × HasGoodDirectories w v disk
@@ -45,9 +53,17 @@ CanBeMigrated w v size disk = UpToDirectories w v size disk × HasBlocks w v siz
 abbrev pub IsFirstRefusal : Version → Version → ℕ → List (List ℕ) → MigrateRefused → Type 0
 IsFirstRefusal w v size disk (Fault f) = JudgesFault w disk f
 IsFirstRefusal w v size disk AlreadyNew = IsWellFormed w disk × (¬ IsLater w v)
-IsFirstRefusal w v size disk BadSizes = UpToLater w v disk × (¬ HasGoodSizes size (sizes_of disk).ninodes)
+IsFirstRefusal w v size disk BadSizes = UpToLater w v disk × (¬ HasGoodSizes w v size disk)
 IsFirstRefusal w v size disk DirectoryTooBig = UpToSizes w v size disk × (¬ HasGoodDirectories w v disk)
 IsFirstRefusal w v size disk NoBlocks = UpToDirectories w v size disk × (¬ HasBlocks w v size disk)
+
+-- the same where any number of blocks would do
+abbrev pub IsFirstRefusalOfAny : Version → Version → List (List ℕ) → MigrateRefused → Type 0
+IsFirstRefusalOfAny w v disk (Fault f) = JudgesFault w disk f
+IsFirstRefusalOfAny w v disk AlreadyNew = IsWellFormed w disk × (¬ IsLater w v)
+IsFirstRefusalOfAny w v disk BadSizes = ⊥
+IsFirstRefusalOfAny w v disk DirectoryTooBig = UpToLater w v disk × (¬ HasGoodDirectories w v disk)
+IsFirstRefusalOfAny w v disk NoBlocks = ⊥
 
 -- ---- what they are of the device
 

@@ -16,6 +16,6 @@ mod slots;
 mod taken;
 mod taking;
 
-pub use crate::migration::migrate;
+pub use crate::migration::{least_size, migrate};
 pub use crate::node::NewNode;
 pub use crate::refused::MigrateRefused;

@@ -1,12 +1,12 @@
 //! Migrating an image.
-ghost use Rattle.std.specs.Prelude.{MatchResult};
+ghost use Rattle.std.specs.Prelude.{◌≡◌, MatchResult};
 ghost use Rattle.migration.specs.Vocabulary.{ComesByCalls, OnlyReads, version_of};
 ghost use Rattle.migration.specs.Migrated.{IsMigrated};
-ghost use Rattle.migration.specs.Refusals.{IsFirstRefusal, faults_with};
+ghost use Rattle.migration.specs.Refusals.{IsFirstRefusal, IsFirstRefusalOfAny, faults_with, least_size};
 
 use crate::image::image_bytes;
 use crate::refused::MigrateRefused;
-use crate::taking::take;
+use crate::taking::{count_blocks, take};
 use block_device::{Device, MemoryDisk};
 use image_tree::find_version;
 use image_versions::Version;
@@ -50,4 +50,21 @@ pub fn migrate<D: Device>(
 {
     let from = find_version(old)?;
     migrate_from(alloc, old, from, version, size)
+}
+
+/// How many blocks an image of this version has at least, for the tree of an older one as recovery would leave that, which is only read:
+/// `migrate` finds that the blocks suffice just where its size isn't below. It may be more than an image can have.
+pub fn least_size<D: Device>(
+    alloc: Global,
+    old: &mut D,
+    version: Version,
+) -> Result<usize, MigrateRefused>
+    ensures least { MatchResult result
+        (λ least. least ≡ least_size (version_of (D.contents old.old)) version (D.contents old.old))
+        (IsFirstRefusalOfAny (version_of (D.contents old.old)) version (D.contents old.old)) }
+    ensures device { OnlyReads D.contents D.failures (faults_with result) old.old old.new }
+    ensures calls { ComesByCalls D.Called old.old old.new }
+{
+    let from = find_version(old)?;
+    count_blocks(alloc, old, from, version)
 }

@@ -14,7 +14,7 @@ pub enum MigrateRefused {
     Fault(MountFault),
     /// The version is not above that of the old image.
     AlreadyNew,
-    /// The new image has too many blocks, or what comes before the nodes' blocks and one for the root doesn't fit.
+    /// The new image has too many blocks, or what comes before the nodes' blocks and the root's own don't fit.
     BadSizes,
     /// A directory has more slots than one of the new version may have.
     DirectoryTooBig,

@@ -1,8 +1,8 @@
 //! Taking from the old image what the new one is to have.
-ghost use Rattle.std.specs.Prelude.{◌↔◌, IsTrue, MatchResult};
+ghost use Rattle.std.specs.Prelude.{◌≡◌, ◌↔◌, IsTrue, MatchResult};
 ghost use Rattle.migration.specs.Vocabulary.{ComesByCalls, OnlyReads};
 ghost use Rattle.migration.specs.Migrated.{IsTaken};
-ghost use Rattle.migration.specs.Refusals.{IsFirstRefusal, IsLater, faults_with};
+ghost use Rattle.migration.specs.Refusals.{IsFirstRefusal, IsFirstRefusalOfAny, IsLater, faults_with, least_size};
 
 use crate::directories::has_good_directories;
 use crate::nodes::load_new_nodes;
@@ -41,7 +41,8 @@ pub(crate) fn take<D: Device>(
     if !is_later(from, version) {
         return Err(MigrateRefused::AlreadyNew);
     }
-    if !has_good_sizes(size, ninodes) {
+    let fits = has_good_sizes(old, &layout, version, size)?;
+    if !fits {
         return Err(MigrateRefused::BadSizes);
     }
     let good = has_good_directories(old, &layout, version)?;
@@ -53,4 +54,29 @@ pub(crate) fn take<D: Device>(
         return Err(MigrateRefused::NoBlocks);
     }
     Ok(Taken { ninodes, nodes })
+}
+
+/// How many blocks an image of this version has at least, for the tree of an image of version `from`.
+pub(crate) fn count_blocks<D: Device>(
+    alloc: Global,
+    old: &mut D,
+    from: Version,
+    version: Version,
+) -> Result<usize, MigrateRefused>
+    ensures least { MatchResult result
+        (λ least. least ≡ least_size from version (D.contents old.old))
+        (IsFirstRefusalOfAny from version (D.contents old.old)) }
+    ensures device { OnlyReads D.contents D.failures (faults_with result) old.old old.new }
+    ensures calls { ComesByCalls D.Called old.old old.new }
+{
+    let layout = examine_layout(alloc, old, from)?;
+    if !is_later(from, version) {
+        return Err(MigrateRefused::AlreadyNew);
+    }
+    let good = has_good_directories(old, &layout, version)?;
+    if !good {
+        return Err(MigrateRefused::DirectoryTooBig);
+    }
+    let nodes = load_new_nodes(alloc, old, &layout, version)?;
+    Ok(used_blocks(data_start(layout.sizes.ninodes), nodes.as_slice()))
 }
