@@ -16,7 +16,7 @@ none [] = tt
 none (c ∷ cs) = tt
 
 -- a call with its reply
-answered : (calls : List Call) (call : Call) (replies : List Reply) (reply : Reply) → AnswersSome calls replies → HandsBack call reply.call → AnswersSome (calls ++ call ∷ []) (replies ++ reply ∷ [])
+answered : (calls : List Call) (call : Call) (replies : List Reply) (reply : Reply) → AnswersSome calls replies → HandsBack call reply → AnswersSome (calls ++ call ∷ []) (replies ++ reply ∷ [])
 unfolding AnswersSome
 answered [] call [] reply are is = inl (is, tt)
 answered [] call (r ∷ rs) reply are is = absurd are

@@ -9,12 +9,12 @@ unfoldable pub AnswersSome : List Call → List Reply → Type 0
 AnswersSome [] [] = Unit {0}
 AnswersSome [] (reply ∷ replies) = ⊥
 AnswersSome (call ∷ calls) [] = Unit {0}
-AnswersSome (call ∷ calls) (reply ∷ replies) = (HandsBack call reply.call × AnswersSome calls replies) ⊎ AnswersSome calls (reply ∷ replies)
+AnswersSome (call ∷ calls) (reply ∷ replies) = (HandsBack call reply × AnswersSome calls replies) ⊎ AnswersSome calls (reply ∷ replies)
 
 -- the seat has one reply more, of this call
 pub record HasReply (s : SeatV) (call : Call) (t : SeatV) : Type 0 where
   pub reply : Reply
-  pub is_of : HandsBack call reply.call
+  pub is_of : HandsBack call reply
   pub seat : t ≡ record { hart = s.hart; replies = s.replies ++ reply ∷ []; count = s.count + 2 }
 
 -- or it is as it was, where the start was refused

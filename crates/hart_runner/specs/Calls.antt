@@ -1,20 +1,11 @@
 -- What a call says.
 use Rattle.std.specs.Prelude.{ℕ, ◌≡◌, ◌+◌, ◌++◌, ◌∷◌, [], length}
-use Rattle.hart_runner.specs.Vocabulary.{Call, HandsBack, Receipt, LockedOutcome}
-use Rattle.locked_world.specs.declared.locked.LockedOutcome.TheVariants as told
+use Rattle.hart_runner.specs.Vocabulary.{Call, HandsBack, Receipt}
 use Rattle.hart_runner.specs.Seats.{SeatV, BusyV, busy_of}
 use Rattle.hart_runner.specs.declared.kernel.CallFault.{CallFault}
 use Rattle.hart_runner.specs.declared.kernel.CallFault.TheVariants.{Start, Memory, Stopped}
 use Rattle.hart_runner.specs.declared.kernel.CallEnd.{CallEnd}
 use Rattle.hart_runner.specs.declared.kernel.CallEnd.TheVariants.{Done, Halts}
-
--- a hart's steps on end, at the count a before and b after
-abbrev pub CameTo : {L : _} → ℕ → ℕ → LockedOutcome L → ℕ → Type 0
-CameTo hart a told.Idle b = b ≡ a
-CameTo hart a told.Waits b = b ≡ a
-CameTo hart a (told.Ran kind) b = b ≡ a
-CameTo hart a (told.Done r) b = (r.hart ≡ hart) × (b ≡ a + 1)
-CameTo hart a (told.Stopped why) b = b ≡ a
 
 -- a hart's steps to the end of its call, at the count a before and b after
 abbrev pub WentOn : {L : _} → ℕ → ℕ → CallEnd L → ℕ → Type 0
@@ -24,7 +15,7 @@ WentOn hart a (Halts x) b = b ≡ a
 -- the receipt is the busy seat's next reply, of its call, and the seat has it
 abbrev pub IsAnswered : {L : _} → BusyV → SeatV → Receipt L → Type 0
 IsAnswered b t r =
-    (r.hart ≡ b.hart) × (r.place ≡ length b.replies) × HandsBack b.call r.reply.call
+    (r.hart ≡ b.hart) × (r.place ≡ length b.replies) × HandsBack b.call r.reply
     × (t ≡ record { hart = b.hart; replies = b.replies ++ r.reply ∷ []; count = b.count + 1 })
 
 -- nothing was started, or the seat is busy with this call

@@ -20,7 +20,7 @@ fn with_receipt<L: Ledger, G: Gate + Drop, R: Wait>(
     seat: Seat<L>,
     call: Call,
 ) -> (Seat<L>, Option<Receipt<L>>)
-    ensures { IfSome result.1 (λ r. Has result.0 r × HandsBack call r.reply.call) }
+    ensures { IfSome result.1 (λ r. Has result.0 r × HandsBack call r.reply) }
 {
     match kernel.call(rt, seat, call) {
         Ok((seat, receipt)) => (seat, Some(receipt)),
@@ -56,17 +56,17 @@ pub fn two_calls<L: Ledger + Send + Sync, G: Gate + Drop + Sync, R: Threads + Wa
     requires { L.parts ≡ 8 }
     ensures first { IfSome result (λ r. StandsIn r.0.stored r.1) }
     ensures second { IfSome result (λ r. StandsIn r.0.stored r.2) }
-    ensures hands { IfSome result (λ r. HandsBack x r.1.reply.call × HandsBack y r.2.reply.call) }
+    ensures hands { IfSome result (λ r. HandsBack x r.1.reply × HandsBack y r.2.reply) }
 {
     let (a, b, others) = two_of(seats);
     let shared = &kernel;
     let (one, two) = thread::join(
         rt,
         move || -> (Seat<L>, Option<Receipt<L>>)
-            ensures { IfSome result.1 (λ r. Has result.0 r × HandsBack x r.reply.call) }
+            ensures { IfSome result.1 (λ r. Has result.0 r × HandsBack x r.reply) }
         { with_receipt(rt, shared, a, x) },
         move || -> (Seat<L>, Option<Receipt<L>>)
-            ensures { IfSome result.1 (λ r. Has result.0 r × HandsBack y r.reply.call) }
+            ensures { IfSome result.1 (λ r. Has result.0 r × HandsBack y r.reply) }
         { with_receipt(rt, shared, b, y) },
     );
     let (a, first) = one;

@@ -1,5 +1,5 @@
 -- What the harts' programs are answered in a run, and what they end with.
-use Rattle.locked_world.proofs.Vocabulary.{◌≡◌, ◌≢◌, ℕ, ◌<◌, Bool, false, List, [], ◌∷◌, Option, Some, None, refl, sym, ◌∙◌, ap, subst, Super, sizes_of, Fuse, Halted, Reply, Call, put, Prog, Ret, Do, plain, Theory, fresh_state, EventOf as Event, Start, Started, Began, Refuses, Begins, changed, is_some, Plain, PlainMade, SoundPlain, MayOf, plain_makes, plain_start, plain_begun, plain_run, inv_of, sound_keeps, sound_fresh, sound_event, sound_may, LogPart, Outside, P, State, exec, IsWholeLog, program, Refusal, Shows, mounts_show_their_trees, first, SharedState, layer, handlers, served_calls, child_of, begin_in, block_calls, block_code, first_holds, first_idle, is_code, lawful, begun_here, below_count, HartsOf, shared_of, Rests, AllAnswer, WorldOf, calls_of, mountable, rests_erased, HandsBack, EndsWith, cleared, StoredRun, IsRunOf, contents, failures, disk_of}
+use Rattle.locked_world.proofs.Vocabulary.{◌≡◌, ◌≢◌, ℕ, ◌<◌, Bool, false, List, [], ◌∷◌, Option, Some, None, refl, sym, ◌∙◌, ap, subst, Super, sizes_of, Fuse, Halted, Reply, Call, put, Prog, Ret, Do, plain, Theory, fresh_state, EventOf as Event, Start, Started, Began, Refuses, Begins, changed, is_some, Plain, PlainMade, SoundPlain, MayOf, plain_makes, plain_start, plain_begun, plain_run, inv_of, sound_keeps, sound_fresh, sound_event, sound_may, LogPart, Outside, P, State, exec, IsWholeLog, program, Refusal, Shows, mounts_show_their_trees, first, SharedState, layer, handlers, served_calls, child_of, begin_in, block_calls, block_code, first_holds, first_idle, is_code, lawful, begun_here, below_count, HartsOf, shared_of, Rests, AllAnswer, WorldOf, calls_of, mountable, rests_erased, HandsBack, EndsWith, StoredRun, IsRunOf, contents, failures, disk_of}
 use Rattle.plain_tree.specs.declared.call.Call.TheVariants as calls
 use Rattle.locked_world.proofs.Endings.{Leaves, OfCall, is_read, leaves_plain, leaves_lowered, program_ends}
 use Rattle.locked_world.proofs.Fitting.{SeesWhole, op_fits, ran_in}
@@ -76,16 +76,18 @@ leaves_more : {Op : Type 0} {Answer : Op → Type 0} {M A : Type 0} (Is Was : A 
 leaves_more Is Was f (Ret a) e = f a e
 leaves_more Is Was f (Do op m k) e = λ a. leaves_more Is Was f (k a) (e a)
 
-abbrev HandsIt : Call → Reply → Type 0
-HandsIt call reply = HandsBack call reply.call
+-- a reply with the call itself hands it back, if it isn't a read
+handed : (call : Call) → is_read call ≡ false → (reply : Reply) → OfCall call reply → HandsBack call reply
+handed (calls.Read fd buffer) e reply is = absurd (let q = e in cc (q))
+handed call e reply is = is
 
-other_hands_back : (sizes : Super) (call : Call) → is_read call ≡ false → EndsWith (HandsIt call) (plain ((block_calls sizes).program call))
+other_hands_back : (sizes : Super) (call : Call) → is_read call ≡ false → EndsWith (HandsBack call) (plain ((block_calls sizes).program call))
 other_hands_back sizes call e =
-    let above : Leaves (HandsIt call) (program call) = leaves_more (HandsIt call) (OfCall call) (λ reply f. ap cleared f) (program call) (program_ends call e) in
-    ends_of (HandsIt call) (plain ((block_calls sizes).program call)) (leaves_plain (HandsIt call) ((block_calls sizes).program call) (leaves_lowered served_calls.M (layer sizes) (handlers sizes) (HandsIt call) (layer sizes).none (program call) above))
+    let above : Leaves (HandsBack call) (program call) = leaves_more (HandsBack call) (OfCall call) (handed call e) (program call) (program_ends call e) in
+    ends_of (HandsBack call) (plain ((block_calls sizes).program call)) (leaves_plain (HandsBack call) ((block_calls sizes).program call) (leaves_lowered served_calls.M (layer sizes) (handlers sizes) (HandsBack call) (layer sizes).none (program call) above))
 
 -- every call's program on the blocks hands the call back
-hands_back : (sizes : Super) (call : Call) → EndsWith (HandsIt call) (plain ((block_calls sizes).program call))
+hands_back : (sizes : Super) (call : Call) → EndsWith (HandsBack call) (plain ((block_calls sizes).program call))
 hands_back sizes (calls.Open path flags) = other_hands_back sizes (calls.Open path flags) refl
 hands_back sizes (calls.Read fd buffer) = read_hands_back sizes fd buffer (layer sizes).none
 hands_back sizes (calls.Write fd bytes) = other_hands_back sizes (calls.Write fd bytes) refl
@@ -105,7 +107,7 @@ pub record Begun (sizes : Super) (h : ℕ) (call : Call) (p t : Plain (block_cal
   pub below : h < 8
   pub prog : P Reply
   pub running : t.running ≡ changed p.running h (Some prog)
-  pub back : EndsWith (HandsIt call) prog
+  pub back : EndsWith (HandsBack call) prog
 
 pub started : (sizes : Super) (h : ℕ) (call : Call) (p t : Plain (block_calls sizes) (block_code sizes)) → ◌≡◌ {A = PlainMade (block_calls sizes) (block_code sizes)} (plain_makes (block_calls sizes) (block_code sizes) (Start h call) p) (record { came = Started; after = t })
     → Begun sizes h call p t

@@ -183,7 +183,7 @@ pub record HadSpare (spares : List (Option Call)) (h : ℕ) (r : Reply) : Type 0
   pub below : h < length spares
   pub call : Call
   pub spare : get_or spares h None ≡ Some call
-  pub back : HandsBack call r.call
+  pub back : HandsBack call r
 
 pub had_spare : (s : StoredRun) (total : ℕ) (w : WorldOf Fuse) (given : List ℕ) (spares : List (Option Call)) → IsKept s total w given spares
     → (h : ℕ) (x : Outside) (r : Reply) (v : WorldOf Fuse) → Makes contents failures w.sizes (Step h x) w.harts (DidEnd r) v.harts → HadSpare spares h r

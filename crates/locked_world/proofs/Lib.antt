@@ -1,6 +1,5 @@
 pub mod Lemmas
 pub mod Vocabulary
-pub mod HandedBack
 pub mod Fitting
 pub mod Spares
 pub mod Endings

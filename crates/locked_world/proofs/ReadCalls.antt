@@ -1,5 +1,5 @@
--- A read hands back a buffer of the length that it was given.
-use Rattle.locked_world.proofs.Vocabulary.{◌≡◌, ℕ, zero, suc, ◌+◌, ◌-◌, ◌/◌, ◌%◌, ◌≤◌, List, [], ◌++◌, length, take, drop, replicate, Option, Some, None, refl, ap, arith, length-append, length-drop, length-take, overwrite, Dinode, Super, Read, Reply, ActOf, Handover, lowered, Prog, Ret, Do, bind, plain, LockedState, Locks, fetch, read_unless, Op, Answer, Get, Address, Direct, InTable, address, table_of, FetchedBlock, FilledMemory, filled_with, give_fetched, fetch_number, fetch_named, fetch_at, fetch_block, next_block, blocks_between, part_of, read_part, read_blocks, end_of, read_from, read_on, read_program, read_reply, own_step, say, machine, LockResult, NotLocked, LocksIt, load_unless, file_locked, give_read, read_file, with_file, Carry, handlers, record_in, layer, HandsBack, FitsBlock, EndsWith}
+-- A read hands back a buffer of the length that it was given, with the bytes behind those that it read.
+use Rattle.locked_world.proofs.Vocabulary.{◌≡◌, ℕ, zero, suc, ◌+◌, ◌-◌, ◌/◌, ◌%◌, ◌≤◌, List, [], ◌++◌, length, take, drop, Option, Some, None, refl, arith, drop-append-drop, length-append, length-drop, length-take, overwrite, Dinode, Super, Read, Reply, ActOf, Handover, lowered, Prog, Ret, Do, bind, plain, LockedState, Locks, fetch, read_unless, Op, Answer, Get, Address, Direct, InTable, address, table_of, FetchedBlock, FilledMemory, filled_with, give_fetched, fetch_number, fetch_named, fetch_at, fetch_block, next_block, blocks_between, part_of, read_part, read_blocks, end_of, read_from, read_on, read_program, read_reply, own_step, say, machine, LockResult, NotLocked, LocksIt, load_unless, file_locked, give_read, read_file, with_file, Carry, handlers, record_in, layer, HandsBack, KeepsAfter, FitsBlock, EndsWith}
 use Rattle.plain_tree.specs.declared.step.Action.TheVariants as actions
 use Rattle.fs_machine.specs.Inodes.{Refuses}
 
@@ -77,16 +77,20 @@ blocks_few (suc n) d from upto most m count room =
 
 module _ (sizes : Super) (fd : ℕ) (buffer : List ℕ) where
   abbrev HandsIt : Reply → Type 0
-  HandsIt reply = HandsBack (Read fd buffer) reply.call
+  HandsIt = HandsBack (Read fd buffer)
 
   -- so many bytes at most were read
   abbrev Fits : Handover (List ℕ) Carry → Type 0
   Fits r = length r.answer ≤ length buffer
 
+  -- a buffer in which nothing was put
+  unread : (back : List ℕ) × (Read fd buffer ≡ Read fd back) × KeepsAfter 0 buffer back
+  unread = (buffer, (refl, (refl, refl)))
+
   replies : (c : Carry) (b : List ℕ) → length b ≤ length buffer → Ends HandsIt (lowered machine (layer sizes) (handlers sizes) c (say (read_reply fd buffer b)))
   replies c b few =
       let same : length (b ++ drop (length b) buffer) ≡ length buffer = omega (arith, few, length-append b (drop (length b) buffer), length-drop (length b) buffer) in
-      λ a fits. ap (λ (k : ℕ). Read fd (replicate k 0)) same
+      λ a fits. (b ++ drop (length b) buffer, (refl, (same, drop-append-drop (length b) buffer b (length b) (omega arith) refl)))
 
   reads : (c : Carry) (n offset : ℕ) → Ends HandsIt (lowered machine (layer sizes) (handlers sizes) c (read_on fd buffer (LocksIt n offset)))
   reads c n offset =
@@ -97,14 +101,14 @@ module _ (sizes : Super) (fd : ℕ) (buffer : List ℕ) where
       (λ r few. replies r.carry r.answer few)
 
   locked : (c : Carry) (a : LockedState) → Ends HandsIt (bind (file_locked sizes fd c a) (λ r. lowered machine (layer sizes) (handlers sizes) r.carry (read_on fd buffer r.answer)))
-  locked c (Refuses why) = refl
+  locked c (Refuses why) = unread
   locked c (Locks f content) =
       ends_bind HandsIt (λ r. Unit {0}) (bind (load_unless sizes.inodestart f.number content) (with_file (LocksIt f.number f.offset) c fd f.number f.offset)) (λ r. lowered machine (layer sizes) (handlers sizes) r.carry (read_on fd buffer r.answer))
       (ends_any (bind (load_unless sizes.inodestart f.number content) (with_file (LocksIt f.number f.offset) c fd f.number f.offset)))
       (λ r u. any r.carry r.answer)
     where
       any : (c : Carry) (a : LockResult) → Ends HandsIt (lowered machine (layer sizes) (handlers sizes) c (read_on fd buffer a))
-      any c (NotLocked why) = refl
+      any c (NotLocked why) = unread
       any c (LocksIt n offset) = reads c n offset
 
   pub read_hands_back : (c : Carry) → EndsWith HandsIt (plain (lowered machine (layer sizes) (handlers sizes) c (read_program fd buffer)))

@@ -27,40 +27,40 @@ module _ (sizes : Super) (h : ℕ) (x : Outside) (spares : ℕ → Option Call) 
   pub record Ends (reply : Reply) (after : Plain (block_calls sizes) (block_code sizes)) : Type 0 where
     pub call : Call
     pub spare : spares h ≡ Some call
-    pub back : HandsBack call reply.call
+    pub back : HandsBack call reply
     pub left : after.running ≡ changed p.running h None
 
   abbrev IfEnds : PlainMade (block_calls sizes) (block_code sizes) → Type 0
   IfEnds m = (reply : Reply) → m.came ≡ DidEnd reply → Ends reply m.after
 
-  moved_ends : (call : Call) → spares h ≡ Some call → (kind : Kind) (t : SharedState) (q : P Reply) → EndsWith (λ reply. HandsBack call reply.call) q → IfEnds (plain_moved (block_calls sizes) (block_code sizes) h p kind q t)
+  moved_ends : (call : Call) → spares h ≡ Some call → (kind : Kind) (t : SharedState) (q : P Reply) → EndsWith (HandsBack call) q → IfEnds (plain_moved (block_calls sizes) (block_code sizes) h p kind q t)
   moved_ends call spare kind t (Ret r) e reply is =
       let same : r ≡ reply = (let q = is in cc (q)) in
-      record { call = call; spare = spare; back = subst (λ (z : Reply). HandsBack call z.call) same e; left = refl }
+      record { call = call; spare = spare; back = subst (HandsBack call) same e; left = refl }
   moved_ends call spare kind t (Do op m k) e reply is = absurd (let q = is in cc (q))
 
-  moved_keeps : (call : Call) → spares h ≡ Some call → (kind : Kind) (t : SharedState) (q : P Reply) → EndsWith (λ reply. HandsBack call reply.call) q → Keeps (plain_moved (block_calls sizes) (block_code sizes) h p kind q t)
+  moved_keeps : (call : Call) → spares h ≡ Some call → (kind : Kind) (t : SharedState) (q : P Reply) → EndsWith (HandsBack call) q → Keeps (plain_moved (block_calls sizes) (block_code sizes) h p kind q t)
   moved_keeps call spare kind t (Ret r) e = put_fits spares p.running h None fits tt
   moved_keeps call spare kind t (Do op m k) e = put_fits spares p.running h (Some (Do op m k)) fits (call, spare, e)
 
   module _ (answers : AnswersFit h x p.shared) where
-    tried_keeps : (call : Call) → spares h ≡ Some call → (op : Op) → May h op p.shared.state → (k : Answer op → P Reply) → ((a : Answer op) → FitsBlock op a → EndsWith (λ reply. HandsBack call reply.call) (k a)) → (d : ExecResult (Answer op) SharedState) → exec_shared h x op p.shared ≡ d
+    tried_keeps : (call : Call) → spares h ≡ Some call → (op : Op) → May h op p.shared.state → (k : Answer op → P Reply) → ((a : Answer op) → FitsBlock op a → EndsWith (HandsBack call) (k a)) → (d : ExecResult (Answer op) SharedState) → exec_shared h x op p.shared ≡ d
         → Keeps (plain_tried (block_calls sizes) (block_code sizes) h p op k d)
     tried_keeps call spare op may k e Waits is = fits
     tried_keeps call spare op may k e (Ran a t) is = moved_keeps call spare ((block_code sizes).kind op a) t (k a) (e a (answers op a t may is))
     tried_keeps call spare op may k e (Stops t) is = fits
 
-    tried_ends : (call : Call) → spares h ≡ Some call → (op : Op) → May h op p.shared.state → (k : Answer op → P Reply) → ((a : Answer op) → FitsBlock op a → EndsWith (λ reply. HandsBack call reply.call) (k a)) → (d : ExecResult (Answer op) SharedState) → exec_shared h x op p.shared ≡ d
+    tried_ends : (call : Call) → spares h ≡ Some call → (op : Op) → May h op p.shared.state → (k : Answer op → P Reply) → ((a : Answer op) → FitsBlock op a → EndsWith (HandsBack call) (k a)) → (d : ExecResult (Answer op) SharedState) → exec_shared h x op p.shared ≡ d
         → IfEnds (plain_tried (block_calls sizes) (block_code sizes) h p op k d)
     tried_ends call spare op may k e Waits is reply r = absurd (let q = r in cc (q))
     tried_ends call spare op may k e (Ran a t) is reply r = moved_ends call spare ((block_code sizes).kind op a) t (k a) (e a (answers op a t may is)) reply r
     tried_ends call spare op may k e (Stops t) is reply r = absurd (let q = r in cc (q))
 
-    prog_keeps : (call : Call) → spares h ≡ Some call → (q : P Reply) → MayOf (block_calls sizes) (block_code sizes) h p.shared (Some q) → EndsWith (λ reply. HandsBack call reply.call) q → Keeps (plain_prog (block_calls sizes) (block_code sizes) h x p q)
+    prog_keeps : (call : Call) → spares h ≡ Some call → (q : P Reply) → MayOf (block_calls sizes) (block_code sizes) h p.shared (Some q) → EndsWith (HandsBack call) q → Keeps (plain_prog (block_calls sizes) (block_code sizes) h x p q)
     prog_keeps call spare (Ret r) may e = fits
     prog_keeps call spare (Do op m k) may e = tried_keeps call spare op may k e (exec_shared h x op p.shared) refl
 
-    prog_ends : (call : Call) → spares h ≡ Some call → (q : P Reply) → MayOf (block_calls sizes) (block_code sizes) h p.shared (Some q) → EndsWith (λ reply. HandsBack call reply.call) q → IfEnds (plain_prog (block_calls sizes) (block_code sizes) h x p q)
+    prog_ends : (call : Call) → spares h ≡ Some call → (q : P Reply) → MayOf (block_calls sizes) (block_code sizes) h p.shared (Some q) → EndsWith (HandsBack call) q → IfEnds (plain_prog (block_calls sizes) (block_code sizes) h x p q)
     prog_ends call spare (Ret r) may e reply is = absurd (let q = is in cc (q))
     prog_ends call spare (Do op m k) may e reply is = tried_ends call spare op may k e (exec_shared h x op p.shared) refl reply is
 

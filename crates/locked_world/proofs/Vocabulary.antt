@@ -8,7 +8,7 @@ unfoldable pub use Rattle.hart_core.proofs.Vocabulary.{running_of}
 pub use Rattle.locked_world.specs.Vocabulary.{CallsOnce, ComesByCalls, Fuse, IsFusedCall, Stop}
 pub use Rattle.fs_layout.proofs.Vocabulary.{get_or-set_other, get_or-set_same, length-drop}
 pub use Rattle.inode_machine.proofs.Vocabulary.{ClaimResult, EntryResult, InPlace, New, NoBlock, NoInode, NoPlace, NoSlot, read_program}
-pub use Rattle.locked_world.specs.HandedBack.{EndsWith, FitsBlock, HandsBack, SpareFits, cleared}
+pub use Rattle.locked_world.specs.HandedBack.{EndsWith, FitsBlock, HandsBack, KeepsAfter, SpareFits, read_count}
 pub use Rattle.locked_world.specs.Kept.{ComesFromImage, IsKept, IsRunOf, LockedRun, OneListExplains, StoredRun, contents, count_in, counts, device_of, disk_of, failures, opened, replied_by, replies_in, replies_of, shown_in, with_event}
 pub use Rattle.std.proofs.Common.{append-nil, slice_index_or}
 pub use Rattle.atomic_programs.specs.Joined.{lowered}

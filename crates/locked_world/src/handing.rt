@@ -1,6 +1,6 @@
 // What a call hands back when it ends.
-ghost use Rattle.std.specs.Prelude.{◌≡◌, ◌↔◌, IfOk, IsTrue, length};
-ghost use Rattle.locked_world.specs.HandedBack.{HandsBack};
+ghost use Rattle.std.specs.Prelude.{◌≡◌, ◌↔◌, IfOk, IsTrue, drop, length};
+ghost use Rattle.locked_world.specs.HandedBack.{HandsBack, KeepsAfter, read_count};
 
 use plain_tree::{Answer, Bytes, Call, Reply};
 use std::alloc::AllocError;
@@ -15,14 +15,13 @@ fn overwritten(bytes: Bytes, from: &Bytes) -> Bytes
     Bytes::new(bytes)
 }
 
-/// The call that was handed back, in the memory of the one that was given. It takes no memory.
-#[tactic(auto, using(crate::proofs::HandedBack::of_read, crate::proofs::HandedBack::of_open, crate::proofs::HandedBack::of_write, crate::proofs::HandedBack::of_link, crate::proofs::HandedBack::of_unlink, crate::proofs::HandedBack::of_mkdir, crate::proofs::HandedBack::of_chdir, crate::proofs::HandedBack::of_dup, crate::proofs::HandedBack::of_fstat, crate::proofs::HandedBack::of_close, crate::proofs::HandedBack::of_inherit))]
-pub fn filled(given: Call, back: &Call) -> Call
-    requires { HandsBack given back.now }
-    ensures { result ≡ back.now }
+/// The call that the reply hands back, in the memory of the one that was given. It takes no memory.
+pub fn filled(given: Call, reply: &Reply) -> Call
+    requires { HandsBack given reply.now }
+    ensures { result ≡ reply.now.call }
 {
     match given {
-        Call::Read { fd, buf } => match back {
+        Call::Read { fd, buf } => match &reply.call {
             Call::Read { fd: _, buf: bytes } => Call::Read {
                 fd,
                 buf: overwritten(buf, bytes),
@@ -42,19 +41,48 @@ pub fn filled(given: Call, back: &Call) -> Call
     }
 }
 
-/// Whether the second call is the first, but for the bytes in a read's buffer.
-pub fn is_handed_back(given: &Call, back: &Call) -> bool
-    ensures { IsTrue result ↔ HandsBack given.now back.now }
+// How many bytes a read has put at the beginning of its buffer.
+fn read_count(answer: &Answer) -> u32
+    ensures { result ≡ read_count answer.now }
+{
+    match answer {
+        Answer::Count(count) => *count,
+        _ => 0,
+    }
+}
+
+// The bytes after the first `count`; none past the end.
+fn after(bytes: &[u8], count: u32) -> &[u8]
+    ensures { result.now ≡ drop count bytes.now }
+{
+    let count = count as usize;
+    if count < bytes.len() {
+        &bytes[count..]
+    } else {
+        &[]
+    }
+}
+
+// Whether the buffer has its length, and its bytes after the first `count`.
+fn keeps_after(count: u32, given: &[u8], back: &[u8]) -> bool
+    ensures { IsTrue result ↔ KeepsAfter count given.now back.now }
+{
+    back.len() == given.len() && after(back, count) == after(given, count)
+}
+
+/// Whether the reply's call is the one given, but for the bytes that a read has read: as many at the beginning of its buffer as it was answered.
+pub fn is_handed_back(given: &Call, reply: &Reply) -> bool
+    ensures { IsTrue result ↔ HandsBack given.now reply.now }
 {
     match given {
-        Call::Read { fd, buf } => match back {
-            Call::Read {
-                fd: other,
-                buf: bytes,
-            } => fd == other && buf.as_slice().len() == bytes.as_slice().len(),
+        Call::Read { fd, buf } => match &reply.call {
+            Call::Read { fd: other, buf: bytes } => {
+                fd == other
+                    && keeps_after(read_count(&reply.answer), buf.as_slice(), bytes.as_slice())
+            }
             _ => false,
         },
-        _ => given == back,
+        _ => *given == reply.call,
     }
 }
 

@@ -287,7 +287,7 @@ impl<L: Ledger> Locked<L> {
                 };
                 let copy = Reply {
                     answer: reply.answer,
-                    call: filled(spare, &reply.call),
+                    call: filled(spare, &reply),
                 };
                 let place = self.given[at];
                 self.given[at] = place + 1;

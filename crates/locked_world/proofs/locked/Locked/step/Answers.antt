@@ -88,7 +88,7 @@ filled-requires g c =
     let i = c.self.inside in
     let had = had_spare (record { image = i.image.items; fuse = i.fuse; events = i.story.events; outcomes = i.story.outcomes }) i.book.total i.world i.given i.spare c.self.invariant c.args.hart Passes c.in-Done.reply c.step.new.self c.in-Done.ensures.makes in
     let same : had.call ≡ c.in-Some.spare = (let q = sym had.spare ∙ sym c.take_spare.ensures.taken ∙ c.in-Some.is in cc (q)) in
-    subst (λ (z : Call). HandsBack z c.in-Done.reply.call) same had.back
+    subst (λ (z : Call). HandsBack z c.in-Done.reply) same had.back
 
 pub overflow_add-self : goal.overflow_add-self
 overflow_add-self g c =
