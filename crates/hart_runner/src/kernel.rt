@@ -4,7 +4,7 @@ ghost use Rattle.block_device.specs.Blocks.{blocks_of};
 ghost use Rattle.image_tree.specs.VersionOne.{IsWellFormed, JudgesFault};
 ghost use Rattle.locked_world.specs.Kept.{replies_of, count_of};
 ghost use Rattle.hart_runner.specs.Seats.{kept_view, kept_of, busy_of, IsListed, OneDiffers, Differs};
-ghost use Rattle.hart_runner.specs.Calls.{WentOn, CameTo, IsAnswered, IsRefused, StillBusy};
+ghost use Rattle.hart_runner.specs.Calls.{WentOn, IsAnswered, IsRefused, StillBusy};
 
 use crate::gate::Gate;
 use fs_machine::Kind;
@@ -24,12 +24,9 @@ use std::time::Duration;
 // How often a worker looks for the lock before it sleeps until it is free.
 const LOOKS: u32 = 64;
 
-// So many microseconds it sleeps between two looks. What a step works on lies with the processor that made the last one, and to move it takes longer than
-// many steps do: so it is well that each worker makes many on end where several wait.
+// So many microseconds it sleeps between two looks. What a step works on is in the cache of the processor that made the last one, and to move it takes
+// longer than many steps do. So each worker makes many events before another one has the lock, when several want it.
 const ASIDE: u64 = 1000;
-
-// So many steps of its call a worker makes on end under the lock where the gate is always open.
-const ON_END: u32 = 64;
 
 // What stands under the lock: the world, and how many workers wait for others.
 struct Inside<L: Ledger> {
@@ -343,13 +340,13 @@ impl<L: Ledger, G: Gate + Drop> Kernel<L, G> {
             }
             CallEnd::Done(receipt) => {
                 if receipt.place() != replies.len() as u64
-                    || !is_handed_back(begun.call(), &receipt.reply().call)
+                    || !is_handed_back(begun.call(), receipt.reply())
                 {
                     wait_for_good(rt);
                 }
                 let copy = Reply {
                     answer: receipt.reply().answer,
-                    call: filled(begun.into_call(), &receipt.reply().call),
+                    call: filled(begun.into_call(), receipt.reply()),
                 };
                 replies.push_reserved(copy);
                 Ok((Seat { share, replies }, receipt))
@@ -357,7 +354,7 @@ impl<L: Ledger, G: Gate + Drop> Kernel<L, G> {
         }
     }
 
-    // The lock. Where another worker has it, that one goes on for a while before it is looked for again.
+    // The lock. When another worker has it, that one goes on for a while before it is looked for again.
     fn enter<R: Wait>(&self, rt: &R) -> MutexGuard<'_, Inside<L>> {
         for _ in 0..LOOKS {
             if let Some(guard) = self.inside.try_lock() {
@@ -368,20 +365,19 @@ impl<L: Ledger, G: Gate + Drop> Kernel<L, G> {
         self.inside.lock(rt)
     }
 
-    // Steps of the hart until its call is answered or stopped.
+    // Steps of the hart until its call is answered or stopped, each under the lock, which is free between any two of them.
     fn go<R: Wait>(&self, rt: &R, share: &mut Share<L>, tries: &mut u64) -> CallEnd<L>
         ensures hart { share.new.hart ≡ share.old.hart }
         ensures went { WentOn share.old.hart share.old.tally.amount result share.new.tally.amount }
     {
         let hart = share.hart();
-        let most = self.most_on_end();
         for _ in rt.forever() {
             self.gate.at(rt, hart, *tries);
+            *tries = tries.saturating_add(1);
             let mut guard = self.enter(rt);
-            let (told, frees) = steps(&mut guard.locked, share, most, tries);
-            match told {
-                LockedOutcome::Ran(kind) => self.leave(guard, frees || may_free(kind)),
-                LockedOutcome::Waits => self.wait(rt, guard, frees),
+            match guard.locked.step(share, hart) {
+                LockedOutcome::Ran(kind) => self.leave(guard, may_free(kind)),
+                LockedOutcome::Waits => self.wait(rt, guard),
                 LockedOutcome::Idle => self.leave(guard, true),
                 LockedOutcome::Done(receipt) => {
                     self.leave(guard, true);
@@ -396,17 +392,6 @@ impl<L: Ledger, G: Gate + Drop> Kernel<L, G> {
         unreachable!()
     }
 
-    // So many steps a worker makes on end.
-    fn most_on_end(&self) -> u32
-        ensures { 0 < result }
-    {
-        if self.gate.is_always_open() {
-            ON_END
-        } else {
-            1
-        }
-    }
-
     // Gives the lock up, and wakes those who wait where what was done may have freed what they wait for.
     fn leave(&self, guard: MutexGuard<'_, Inside<L>>, may_free: bool) {
         let wakes = may_free && guard.waiting > 0;
@@ -417,43 +402,12 @@ impl<L: Ledger, G: Gate + Drop> Kernel<L, G> {
     }
 
     // Waits until another worker may have freed something.
-    fn wait<R: Wait>(&self, rt: &R, mut guard: MutexGuard<'_, Inside<L>>, may_free: bool) {
-        if may_free && guard.waiting > 0 {
-            self.moved.notify_all();
-        }
+    fn wait<R: Wait>(&self, rt: &R, mut guard: MutexGuard<'_, Inside<L>>) {
         guard.waiting = guard.waiting.saturating_add(1);
         let mut guard = self.moved.wait(rt, guard);
         guard.waiting = guard.waiting.saturating_sub(1);
         drop(guard);
     }
-}
-
-// Steps of a hart's call on end, as many as this: what the last one came to, and whether one before it may have freed something.
-fn steps<L: Ledger>(
-    locked: &mut Locked<L>,
-    share: &mut Share<L>,
-    most: u32,
-    tries: &mut u64,
-) -> (LockedOutcome<L>, bool)
-    requires some { 0 < most }
-    ensures hart { share.new.hart ≡ share.old.hart }
-    ensures came { CameTo share.old.hart share.old.tally.amount result.0 share.new.tally.amount }
-{
-    let hart = share.hart();
-    let mut frees = false;
-    for i in 0..most {
-        *tries = tries.saturating_add(1);
-        match locked.step(share, hart) {
-            LockedOutcome::Ran(kind) => {
-                if i + 1 == most {
-                    return (LockedOutcome::Ran(kind), frees);
-                }
-                frees = frees || may_free(kind);
-            }
-            told => return (told, frees),
-        }
-    }
-    unreachable!()
 }
 
 // Whether a worker that waits may go on after a step of this kind. One that takes a lock, a buffer or a place in a transaction, or reads a block
