@@ -7,3 +7,4 @@ mod place;
 
 pub use laws::{calls_find_what_they_ask, calls_run_by_parts};
 pub use place::CallPlace;
+pub use plain_tree::{Answer, Call, Reply};
