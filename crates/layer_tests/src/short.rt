@@ -4,6 +4,7 @@ use crate::by_hand::{RICH, with};
 use block_device::MemoryDisk;
 use image_tree::{examine, tree_of};
 use image_versions::Version;
+use migration::migrate;
 use mkfs::{NewFile, make};
 use std::test::Fail;
 
@@ -77,6 +78,35 @@ fn of_tree_of(rt: HostRuntime) -> Result<(), Fail> {
     println!(rt; "answer {answer}")?;
     assert!(rt; answer == ANSWERED || answer == NO_MEMORY);
     assert!(rt; tree_of(alloc, &mut disk, Version::One).is_ok());
+    assert!(rt; disk.into_bytes().as_slice() == image.as_slice());
+    Ok(())
+}
+
+/// An image that wasn't migrated for want of memory is unchanged, and is migrated the next time.
+#[test]
+fn of_migrate(rt: HostRuntime) -> Result<(), Fail> {
+    let alloc = rt.alloc();
+    let image = with(alloc, 64, &RICH)?;
+    let mut disk = MemoryDisk::new(image.clone()?);
+    let Ok(wanted) = migrate(alloc, &mut disk, Version::Two, 64) else {
+        return Err(Fail::new("no image is made"));
+    };
+    let _ = println!(rt; "call");
+    let came = migrate(alloc, &mut disk, Version::Two, 64);
+    let _ = println!(rt; "done");
+    let (made, answer) = match came {
+        Ok(made) => (Ok(made), ANSWERED),
+        Err(refused) => (
+            migrate(alloc, &mut disk, Version::Two, 64),
+            refused.number(),
+        ),
+    };
+    println!(rt; "answer {answer}")?;
+    assert!(rt; answer == ANSWERED || answer == NO_MEMORY);
+    let Ok(made) = made else {
+        return Err(Fail::new("no image is made"));
+    };
+    assert!(rt; made.into_bytes().as_slice() == wanted.into_bytes().as_slice());
     assert!(rt; disk.into_bytes().as_slice() == image.as_slice());
     Ok(())
 }

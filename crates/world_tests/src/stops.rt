@@ -2,15 +2,16 @@
 use crate::images::{Image, disk_of, tree_in};
 use crate::lists::{Group, Made, RunEnd, groups_in, holds, play, run_over, stopped_at};
 use crate::memory::copied;
-use crate::rows::Ask::{Fstat, Open, Read, Write};
+use crate::rows::Ask::{Fstat, Open, Read, Unlink, Write};
 use crate::rows::Line::{Do, Start, Upto};
-use crate::rows::Says::{Bytes, Count, Fd, State};
+use crate::rows::Says::{Bytes, Count, Done, Fd, State};
 use crate::rows::{CREATE, Line, READ, TRUNCATE, WRITE};
 use crate::trees::is_same_tree;
 use block_device::{BLOCK_LEN, Device, Fused, MemoryDisk, Once};
 use fs_machine::Kind;
 use hart_core::World;
-use image_tree::{Damage, MountFault};
+use image_tree::{Damage, MountFault, examine};
+use image_versions::Version;
 use plain_tree::NodeType;
 use std::alloc::Global;
 use std::process::Abort;
@@ -64,6 +65,14 @@ pub fn stop<D: Device + Drop>(
     } = run_over(rt, alloc, device, made.events.as_slice());
     let event = stopped_at(rt, made, outcomes.as_slice());
     (device, Stopped { event, cut, doubt })
+}
+
+// How many nodes have a count of 0.
+fn orphans_in(rt: &impl Abort, alloc: Global, disk: &mut MemoryDisk) -> u32 {
+    match examine(alloc, disk, Version::One) {
+        Ok(shape) => shape.orphans,
+        Err(fault) => panic!(rt; "error: {fault:?}"),
+    }
 }
 
 // The first block in which two images differ.
@@ -234,6 +243,45 @@ fn a_recovery_is_stopped(rt: HostRuntime) {
         if is_mounted {
             assert!(rt; calls > 9);
             return reads_f(&rt, alloc, disk, true);
+        }
+    }
+    panic!(rt; "the device is called more than a thousand times")
+}
+
+/// Three files are removed while they are open. Each call of the device that a mount makes of what is left fails in turn. The disk has its tree all
+/// the same, and is mounted again, without a node of count 0.
+#[test]
+fn mounts_that_free_three_nodes_are_stopped(rt: HostRuntime) {
+    let alloc = rt.alloc();
+    let row = [
+        Do(0, Open(b"/a", CREATE | WRITE), Fd(0)),
+        Do(0, Write(0, b"A"), Count(1)),
+        Do(0, Open(b"/b", CREATE), Fd(1)),
+        Do(0, Open(b"/c", CREATE), Fd(2)),
+        Do(0, Open(b"/f", CREATE | WRITE), Fd(3)),
+        Do(0, Write(3, b"A"), Count(1)),
+        Do(0, Unlink(b"/a"), Done),
+        Do(0, Unlink(b"/b"), Done),
+        Do(0, Unlink(b"/c"), Done),
+    ];
+    let (_made, disk) = play(&rt, alloc, disk_of(&rt, alloc, SMALL), &row);
+    let image = disk.into_bytes();
+    let tree = tree_in(&rt, alloc, &mut copy_of(&rt, alloc, image.as_slice()));
+    for calls in 0..1000 {
+        let disk = copy_of(&rt, alloc, image.as_slice());
+        let (disk, is_first) = try_mount(&rt, alloc, disk, calls);
+        let (mut disk, is_mounted) = try_mount(&rt, alloc, disk, u64::MAX);
+        holds(&rt, is_mounted, "calls:", calls as usize);
+        let found = tree_in(&rt, alloc, &mut disk);
+        holds(&rt, is_same_tree(&found, &tree), "calls:", calls as usize);
+        holds(
+            &rt,
+            orphans_in(&rt, alloc, &mut disk) == 0,
+            "calls:",
+            calls as usize,
+        );
+        if is_first {
+            return;
         }
     }
     panic!(rt; "the device is called more than a thousand times")
