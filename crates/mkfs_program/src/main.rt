@@ -1,8 +1,8 @@
-//! `mkfs IMAGE [--size N] [--inodes N] [--version N] [FILE..]`: writes an image with these files in its root.
-//! `mkfs --migrate OLD IMAGE [--size N] [--version N]`: writes an image of a later version with the tree of an old one.
+//! `mkfs IMAGE [--size N] [--inodes N] [--version N] [--force] [FILE..]`: writes an image with these files in its root.
+//! `mkfs --migrate OLD IMAGE [--size N] [--version N] [--force]`: writes an image of a later version with the tree of an old one.
 //!
-//! Faults are told in this order: the command line, with an IMAGE that is one of the FILEs (status 2), a FILE that can't be read, what
-//! can't be made, an IMAGE that can't be written (status 1). Want of memory is told where it comes,
+//! Faults are told in this order: the command line, with an IMAGE that is one of the FILEs, or a file that is no image (status 2), a FILE
+//! that can't be read, what can't be made, an IMAGE that can't be written (status 1). Want of memory is told where it comes,
 //! as a refusal to make (status 1).
 #![tactic(auto)]
 
@@ -12,31 +12,37 @@ use clap::error::ErrorKind;
 use clap::parser::ValueSource;
 use image_tree::{Layout, MountFault, find_layout, find_version};
 use image_versions::Version;
-use image_versions::widths::LARGEST_SIZE;
-use migration::{MigrateRefused, migrate};
+use image_versions::widths::{LARGEST_SIZE, MOST_DISK_BLOCKS};
+use migration::{MigrateRefused, least_size, migrate};
 use mkfs::widths::{INODE_START, LOG_BLOCKS};
 use mkfs::{
-    FILES, IMAGE, INODES, ImageFile, ImageRefused, MIGRATE, MakeRefused, NewFile, SIZE,
-    SaveRefused, VERSION, data_start, is_file_name, make_as, number, options, read_at_most,
-    read_image, save, version,
+    FILES, FORCE, IMAGE, INODES, ImageFile, ImageRefused, MIGRATE, MakeRefused, NewFile, SIZE,
+    SaveRefused, VERSION, WordsRefused, data_start, is_file_name, is_other_file, make_as, number,
+    options, read_at_most, read_image, read_words, save, version,
 };
 use std::alloc::{AllocError, Global};
 use std::process::ExitCode;
-use std::{env, fs, io};
+use std::{fs, io};
 use thiserror::Error;
 
 /// Why no image was written.
 #[derive(Debug, Drop, Error)]
 enum Fault<'a> {
     /// The command line has a word that is no text.
-    #[error("the command line: {0}")]
-    Words(io::Error),
+    #[error("{0}")]
+    Words(WordsRefused),
     /// The image can't be made, or memory was refused.
     #[error("refused {} {}", .0.number(), .0.name())]
     Refused(MakeRefused),
     /// The image can't be made, for the sake of this file.
     #[error("refused {} {}: {:?}", .0.number(), .0.name(), .1)]
     RefusedFile(MakeRefused, &'a str),
+    /// The image can't be made, since this file has the name of another one.
+    #[error("refused {} {}: {:?}: comes twice, {:?} has that name too", .0.number(), .0.name(), .1, .2)]
+    RefusedTwice(MakeRefused, &'a str, &'a str),
+    /// The image can't be made, since there are more files than this.
+    #[error("refused {} {}: too many files, the root of version {} names {} at most", .0.number(), .0.name(), .1, .2)]
+    RefusedMany(MakeRefused, u32, usize),
     /// What can't be read, and why.
     #[error("{0:?}: {1}")]
     File(&'a str, io::Error),
@@ -46,6 +52,15 @@ enum Fault<'a> {
     /// The image can't be written.
     #[error("{0}")]
     Save(SaveRefused),
+    /// A file that is no image would be replaced.
+    #[error("{0:?}: is there, and is no image; with --force it is replaced")]
+    NoImage(&'a str),
+    /// The image can't be migrated to so few blocks.
+    #[error("refused {} {}: --size {} is the least that would do", .0.number(), .0.name(), .1)]
+    TooSmall(MigrateRefused, usize),
+    /// The image can't be migrated to as many blocks as there can be.
+    #[error("refused {} {}: {} blocks would be wanted, and an image has {} at most", .0.number(), .0.name(), .1, .2)]
+    TooBig(MigrateRefused, usize, u32),
     /// The image can't be migrated.
     #[error("refused {} {}", .0.number(), .0.name())]
     NotMigrated(MigrateRefused),
@@ -123,25 +138,58 @@ impl<'a> Fault<'a> {
             _ => None,
         };
         match place {
-            Some(place) if place < paths.len() => Fault::RefusedFile(refused, paths[place]),
+            Some(place) if place < paths.len() => {
+                Fault::of_path(refused, &paths[..place], paths[place])
+            }
+            None if refused == MakeRefused::FileTooBig => {
+                Fault::RefusedMany(refused, version.number(), most_files(version))
+            }
             _ => Fault::Refused(refused),
         }
     }
 
-    // What came of reading the words of the command line.
-    fn of_words(error: io::Error) -> Fault<'a> {
-        if error.kind() == io::ErrorKind::OutOfMemory {
-            return Fault::Refused(MakeRefused::NoMemory);
+    // The image can't be made for the sake of this file, whose name one of those before it may have.
+    fn of_path(refused: MakeRefused, before: &[&'a str], path: &'a str) -> Fault<'a> {
+        let name = last_element(path);
+        match before.iter().find(|other| last_element(other) == name) {
+            Some(other) if refused == MakeRefused::BadName => {
+                Fault::RefusedTwice(refused, path, other)
+            }
+            _ => Fault::RefusedFile(refused, path),
         }
-        Fault::Words(error)
+    }
+
+    // What came of migrating an image, for which so many blocks are wanted.
+    fn of_least(refused: MigrateRefused, least: usize) -> Fault<'a> {
+        if least > MOST_DISK_BLOCKS as usize {
+            Fault::TooBig(refused, least, MOST_DISK_BLOCKS)
+        } else {
+            Fault::TooSmall(refused, least)
+        }
+    }
+
+    // What came of reading the words of the command line.
+    fn of_words(refused: WordsRefused) -> Fault<'a> {
+        match refused {
+            WordsRefused::NoMemory => Fault::Refused(MakeRefused::NoMemory),
+            refused => Fault::Words(refused),
+        }
     }
 
     // The program's exit status.
     fn status(&self) -> u8 {
         match self {
-            Fault::Words(_) | Fault::Replaces(_) | Fault::ReplacesOld(_) | Fault::GivenBesides => 2,
+            Fault::Words(_)
+            | Fault::Replaces(_)
+            | Fault::ReplacesOld(_)
+            | Fault::NoImage(_)
+            | Fault::GivenBesides => 2,
             Fault::Refused(_)
             | Fault::RefusedFile(..)
+            | Fault::RefusedTwice(..)
+            | Fault::RefusedMany(..)
+            | Fault::TooSmall(..)
+            | Fault::TooBig(..)
             | Fault::File(..)
             | Fault::Save(_)
             | Fault::NotMigrated(_)
@@ -163,6 +211,11 @@ fn misnamed(version: Version, files: &[NewFile]) -> Option<usize> {
         }
     }
     None
+}
+
+// How many files the root names at most, beside itself and its parent.
+fn most_files(version: Version) -> usize {
+    version.most_slots() - 2
 }
 
 // The place of the first file that is longer than one of an image.
@@ -190,6 +243,15 @@ fn replaced<'a>(rt: &HostRuntime, image: &str, paths: &[&'a str]) -> Option<&'a 
             Err(_) => false,
         })
         .copied()
+}
+
+// The place of the image, where it may be written there: nothing that is no image is replaced unasked.
+fn place_of<'a>(rt: &HostRuntime, matches: &'a ArgMatches) -> Result<&'a str, Fault<'a>> {
+    let image = matches.get_str(IMAGE).unwrap_or("");
+    if !matches.get_flag(FORCE) && is_other_file(rt, image) {
+        return Err(Fault::NoImage(image));
+    }
+    Ok(image)
 }
 
 // The FILEs, in their order. Of one that is too long for an image only so much is read that it is seen.
@@ -230,6 +292,7 @@ fn run<'a>(
     if let Some(path) = replaced(rt, image, paths) {
         return Err(Fault::Replaces(path));
     }
+    let image = place_of(rt, matches)?;
     let files = load(rt, paths)?;
     let disk = make_as(rt.alloc(), version, size, ninodes, files.as_slice()).map_err(
         |refused| Fault::of_files(version, paths, files.as_slice(), refused),
@@ -251,6 +314,26 @@ fn layout_of(disk: &mut MemoryDisk) -> Result<Layout, MountFault> {
     find_layout(disk, version)
 }
 
+// The image that the old one is migrated to. Where its blocks don't suffice it is told how many would.
+fn migrate_to<'a>(
+    alloc: Global,
+    old: &mut MemoryDisk,
+    version: Version,
+    size: u32,
+) -> Result<MemoryDisk, Fault<'a>> {
+    match migrate(alloc, old, version, size) {
+        Ok(made) => Ok(made),
+        Err(refused @ (MigrateRefused::BadSizes | MigrateRefused::NoBlocks))
+            if size <= MOST_DISK_BLOCKS => {
+            match least_size(alloc, old, version) {
+                Ok(least) => Err(Fault::of_least(refused, least)),
+                Err(_) => Err(Fault::from(refused)),
+            }
+        }
+        Err(refused) => Err(Fault::from(refused)),
+    }
+}
+
 // Writes the image that the old one is migrated to, and gives the line about it.
 fn run_migration<'a>(
     rt: &HostRuntime,
@@ -267,6 +350,7 @@ fn run_migration<'a>(
     if let Some(path) = replaced(rt, new, [old].as_slice()) {
         return Err(Fault::ReplacesOld(path));
     }
+    let new = place_of(rt, matches)?;
     let file = read_image(rt, old).map_err(|refused| Fault::of_image(old, refused))?;
     let ImageFile { bytes, rest: _ } = file;
     let mut disk = MemoryDisk::new(bytes);
@@ -281,7 +365,7 @@ fn run_migration<'a>(
     } else {
         sizes.size
     };
-    let made = migrate(rt.alloc(), &mut disk, version, size)?;
+    let made = migrate_to(rt.alloc(), &mut disk, version, size)?;
     let line = summary(rt.alloc(), size, sizes.ninodes)?;
     save(rt, new, made.into_bytes().as_slice(), None)?;
     Ok(line)
@@ -289,10 +373,7 @@ fn run_migration<'a>(
 
 // The command line's words.
 fn words(rt: &HostRuntime) -> Result<Vec<String>, Fault<'static>> {
-    match env::args(rt) {
-        Ok(words) => Ok(words.collect(rt.alloc())?),
-        Err(error) => Err(Fault::of_words(error)),
-    }
+    read_words(rt).map_err(|refused| Fault::of_words(refused))
 }
 
 // Tells why there is no image.
