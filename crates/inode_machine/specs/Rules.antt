@@ -305,9 +305,9 @@ Sought version AtEntries = Unit {0}
 -- raised no count that no
 -- name stands for yet; who hands a descriptor on has handed on none
 -- from there, and where it has none hands the directory on at once; who hands that on, or lets a child go, has no descriptor on its way.
--- A record is changed that is there, and of the operation's kind; as much is read as a call may ask for, of the inode that its descriptor
--- has, from where
--- its file stands, and a piece is written there to a file; who shuts a descriptor hands none on.
+-- A record is changed that is there, and of the operation's kind, and a name is entered in a directory with links; as much is read as a
+-- call may ask for, of the inode that its descriptor has, from where its file stands, and a piece is written there to a file; who shuts a
+-- descriptor hands none on.
 
 abbrev pub Locks : ℕ → ℕ → World → Type 0
 Locks h n w = w.lock n ≡ Some h
@@ -381,7 +381,8 @@ Asks version h (Forget n) w = Spares h n w × (w.lock n ≢ Some h) × HasFreed 
 Asks version h (Claim inode_type) w = (w.desks h).joined ≡ true
 Asks version h (Store n count) w = Changes h n w × HasRecord n w (λ v. (count ≤ count_limit) ⊎ (count ≤ v.count))
 Asks version h (Fill n d) w = Changes h n w × HasRecord n w (λ v. v.kind ≡ Directory []) × IsNumber d w
-Asks version h (Enter d e n) w = Changes h d w × HasRecord d w (λ v. is_directory v.kind ≡ true) × IsNumber n w × IsName version e
+Asks version h (Enter d e n) w =
+    Changes h d w × HasRecord d w (λ v. (is_directory v.kind ≡ true) × (0 < v.count)) × IsNumber n w × IsName version e
 Asks version h (Clear d e) w = Changes h d w × HasRecord d w (λ v. IsSome (look (λ i. Some v) d e))
 Asks version h (Empty n) w = Changes h n w × HasRecord n w (λ v. is_file v.kind ≡ true)
 Asks version h Slot w = (w.desks h).hand ≡ None
