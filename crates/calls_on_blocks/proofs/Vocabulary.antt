@@ -42,7 +42,7 @@ pub use Rattle.group_log.proofs.Marked.{cuts_have_replies}
 pub use Rattle.group_log.proofs.Stories.{beginning, kept_leave, kept_plain, kept_write}
 pub use Rattle.group_log.specs.Stories.{Does}
 pub use Rattle.image_tree.proofs.Layouts.{length-logged}
-pub use Rattle.inode_machine.proofs.Budgets.{transactions_are_small}
+pub use Rattle.call_programs.proofs.Budgets.{transactions_are_small}
 pub use Rattle.inode_machine.proofs.ChdirCalls.{chdir_begins, chdir_ok}
 pub use Rattle.inode_machine.proofs.CreateCalls.{create_ok}
 pub use Rattle.inode_machine.proofs.Histories.{places_one}

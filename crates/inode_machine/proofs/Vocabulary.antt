@@ -43,7 +43,7 @@ pub use Rattle.tree_laws.proofs.Appended.{runs_more, runs_none}
 pub use Rattle.tree_laws.proofs.History.{Apart, IsHart, NeverClimbs, apart_alone, apart_calm, opened_ok, run_explained, run_ok, starts_alone, starts_calm}
 unfoldable pub use Rattle.tree_laws.proofs.History.{AllMayStart}
 pub use Rattle.tree_laws.proofs.Told.{event_tells, played_end, played_next, told_more}
-pub use Rattle.inode_machine.specs.Budget.{HasRoom, Spent, TransactionsAreSmall, size, spent_after, unspent, with_bitmap, with_contents, with_record}
+pub use Rattle.inode_machine.specs.Budget.{HasRoom}
 pub use Rattle.inode_machine.specs.Kept.{IsTheHistory, history_of, kept, kept_by, kept_on, nothing_yet, placed, placed_prog, placed_run, placed_tried, placed_unless, told_of}
 pub use Rattle.inode_machine.specs.Shortages.{ChangesNothing, NoOpenFileForNew, NoOpenFileLeft, NoPlaceLeft, all_open, all_placed, opens_more, opens_no_more, overview, places_more, places_no_more}
 unfoldable pub use Rattle.inode_machine.specs.Shortages.{each, opened_by, opened_for, opens_by, opens_for}
