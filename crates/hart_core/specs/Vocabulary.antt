@@ -27,8 +27,7 @@ unfoldable pub use Rattle.fs_machine.specs.Premises.{Honest}
 pub use Rattle.fs_machine.specs.Steps.{kind_of}
 pub use Rattle.image_tree.specs.Damage.{fault_count_of, faults_with}
 pub use Rattle.image_tree.specs.VersionOne.{JudgesFault}
-pub use Rattle.image_tree.specs.Freeing.{AreNamed}
-pub use Rattle.image_tree.specs.Shape.{is_orphan}
+pub use Rattle.image_tree.specs.Freeing.{AreFreed, AreNamed}
 pub use Rattle.image_tree.specs.declared.fault.MountFault.{MountFault}
 pub use Rattle.image_tree.specs.declared.fault.MountFault.TheVariants.{DeviceFault}
 pub use Rattle.inode_parts.specs.Sizes.{IsSized}

@@ -41,7 +41,7 @@ use Rattle.plain_tree.specs.declared.answer.Reply.{Reply}
 use Rattle.plain_tree.specs.declared.call.Call.{Call}
 use Rattle.plain_tree.specs.declared.call.Call.TheVariants as calls
 use Rattle.run_laws.specs.UnderWay.{EventDoes, Fits, LeadTo, RunsAStep, StepDoes, UnderWay}
-use Rattle.run_laws.proofs.Telling.{spoils}
+use Rattle.call_programs.specs.Asks.{spoils}
 use Rattle.run_laws.specs.Vocabulary.{Outside}
 use Rattle.tree_histories.specs.Keeping.{KeptTree, hart_in}
 use Rattle.tree_histories.specs.Moving.{HasRun as KeptRuns}

@@ -1,6 +1,5 @@
 pub mod Vocabulary
 pub mod Idle
-pub mod Wanted
 pub mod WholeInodes
 pub mod Laws
 pub mod Worlds
