@@ -62,3 +62,4 @@ pub mod Limits
 pub mod Counts
 pub mod Bounds
 pub mod Runs
+pub mod ShortWrites

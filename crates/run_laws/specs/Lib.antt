@@ -17,3 +17,4 @@ pub mod Changes
 pub mod Standing
 pub mod Steps
 pub mod StepBounds
+pub mod ShortWrites

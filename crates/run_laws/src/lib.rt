@@ -13,6 +13,7 @@ ghost use Rattle.run_laws.specs.OneList.{RunsHaveOneList};
 ghost use Rattle.run_laws.specs.Rooms.{RoomIsToldByAnswers};
 ghost use Rattle.run_laws.specs.Searches.{ClaimsFindReferences, SearchesSeeAll};
 ghost use Rattle.run_laws.specs.Seen.{CallsLookEverywhere};
+ghost use Rattle.run_laws.specs.ShortWrites.{ShortWritesEndBeforeMissing};
 ghost use Rattle.run_laws.specs.Standing.{CallsWithoutRoomTakeBack};
 ghost use Rattle.run_laws.specs.Transactions.{TransactionsRecordAtMostTen};
 ghost use Rattle.run_laws.specs.UnderWay.{MovesAreMadeAsOperationsAct, StepsPlaceInTime};
@@ -114,6 +115,13 @@ pub fn calls_without_room_take_back<D: Device>(world: &World<D>)
 pub fn searches_see_all()
     ensures sees_all { SearchesSeeAll }
     ensures finds_references { ClaimsFindReferences }
+{}
+
+/// Whatever the steps of its program on the blocks are answered, a write that is told that there was no block for all of its bytes has
+/// written just those before one block of the content: a block that the inode lacked, as its record and its indirect block had it, and for
+/// which no bit of the bitmap was clear.
+pub fn short_writes_end_before_missing()
+    ensures { ShortWritesEndBeforeMissing }
 {}
 
 /// So in each run of a mounted world a call is answered that there is no block only where one of its steps, between its start and its
