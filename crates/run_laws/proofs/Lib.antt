@@ -63,3 +63,6 @@ pub mod Counts
 pub mod Bounds
 pub mod Runs
 pub mod ShortWrites
+pub mod Referred
+pub mod Unlinked
+pub mod FreedPuts

@@ -18,3 +18,4 @@ pub mod Standing
 pub mod Steps
 pub mod StepBounds
 pub mod ShortWrites
+pub mod Unlinked

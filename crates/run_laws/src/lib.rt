@@ -16,6 +16,7 @@ ghost use Rattle.run_laws.specs.Seen.{CallsLookEverywhere};
 ghost use Rattle.run_laws.specs.ShortWrites.{ShortWritesEndBeforeMissing};
 ghost use Rattle.run_laws.specs.Standing.{CallsWithoutRoomTakeBack};
 ghost use Rattle.run_laws.specs.Transactions.{TransactionsRecordAtMostTen};
+ghost use Rattle.run_laws.specs.Unlinked.{FreesPutNoType, NothingIsLost};
 ghost use Rattle.run_laws.specs.UnderWay.{MovesAreMadeAsOperationsAct, StepsPlaceInTime};
 ghost use Rattle.run_laws.specs.Wants.{NoRoomOnlyWhereThereIsNone};
 ghost use Rattle.run_laws.specs.Worlds.{WorldsRefineWholeInodes};
@@ -157,6 +158,16 @@ pub fn runs_have_one_list<D: Device>(world: &World<D>)
 /// files and current directories have, no place is left taken for a file, and the blocks are a well-formed image.
 pub fn idle_harts_have_begun_nothing<D: Device>(world: &World<D>)
     ensures { IdleHartsHaveBegunNothing D.contents D.failures world.now }
+{
+    let _ = world;
+}
+
+/// And where no hart has a call each inode on the disk whose count is 0 is that of an open file or of a current directory: what has lost
+/// its last name is freed once nobody uses it. Whatever its program's steps are answered, the last step of a freeing puts the inode's
+/// block as it was read, with a record of the inode that has no type.
+pub fn nothing_is_lost<D: Device>(world: &World<D>)
+    ensures lost { NothingIsLost D.contents D.failures world.now }
+    ensures freed { FreesPutNoType }
 {
     let _ = world;
 }
