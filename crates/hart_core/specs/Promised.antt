@@ -75,12 +75,12 @@ module _ {D : Type 0} (contents : D → List (List ℕ)) (failures : D → ℕ) 
       (h : ℕ) (x : Outside) (v : HartsOf D) → Answers contents failures sizes (Step h x) w
       → Makes contents failures sizes (Step h x) w DidWait v → NextMustWait h (shared_of contents failures w) (get_or w.calls h None)
 
-  -- a hart without a call has nothing in hand; and is in no transaction, unless a failure of the device has stopped the harts
+  -- a hart without a call has nothing in hand, and is in no transaction, also once a failure of the device has stopped the harts
   abbrev pub IdleHartsHaveNothing : HartsOf D → Type 0
   IdleHartsHaveNothing w =
       (h : ℕ) → get_or w.calls h None ≡ None
       → HasNothing h (shared_of contents failures w)
-      × (w.stopped ≡ false → h < hart_count → is_joined (shared_of contents failures w).log.members h ≡ false)
+      × (h < hart_count → is_joined (shared_of contents failures w).log.members h ≡ false)
 
   abbrev pub QuietBlocksAreAnImage : HartsOf D → Type 0
   QuietBlocksAreAnImage w =

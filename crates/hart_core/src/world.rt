@@ -211,8 +211,8 @@ impl<D: Device> World<D> {
         harts.unmount()
     }
 
-    /// A law, for a reader; nothing is done. A hart without a call has no buffer and no inode's lock; and it is in no transaction,
-    /// unless a failure of the device has stopped the world.
+    /// A law, for a reader; nothing is done. A hart without a call has no buffer and no inode's lock, and it is in no transaction;
+    /// so too after a failure of the device has stopped the world.
     pub fn idle_harts_have_nothing(&self)
         ensures { IdleHartsHaveNothing D.contents D.failures self.now.harts }
     {
