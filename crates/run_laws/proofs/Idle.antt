@@ -57,7 +57,7 @@ module _ {D : Type 0} (contents : D → List (List ℕ)) (failures : D → ℕ) 
 
     -- also once a failure of the device has stopped the harts
     held : (b : Bool) → Holds L b s.world → Shows t.tables seen (loaded t.tables) × Inv seen
-    held true h = (h.0.0, h.1)
+    held true h = (h.0.0.tables, h.1)
     held false h = (h.0.0.tables, h.1)
 
     known : Shows t.tables seen (loaded t.tables) × Inv seen
