@@ -62,3 +62,7 @@ pub mod Limits
 pub mod Counts
 pub mod Bounds
 pub mod Runs
+pub mod ShortWrites
+pub mod Referred
+pub mod Unlinked
+pub mod FreedPuts

@@ -17,3 +17,5 @@ pub mod Changes
 pub mod Standing
 pub mod Steps
 pub mod StepBounds
+pub mod ShortWrites
+pub mod Unlinked
