@@ -1,19 +1,12 @@
 -- The calls that are served are right below.
 use Rattle.image_versions.specs.declared.version.Version.TheVariants.{One}
-use Rattle.calls_on_blocks.proofs.Vocabulary.{◌≡◌, ◌<◌, ℕ, Bool, true, false, not, nat_lt, List, length, if◌then◌else◌, Option, Some, None, refl, ◌∙◌, subst, arith, [], Super, Descriptors, Call, creates, elements, put, hart_count, and_true, Do, ExecResult, Waits, Ran, Stops, exec_result_in, unmarked, Began, Begun, Ends, Lawful, Safe, IsCode, began_in, Both, Uses, AllLift, IsStarted, IsPart, lift_within, lifted_lawful, is_code_part, Kind, Face, LockResult, NotLocked, LocksIt, Leave, unspent, dups, dup_on, close_on, stat_on, stat_reply, read_on, read_reply, refused_read, is_nothing, open_new, open_old, open_program, own_step, say, full, done, limit, program, Idle, Inv, machine, asked_limit, Refusal, TooLong, asks_wrong, is_covered, transactions_are_small, IsRight, laws, lawful_that, descriptors_right, right, chdir_begins, chdir_ok, create_ok, inherit_right, link_begins, link_ok, mkdir_begins, mkdir_ok, AllNames, both_paths, path_names, open_ok, open_begins, start_is, unlink_begins, unlink_ok, Blocks, came_to, log_of, nothing, HasInodes, HasSpent, Shows, recorded_blocks, affords, none_spent, handlers, SharedState, World, layer, shared_of, is_served, serves, served_calls, child_of, start_refusal, begun_by, if_hart, begins, block_calls, shared_part, block_code}
-use Rattle.plain_tree.specs.declared.answer.Answer.TheVariants as answers
+use Rattle.calls_on_blocks.proofs.Vocabulary.{◌≡◌, ◌<◌, ℕ, Bool, true, false, not, nat_lt, length, if◌then◌else◌, Option, Some, None, refl, ◌∙◌, subst, arith, [], Super, Call, creates, elements, put, hart_count, and_true, ExecResult, Waits, Ran, Stops, exec_result_in, Began, Begun, Ends, Lawful, Safe, IsCode, began_in, Both, AllLift, IsStarted, IsPart, lift_within, lifted_lawful, is_code_part, Kind, unspent, is_nothing, open_program, limit, program, Idle, Inv, machine, asked_limit, Refusal, TooLong, asks_wrong, is_covered, transactions_are_small, IsRight, laws, lawful_that, descriptors_right, right, chdir_begins, chdir_ok, create_ok, inherit_right, link_begins, link_ok, mkdir_begins, mkdir_ok, AllNames, both_paths, path_names, open_ok, open_begins, start_is, unlink_begins, unlink_ok, Blocks, came_to, log_of, nothing, HasInodes, HasSpent, Shows, recorded_blocks, affords, none_spent, handlers, SharedState, World, layer, shared_of, is_served, serves, served_calls, child_of, start_refusal, begun_by, if_hart, begins, block_calls, shared_part, block_code}
 use Rattle.plain_tree.specs.declared.call.Call.TheVariants as calls
-use Rattle.plain_tree.specs.declared.step.Action.TheVariants as actions
 use Rattle.fs_machine.specs.Steps as steps
 use Rattle.inode_machine.specs.World as above
-use Rattle.calls_on_blocks.proofs.InheritUses.{inherit_uses}
-use Rattle.calls_on_blocks.proofs.LinkUses.{link_uses}
-use Rattle.calls_on_blocks.proofs.MakeUses.{create_uses, mkdir_uses}
-use Rattle.calls_on_blocks.proofs.Operations.{history, Within, gives, doubles, shuts, stats, locks_to_read, reads, joins, leaves}
-use Rattle.calls_on_blocks.proofs.PathUses.{drop_uses, say_uses, chdir_uses, open_uses}
+use Rattle.calls_on_blocks.proofs.Operations.{history}
+use Rattle.calls_on_blocks.proofs.Uses.{served_uses}
 use Rattle.calls_on_blocks.proofs.Starting.{begun_here, below_count, joined_same, lower_laws, starts_both}
-use Rattle.calls_on_blocks.proofs.UnlinkUses.{unlink_uses}
-use Rattle.calls_on_blocks.proofs.WriteUses.{write_uses}
 
 -- ---- above
 
@@ -62,44 +55,7 @@ served_right h (calls.Inherit child) busy w u lt here out idle free is =
 pub served_lawful : Lawful served_calls
 served_lawful = lawful_that One serves served_right
 
--- ---- the calls' operations
-
-module _ (sizes : Super) (h : ℕ) (lt : h < hart_count) (inodes : HasInodes sizes) where
-  dup_uses : (fd : ℕ) (a : Option (Option ℕ)) → Uses machine (Within sizes h) (dup_on fd a)
-  dup_uses fd None = tt
-  dup_uses fd (Some None) = say_uses sizes h lt (full (calls.Dup fd) Descriptors)
-  dup_uses fd (Some (Some f)) = say_uses sizes h lt (record { answer = answers.Fd f; call = calls.Dup fd })
-
-  stat_uses : (fd : ℕ) (a : Option (ℕ × Face)) → Uses machine (Within sizes h) (stat_on fd a)
-  stat_uses fd None = tt
-  stat_uses fd (Some p) = (gives sizes h lt p.0 unmarked, λ _. say_uses sizes h lt (stat_reply fd p.0 p.1))
-
-  close_uses : (fd : ℕ) (a : Option (Option ℕ)) → Uses machine (Within sizes h) (close_on fd a)
-  close_uses fd None = tt
-  close_uses fd (Some None) = say_uses sizes h lt (done (calls.Close fd))
-  close_uses fd (Some (Some n)) =
-      (joins sizes h lt unmarked, λ _. drop_uses sizes h lt n (Do Leave unmarked (λ _. say (done (calls.Close fd)))) (leaves sizes h lt unmarked, λ _. say_uses sizes h lt (done (calls.Close fd))))
-
-  read_uses : (fd : ℕ) (buffer : List ℕ) (a : LockResult) → Uses machine (Within sizes h) (read_on fd buffer a)
-  read_uses fd buffer (NotLocked why) = tt
-  read_uses fd buffer (LocksIt n offset) = (reads sizes h lt fd n offset (length buffer) (λ b. own_step (actions.Read fd (length buffer))), λ b. say_uses sizes h lt (read_reply fd buffer b))
-
-  served_uses : (call : Call) → is_served call ≡ true → Uses machine (Within sizes h) (program call)
-  served_uses (calls.Dup fd) e = (doubles sizes h lt fd (dups fd), λ a. dup_uses fd a)
-  served_uses (calls.Fstat fd) e = (stats sizes h lt fd (λ a. own_step (actions.Fstat fd)), λ a. stat_uses fd a)
-  served_uses (calls.Close fd) e = (shuts sizes h lt fd (λ a. own_step (actions.Close fd)), λ a. close_uses fd a)
-  served_uses (calls.Read fd buffer) e = (locks_to_read sizes h lt fd (refused_read fd (length buffer)), λ a. read_uses fd buffer a)
-  served_uses (calls.Open path flags) e = by (creates flags)
-    where
-      by : (b : Bool) → Uses machine (Within sizes h) (if b then open_new path flags (elements path) else open_old path flags)
-      by true = create_uses sizes h lt inodes path flags (elements path)
-      by false = open_uses sizes h lt path flags
-  served_uses (calls.Write fd bytes) e = write_uses sizes h lt fd bytes e
-  served_uses (calls.Link old new) e = link_uses sizes h lt old new
-  served_uses (calls.Unlink path) e = unlink_uses sizes h lt path
-  served_uses (calls.Mkdir path) e = mkdir_uses sizes h lt inodes path
-  served_uses (calls.Chdir path) e = chdir_uses sizes h lt path
-  served_uses (calls.Inherit child) e = inherit_uses sizes h lt child
+-- ---- below
 
 -- a call begins in no transaction, so that nothing is spent
 none_yet : (sizes : Super) (h : ℕ) (call : Call) (w : Both World above.World) → h < hart_count → (log_of w.real.blocks).sizes ≡ sizes → IsStarted served_calls (layer sizes) h call w → HasSpent sizes h unspent w.real.blocks

@@ -2,12 +2,8 @@ pub mod Vocabulary
 pub mod Lenders
 pub mod Beside
 pub mod Operations
-pub mod PathUses
-pub mod UnlinkUses
-pub mod LinkUses
-pub mod MakeUses
-pub mod InheritUses
-pub mod WriteUses
+pub mod Pieces
+pub mod Uses
 pub mod Reserving
 pub mod Starting
 pub mod Lawful

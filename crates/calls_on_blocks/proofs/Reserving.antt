@@ -2,6 +2,7 @@
 use Rattle.calls_on_blocks.proofs.Vocabulary.{◌≡◌, ◌≢◌, inl, inr, ℕ, ◌<◌, Bool, true, false, ◌&&◌, not, nat_lt, List, Option, Some, None, refl, sym, ◌∙◌, ap, subst, arith, if◌then◌else◌, is_some, option_map, nat_tests, none-some, same_Some, Loaded, put, hart_count, descriptor_count, same_or, put_same, put_other, any_none, none_any, any_same, eq_self, TablesState, file_named, entry_at, entry_of, is_at, is_nothing, serving, Idle, Inv, has_descriptor, serving_world, Desk, Entry, serving_none, DesksShow, descriptor, file_of, is_taken, lent_by, loaded, place_with, part_same, descriptors_name_files, Blocks, tables_of, Shows, shows_then, Reserves, has_file, reserved}
 use Rattle.fs_machine.specs.declared.desk.Desk as cards
 use Rattle.inode_machine.specs.World as above
+use Rattle.inodes_on_blocks.specs.Lowering.{ShowsStopped}
 use Rattle.inodes_on_blocks.specs.ShownTables as tables
 use Rattle.inodes_on_blocks.specs.ShownTables.{first}
 
@@ -82,6 +83,13 @@ module _ (h c : ℕ) (w : above.World) (lt : h < hart_count) (apart : c ≢ h) (
   blocks_reserved r shows =
       shows_then h lt r w shows (tables_of r) (serving_world w h c) (loaded (tables_of r)) (tables_reserved (tables_of r) (loaded (tables_of r)) shows.tables) refl refl (λ j. part (λ d. d.joined) j refl refl) (λ i. inl refl)
       (λ n k new. let is = shows.news n k new in (is.unlocked, is.kept, is.unloaded)) shows.loads shows.offsets
+
+  -- and the same once the world has stopped
+  pub stopped_reserved : (r : Blocks) → ShowsStopped r w → ShowsStopped r (serving_world w h c)
+  stopped_reserved r shows = record {
+    tables = tables_reserved (tables_of r) (loaded (tables_of r)) shows.tables;
+    members = λ g lg. part (λ d. d.joined) g refl refl ∙ shows.members g lg;
+  }
 
 -- ---- who is whose child
 

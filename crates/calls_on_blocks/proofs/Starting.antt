@@ -6,7 +6,7 @@ use Rattle.inode_machine.specs.Theory as theory
 use Rattle.inodes_on_blocks.specs.ShownTables as tables
 use Rattle.calls_on_blocks.proofs.Beside.{laws_beside}
 use Rattle.calls_on_blocks.proofs.Operations.{history, keeps}
-use Rattle.calls_on_blocks.proofs.Reserving.{part, tables_reserved, blocks_reserved, lender_other, other_children, child_reserved, unreserved, has_none}
+use Rattle.calls_on_blocks.proofs.Reserving.{part, blocks_reserved, stopped_reserved, lender_other, other_children, child_reserved, unreserved, has_none}
 
 -- A start that begins its call: the hart is one, no call under way reserves it, the call is served, and the others let it begin; and it leaves what it should.
 pub record BeginsHere {S : Type 0} (h : ℕ) (call : Call) (busy : ℕ → Bool) (s : SharedState) (t u : S) : Type 0 where
@@ -82,7 +82,7 @@ module _ (sizes : Super) (h : ℕ) (busy : ℕ → Bool) (r : World) (g : above.
   reserves = elim holds [ inl x ↦ x.1 | inr x ↦ x.1 ]
 
   tables_show : tables.Shows (tables_of r.blocks) g (loaded (tables_of r.blocks))
-  tables_show = elim holds [ inl x ↦ x.0.tables | inr x ↦ x.0 ]
+  tables_show = elim holds [ inl x ↦ x.0.tables | inr x ↦ x.0.tables ]
 
   rests_above : (other : ℕ) → busy other ≡ false → Idle other g
   rests_above other e = (idle other e).1
@@ -110,7 +110,7 @@ module _ (sizes : Super) (h : ℕ) (busy : ℕ → Bool) (r : World) (g : above.
     above = serving_world g h child;
     begins = start_begins h (calls.Inherit child) busy g (serving_world g h child) b.hart unlent b.serves_it begins;
     shows = λ x. (blocks_reserved h child g lt apart (rests_above h free) his_unlent r.blocks x.0, children_then x.1);
-    halted = λ x. (tables_reserved h child g lt apart (rests_above h free) his_unlent (tables_of r.blocks) (loaded (tables_of r.blocks)) x.0, children_then x.1);
+    halted = λ x. (stopped_reserved h child g lt apart (rests_above h free) his_unlent r.blocks x.0, children_then x.1);
     kept = λ other ne c. (lower_laws sizes).same other r;
     rests = rests;
   }

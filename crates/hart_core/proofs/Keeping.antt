@@ -1,6 +1,7 @@
 -- What always holds of a world, by the invariant of its calls.
-use Rattle.hart_core.proofs.Vocabulary.{◌≡◌, ℕ, Bool, false, Option, Some, None, List, refl, sym, ◌∙◌, ap, subst, get_or, Super, Theory, Run, State, IsExplained, Holds, program_at, Code, Plain, SoundPlain, prog_of, sound_explained, running_of, is_joined, quiet_worlds_are_images, block_calls, block_code, lawful, HartsOf, shared_of, HasNothing, NoneJoined, ShowsImage, IdleHartsHaveNothing, QuietBlocksAreAnImage, IsWorld, calls_of}
+use Rattle.hart_core.proofs.Vocabulary.{◌≡◌, ℕ, Bool, true, false, Option, Some, None, List, refl, sym, ◌∙◌, ap, subst, get_or, Super, Theory, Run, State, IsExplained, Holds, program_at, Code, Plain, SoundPlain, prog_of, sound_explained, running_of, is_joined, quiet_worlds_are_images, block_calls, block_code, lawful, HartsOf, shared_of, HasNothing, NoneJoined, ShowsImage, IdleHartsHaveNothing, QuietBlocksAreAnImage, IsWorld, calls_of}
 use Rattle.fs_machine.specs.Steps as steps
+use Rattle.inodes_on_blocks.specs.Shown.{MembersShow}
 use Rattle.hart_core.proofs.Lasting.{world_sound}
 
 pub none_of : (L : Theory) (C : Code L) (r : Option (Run L)) → prog_of L C r ≡ None → r ≡ None
@@ -32,11 +33,19 @@ module _ {D : Type 0} (contents : D → List (List ℕ)) (failures : D → ℕ) 
   holds : w.stopped ≡ false → L.M.Inv state.world
   holds on = subst (λ (b : Bool). Holds L b state.world) (ap (λ (p : Plain L C). p.stopped) sound.is ∙ on) told.holds
 
+  -- who is in a transaction, also in a world that has stopped
+  members : MembersShow state.world.real.blocks.state.log.members state.world.seen.desks
+  members = by state.stopped told.holds
+    where
+      by : (b : Bool) → Holds L b state.world → MembersShow state.world.real.blocks.state.log.members state.world.seen.desks
+      by true halted = halted.0.0.members
+      by false inv = inv.0.0.members
+
   pub idle_harts_have_nothing : IdleHartsHaveNothing contents failures w
   idle_harts_have_nothing h e =
       let idle = told.idle h (no_call h e) in (
         subst (HasNothing h) same (record { buffers = idle.0.0.free; locks = λ n held. (idle.0.0.inodes n held).loaded_is }),
-        λ on below. subst (λ (s : steps.State). is_joined s.log.members h ≡ false) same (sym ((holds on).0.0.members h below) ∙ idle.1.joined),
+        λ below. subst (λ (s : steps.State). is_joined s.log.members h ≡ false) same (sym (members h below) ∙ idle.1.joined),
       )
 
   pub quiet_blocks_are_an_image : QuietBlocksAreAnImage contents failures w

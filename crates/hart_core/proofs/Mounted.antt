@@ -1,12 +1,12 @@
 -- What a mount leaves.
 use Rattle.std.specs.Prelude.{Result, Ok, Err, IfErr, IsErrAnd}
 use Rattle.image_tree.specs.declared.fault.MountFault.TheVariants.{NoMemory}
-use Rattle.hart_core.proofs.Vocabulary.{◌≡◌, ◌≢◌, ℕ, true, false, List, [], refl, sym, ◌∙◌, ap, subst, All, block_at, logged, recovered, sizes_of, IsOutsideLog, MountFault, DeviceFault, is_marked, IsWellFormed, fault_count_of, numbers_by, is_orphan, tree_in, AreNamed, IsSettled, HandsBack}
+use Rattle.hart_core.proofs.Vocabulary.{◌≡◌, ◌≢◌, ℕ, List, [], refl, sym, ◌∙◌, ap, subst, block_at, logged, recovered, sizes_of, IsOutsideLog, MountFault, DeviceFault, IsWellFormed, fault_count_of, tree_in, AreFreed, AreNamed, IsSettled, HandsBack}
 
 -- the examination leaves the disk as it was
 pub settled_so : (first middle last : List (List ℕ)) → middle ≡ first → (AreNamed middle → (b : ℕ) → IsOutsideLog (sizes_of middle) b → block_at last b ≡ recovered middle b) → logged last ≡ []
     → sizes_of last ≡ sizes_of middle → IsWellFormed last → tree_in last ≡ tree_in middle → AreNamed last
-    → ((i : ℕ) → is_orphan middle i ≡ true → All (λ b. b ≢ 0 → is_marked last b ≡ false) (numbers_by middle i)) → IsSettled first last
+    → AreFreed middle last → IsSettled first last
 settled_so first middle last same blocks empty sizes well tree named freed =
     subst (λ (disk : List (List ℕ)). IsSettled disk last) same
     (record { blocks = blocks; empty = empty; sizes = sizes; well = well; tree = tree; named = named; freed = freed })

@@ -1,12 +1,12 @@
 -- What a mount comes to.
-use Rattle.std.specs.Prelude.{◌≡◌, ◌≢◌, ℕ, false, true, All, List, [], None, replicate}
-use Rattle.hart_core.specs.Vocabulary.{HasBytes, HasWholeBlocks, block_at, logged, recovered, sizes_of, IsOutsideLog, buffer_count, hart_count, unused_from, Open, IsPlaced, MountFault, DeviceFault, IsWellFormed, JudgesFault, fault_count_of, tree_in, is_marked, numbers_by, is_orphan, AreNamed}
+use Rattle.std.specs.Prelude.{◌≡◌, ◌≢◌, ℕ, false, List, [], None, replicate}
+use Rattle.hart_core.specs.Vocabulary.{HasBytes, HasWholeBlocks, block_at, logged, recovered, sizes_of, IsOutsideLog, buffer_count, hart_count, unused_from, Open, IsPlaced, MountFault, DeviceFault, IsWellFormed, JudgesFault, fault_count_of, tree_in, AreFreed, AreNamed}
 use Rattle.fs_machine.specs.Fresh.{fresh}
 use Rattle.hart_core.specs.Harts.{HartsOf}
 
--- A disk that a mount has settled: it is a well-formed image of the same tree, its log is empty, each node has a name, and the blocks of
--- those that had none
--- are free. Where each node had a name before, each block is as recovery would leave it.
+-- A disk that a mount has settled: it is a well-formed image of the same tree, its log is empty, and each node has a name. Outside the log
+-- it is as recovery would leave it, but for the nodes that had no name: they are free, and so are their blocks. When each node had a name
+-- before, each block is as recovery would leave it.
 pub record IsSettled (old new : List (List ℕ)) : Type 0 where
   pub blocks : AreNamed old → (b : ℕ) → IsOutsideLog (sizes_of old) b → block_at new b ≡ recovered old b
   pub empty : logged new ≡ []
@@ -14,7 +14,7 @@ pub record IsSettled (old new : List (List ℕ)) : Type 0 where
   pub well : IsWellFormed new
   pub tree : tree_in new ≡ tree_in old
   pub named : AreNamed new
-  pub freed : (i : ℕ) → is_orphan old i ≡ true → All (λ b. b ≢ 0 → is_marked new b ≡ false) (numbers_by old i)
+  pub freed : AreFreed old new
 
 module _ {D : Type 0} (contents : D → List (List ℕ)) (failures : D → ℕ) where
   -- Over this device, which has failed at no call, eight harts are idle; nothing is cached, recorded or open, and no inode but the root,

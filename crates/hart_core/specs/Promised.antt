@@ -1,6 +1,7 @@
 -- What always holds of a world, in plain words.
-use Rattle.std.specs.Prelude.{◌≡◌, ◌≢◌, ◌⊎◌, ℕ, ◌<◌, List, length, false, Some, None, get_or, IsTrue}
-use Rattle.hart_core.specs.Vocabulary.{Super, StepOf as Step, DidWait, holder_of, hart_count, count_of, is_held_by, buffer_holder, turn_is_out, LogPart, Outside, IsElsewhere, JoinWaits, seen_of, State, IsRecoveredSo, IsWellFormed, tree_in, disk_of, is_joined}
+use Rattle.std.specs.Prelude.{◌≡◌, ◌≢◌, ◌⊎◌, ℕ, ◌<◌, ◌==◌, Bool, true, false, if◌then◌else◌, List, length, slice_index, Option, Some, None, get_or}
+use Rattle.hart_core.specs.Vocabulary.{MatchOption, option_map, asks, Running, running_of, Op, Phase, Open, Staging, Installing, Halted, TablesState, OpenFile, file_named, Super, StepOf as Step, DidWait, holder_of, hart_count, count_of, is_held_by, buffer_holder, LogPart, Outside, IsElsewhere, JoinWaits, seen_of, State, IsRecoveredSo, IsWellFormed, tree_in, disk_of, is_joined}
+use Rattle.fs_machine.specs.Steps.{Join, JoinToWrite, Get, Commit, Lock, LockFile, LockOpen}
 use Rattle.hart_core.specs.Harts.{HartsOf, shared_of}
 use Rattle.hart_core.specs.Worlds.{Answers, Makes}
 
@@ -20,34 +21,66 @@ pub record ShowsImage (l : LogPart) : Type 0 where
   pub recovered : (disk : List (List ℕ)) → length disk ≡ length l.contents → IsRecoveredSo l.sizes (seen_of l) disk
       → IsWellFormed disk × (tree_in disk ≡ tree_in (disk_of l))
 
--- another hart has the lock of an inode in its hand, or a buffer
-abbrev pub InodeIsElsewhere : ℕ → State → Type 0
-InodeIsElsewhere h s = (n : ℕ) × IsElsewhere h (holder_of n s.tables)
+-- ---- why a hart must wait
 
-abbrev pub BufferIsElsewhere : ℕ → State → Type 0
-BufferIsElsewhere h s = (b : ℕ) × IsElsewhere h (buffer_holder b s.log.seats)
+-- the inode whose lock an operation asks for
+abbrev pub lock_asked : ℕ → Op → TablesState → Option ℕ
+lock_asked h (Lock n) t = Some n
+lock_asked h (LockFile want fd) t = option_map (λ (f : OpenFile). f.number) (file_named h fd t)
+lock_asked h (LockOpen fd) t = option_map (λ (f : OpenFile). f.number) (file_named h fd t)
+lock_asked h op t = None
 
--- the log's commit is under way, or the log has no room for one more transaction; or the buffer that the commit copies next is out
-abbrev pub LogIsBusy : LogPart → Type 0
-LogIsBusy l = JoinWaits l ⊎ IsTrue (turn_is_out l.seats l.group l.phase)
+-- the block of the group whose buffer a commit copies next; a header is no copy
+abbrev pub copied_next : List ℕ → Phase → Option ℕ
+copied_next group Open = None
+copied_next group (Staging i) = if i == length group then None else Some (slice_index group i)
+copied_next group (Installing i) = if i == length group then None else Some (slice_index group i)
+copied_next group Halted = None
 
--- why a hart must wait
-abbrev pub MustWait : ℕ → State → Type 0
-MustWait h s = InodeIsElsewhere h s ⊎ BufferIsElsewhere h s ⊎ LogIsBusy s.log
+-- the block whose buffer an operation asks for
+abbrev pub buffer_asked : Op → LogPart → Option ℕ
+buffer_asked (Get b) l = Some b
+buffer_asked Commit l = copied_next l.group l.phase
+buffer_asked op l = None
+
+-- it joins a transaction
+abbrev pub is_join : Op → Bool
+is_join Join = true
+is_join (JoinToWrite fd) = true
+is_join op = false
+
+-- the lock that the operation asks for is in another hart's hand
+abbrev pub LockIsElsewhere : ℕ → Op → State → Type 0
+LockIsElsewhere h op s = (n : ℕ) × (lock_asked h op s.tables ≡ Some n) × IsElsewhere h (holder_of n s.tables)
+
+-- the buffer that it asks for is in another hart's hand
+abbrev pub BufferIsElsewhere : ℕ → Op → State → Type 0
+BufferIsElsewhere h op s = (b : ℕ) × (buffer_asked op s.log ≡ Some b) × IsElsewhere h (buffer_holder b s.log.seats)
+
+-- it joins, and a commit is under way, or the log has no room for one more transaction
+abbrev pub LogIsBusy : Op → LogPart → Type 0
+LogIsBusy op l = (is_join op ≡ true) × JoinWaits l
+
+abbrev pub MustWait : ℕ → State → Op → Type 0
+MustWait h s op = LockIsElsewhere h op s ⊎ BufferIsElsewhere h op s ⊎ LogIsBusy op s.log
+
+-- the hart has a call, whose next operation must wait
+abbrev pub NextMustWait : ℕ → State → Option Running → Type 0
+NextMustWait h s call = MatchOption call ⊥ (λ m. MatchOption (asks (running_of m)) ⊥ (MustWait h s))
 
 module _ {D : Type 0} (contents : D → List (List ℕ)) (failures : D → ℕ) where
-  -- a step of any hart waits only where it must
+  -- a step of any hart waits only where the operation that its call makes next must
   abbrev pub WaitsByTheRule : Super → HartsOf D → Type 0
   WaitsByTheRule sizes w =
       (h : ℕ) (x : Outside) (v : HartsOf D) → Answers contents failures sizes (Step h x) w
-      → Makes contents failures sizes (Step h x) w DidWait v → MustWait h (shared_of contents failures w)
+      → Makes contents failures sizes (Step h x) w DidWait v → NextMustWait h (shared_of contents failures w) (get_or w.calls h None)
 
-  -- a hart without a call has nothing in hand; and is in no transaction, unless a failure of the device has stopped the harts
+  -- a hart without a call has nothing in hand, and is in no transaction, also once a failure of the device has stopped the harts
   abbrev pub IdleHartsHaveNothing : HartsOf D → Type 0
   IdleHartsHaveNothing w =
       (h : ℕ) → get_or w.calls h None ≡ None
       → HasNothing h (shared_of contents failures w)
-      × (w.stopped ≡ false → h < hart_count → is_joined (shared_of contents failures w).log.members h ≡ false)
+      × (h < hart_count → is_joined (shared_of contents failures w).log.members h ≡ false)
 
   abbrev pub QuietBlocksAreAnImage : HartsOf D → Type 0
   QuietBlocksAreAnImage w =

@@ -1,13 +1,13 @@
 -- What the crates below call things: the words that this crate's definitions and contracts use.
 pub use Rattle.calls_on_blocks.specs.Vocabulary.{Answer, Begins, Code, DidEnd, Event as EventOf, IsMountable, IsNamedPart, IsPlaced, IsWellFormed, LogPart, Op, Outside, Refusal, Start as StartOf, Step as StepOf, Theory, Tree, are_bytes, before, fresh, is_open, joined, no_marks, or_else, run, tree_in, tree_of, Chain}
 unfoldable pub use Rattle.calls_on_blocks.specs.Vocabulary.{exec, sizes_of}
-pub use Rattle.inodes_on_blocks.specs.Vocabulary.{HasBytes, HasWholeBlocks, IsOutsideLog, Machine, State, block_at, buffer_count, count_of, holder_of as buffer_holder, is_held_by, is_marked, lock_holder as holder_of, seen_of}
+pub use Rattle.inodes_on_blocks.specs.Vocabulary.{HasBytes, HasWholeBlocks, IsOutsideLog, Machine, State, TablesState, block_at, buffer_count, count_of, file_named, holder_of as buffer_holder, is_held_by, is_marked, lock_holder as holder_of, seen_of}
 unfoldable pub use Rattle.inodes_on_blocks.specs.Vocabulary.{May, MayWait, logged, numbers_by, recovered, unused_from}
 pub use Rattle.tree_laws.specs.Vocabulary.{Other, Replied, Shown, Started, TreeData, call_climbs, noted, trace_of}
 pub use Rattle.plain_tree.specs.VersionOne.{Explains}
 unfoldable pub use Rattle.tree_laws.specs.Vocabulary.{acts_of}
 pub use Rattle.syscalls.specs.Vocabulary.{CallsOnce, LeavesTied, P, state_of}
-pub use Rattle.fs_machine.specs.Vocabulary.{hart_count, list_any, turn_is_out}
+pub use Rattle.fs_machine.specs.Vocabulary.{MatchOption, Phase, asks, hart_count, list_any, option_map}
 pub use Rattle.atomic_programs.specs.Calls.{DidRun, DidStop, DidWait, Outcome as OutcomeOf, Refused as WasRefused, Started as WasStarted, WasIdle, WasStopped, all_asked, with_answer}
 pub use Rattle.atomic_programs.specs.Plain.{MayOf, Plain, PlainHonest, PlainHonestStep, hart_step, plain_makes, plain_outcomes, plain_run}
 pub use Rattle.calls_on_blocks.specs.Theory.{block_calls, block_code, child_of, has_file, reserved}
@@ -27,8 +27,7 @@ unfoldable pub use Rattle.fs_machine.specs.Premises.{Honest}
 pub use Rattle.fs_machine.specs.Steps.{kind_of}
 pub use Rattle.image_tree.specs.Damage.{fault_count_of, faults_with}
 pub use Rattle.image_tree.specs.VersionOne.{JudgesFault}
-pub use Rattle.image_tree.specs.Freeing.{AreNamed}
-pub use Rattle.image_tree.specs.Shape.{is_orphan}
+pub use Rattle.image_tree.specs.Freeing.{AreFreed, AreNamed}
 pub use Rattle.image_tree.specs.declared.fault.MountFault.{MountFault}
 pub use Rattle.image_tree.specs.declared.fault.MountFault.TheVariants.{DeviceFault}
 pub use Rattle.inode_parts.specs.Sizes.{IsSized}
@@ -42,10 +41,11 @@ pub use Rattle.plain_tree.specs.Steps.{is_nothing}
 pub use Rattle.std.specs.Option.{is_some}
 pub use Rattle.std.specs.Vec.{vec_capacity}
 pub use Rattle.fs_layout.specs.declared.superblock.Super.{Super}
+pub use Rattle.fs_machine.specs.declared.files.OpenFile.{OpenFile}
 pub use Rattle.fs_machine.specs.declared.kind.Kind.{Kind}
 pub use Rattle.fs_machine.specs.declared.shared.Core.{Core}
 pub use Rattle.group_log.specs.declared.marks.Marks.{Marks}
-pub use Rattle.group_log.specs.declared.phase.Phase.TheVariants.{Open}
+pub use Rattle.group_log.specs.declared.phase.Phase.TheVariants.{Halted, Installing, Open, Staging}
 pub use Rattle.plain_tree.specs.declared.answer.Reply.{Reply}
 pub use Rattle.plain_tree.specs.declared.call.Call.{Call}
 pub use Rattle.plain_tree.specs.declared.call.Call.TheVariants.{Chdir, Close, Dup, Fstat, Inherit, Link, Mkdir, Open as OpenCall, Read, Unlink, Write}

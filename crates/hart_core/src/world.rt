@@ -211,8 +211,8 @@ impl<D: Device> World<D> {
         harts.unmount()
     }
 
-    /// A law, for a reader; nothing is done. A hart without a call has no buffer and no inode's lock; and it is in no transaction,
-    /// unless a failure of the device has stopped the world.
+    /// A law, for a reader; nothing is done. A hart without a call has no buffer and no inode's lock, and it is in no transaction;
+    /// so too after a failure of the device has stopped the world.
     pub fn idle_harts_have_nothing(&self)
         ensures { IdleHartsHaveNothing D.contents D.failures self.now.harts }
     {
@@ -228,9 +228,9 @@ impl<D: Device> World<D> {
         let _ = &self.harts;
     }
 
-    /// A law, for a reader; nothing is done. A step of any hart waits only where another hart has an inode's lock or a buffer in its
-    /// hand, where a commit is under way or the log has no room for one more transaction, or where the buffer that its commit copies
-    /// next is out.
+    /// A law, for a reader; nothing is done. A step waits only where the hart has a call, whose next operation must wait: another hart
+    /// has the very lock or the very buffer in its hand that this operation asks for, a commit that of the block which it copies next;
+    /// or it joins a transaction, and a commit is under way or the log has no room for one more.
     pub fn waits_by_the_rule(&self)
         ensures { WaitsByTheRule D.contents D.failures self.now.sizes self.now.harts }
     {

@@ -7,7 +7,7 @@ unfolding logged
 length-logged disk = length-u32s_at (log_count disk) (block_at disk (sizes_of disk).logstart) 4
 
 -- a block's place is below any bound that the block and the log's blocks are below
-place_below : (logstart b i n m : ℕ) → b < m → logstart + 1 + n ≤ m → option_map_or (λ k. logstart + 1 + k) (cond (ltb i n) (Some i) None) b < m
+pub place_below : (logstart b i n m : ℕ) → b < m → logstart + 1 + n ≤ m → option_map_or (λ k. logstart + 1 + k) (cond (ltb i n) (Some i) None) b < m
 place_below logstart b i n m low high =
     ⊎_elim
     (λ (h : i < n). grind (arith, nat_tests))

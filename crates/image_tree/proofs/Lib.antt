@@ -30,3 +30,4 @@ pub mod Logs
 pub mod Puts
 pub mod Clearing
 pub mod Reclaims
+pub mod OneDisk

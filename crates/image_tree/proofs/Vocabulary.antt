@@ -23,7 +23,7 @@ unfoldable pub use Rattle.image_tree.specs.Trees.{first_nodes, kind_of, node_of}
 pub use Rattle.std.proofs.Common.{Contains, IsFalse, OnErr, OnOk, leb, ltb, min, slice_index, slice_index_or, vec_len, ◌<ℤ◌, ◌≤ℤ◌}
 pub use Rattle.image_tree.specs.Shape.{is_live_node, is_orphan, shape_of}
 pub use Rattle.image_tree.specs.Views.{ChecksSeeRecovered, IsViewOf, TreesSeeRecovered}
-pub use Rattle.image_tree.specs.Freeing.{AreNamed, FreedNodesLeaveImages, IsFreed, IsPut, IsReclaimed}
+pub use Rattle.image_tree.specs.Freeing.{AreFreed, AreNamed, FreedDisksAgree, FreedNodesLeaveImages, HasPlace, IsElsewhere, IsFreed, IsFreedAlone, IsFreedDisk, IsPut, IsReclaimed, freed_inode}
 pub use Rattle.std.proofs.Math.Nat.{pow-suc}
 pub use Rattle.std.proofs.lemmas.Bool.Decides.{Decides-eqb}
 pub use Rattle.std.proofs.lemmas.List.Elements.{All-append, Contains-append_left, Contains-append_right, Contains-push, Contains-push_cases, filter-append, filter_agree, filter_more, recursion_from_All}

@@ -7,14 +7,14 @@ pub use Rattle.fs_layout.specs.Vocabulary.{AllByRecursion, block_at, flat_map}
 pub use Rattle.block_device.specs.Calls.{ComesByCalls}
 pub use Rattle.fs_layout.specs.Recovered.{IsOutsideLog, SameRecovered, log_count, place_of}
 unfoldable pub use Rattle.fs_layout.specs.Recovered.{logged, recovered, sizes_of}
-pub use Rattle.block_device.specs.Blocks.{faults_after, most_faults}
+pub use Rattle.block_device.specs.Blocks.{HasBytes, HasWholeBlocks, faults_after, most_faults}
 pub use Rattle.fs_layout.specs.declared.entry.Dirent.{Dirent}
 pub use Rattle.fs_layout.specs.declared.entry.Dirent.TheVariants.{Free, Used}
 pub use Rattle.fs_layout.specs.Bits.{bit_of}
 pub use Rattle.fs_layout.specs.declared.inode.Dinode.{Dinode}
 pub use Rattle.fs_layout.specs.Entry.{dirent_at}
 pub use Rattle.fs_layout.specs.Inode.{dinode_at}
-pub use Rattle.fs_layout.specs.Widths.{block_len, inodes_per_block, log_head_len, super_block, super_magic_at}
+pub use Rattle.fs_layout.specs.Widths.{addresses, block_len, inodes_per_block, log_head_len, super_block, super_magic_at}
 unfoldable pub use Rattle.fs_layout.specs.Bytes.{u32_at}
 pub use Rattle.fs_layout.specs.Indirect.{numbers_in}
 pub use Rattle.fs_layout.specs.declared.superblock.Super.{Super}

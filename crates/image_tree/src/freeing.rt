@@ -1,15 +1,15 @@
 //! Nodes without a name are freed, one after the other.
-ghost use Rattle.std.specs.Prelude.{◌≡◌, ◌≢◌, ◌⊎◌, ◌+◌, ◌/◌, ◌%◌, ◌<◌, ◌≤◌, ◌&&◌, not, ℕ, [], true, false, pos, All, IfOk, OnOk};
+ghost use Rattle.std.specs.Prelude.{◌≡◌, ◌≢◌, ◌⊎◌, ◌+◌, ◌/◌, ◌%◌, ◌<◌, ◌≤◌, ◌&&◌, not, ℕ, [], true, false, All, IfOk, OnOk};
 ghost use Rattle.image_tree.specs.Vocabulary.{faults_after, ComesByCalls, bit_of, dinode_at, logged, recovered, sizes_of, inodes_per_block};
 ghost use Rattle.image_tree.specs.Checks.{is_marked};
 ghost use Rattle.image_tree.specs.Damage.{IsWellFormed};
-ghost use Rattle.image_tree.specs.Inodes.{is_free, is_live, numbers_by};
+ghost use Rattle.image_tree.specs.Inodes.{inode_of, is_free, is_live};
 ghost use Rattle.image_tree.specs.Layout.{IsLayout};
 ghost use Rattle.image_tree.specs.Reads.{OnlyReads};
 ghost use Rattle.image_tree.specs.Shape.{is_orphan};
 ghost use Rattle.image_tree.specs.Trees.{tree_in};
 ghost use Rattle.image_tree.specs.Views.{IsViewOf};
-ghost use Rattle.image_tree.specs.Freeing.{AreNamed, FreedNodesLeaveImages, IsFreed, IsReclaimed};
+ghost use Rattle.image_tree.specs.Freeing.{AreFreed, AreNamed, FreedDisksAgree, FreedNodesLeaveImages, IsFreedAlone, IsReclaimed, freed_inode};
 
 use crate::putting::put_both;
 use crate::{Layout, load, load_inode, numbers_at};
@@ -25,6 +25,11 @@ const KIND_FREE: i16 = 0;
 /// A node without a name is freed, and the image stays well formed. The function does nothing: it carries the law.
 pub fn freed_nodes_leave_images()
     ensures { FreedNodesLeaveImages }
+{}
+
+/// What freeing leaves is one disk, but for its log. The function does nothing: it carries the law.
+pub fn freed_disks_agree()
+    ensures { FreedDisksAgree }
 {}
 
 /// Frees each node of an image of this version with count 0, in rising number: the blocks that it names are marked free,
@@ -43,10 +48,10 @@ pub fn reclaim<D: Device>(device: &mut D, version: Version, sizes: Super) -> Res
     ensures well { IsWellFormed version (D.contents device.new) }
     ensures tree { tree_in version (D.contents device.new) ≡ tree_in version (D.contents device.old) }
 
-    // Afterwards each node has a name, the blocks of those that had none are free, and the log is empty.
+    // Afterwards each node has a name, those that had none are free, and so are their blocks; nothing else is changed outside the log,
+    // which is empty.
     ensures named { OnOk result (AreNamed (D.contents device.new)) }
-    ensures freed { OnOk result ((i : ℕ) → is_orphan (D.contents device.old) i ≡ true
-        → All (λ b. b ≢ 0 → is_marked (D.contents device.new) b ≡ false) (numbers_by (D.contents device.old) i)) }
+    ensures freed { OnOk result (AreFreed (D.contents device.old) (D.contents device.new)) }
     ensures empty { OnOk result (logged (D.contents device.new) ≡ []) }
 
     // Where each node has a name, nothing is written.
@@ -131,9 +136,9 @@ fn free<D: Device>(device: &mut D, layout: &Layout, i: u32) -> Result<(), Fault>
     ensures faults { D.failures device.new ≡ faults_after result (D.failures device.old) }
     ensures calls { ComesByCalls D.Called device.old device.new }
     ensures either { IsViewOf layout.now.version (D.contents device.old) (D.contents device.new)
-        ⊎ IsFreed layout.now.version (D.contents device.old) (D.contents device.new) i }
+        ⊎ IsFreedAlone layout.now.version (D.contents device.old) (D.contents device.new) i }
     ensures empty { OnOk result (logged (D.contents device.new) ≡ []) }
-    ensures freed { OnOk result (IsFreed layout.now.version (D.contents device.old) (D.contents device.new) i) }
+    ensures freed { OnOk result (IsFreedAlone layout.now.version (D.contents device.old) (D.contents device.new) i) }
 {
     let numbers = numbers_at(device, layout, i)?;
     let bitmap = freed_bitmap(device, layout, numbers.as_slice())?;
@@ -176,7 +181,7 @@ fn clear_all(bitmap: &mut Block, numbers: &[u32])
 fn freed_inodes<D: Device>(device: &mut D, layout: &Layout, i: u32) -> Result<Block, Fault>
     requires layout { IsLayout (D.contents device.old) layout.now }
     requires bound { i < layout.now.sizes.ninodes }
-    ensures kind { IfOk result (λ inodes. (dinode_at (i % inodes_per_block) inodes).kind ≡ pos 0) }
+    ensures emptied { IfOk result (λ inodes. dinode_at (i % inodes_per_block) inodes ≡ freed_inode (inode_of (D.contents device.old) i)) }
     ensures others { IfOk result (λ inodes. (q : ℕ) → q < inodes_per_block → q ≢ i % inodes_per_block
         → dinode_at q inodes
         ≡ dinode_at q (recovered (D.contents device.old) ((sizes_of (D.contents device.old)).inodestart + i / inodes_per_block))) }
@@ -194,7 +199,7 @@ fn freed_inodes<D: Device>(device: &mut D, layout: &Layout, i: u32) -> Result<Bl
 
 /// The inode, emptied and free. Its device numbers stay.
 fn freed(inode: &Dinode) -> Dinode
-    ensures { result.kind ≡ pos 0 }
+    ensures { result ≡ freed_inode inode.now }
 {
     Dinode {
         kind: KIND_FREE,

@@ -36,7 +36,7 @@ pub use crate::content::load_content;
 pub use crate::disk::{Layout, load, load_inode};
 pub use crate::examination::{examine, examine_layout};
 pub use crate::fault::{Damage, MountFault};
-pub use crate::freeing::{freed_nodes_leave_images, reclaim};
+pub use crate::freeing::{freed_disks_agree, freed_nodes_leave_images, reclaim};
 pub use crate::heads::{find_layout, find_version, supers_tell_versions};
 pub use crate::inodes::{is_directory, is_free, is_live, is_live_directory};
 pub use crate::numbers::numbers_at;

@@ -1,12 +1,9 @@
 //! What is done with a disk before it is used: recovery, and then the freeing of nodes without a name.
-ghost use Rattle.std.specs.Prelude.{◌≡◌, ◌≢◌, ◌<◌, ◌≤◌, ℕ, [], true, false, All, OnOk};
+ghost use Rattle.std.specs.Prelude.{◌≡◌, ◌<◌, ◌≤◌, ℕ, [], OnOk};
 ghost use Rattle.image_tree.specs.Vocabulary.{block_at, faults_after, ComesByCalls, logged, recovered, sizes_of, IsOutsideLog};
-ghost use Rattle.image_tree.specs.Checks.{is_marked};
 ghost use Rattle.image_tree.specs.Damage.{IsWellFormed};
-ghost use Rattle.image_tree.specs.Inodes.{numbers_by};
-ghost use Rattle.image_tree.specs.Shape.{is_orphan};
 ghost use Rattle.image_tree.specs.Trees.{tree_in};
-ghost use Rattle.image_tree.specs.Freeing.{AreNamed};
+ghost use Rattle.image_tree.specs.Freeing.{AreFreed, AreNamed};
 
 use crate::freeing::reclaim;
 use crate::putting::install;
@@ -28,11 +25,10 @@ pub fn settle<D: Device>(device: &mut D, version: Version, sizes: Super) -> Resu
     ensures well { IsWellFormed version (D.contents device.new) }
     ensures tree { tree_in version (D.contents device.new) ≡ tree_in version (D.contents device.old) }
 
-    // Afterwards each node has a name, the blocks of those that had none are free, and the log is empty. Where each had one,
-    // the disk is the recovered one.
+    // Afterwards each node has a name, and the log is empty. The disk is the recovered one but for the nodes that had no name: they are
+    // free, and so are their blocks. Where each node had one, the disk is the recovered one.
     ensures named { OnOk result (AreNamed (D.contents device.new)) }
-    ensures freed { OnOk result ((i : ℕ) → is_orphan (D.contents device.old) i ≡ true
-        → All (λ b. b ≢ 0 → is_marked (D.contents device.new) b ≡ false) (numbers_by (D.contents device.old) i)) }
+    ensures freed { OnOk result (AreFreed (D.contents device.old) (D.contents device.new)) }
     ensures empty { OnOk result (logged (D.contents device.new) ≡ []) }
     ensures home { AreNamed (D.contents device.old) → OnOk result ((b : ℕ) → IsOutsideLog (sizes_of (D.contents device.old)) b
         → block_at (D.contents device.new) b ≡ recovered (D.contents device.old) b) }

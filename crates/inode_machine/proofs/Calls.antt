@@ -1,6 +1,6 @@
 -- The calls on descriptors are right, whatever the other harts do.
 use Rattle.image_versions.specs.declared.version.Version.{Version}
-use Rattle.inode_machine.proofs.Vocabulary.{◌≡◌, inl, inr, ℕ, ◌+◌, ◌-◌, ◌<◌, ◌≤◌, Bool, true, false, nat_lt, not, ◌==◌, List, [], ◌∷◌, ◌++◌, length, Option, Some, None, refl, sym, ◌∙◌, ap, subst, arith, nat_tests, Safe, Laws, Began, Begins, Begun, Ends, IsBeginning, Right, Lawful, Cause, BadDescriptor, Call, Node, hart_count, put, next_of, reply_of, had_room, Row, Hold, holds_raised, one_if, put_same, put_other, same_or, IsWholeCall, Desk, World, stage_of, face_or, face_of, Held, Own, Others, Rests, own_of, Idle, Inv, machine, asked_limit, say, dup_program, close_program, stat_program, stat_reply, read_program, read_reply, program, limit, rest_cost, descriptor_calls, calls_that, on_descriptors, begin_call, Refusal}
+use Rattle.inode_machine.proofs.Vocabulary.{◌≡◌, inl, inr, ℕ, ◌+◌, ◌-◌, ◌<◌, ◌≤◌, Bool, true, false, nat_lt, not, ◌==◌, List, [], ◌∷◌, ◌++◌, length, Option, Some, None, refl, sym, ◌∙◌, ap, subst, arith, nat_tests, Safe, Laws, Began, Begins, Begun, Ends, IsBeginning, Right, Lawful, Cause, BadDescriptor, Call, Node, hart_count, put, next_of, reply_of, had_room, Row, Hold, holds_raised, one_if, put_same, put_other, same_or, IsWholeCall, Desk, World, stage_of, face_or, face_of, Held, Own, Others, Rests, own_of, Idle, Inv, machine, asked_limit, dup_program, close_program, stat_program, stat_reply, read_program, read_reply, program, limit, rest_cost, descriptor_calls, calls_that, on_descriptors, begin_call, Refusal}
 use Rattle.plain_tree.specs.declared.answer.Answer.TheVariants as answers
 use Rattle.plain_tree.specs.declared.call.Call.TheVariants as calls
 use Rattle.plain_tree.specs.declared.step.Action.TheVariants as steps

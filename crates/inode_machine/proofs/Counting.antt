@@ -150,6 +150,10 @@ dead_is : (o : Option Node) → is_dead o ≡ true → is_live o ≡ false
 dead_is None e = refl
 dead_is (Some v) e = grind (arith, nat_tests)
 
+dead_there : (o : Option Node) → is_dead o ≡ true → o ≢ None
+dead_there None e q = cc
+dead_there (Some v) e q = cc
+
 one_is : (a : ℕ) → (a == 1) ≡ true → a ≡ 1
 one_is a e = eq_is a 1 e
 
@@ -157,12 +161,13 @@ one_is a e = eq_is a 1 e
 pub record Lasting (h i : ℕ) (v : World) (O : Own) (L : ℕ → Option ℕ) (b : Bool) : Type 0 where
   pub fair : Fair h v (record (reserved h i v) { lock = L })
   pub dead : is_live (v.all.nodes i) ≡ false
+  pub there : v.all.nodes i ≢ None
   pub only : O.mine.refs i ≡ 1
   pub owned : own_of h (record (reserved h i v) { lock = L }) ≡ record O { inodes = put O.inodes i (Some (record { disk = v.all.nodes i; node = v.all.nodes i; alone = true; locked = b })) }
 
 pub lasting : Version → (h i : ℕ) (v : World) (O : Own) (L : ℕ → Option ℕ) (b : Bool) → own_of h v ≡ O → O.desk.lender ≡ None → h < hart_count → Inv v → O.inodes i ≡ None → 0 < O.mine.refs i → O.mine.pending ≡ None → is_last v i ≡ true
     → ((j : ℕ) → j ≢ i → L j ≡ v.lock j) → is_hart (L i) h ≡ b → ((g : ℕ) → L i ≡ Some g → g ≡ h) → Lasting h i v O L b
-lasting version h i v O L b ov free lt inv out refers none e there here mine = record { fair = fair inv did; dead = dead; only = only; owned = owned }
+lasting version h i v O L b ov free lt inv out refers none e there here mine = record { fair = fair inv did; dead = dead; there = has; only = only; owned = owned }
   where
     more_v : 0 < (v.harts h).refs i
     more_v = let r = my_refs h v O i ov in omega (arith, r, refers)
@@ -188,6 +193,9 @@ lasting version h i v O L b ov free lt inv out refers none e there here mine = r
 
     dead : is_live (v.all.nodes i) ≡ false
     dead = subst (λ (o : Option Node). is_live o ≡ false) (inv.whole i nobody) (dead_is (v.disk i) two.1)
+
+    has : v.all.nodes i ≢ None
+    has q = dead_there (v.disk i) two.1 (inv.whole i nobody ∙ q)
 
     only_v : v.refs i ≡ (v.harts h).refs i
     only_v = let o = one_refs v h i inv lt in let r1 = one_is (v.refs i) two.0 in let m = more_v in omega (arith, o, r1, m)
@@ -398,7 +406,7 @@ lock_free h i v O inv ov out = elim (either (is_hart (v.lock i) h)) [ inr y ↦ 
 
 pub s-down : (version : Version) {A : Type 0} {h i : ℕ} {k : Bool → P (machine version) A} {B : List Step → Type 0} {Q : A → List Step → World → Type 0} {n : ℕ} {es : List Step} {w : World} {O : Own}
     → own_of h w ≡ O → O.desk.lender ≡ None → h < hart_count → 0 < n → O.inodes i ≡ None → 0 < O.mine.refs i → O.mine.pending ≡ None → MayDrop O i
-    → ((l : ℕ) (s : Option Node) (u : World) → l + 1 ≡ n → is_live s ≡ false → O.mine.refs i ≡ 1 → own_of h u ≡ record O { inodes = put O.inodes i (Some (record { disk = s; node = s; alone = true; locked = true })) } → Safe (machine version) h B Q (k true) l es u)
+    → ((l : ℕ) (s : Option Node) (u : World) → l + 1 ≡ n → is_live s ≡ false → s ≢ None → O.mine.refs i ≡ 1 → own_of h u ≡ record O { inodes = put O.inodes i (Some (record { disk = s; node = s; alone = true; locked = true })) } → Safe (machine version) h B Q (k true) l es u)
     → ((l : ℕ) (u : World) → l + 1 ≡ n → own_of h u ≡ record O { mine = record { refs = put O.mine.refs i (O.mine.refs i - 1); walk = O.mine.walk; pending = O.mine.pending } } → Safe (machine version) h B Q (k false) l es u)
     → Safe (machine version) h B Q (Do (Down i) unmarked k) n es w
 s-down version {A} {h} {i} {k} {B} {Q} {n} {es} {w} {O} owns free lt pos out refers none still last rest = s-owned version owns free pos (λ v inv ov. ((spares h i v O ov refers (elim still [ inl m ↦ inl m | inr m ↦ inr (not_home h i v O O.desk.opening inv ov free lt m.0) ]), has_none h i v O ov out), (λ x honest. at v inv ov (is_last v i) refl)))
@@ -407,7 +415,7 @@ s-down version {A} {h} {i} {k} {B} {Q} {n} {es} {w} {O} owns free lt pos out ref
     at v inv ov true e =
         let a = lasting version h i v O (put v.lock i (Some h)) true ov free lt inv out refers none e (λ j ne. put_other v.lock i (Some h) j ne) (is_me h (put v.lock i (Some h) i) (put_same v.lock i (Some h)))
         (λ g q. let s : Some h ≡ Some g = sym (put_same v.lock i (Some h)) ∙ q in let c : h ≡ g = cc in sym c) in
-        quiet version a.fair refl pos (λ l q. (last l (v.all.nodes i) (record (reserved h i v) { lock = put v.lock i (Some h) }) q a.dead a.only a.owned).wp)
+        quiet version a.fair refl pos (λ l q. (last l (v.all.nodes i) (record (reserved h i v) { lock = put v.lock i (Some h) }) q a.dead a.there a.only a.owned).wp)
     at v inv ov false e = let a = counting version h i v O ov free lt inv out refers none still in quiet version a.fair a.stage pos (λ l q. (rest l (counted_down h i v) q a.owned).wp)
 
 -- in a walk: what was the last one is kept for later, without its lock
@@ -422,16 +430,8 @@ s-walk-down version {A} {h} {i} {k} {B} {Q} {n} {es} {w} {O} owns free lt pos ou
     at v inv ov true e =
         let a = lasting version h i v O v.lock false ov free lt inv out refers none e (λ j ne. refl) (lock_free h i v O inv ov out)
         (λ g q. absurd (let c : is_last v i ≡ true = e in elim (same_or g h) [ inl s ↦ locks_not h i v O inv ov out (q ∙ ap (λ (z : ℕ). Some z) s) | inr ne ↦ held_not g v inv ov ne q c ])) in
-        quiet version a.fair refl pos (λ l q. (last l (v.all.nodes i) (reserved h i v) q a.dead (there a.owned) a.only a.owned).wp)
+        quiet version a.fair refl pos (λ l q. (last l (v.all.nodes i) (reserved h i v) q a.dead a.there a.only a.owned).wp)
       where
-        -- what has no links has a record
-        there : own_of h (reserved h i v) ≡ record O { inodes = put O.inodes i (Some (record { disk = v.all.nodes i; node = v.all.nodes i; alone = true; locked = false })) } → v.all.nodes i ≢ None
-        there owned z =
-            let d = has_disk h i (reserved h i v) (record O { inodes = put O.inodes i (Some (record { disk = v.all.nodes i; node = v.all.nodes i; alone = true; locked = false })) }) (record { disk = v.all.nodes i; node = v.all.nodes i; alone = true; locked = false }) owned (put_same O.inodes i (Some (record { disk = v.all.nodes i; node = v.all.nodes i; alone = true; locked = false }))) in
-            let c = (and_true (v.refs i == 1) (is_dead (v.disk i)) e).1 in
-            let f : is_dead (v.disk i) ≡ false = ap (λ (o : Option Node). is_dead o) (d ∙ z) in
-            cc (c, f)
-
         -- another hart's lock has a reference of its own
         held_not : (g : ℕ) (v : World) → Inv v → own_of h v ≡ O → g ≢ h → v.lock i ≡ Some g → is_last v i ≡ true → ⊥
         held_not g v inv ov ne q c =

@@ -1,6 +1,6 @@
 -- The act of an open that makes its file: at the entry's put the file is there, under its name, and open; or the hart has no descriptor left, and the file stays.
 use Rattle.image_versions.specs.declared.version.Version.{Version}
-use Rattle.inode_machine.proofs.Vocabulary.{◌≡◌, ◌≢◌, inl, ℕ, ◌+◌, ◌<◌, ◌≤◌, Bool, true, false, ◌&&◌, nat_lt, List, [], ◌∷◌, Option, Some, None, refl, sym, ◌∙◌, ap, subst, arith, if◌then◌else◌, nat_tests, Do, P, Safe, Descriptors, Node, Open, Opened, NoRoom, hart_count, descriptor_count, Name, Tree, put, look, live_directory, settle, is_directory, node_or, with_nodes, new_file, IsNewNode, creates, has_room, lowest, refusal_with, refusal_by, effect_with, effect_by, answer_with, answer_by, is_absent, place_of, IsInPlace, key_is, IsWellFormed, look_same, well_file, absent_slot, and_true, Walk, Step, Look, Note, World, Mark, EntryResult, InPlace, NoBlock, NoSlot, Enter, Mends, with_entry, Made, made_by, look_made, looked, new_id, file_for, Own, Held, own_of, Inv, machine, IsName, makes, enter_cost}
+use Rattle.inode_machine.proofs.Vocabulary.{◌≡◌, ◌≢◌, inl, ℕ, ◌+◌, ◌<◌, ◌≤◌, Bool, true, false, ◌&&◌, nat_lt, List, [], ◌∷◌, Option, Some, None, refl, sym, ◌∙◌, ap, subst, arith, if◌then◌else◌, nat_tests, Do, P, Safe, Descriptors, Node, Open, Opened, NoRoom, hart_count, descriptor_count, Name, Tree, put, look, live_directory, settle, node_or, with_nodes, new_file, IsNewNode, creates, has_room, lowest, refusal_with, refusal_by, effect_with, effect_by, answer_with, answer_by, is_absent, place_of, IsInPlace, key_is, IsWellFormed, look_same, well_file, absent_slot, Walk, Step, Look, Note, World, Mark, EntryResult, InPlace, NoBlock, NoSlot, Enter, Mends, with_entry, Made, made_by, look_made, looked, new_id, file_for, Own, Held, own_of, Inv, machine, IsName, makes, enter_cost}
 use Rattle.inode_machine.proofs.Basics.{fair, fair_then, has_node, my_refs, refs_walk, stage_walk, Mendable, mended_own, acts_gone, act_good, no_walk, of_range, told_step, lowest_same, not_at, Fresh, fresh_id, Opening, opened_row, opened_tree, opened_world, opening}
 use Rattle.inode_machine.proofs.Addings.{Adding, added_nodes, added_world, adding}
 use Rattle.inode_machine.proofs.Enters.{EnterFine, s-enter-with}
@@ -54,7 +54,7 @@ pub s-enter-file : (version : Version) {A : Type 0} {h : ℕ} (d i : ℕ) {x z :
     → ((l : ℕ) (u : World) → l + 1641 ≡ n → own_of h u ≡ mended_own O → Safe (machine version) h B Q (k NoSlot) l es u)
     → Safe (machine version) h B Q (Do (Enter d e i) m k) n es w
 s-enter-file version {A} {h} d i {x} {z} X e path flags {m} {k} {B} {Q} {n} {es} {w} {O} owns free lt pos joined walks none can flag in_place block slot isd xd xn shared locked live finds isi lone locked2 blank refers named from below notes b then_ full no_block no_slot =
-    s-enter-with version d i X e owns free lt pos joined isd xd locked (and_true (nat_lt 0 X.count) (is_directory X.kind) live).1 named from below can block slot (λ v inv ov. subst (λ (o : Option Mark). EnterFine version h d e i o n B Q es v (record v { disk = put v.disk d (Some (with_entry e i X)) }) (k InPlace)) (sym in_place) (by_room v inv ov (has_room (v.all.fds h)) refl)) no_block no_slot
+    s-enter-with version d i X e owns free lt pos joined isd xd locked live named from below can block slot (λ v inv ov. subst (λ (o : Option Mark). EnterFine version h d e i o n B Q es v (record v { disk = put v.disk d (Some (with_entry e i X)) }) (k InPlace)) (sym in_place) (by_room v inv ov (has_room (v.all.fds h)) refl)) no_block no_slot
   where
     u1 : World → World
     u1 v = record v { disk = put v.disk d (Some (with_entry e i X)) }

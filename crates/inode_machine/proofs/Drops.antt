@@ -19,7 +19,7 @@ pub s-drop : (version : Version) {A : Type 0} {h : ℕ} (i : ℕ) {k : ThisP A} 
     → Safe (machine version) h B Q (drop i k) n es w
 s-drop version i {O = O} owns free lt few joined out refers none still may rest =
     s-down version owns free lt (omega arith) out refers none (elim may [ inl m ↦ inl m | inr m ↦ inr (m, λ y is. absurd (cc (is, still))) ])
-    (λ l s u q dead one own1. s-free-all version s own1 free lt (omega (arith, q, few)) joined (put_same O.inodes i (Some (record { disk = s; node = s; alone = true; locked = true }))) one none (elim may [ inl m ↦ absurd (omega (arith, m, one)) | inr m ↦ m ]) still
+    (λ l s u q dead there one own1. s-free-all version s own1 free lt (omega (arith, q, few)) joined (put_same O.inodes i (Some (record { disk = s; node = s; alone = true; locked = true }))) there dead one none (elim may [ inl m ↦ absurd (omega (arith, m, one)) | inr m ↦ m ]) still
     (λ l2 u2 q2 own2. rest l2 u2 (omega (arith, q, q2)) (own2 ∙ (λ r. record O {
       inodes = gone_back O.inodes i (Some (record { disk = s; node = s; alone = true; locked = true })) (Some (record { disk = None; node = None; alone = true; locked = true })) (Some (record { disk = None; node = None; alone = true; locked = false })) None out r;
       mine = record { refs = put O.mine.refs i (O.mine.refs i - 1); walk = O.mine.walk; pending = O.mine.pending };

@@ -1,7 +1,7 @@
 -- A name is entered: without room for it nothing is; and mkdir's act, which is at that moment.
 use Rattle.image_versions.specs.declared.version.Version.{Version}
 use Rattle.inode_machine.proofs.Vocabulary.{◌≡◌, ◌≢◌, ℕ, ◌+◌, ◌<◌, ◌≤◌, Bool, true, false, nat_lt, List, [], ◌∷◌, Option, Some, None, refl, sym, ◌∙◌, ap, subst, arith, nat_tests, Do, Ran, ExecResult, P, own, onto, Good, Fine, Safe, Wp, Node, Mkdir, Done, hart_count, count_limit, Name, Tree, put, look, is_directory, live_directory, settle, node_or, node_at, with_nodes, raised, new_directory, IsNewNode, refusal_with, refusal_by, effect_with, effect_by, answer_with, answer_by, place_of, IsInPlace, IsWellFormed, and_true, put_same, put_other, look_same, effect_well, Step, Look, Note, World, Mark, Outside, Room, RoomFor, Picks, EntryResult, InPlace, NoBlock, NoSlot, Enter, Mends, with_entry, enter_if, enter_in, is_full_directory, Made, new_id, marked, places, with_mark, Own, Held, own_of, Inv, machine, IsName, makes, enter_cost}
-use Rattle.inode_machine.proofs.Basics.{s-owned, locks_it, has_disk, has_node, stage_walk, Mendable, mended_own, mend_fine, acts_gone, act_good, no_walk, of_range, told_step, two_put}
+use Rattle.inode_machine.proofs.Basics.{s-owned, locks_it, has_disk, has_node, stage_walk, Mendable, mended_own, mend_fine, acts_gone, act_good, no_walk, of_range, told_step, two_put, less_is}
 use Rattle.inode_machine.proofs.Addings.{Adding, added_world, adding}
 
 -- an entry's put, with its mark
@@ -9,16 +9,19 @@ abbrev pub EnterFine : (version : Version) {A : Type 0} → ℕ → ℕ → Name
 EnterFine version h d e i m n B Q es v u p = Fine (machine version) h (places version h (Enter d e i) InPlace m v) enter_cost n B es v (marked version h m u) (λ l. Wp (machine version) h B Q p l (onto (own h (places version h (Enter d e i) InPlace m v)) es) (marked version h m u))
 
 pub s-enter-with : (version : Version) {A : Type 0} {h : ℕ} (d i : ℕ) {x : Held} (X : Node) (e : Name) {m : EntryResult → Option Mark} {k : EntryResult → P (machine version) A} {B : List Step → Type 0} {Q : A → List Step → World → Type 0} {n : ℕ} {es : List Step} {w : World} {O : Own}
-    → own_of h w ≡ O → O.desk.lender ≡ None → h < hart_count → enter_cost < n → O.desk.joined ≡ true → O.inodes d ≡ Some x → x.disk ≡ Some X → x.locked ≡ true → is_directory X.kind ≡ true → IsName version e → 1 ≤ i → i < O.ninodes → Mendable O → m NoBlock ≡ Some Mends → m NoSlot ≡ Some Mends
+    → own_of h w ≡ O → O.desk.lender ≡ None → h < hart_count → enter_cost < n → O.desk.joined ≡ true → O.inodes d ≡ Some x → x.disk ≡ Some X → x.locked ≡ true → live_directory (Some X) ≡ true → IsName version e → 1 ≤ i → i < O.ninodes → Mendable O → m NoBlock ≡ Some Mends → m NoSlot ≡ Some Mends
     → ((v : World) → Inv v → own_of h v ≡ O → EnterFine version h d e i (m InPlace) n B Q es v (record v { disk = put v.disk d (Some (with_entry e i X)) }) (k InPlace))
     → ((l : ℕ) (u : World) → l + 1641 ≡ n → own_of h u ≡ mended_own O → Safe (machine version) h B Q (k NoBlock) l es u)
     → ((l : ℕ) (u : World) → l + 1641 ≡ n → own_of h u ≡ mended_own O → Safe (machine version) h B Q (k NoSlot) l es u)
     → Safe (machine version) h B Q (Do (Enter d e i) m k) n es w
-s-enter-with version {A} {h} d i {x} X e {m} {k} {B} {Q} {n} {es} {w} {O} owns free lt pos joined isd xd locked kind named from below can block slot good no_block no_slot = s-owned version owns free pos (λ v inv ov. (
-  ((locks_it h d v O x ov isd locked, ap (λ (o : Own). o.desk.joined) ov ∙ joined), record { node = X; is = has_disk h d v O x ov isd ∙ xd; fits = kind }, (from, (let s : v.all.ninodes ≡ O.ninodes = ap (λ (o : Own). o.ninodes) ov in omega (arith, s, below))), named),
+s-enter-with version {A} {h} d i {x} X e {m} {k} {B} {Q} {n} {es} {w} {O} owns free lt pos joined isd xd locked live named from below can block slot good no_block no_slot = s-owned version owns free pos (λ v inv ov. (
+  ((locks_it h d v O x ov isd locked, ap (λ (o : Own). o.desk.joined) ov ∙ joined), record { node = X; is = has_disk h d v O x ov isd ∙ xd; fits = (linked.1, less_is 0 X.count linked.0) }, (from, (let s : v.all.ninodes ≡ O.ninodes = ap (λ (o : Own). o.ninodes) ov in omega (arith, s, below))), named),
   (λ o _. by_slots v inv ov o (is_full_directory (v.disk d))),
 ))
   where
+    linked : (nat_lt 0 X.count ≡ true) × (is_directory X.kind ≡ true)
+    linked = and_true (nat_lt 0 X.count) (is_directory X.kind) live
+
     Goal : World → ExecResult EntryResult World → Type 0
     Goal v z = Good (machine version) EntryResult h (λ a. places version h (Enter d e i) a (m a) v) enter_cost n B es v ⊥ (with_mark version h m z) (λ l a u. Wp (machine version) h B Q (k a) l (onto (own h (places version h (Enter d e i) a (m a) v)) es) u)
 
@@ -90,7 +93,7 @@ pub s-enter-directory : (version : Version) {A : Type 0} {h : ℕ} (d i : ℕ) {
     → ((l : ℕ) (u : World) → l + 1641 ≡ n → own_of h u ≡ mended_own O → Safe (machine version) h B Q (k NoSlot) l es u)
     → Safe (machine version) h B Q (Do (Enter d e i) m k) n es w
 s-enter-directory version {A} {h} d i {x} {z} X e path {m} {k} {B} {Q} {n} {es} {w} {O} owns free lt pos joined walks none can in_place block slot isd xd xn shared locked live finds few isi lone locked2 blank named from below notes b then_ no_block no_slot =
-    s-enter-with version d i X e owns free lt pos joined isd xd locked (and_true (nat_lt 0 X.count) (is_directory X.kind) live).1 named from below can block slot (λ v inv ov. subst (λ (o : Option Mark). EnterFine version h d e i o n B Q es v (record v { disk = put v.disk d (Some (with_entry e i X)) }) (k InPlace)) (sym in_place) (good v inv ov)) no_block no_slot
+    s-enter-with version d i X e owns free lt pos joined isd xd locked live named from below can block slot (λ v inv ov. subst (λ (o : Option Mark). EnterFine version h d e i o n B Q es v (record v { disk = put v.disk d (Some (with_entry e i X)) }) (k InPlace)) (sym in_place) (good v inv ov)) no_block no_slot
   where
     good : (v : World) → Inv v → own_of h v ≡ O → EnterFine version h d e i (makes (Look i)) n B Q es v (record v { disk = put v.disk d (Some (with_entry e i X)) }) (k InPlace)
     good v inv ov =

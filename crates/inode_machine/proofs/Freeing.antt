@@ -1,6 +1,6 @@
 -- Inodes that one hart keeps alone: locked, freed, and anybody's again.
 use Rattle.image_versions.specs.declared.version.Version.{Version}
-use Rattle.inode_machine.proofs.Vocabulary.{◌≡◌, ◌≢◌, ◌⊎◌, inl, inr, ℕ, ◌+◌, ◌-◌, ◌<◌, Bool, true, false, ◌==◌, List, [], Option, Some, None, refl, sym, ◌∙◌, ap, subst, arith, Do, unmarked, P, Good, Fine, Safe, Wp, Node, hart_count, put, is_live, is_named, settle, row_of, settle_nodes, sum_below, either, same_or, put_same, put_other, none_any, look_live, Step, Walk, Mine, World, Entry, with_mark, lock_if, blank, counted_down, file_count, locked, unlocked, Frees, Take, UnlockInode, Free, Forget, file_tables_of, own_names, Held, view, is_hart, if_kept, own_of, IsReferredTo, IsReached, IsAlone, Inv, IsOut, machine, looking_cost, number_is, Sought, sum_part, one_yes, one_if, eq_self, Own, Query, Sight, seen_in, type_of, emptying_cost}
+use Rattle.inode_machine.proofs.Vocabulary.{◌≡◌, ◌≢◌, ◌⊎◌, inl, inr, ℕ, ◌+◌, ◌-◌, ◌<◌, Bool, true, false, ◌==◌, List, [], Option, Some, None, refl, sym, ◌∙◌, ap, subst, arith, Do, unmarked, P, Good, Fine, Safe, Wp, Node, hart_count, put, is_live, is_named, settle, row_of, settle_nodes, sum_below, either, nat_lt, nat_tests, HasLast, same_or, put_same, put_other, none_any, look_live, Step, Walk, Mine, World, Entry, with_mark, lock_if, blank, counted_down, file_count, locked, unlocked, Frees, Take, UnlockInode, Free, Forget, file_tables_of, own_names, Held, view, is_hart, if_kept, own_of, IsReferredTo, IsReached, IsAlone, Inv, IsOut, machine, looking_cost, number_is, Sought, sum_part, one_yes, one_if, eq_self, Own, Query, Sight, seen_in, type_of, emptying_cost}
 use Rattle.inode_machine.proofs.Frame.{child_directory, file_tables_same, put_elim, ours_none, ours_some, kept_here, HartStep, Fair, fair, fair_then, own_inodes, has_inode, found_more, one_refs, two_refs, stands_in, directory_named, refers_put, resting_names, type_on}
 use Rattle.inode_machine.proofs.Rules.{s-owned, quiet, each_refs, here_refs, walks_refs, total_same, total_changed, my_refs, is_me, has_disk, has_node, locks_it}
 use Rattle.inode_machine.proofs.Counting.{Writes, writes, spares, not_home}
@@ -147,13 +147,39 @@ unnamed h i v inv lt lone kept mine = none_any hart_count _ (λ g lg. hart_not g
           ]
         ]
 
--- The type of a dead inode is cleared on the disk.
+-- What has no links has a record with that count.
+pub record NoLinks (o : Option Node) : Type 0 where
+  pub node : Node
+  pub is : o ≡ Some node
+  pub count : node.count ≡ 0
+
+none_less : (n : ℕ) → nat_lt 0 n ≡ false → n ≡ 0
+none_less n is = grind (arith, nat_tests, is)
+
+no_links : (o : Option Node) → o ≢ None → is_live o ≡ false → NoLinks o
+no_links None there dead = absurd (there refl)
+no_links (Some y) there dead = record { node = y; is = refl; count = none_less y.count dead }
+
+-- The type of a dead inode, to which the hart has the one reference, is cleared on the disk.
 pub s-free : (version : Version) {A : Type 0} {h i : ℕ} {x : Held} {k : Unit {0} → P (machine version) A} {B : List Step → Type 0} {Q : A → List Step → World → Type 0} {n : ℕ} {es : List Step} {w : World} {O : Own}
-    → own_of h w ≡ O → O.desk.lender ≡ None → h < hart_count → emptying_cost < n → O.desk.joined ≡ true → O.inodes i ≡ Some x → x.locked ≡ true → x.alone ≡ true → own_names O.row O.desk i ≡ false → O.mine.pending ≡ None
+    → own_of h w ≡ O → O.desk.lender ≡ None → h < hart_count → emptying_cost < n → O.desk.joined ≡ true → O.inodes i ≡ Some x → x.locked ≡ true → x.alone ≡ true → NoLinks x.disk → O.mine.refs i ≡ 1 → own_names O.row O.desk i ≡ false → O.mine.pending ≡ None
     → ((l : ℕ) (u : World) → l + 901 ≡ n → own_of h u ≡ record O { inodes = put O.inodes i (Some (record x { disk = None; node = None })) } → Safe (machine version) h B Q (k tt) l es u)
     → Safe (machine version) h B Q (Do (Free i) (λ a. Some (Frees i)) k) n es w
-s-free version {A} {h} {i} {x} {k} {B} {Q} {n} {es} {w} {O} owns free lt pos joined isi has lone mine none rest = s-owned version owns free pos (λ v inv ov. ((locks_it h i v O x ov isi has, ap (λ (o : Own). o.desk.joined) ov ∙ joined), (λ _ _. good v inv ov)))
+s-free version {A} {h} {i} {x} {k} {B} {Q} {n} {es} {w} {O} owns free lt pos joined isi has lone links one mine none rest = s-owned version owns free pos (λ v inv ov. (
+  ((locks_it h i v O x ov isi has, ap (λ (o : Own). o.desk.joined) ov ∙ joined), record { node = links.node; is = has_disk h i v O x ov isi ∙ links.is; fits = links.count }, last v inv ov),
+  (λ _ _. good v inv ov),
+))
   where
+    -- nobody else refers to what one hart keeps alone
+    last : (v : World) → Inv v → own_of h v ≡ O → HasLast h i v
+    last v inv ov =
+        let lone_at : v.alone i ≡ true = ap (λ (y : Held). y.alone) (has_inode h i v O x ov isi).1 ∙ lone in
+        let a = inv.alone i lone_at in
+        let s : Some a.hart ≡ Some h = sym a.kept ∙ (has_inode h i v O x ov isi).0 in
+        let e : a.hart ≡ h = cc in
+        let mine : (v.harts h).refs i ≡ 1 = my_refs h v O i ov ∙ one in
+        (a.counts ∙ ap (λ (z : ℕ). (v.harts z).refs i) e ∙ mine, mine)
+
     good : (v : World) → Inv v → own_of h v ≡ O → Fine (machine version) h [] emptying_cost n B es v (record v { disk = put v.disk i None; all = record (v.all) { nodes = put v.all.nodes i None } }) (λ l. Wp (machine version) h B Q (k tt) l es (record v { disk = put v.disk i None; all = record (v.all) { nodes = put v.all.nodes i None } }))
     good v inv ov = quiet version (fair_then wr.fair (fair wr.fair.inv did)) (λ z. record { tree = tree z; walk = λ g. (v.harts g).walk }) pos (λ l q. (rest l u q owned).wp)
       where
@@ -450,10 +476,10 @@ s-forget version {A} {h} {i} {x} {k} {B} {Q} {n} {es} {w} {O} owns free lt pos i
 
 -- Free, from the down that found the last reference: emptied, its lock given up, counted down.
 pub s-free-all : (version : Version) {A : Type 0} {h i : ℕ} (s : Option Node) {k : P (machine version) A} {B : List Step → Type 0} {Q : A → List Step → World → Type 0} {n : ℕ} {es : List Step} {w : World} {O : Own}
-    → own_of h w ≡ O → O.desk.lender ≡ None → h < hart_count → 902 < n → O.desk.joined ≡ true → O.inodes i ≡ Some (record { disk = s; node = s; alone = true; locked = true }) → O.mine.refs i ≡ 1 → O.mine.pending ≡ None → own_names O.row O.desk i ≡ false → O.mine.walk ≡ None
+    → own_of h w ≡ O → O.desk.lender ≡ None → h < hart_count → 902 < n → O.desk.joined ≡ true → O.inodes i ≡ Some (record { disk = s; node = s; alone = true; locked = true }) → s ≢ None → is_live s ≡ false → O.mine.refs i ≡ 1 → O.mine.pending ≡ None → own_names O.row O.desk i ≡ false → O.mine.walk ≡ None
     → ((l : ℕ) (u : World) → l + 903 ≡ n → own_of h u ≡ record O { inodes = put (put (put O.inodes i (Some (record { disk = None; node = None; alone = true; locked = true }))) i (Some (record { disk = None; node = None; alone = true; locked = false }))) i None; mine = record { refs = put O.mine.refs i (O.mine.refs i - 1); walk = O.mine.walk; pending = O.mine.pending } } → Safe (machine version) h B Q k l es u)
     → Safe (machine version) h B Q (Do (Free i) (λ _. Some (Frees i)) (λ _. Do (UnlockInode i) unmarked (λ _. Do (Forget i) unmarked (λ _. k)))) n es w
-s-free-all version {h = h} {i = i} s {O = O} owns free lt few joined isi one none unnamed still rest =
-    s-free version owns free lt (omega arith) joined isi refl refl unnamed none (λ l2 u2 q2 own2.
+s-free-all version {h = h} {i = i} s {O = O} owns free lt few joined isi there dead one none unnamed still rest =
+    s-free version owns free lt (omega arith) joined isi refl refl (no_links s there dead) one unnamed none (λ l2 u2 q2 own2.
     s-give-alone version own2 free lt (omega arith) (put_same _ i (Some (record { disk = None; node = None; alone = true; locked = true }))) refl refl (λ l3 u3 q3 own3.
     s-forget version own3 free lt (omega arith) (put_same _ i (Some (record { disk = None; node = None; alone = true; locked = false }))) refl refl refl refl one none unnamed (λ y is. absurd (cc (is, still))) (λ l4 u4 q4 own4. rest l4 u4 (omega arith) own4)))

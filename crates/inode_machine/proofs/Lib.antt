@@ -74,7 +74,6 @@ pub mod LinkEnters
 pub mod LinkNames
 pub mod LinkCalls
 pub mod Names
-pub mod Budgets
 pub mod MadeMoves
 pub mod MayMoves
 pub mod Ranges

@@ -1,6 +1,6 @@
 -- Link's name is entered: at this moment its hold goes, and the link stands.
 use Rattle.image_versions.specs.declared.version.Version.{Version}
-use Rattle.inode_machine.proofs.Vocabulary.{◌≡◌, ℕ, ◌+◌, ◌<◌, ◌≤◌, true, false, List, [], ◌∷◌, Option, Some, None, refl, sym, ◌∙◌, ap, subst, Do, P, Safe, Exists, NoEntry, Node, EnterStep, Done, hart_count, Name, Tree, put, is_directory, live_directory, look, settle, answer_with, answer_by, drop_hold, effect_with, effect_by, enter_hold, holds_raised, name_taken, node_or, place_of, refusal_with, refusal_by, IsInPlace, Row, IsWellFormed, and_true, put_same, look_same, effect_well, Step, Look, World, EntryResult, InPlace, NoBlock, NoSlot, Enter, InodeType, type_of, with_entry, with_walk, Made, new_id, Own, Held, own_of, Inv, machine, IsName, makes, enters, enter_cost}
+use Rattle.inode_machine.proofs.Vocabulary.{◌≡◌, ℕ, ◌+◌, ◌<◌, ◌≤◌, true, false, List, [], ◌∷◌, Option, Some, None, refl, sym, ◌∙◌, ap, subst, Do, P, Safe, Exists, NoEntry, Node, EnterStep, Done, hart_count, Name, Tree, put, live_directory, look, settle, answer_with, answer_by, drop_hold, effect_with, effect_by, enter_hold, holds_raised, name_taken, node_or, place_of, refusal_with, refusal_by, IsInPlace, Row, IsWellFormed, put_same, look_same, effect_well, Step, Look, World, EntryResult, InPlace, NoBlock, NoSlot, Enter, InodeType, type_of, with_entry, with_walk, Made, new_id, Own, Held, own_of, Inv, machine, IsName, makes, enters, enter_cost}
 use Rattle.inode_machine.proofs.Basics.{Fair, fair, fair_then, has_node, below_is, Writes, writes, own_walk, stage_walk, walk_did, Mendable, mended_own, act_good, told_step, Turned, gone_made, held_tree, held_world, high, turned}
 use Rattle.inode_machine.proofs.Writings.{put_twice}
 use Rattle.inode_machine.proofs.Removes.{type_of_directory}
@@ -55,7 +55,7 @@ pub s-enter-name : (version : Version) {A : Type 0} {h : ℕ} (d j : ℕ) {x : H
     → ((l : ℕ) (u : World) → l + 1641 ≡ n → own_of h u ≡ mended_own O → Safe (machine version) h B Q (k NoSlot) l es u)
     → Safe (machine version) h B Q (Do (Enter d e j) enters k) n es w
 s-enter-name version {A} {h} d j {x} X e path {k} {B} {Q} {n} {es} {w} {O} owns free lt pos joined walks none can holds isd xd xn shared locked live finds named from below b then_ no_block no_slot =
-    s-enter-with version d j X e owns free lt pos joined isd xd locked (and_true _ (is_directory X.kind) live).1 named from below can refl refl good no_block no_slot
+    s-enter-with version d j X e owns free lt pos joined isd xd locked live named from below can refl refl good no_block no_slot
   where
     good : (v : World) → Inv v → own_of h v ≡ O → EnterFine version h d e j (makes (Look 0)) n B Q es v (record v { disk = put v.disk d (Some (with_entry e j X)) }) (k InPlace)
     good v inv ov =

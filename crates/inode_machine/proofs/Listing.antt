@@ -105,13 +105,13 @@ other_four f n i a b c y ne = put_other (put (put (put f n a) n b) n c) n y i ne
 
 -- An inode of the list is freed in a transaction of its own.
 pub s-free-listed : (version : Version) {A : Type 0} {h : ℕ} (n : ℕ) {k : P A} {B : List Step → Type 0} {Q : A → List Step → World → Type 0} {c : ℕ} {es : List Step} {w : World} {O : Own} (v : Option Node)
-    → own_of h w ≡ O → O.desk.lender ≡ None → h < hart_count → 971 < c → UnlocksAll O → ((i : ℕ) (x : Held) → O.inodes i ≡ Some x → x.disk ≡ x.node) → O.desk.joined ≡ false → O.inodes n ≡ Some (listed_held v) → v ≢ None → O.mine.refs n ≡ 1 → own_names O.row O.desk n ≡ false → O.mine.walk ≡ None → O.mine.pending ≡ None → holds_raised true O.row.hold ≡ false
+    → own_of h w ≡ O → O.desk.lender ≡ None → h < hart_count → 971 < c → UnlocksAll O → ((i : ℕ) (x : Held) → O.inodes i ≡ Some x → x.disk ≡ x.node) → O.desk.joined ≡ false → O.inodes n ≡ Some (listed_held v) → v ≢ None → is_live v ≡ false → O.mine.refs n ≡ 1 → own_names O.row O.desk n ≡ false → O.mine.walk ≡ None → O.mine.pending ≡ None → holds_raised true O.row.hold ≡ false
     → ((l : ℕ) (P : Own) (u : World) → l + 971 ≡ c → FreedOne O P n → own_of h u ≡ P → Safe (machine version) h B Q k l es u)
     → Safe (machine version) h B Q (free_listed n k) c es w
-s-free-listed version {h = h} n {O = O} v owns free lt few locks whole out is there one unnamed walk pending low rest =
+s-free-listed version {h = h} n {O = O} v owns free lt few locks whole out is there dead one unnamed walk pending low rest =
     s-join version owns free lt (omega arith) locks out (λ l1 u1 q1 own1.
     s-take-kept version own1 free lt (omega (arith, q1, few)) is refl there tt (omega (arith, one)) (λ l2 u2 q2 own2.
-    s-free-all version v own2 free lt (omega (arith, q1, q2, few)) refl (put_same O.inodes n (Some (record { disk = v; node = v; alone = true; locked = true }))) one pending unnamed walk (λ l3 u3 q3 own3.
+    s-free-all version v own2 free lt (omega (arith, q1, q2, few)) refl (put_same O.inodes n (Some (record { disk = v; node = v; alone = true; locked = true }))) there dead one pending unnamed walk (λ l3 u3 q3 own3.
     s-leave version own3 free lt (omega (arith, q1, q2, q3, few)) left_free refl low left_whole (λ l4 u4 q4 own4.
     rest l4 _ u4 (omega (arith, q1, q2, q3, q4))
     (record {
@@ -174,7 +174,7 @@ module _ (version : Version) (h : ℕ) (B : List Step → Type 0) (Q : Reply →
           go None q = refl
           go (Some x) q = absurd (let t = l.only i x q in omega (arith, t))
   frees base es O0 low ends (m ∷ ns) n w O owns free row desk few l refs walk pending =
-      s-free-listed version m here.node owns free lt (omega (arith, few)) (listed_free O base (m ∷ ns) l) (listed_whole O base (m ∷ ns) l) (ap (λ (d : Desk). d.joined) desk) here.is here.there here.one here.unnamed walk pending (ap (λ (r : Row). holds_raised true r.hold) row ∙ low) (λ l1 P u1 q1 f own1.
+      s-free-listed version m here.node owns free lt (omega (arith, few)) (listed_free O base (m ∷ ns) l) (listed_whole O base (m ∷ ns) l) (ap (λ (d : Desk). d.joined) desk) here.is here.there here.dead here.one here.unnamed walk pending (ap (λ (r : Row). holds_raised true r.hold) row ∙ low) (λ l1 P u1 q1 f own1.
       again l1 P u1 q1 f own1 (frees base es O0 low ends ns l1 u1 P own1))
     where
       once_m : times m ns ≡ 0

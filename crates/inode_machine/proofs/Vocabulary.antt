@@ -5,7 +5,7 @@ pub use Rattle.plain_tree.proofs.Vocabulary.{AsksForWhatStays, Key, bump_refusal
 pub use Rattle.inode_machine.specs.Vocabulary.{AllHonest, Began, Begins, Blocks, EventOutcome, ExecResult, DirectorySlots as DirectoryFull, DiskInodes, Do, Event, Exists, Full, IsWholeCall, Lawful, MemInodes, NotEmpty, OpenFiles, Prog, Ran, Refuses, Ret, Row, Run, Start, State, Step as StepOf, Stops, PlaysStep, Theory, Waits, fresh, next, piece_len, run, unmarked}
 pub use Rattle.atomic_programs.proofs.Vocabulary.{Begun, Ends, Fine, Goes, Good, Grown, HonestStep, IsBeginning, IsHonest, Laws, OfNext, OpWithAnswer, P, PlacesOne, Right, Safe, Sound, Wp, all_told, asks, busy_in, moved, oldest_first, onto, own, start_run, step_prog, step_run, step_unless, told, tried, unchanged, ◌/◌}
 pub use Rattle.inode_machine.specs.World.{Answer, ClaimResult, Desk, Entry, EntryResult, InPlace, JoinResult, Joined, Lent, LoanResult, LockResult, LocksIt, Mark, Mine, Moved, New, NoBlock, NoInode, NoPlace, NoSlot, NotJoined, NotLocked, Note, Op, Outside, Picks, Refused, Room, RoomFor, Short, Whole, World, Wrote, stage_of}
-pub use Rattle.inode_machine.specs.Rules.{Asks, EntryOut, Found, Has, HasType, Held, Honest, HonestClaim, HonestPiece, Idle, Inv, IsAlone, IsName, IsOpening, IsOut, IsReached, IsReferredTo, IsText, IsTied, KeepsFiles, Lends, LocksNone, MayWait, Opens, Others, Own, References, Rests, FileTables, Sought, Spares, Stands, StandsAt, asked_limit, id_at, if_kept, is_hart, key_in, left_or, looking_cost, machine, more, nothing, number_is, own_names, own_of, reference_limit, file_tables_of, users, uses, view}
+pub use Rattle.inode_machine.specs.Rules.{Asks, EntryOut, Found, Has, HasLast, HasType, Held, Honest, HonestClaim, HonestPiece, Idle, Inv, IsAlone, IsName, IsOpening, IsOut, IsReached, IsReferredTo, IsText, IsTied, KeepsFiles, Lends, LocksNone, MayWait, Opens, Others, Own, References, Rests, FileTables, Sought, Spares, Stands, StandsAt, asked_limit, id_at, if_kept, is_hart, key_in, left_or, looking_cost, machine, more, nothing, number_is, own_names, own_of, reference_limit, file_tables_of, users, uses, view}
 pub use Rattle.tree_laws.proofs.Maps.{and_true, any_at, any_none, either, eq_is, eq_isnt, eq_not, eq_self, none_any, or_left, or_none, or_right, put_other, put_same, same_or}
 pub use Rattle.inode_machine.specs.Inodes.{AtEntries, AtName, AtNothing, Face, OfDevice, OfDirectory, OfFile, Query, Sight, InodeType, face_of, face_or, is_directory_face, is_directory_type, is_empty_kind, is_empty_node, is_file_type, is_live_face, no_driver_for, open_refusal, seen_in, type_of, type_of_kind, stat_of_face}
 pub use Rattle.inode_machine.specs.Marks.{Made, act_entered, act_left, acts, begun, found_by, go, look_made, looked, made_by, marked, mended, new_id, own_made, places, refused_all, spoiled, unheld, unmoved, unopened, with_made, with_mark}
@@ -43,7 +43,7 @@ pub use Rattle.tree_laws.proofs.Appended.{runs_more, runs_none}
 pub use Rattle.tree_laws.proofs.History.{Apart, IsHart, NeverClimbs, apart_alone, apart_calm, opened_ok, run_explained, run_ok, starts_alone, starts_calm}
 unfoldable pub use Rattle.tree_laws.proofs.History.{AllMayStart}
 pub use Rattle.tree_laws.proofs.Told.{event_tells, played_end, played_next, told_more}
-pub use Rattle.inode_machine.specs.Budget.{HasRoom, Spent, TransactionsAreSmall, size, spent_after, unspent, with_bitmap, with_contents, with_record}
+pub use Rattle.inode_machine.specs.Budget.{HasRoom}
 pub use Rattle.inode_machine.specs.Kept.{IsTheHistory, history_of, kept, kept_by, kept_on, nothing_yet, placed, placed_prog, placed_run, placed_tried, placed_unless, told_of}
 pub use Rattle.inode_machine.specs.Shortages.{ChangesNothing, NoOpenFileForNew, NoOpenFileLeft, NoPlaceLeft, all_open, all_placed, opens_more, opens_no_more, overview, places_more, places_no_more}
 unfoldable pub use Rattle.inode_machine.specs.Shortages.{each, opened_by, opened_for, opens_by, opens_for}

@@ -300,14 +300,14 @@ Sought version AtEntries = Unit {0}
 -- name; who refers to one more has found it in a directory that it keeps; who gives a reference up, to none or to a table, has one besides
 -- its current directory's,
 -- and keeps none that it drops;
--- who forgets an inode has freed it, and keeps it;
+-- who frees an inode has the one reference to it, and it has no links; who forgets it has freed it, and keeps it;
 -- who changes an inode has its lock and has joined; who joins, leaves, opens by a descriptor or replies has no lock, and who leaves has
 -- raised no count that no
 -- name stands for yet; who hands a descriptor on has handed on none
 -- from there, and where it has none hands the directory on at once; who hands that on, or lets a child go, has no descriptor on its way.
--- A record is changed that is there, and of the operation's kind; as much is read as a call may ask for, of the inode that its descriptor
--- has, from where
--- its file stands, and a piece is written there to a file; who shuts a descriptor hands none on.
+-- A record is changed that is there, and of the operation's kind, and a name is entered in a directory with links; as much is read as a
+-- call may ask for, of the inode that its descriptor has, from where its file stands, and a piece is written there to a file; who shuts a
+-- descriptor hands none on.
 
 abbrev pub Locks : ℕ → ℕ → World → Type 0
 Locks h n w = w.lock n ≡ Some h
@@ -361,6 +361,10 @@ pub record Writes (h fd n : ℕ) (w : World) : Type 0 where
   pub number : entry.file.number ≡ n
   pub writable : entry.file.writable ≡ true
 
+-- of all harts and open files it alone refers to an inode, and once
+abbrev pub HasLast : ℕ → ℕ → World → Type 0
+HasLast h n w = (w.refs n ≡ 1) × ((w.harts h).refs n ≡ 1)
+
 -- it has freed the inode, and nobody else can reach that
 abbrev pub HasFreed : ℕ → ℕ → World → Type 0
 HasFreed h n w = (w.keeper n ≡ Some h) × (w.disk n ≡ None)
@@ -372,12 +376,13 @@ Asks version h (UpStart absolute) w = LocksNone h w
 Asks version h (Up n) w = Found w.keeper w.all.nodes h n
 Asks version h (WalkDown n) w = Spares h n w × (w.keeper n ≢ Some h)
 Asks version h (Down n) w = Spares h n w × (w.keeper n ≢ Some h)
-Asks version h (Free n) w = Changes h n w
+Asks version h (Free n) w = Changes h n w × HasRecord n w (λ v. v.count ≡ 0) × HasLast h n w
 Asks version h (Forget n) w = Spares h n w × (w.lock n ≢ Some h) × HasFreed h n w
 Asks version h (Claim inode_type) w = (w.desks h).joined ≡ true
 Asks version h (Store n count) w = Changes h n w × HasRecord n w (λ v. (count ≤ count_limit) ⊎ (count ≤ v.count))
 Asks version h (Fill n d) w = Changes h n w × HasRecord n w (λ v. v.kind ≡ Directory []) × IsNumber d w
-Asks version h (Enter d e n) w = Changes h d w × HasRecord d w (λ v. is_directory v.kind ≡ true) × IsNumber n w × IsName version e
+Asks version h (Enter d e n) w =
+    Changes h d w × HasRecord d w (λ v. (is_directory v.kind ≡ true) × (0 < v.count)) × IsNumber n w × IsName version e
 Asks version h (Clear d e) w = Changes h d w × HasRecord d w (λ v. IsSome (look (λ i. Some v) d e))
 Asks version h (Empty n) w = Changes h n w × HasRecord n w (λ v. is_file v.kind ≡ true)
 Asks version h Slot w = (w.desks h).hand ≡ None

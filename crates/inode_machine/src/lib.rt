@@ -4,7 +4,6 @@
 
 ghost use Rattle.image_versions.specs.declared.version.Version.{Version};
 ghost use Rattle.inode_machine.specs.Examples.{ChdirFinishes, CloseFinishes, CreateFinishes, DupFinishes, InheritFinishes, InheritFrees, InheritMoves, LinkBelowNothing, LinkFinishes, LinkOfDirectory, LinkOfMany, LinkOfNothing, LinkToNoName, LinkToTaken, LongNamesAreTold, MkdirFinishes, NoBlockForDirectory, NoBlockForFile, NoBlockForName, NoBlockForPart, NoSlotForDirectory, NoSlotForFile, NoSlotForName, NoBlockLeft, NoDescriptorToDouble, NoDescriptorToOpen, NoInodeForFile, NoInodeLeft, OpenFinishes, ReadFinishes, StartsRefused, StatFinishes, UnlinkFinishes, WalkerFails, WriteFinishes};
-ghost use Rattle.inode_machine.specs.Budget.{TransactionsAreSmall};
 ghost use Rattle.inode_machine.specs.Histories.{CallsHaveOneHistory, OneHartHasOneHistory};
 ghost use Rattle.inode_machine.specs.Shortages.{NoOpenFileForNew, NoOpenFileLeft, NoPlaceLeft};
 ghost use Rattle.inode_machine.specs.Stories.{ClimbsAcross, LinksWhileUnlinked, OffsetIsShared, RaiseIsSeen, StaysInTheRemoved, WalkFails, WalkFailsStill};
@@ -41,12 +40,6 @@ pub fn one_hart_has_one_history()
 /// keeps, or one in no transaction does, is on disk as that tree has it.
 pub fn worlds_stay_in_order()
     ensures { (version : Version) → WorldsStayInOrder version }
-{}
-
-/// No transaction of a call records more than ten blocks, whatever the call's operations answer: those of the records of the
-/// inodes that it changes or frees, each counted once, the bitmap, and the blocks of contents that it writes.
-pub fn transactions_are_small()
-    ensures { (version : Version) → TransactionsAreSmall version }
 {}
 
 /// There are such beginnings: a well-formed tree without open files, orphans included, with every hart at rest.

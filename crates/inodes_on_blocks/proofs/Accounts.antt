@@ -3,7 +3,7 @@ use Rattle.inodes_on_blocks.proofs.Vocabulary.{◌≡◌, inl, inr, ℕ, zero, s
 use Rattle.inode_machine.specs.Budget as budget
 use Rattle.inodes_on_blocks.proofs.Groups.{has_more, has_last, has_members, member_at}
 use Rattle.inodes_on_blocks.proofs.Rooms.{room_of}
-use Rattle.inode_machine.proofs.Budgets.{one_bit}
+use Rattle.inode_machine.proofs.Counting.{one_most}
 
 -- ---- members
 
@@ -44,7 +44,7 @@ recorded_grows sizes ks js (n ∷ ns) up =
 
 recorded_few : (sizes : Super) (ks ns : List ℕ) → recorded_in sizes ks ns ≤ length ns
 recorded_few sizes ks [] = omega arith
-recorded_few sizes ks (n ∷ ns) = let a = one_bit (has ks (inode_block sizes.inodestart n)) in let more = recorded_few sizes ks ns in omega (arith, a, more)
+recorded_few sizes ks (n ∷ ns) = let a = one_most (has ks (inode_block sizes.inodestart n)) in let more = recorded_few sizes ks ns in omega (arith, a, more)
 
 -- an inode whose block isn't there yet
 recorded_less : (sizes : Super) (ks ns : List ℕ) (n : ℕ) → budget.has ns n ≡ true → has ks (inode_block sizes.inodestart n) ≡ false → recorded_in sizes ks ns + 1 ≤ length ns
@@ -57,7 +57,7 @@ recorded_less sizes ks (m ∷ ns) n at out = elim (either (n == m)) [
   | inr isnt ↦
       let later : budget.has ns n ≡ true = sym (ap (λ (t : Bool). t || budget.has ns n) isnt) ∙ at in
       let more = recorded_less sizes ks ns n later out in
-      let a = one_bit (has ks (inode_block sizes.inodestart m)) in
+      let a = one_most (has ks (inode_block sizes.inodestart m)) in
       omega (arith, more, a)
 ]
 

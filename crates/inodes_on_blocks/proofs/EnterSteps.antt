@@ -189,7 +189,7 @@ module _ (sizes : Super) (l : Labels) (laws : Laws (labelled l)) (keeps : Keeps 
     used = in_use d node holds.inode
 
     directory : (slots : List (Option Slot)) × (node.kind ≡ Directory slots)
-    directory = by node.kind refl may.1.1.fits
+    directory = by node.kind refl may.1.1.fits.0
       where
         by : (k : NodeKind) → node.kind ≡ k → tree.is_directory node.kind ≡ true → (slots : List (Option Slot)) × (node.kind ≡ Directory slots)
         by (Directory slots) z dir = (slots, z)

@@ -200,7 +200,7 @@ module _ (sizes : Super) (l : Labels) (laws : Laws (labelled l)) (keeps : Keeps 
         own = λ g ne. leaves_own h g Passes (Read b) v.real.state ne shows.whole may honest;
       } in
       (quiet_shows h v.real v.seen shows ss quiet, quiet_others h v.real v.seen shows ss quiet, rest ss bytes (read_hand h b bytes (log_of v.real).seats may.0) quiet)
-  read_silent (Fails after) b v N shows may honest rest = (shows.tables, λ g ne. failed_others v.real after honest g)
+  read_silent (Fails after) b v N shows may honest rest = (record { tables = shows.tables; members = shows.members }, λ g ne. failed_others v.real after honest g)
 
   -- it is given back as it was
   back_silent : (x : Outside) (b : ℕ) (v : W) (N : Unit {0} → World → Type 0) → Shows v.real v.seen → premises.May h (Put b None) v.real.state

@@ -141,16 +141,16 @@ module _ (sizes : Super) (l : Labels) (laws : Laws (labelled l)) (keeps : Keeps 
 
       changing : (fs : List l.Step) (g : above.World) → Todo fs g → Inv g → IsChanging h n g
       changing fs g stage inv =
-          let may = may_act (labelled l) (below sizes) laws (below_laws sizes l keeps) h B (Free n) m C lasts fs g stage inv in record { lock = may.1.0; joined = may.1.1 }
+          let may = may_act (labelled l) (below sizes) laws (below_laws sizes l keeps) h B (Free n) m C lasts fs g stage inv in record { lock = may.1.0.0; joined = may.1.0.1 }
 
       puts : (u : W) → Begins sizes l laws keeps h lt n (had_in c n) (u.seen.disk n) u.real u.seen → (z : W) → Shows z.real z.seen → one.May h (Free n) z.seen → HasNone h n c (u.seen.disk n) z.real z.seen → PutsRecord h (Free n) n tt (freed d) Emptied z.real z.seen
       puts u begin_ z shows may has = record {
         node = None;
         ran = refl;
         closed = λ w. tt;
-        mine = may.1.0;
+        mine = may.1.0.0;
         keeps = has.keeps;
-        joined = may.1.1;
+        joined = may.1.0.1;
         free = may.0;
         is = freed_fits d begin_.fits;
         has = (refl, refl);

@@ -257,7 +257,7 @@ module _ (sizes : Super) (l : Labels) (laws : Laws (labelled l)) (keeps : Keeps 
         by true e x whole alike others = e
         by false e Passes whole alike others = by_end e whole (record { alike = alike; own = others }) (is_open next) refl
         by false e (Fails after) whole alike others = (
-          shows.tables,
+          record { tables = shows.tables; members = shows.members },
           λ g ne. written_same h v.real v.seen shows after (failed old after).failures (seats_at_fault old.group old.phase old.seats) old.group Halted v.real.commits (record { alike = alike; own = others }) g ne somebody
               (not_others g (Halted, old.group) ne ∙ sym (not_others g (commit_in old) ne)),
         )

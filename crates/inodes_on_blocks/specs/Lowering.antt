@@ -12,7 +12,7 @@ use Rattle.inode_machine.specs.Rules as rules
 use Rattle.inodes_on_blocks.specs.ShownTables as tables
 use Rattle.inodes_on_blocks.specs.ShownTables.{loaded}
 use Rattle.inodes_on_blocks.specs.Below.{World, log_of, tables_of, disk_of, inode_in, exec}
-use Rattle.inodes_on_blocks.specs.Shown.{Shows}
+use Rattle.inodes_on_blocks.specs.Shown.{Shows, MembersShow}
 
 -- ---- what the others leave
 
@@ -150,9 +150,10 @@ pub record Base (h : ℕ) (r : World) (w : above.World) (c : Carry) : Type 0 whe
 abbrev pub Stands : Super → ℕ → World → above.World → Carry → Type 0
 Stands sizes h r w c = Base h r w c × ((log_of r).sizes ≡ sizes)
 
--- what is shown of the tables, once the world has stopped
-abbrev pub ShowsStopped : World → above.World → Type 0
-ShowsStopped r w = tables.Shows (tables_of r) w (loaded (tables_of r))
+-- what is shown once the world has stopped: the tables, and who is in a transaction
+pub record ShowsStopped (r : World) (w : above.World) : Type 0 where
+  pub tables : tables.Shows (tables_of r) w (loaded (tables_of r))
+  pub members : MembersShow (log_of r).members w.desks
 
 abbrev pub below : Super → LowerLayer above.World
 below sizes =

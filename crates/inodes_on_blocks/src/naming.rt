@@ -23,7 +23,8 @@ pub fn first_names_act_once()
 {}
 
 /// A name entered acts where the directory's record is put, after its entry was written into the first free slot, or a new last one;
-/// as the record is put where no block is free for it; or as the last block is given back, where the directory has no slot left.
+/// as the record is put where no block is free for it; or as the last block is given back, where the directory has no slot left. Only
+/// into a directory with links may one be entered.
 pub fn names_act_once()
     ensures { (sizes : Super) (d : ℕ) (e : Name) (n : ℕ) → DoesItWithin sizes (Enter d e n) (enter sizes d e n) }
 {}

@@ -18,7 +18,8 @@ pub fn empties_act_once()
     ensures { (sizes : Super) (n : ℕ) → DoesItSpending sizes (Empty n) (empty sizes n) }
 {}
 
-/// An inode freed acts where its record is put without a type, after it was put without content.
+/// An inode freed acts where its record is put without a type, after it was put without content. Only one without links may be freed, by
+/// the hart that has the one reference to it.
 pub fn frees_act_once()
     ensures { (sizes : Super) (n : ℕ) → DoesItSpending sizes (Free n) (free sizes n) }
 {}

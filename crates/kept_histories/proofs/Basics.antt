@@ -1,5 +1,5 @@
 -- What several proofs here need of lists, options and truth values.
-use Rattle.std.proofs.Common.{◌≡◌, ◌++◌, ◌∷◌, [], Bool, List, None, Option, Some, ap, false, length, refl, suc, sym, true, ◌∙◌, ℕ}
+use Rattle.std.proofs.Common.{◌≡◌, ◌++◌, ◌∷◌, [], Bool, List, None, Option, Some, ap, false, length, refl, suc, sym, true, ◌∙◌}
 
 pub none_some : {X A : Type 0} (a : A) → ◌≡◌ {A = Option A} None (Some a) → X
 none_some a e = absurd cc

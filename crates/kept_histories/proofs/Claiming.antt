@@ -49,7 +49,7 @@ use Rattle.run_laws.proofs.ActedSo.{never_ran}
 use Rattle.run_laws.proofs.CallFits.{call_fits, most_written}
 use Rattle.run_laws.proofs.Fits.{AllFitUpTo}
 use Rattle.run_laws.proofs.LockActs.{W, seen_is}
-use Rattle.run_laws.proofs.Telling.{spoils}
+use Rattle.call_programs.specs.Asks.{spoils}
 use Rattle.run_laws.proofs.Whole.{answer_or}
 use Rattle.run_laws.specs.Searches.{AnsweredStep}
 use Rattle.run_laws.specs.UnderWay.{EventDoes, Fits, GoesOnAsItActs, InOne, LeadTo, RunsAStep, StartDoes, StepDoes, UnderWay, at_beginning, gone_on, time_of}

@@ -2,7 +2,6 @@
 -- a claim of which it is told in its next step. No other event finds none.
 use Rattle.std.specs.Prelude.{◌≡◌, ◌⊎◌, ℕ, Bool, true, false, not, ◌&&◌, List, Option, Some, None, get_or, nat_lt, ◌==◌}
 use Rattle.calls_on_blocks.proofs.Vocabulary.{refl, sym, ◌∙◌, ap, subst, inl, inr}
-use Rattle.atomic_programs.proofs.Explains.{Some-inj}
 use Rattle.atomic_programs.specs.Calls.{Began, Begins, DidEnd, DidRun, DidStop, DidWait, Event, EventOutcome, Made, Refused, Refuses, Started, WasIdle, WasStopped, Run, Start, State, Step, Theory, begun, busy_in, makes, moved, next, start_run, step_prog, step_run, step_unless, tried, with_answer}
 use Rattle.atomic_programs.specs.Joined.{Both, both, seen_after}
 use Rattle.atomic_programs.specs.Lowered.{began_both, began_to}
@@ -32,7 +31,6 @@ use Rattle.inode_machine.specs.Theory.{Busy, NoSuchHart, NotEmptyHart, Refusal, 
 use Rattle.inode_machine.specs.Vocabulary.{MoveStep}
 use Rattle.inode_machine.specs.World as above
 use Rattle.inode_machine.specs.World.Mark.{Makes}
-use Rattle.inodes_on_blocks.specs.Programs.{handlers}
 use Rattle.inodes_on_blocks.specs.Shown.{Shows}
 use Rattle.path_walk.specs.declared.asks.Heard.{Heard}
 use Rattle.plain_tree.specs.Tree.{tree_of}
@@ -40,8 +38,8 @@ use Rattle.plain_tree.specs.Widths.{hart_count}
 use Rattle.plain_tree.specs.declared.answer.Reply.{Reply}
 use Rattle.plain_tree.specs.declared.call.Call.{Call}
 use Rattle.plain_tree.specs.declared.call.Call.TheVariants as calls
-use Rattle.run_laws.specs.UnderWay.{EventDoes, Fits, LeadTo, RunsAStep, StepDoes, UnderWay}
-use Rattle.run_laws.proofs.Telling.{spoils}
+use Rattle.run_laws.specs.UnderWay.{EventDoes, Fits, RunsAStep, StepDoes, UnderWay}
+use Rattle.call_programs.specs.Asks.{spoils}
 use Rattle.run_laws.specs.Vocabulary.{Outside}
 use Rattle.tree_histories.specs.Keeping.{KeptTree, hart_in}
 use Rattle.tree_histories.specs.Moving.{HasRun as KeptRuns}

@@ -36,7 +36,7 @@ use Rattle.plain_tree.specs.Tree.{tree_of}
 use Rattle.plain_tree.specs.Widths.{hart_count}
 use Rattle.run_laws.proofs.RoomRuns.{after_clean}
 use Rattle.run_laws.proofs.Running.{Goes, goes_on}
-use Rattle.run_laws.proofs.Telling.{spoils}
+use Rattle.call_programs.specs.Asks.{spoils}
 use Rattle.run_laws.specs.UnderWay.{ActingTime, ActsThen, EndsAsActed, InFirst, InLast, InOne, IsMadeBy, LeadTo, RunsAStep, SeesTruly, UnderWay, is_at_end, none_ran, time_of}
 use Rattle.run_laws.specs.Vocabulary.{or_else}
 use Rattle.run_laws.specs.WholeInodes.{told_by}

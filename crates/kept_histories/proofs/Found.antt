@@ -25,7 +25,7 @@ use Rattle.plain_tree.proofs.Maps.{and_true}
 use Rattle.plain_tree.specs.declared.answer.Reply.{Reply}
 use Rattle.plain_tree.specs.declared.call.Call.{Call}
 use Rattle.run_laws.proofs.Running.{Goes, goes_on, kept_of}
-use Rattle.run_laws.proofs.Telling.{spoils}
+use Rattle.call_programs.specs.Asks.{spoils}
 use Rattle.run_laws.specs.Searches.{AnsweredStep}
 use Rattle.run_laws.specs.UnderWay.{EventDoes, IsMadeBy, RunsAStep, StartDoes, StepDoes, UnderWay, at_beginning, gone_on, placed_by}
 use Rattle.run_laws.specs.Vocabulary.{Outside, or_else}

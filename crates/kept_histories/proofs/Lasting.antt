@@ -34,7 +34,7 @@ use Rattle.path_walk.specs.declared.asks.Heard.TheVariants as heard
 use Rattle.path_walk.specs.declared.asks.Mark.{Mark}
 use Rattle.plain_tree.specs.Tree.{tree_of}
 use Rattle.plain_tree.specs.declared.step.Action.{Action}
-use Rattle.run_laws.proofs.Telling.{spoils}
+use Rattle.call_programs.specs.Asks.{spoils}
 use Rattle.syscalls.specs.Machines.{Running, lacks_place_at}
 use Rattle.tree_histories.proofs.Harts.{other_hart}
 use Rattle.tree_histories.proofs.Vocabulary.{cases_lt, get_or-eq_default}

@@ -31,7 +31,6 @@ pub mod HandRuns
 pub mod HandSteps
 pub mod Hands
 pub mod InHand
-pub mod PathHands
 pub mod ShownFirst
 pub mod Claiming
 pub mod Lacking

@@ -11,7 +11,7 @@ use Rattle.path_walk.specs.declared.asks.Mark.{Mark}
 use Rattle.path_walk.specs.declared.asks.Mark.TheVariants as mark
 use Rattle.plain_tree.specs.declared.step.Action.{Action}
 use Rattle.inode_machine.specs.VersionOne.{MayMake}
-use Rattle.run_laws.proofs.Telling.{spoils}
+use Rattle.call_programs.specs.Asks.{spoils}
 use Rattle.tree_histories.specs.Keeping.{KeptTree, Under, hart_in, stage_of, walking}
 use Rattle.tree_histories.specs.Moving.{IsMoved, MovesByAny, SameCalls, makes_none, spoils as kept_spoils}
 use Rattle.tree_laws.specs.Moves.{Deed, Move}

@@ -24,7 +24,7 @@ use Rattle.path_walk.specs.declared.asks.Heard.TheVariants as heard
 use Rattle.path_walk.specs.declared.asks.Mark.{Mark}
 use Rattle.plain_tree.specs.Tree.{Tree}
 use Rattle.plain_tree.specs.declared.answer.Reply.{Reply}
-use Rattle.run_laws.proofs.Telling.{spoils}
+use Rattle.call_programs.specs.Asks.{spoils}
 use Rattle.run_laws.specs.UnderWay.{EndsAsActed, InFirst, InLast, PlacesAt, RunsAStep, SeesTruly, StepsPlaceInTime, UnderWay, none_ran, placed_by, time_of}
 use Rattle.run_laws.specs.Vocabulary.{Outside, or_else}
 use Rattle.tree_histories.specs.Keeping.{Under}

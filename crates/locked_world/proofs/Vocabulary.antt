@@ -1,9 +1,9 @@
 -- What this crate's proofs speak of: its own definitions, and what the crates below and the library call things.
-pub use Rattle.calls_on_blocks.proofs.Vocabulary.{ActOf, Answer, Began, Begins, Bool, ExecResult, DidEnd, Do, Event as EventOf, Face, Fails, Get, Handlers, IsOutsideLog, IsWholeLog, JoinResult, Joined, Lent, List, LoanResult, LockResult, LocksIt, LogPart, Moved, Name, NoMemory, None, NotJoined, NotLocked, NotThere, Op, Option, Other, Outside, P as Above, PartOf, Passes, Ran, Refusal, Refuses, Replied, Ret, SeatState, SharedState, Short, Shown, Shows, Some, InodeType, Start, Started as IsBegun, Step, Stops, Store, Theory, Waits, Whole, WriteResult as Wrote, [], ap, append_assoc, arith, begin_in, block_at, block_calls, block_code, child_of, creates, descriptor_count, exec_result_in, done, dot, dotdot, elements, face_or, failed, false, first, free_all, fresh as fresh_state, get_or, give_up, got_by, handlers, if◌then◌else◌, in_log, inl, inr, inv_of, is_directory_face, is_directory_type, is_live_face, layer, leave_directory, length, length-set, machine, map, mounts_show_their_trees, nat_lt, nat_tests, own_step, program, read_block, read_on, read_reply, refl, say, see_parent, served_calls, slice_set, sound_fresh, sound_keeps, start, start_on, stopped, subst, suc, sym, tail, take, take_more, true, unmarked, walk, walk_parent, walk_step, with_last, zero, ℕ, ◌++◌, ◌+◌, ◌-◌, ◌/◌, ◌<◌, ◌==◌, ◌||◌, ◌∙◌, ◌∷◌, ◌≡◌, ◌≢◌, ◌≤◌}
-unfoldable pub use Rattle.calls_on_blocks.proofs.Vocabulary.{May, exec, get_of, put, same_name, sizes_of}
-pub use Rattle.inodes_on_blocks.proofs.Vocabulary.{BlockInHand as FetchedBlock, Carry, FilledMemory, GetLaws, Handover, IfSome, LockedState, Locks, LowerLayer, Machine, Mark, Prog, State, address, bind, block_len, blocks_between, drop, end_of, fetch, fetch_at, fetch_block, fetch_named, fetch_number, file_locked, filled_with, get_laws, get_or_past, give_fetched, give_read, kept, length-append, length-take, load_unless, next_block, overwrite, part_of, read_file, read_from, read_part, read_unless, record_in, replicate, seen_of, slice_get_past, table_of, take-append-drop, unwrap_or, ◌%◌}
+pub use Rattle.calls_on_blocks.proofs.Vocabulary.{ActOf, Answer, Began, Begins, Bool, ExecResult, DidEnd, Do, Event as EventOf, Fails, Get, Handlers, IsOutsideLog, IsWholeLog, List, LockResult, LocksIt, LogPart, None, NotLocked, Op, Option, Other, Outside, P as Above, PartOf, Passes, Ran, Refusal, Refuses, Replied, Ret, SeatState, SharedState, Shown, Shows, Some, Start, Started as IsBegun, Step, Stops, Theory, Waits, [], ap, append_assoc, arith, begin_in, block_at, block_calls, block_code, child_of, exec_result_in, false, first, fresh as fresh_state, get_or, got_by, handlers, if◌then◌else◌, in_log, inl, inr, inv_of, layer, length, length-set, machine, map, mounts_show_their_trees, nat_lt, nat_tests, own_step, program, read_block, read_on, read_reply, refl, say, served_calls, slice_set, sound_fresh, sound_keeps, subst, suc, sym, take, take_more, true, zero, ℕ, ◌++◌, ◌+◌, ◌-◌, ◌/◌, ◌<◌, ◌==◌, ◌∙◌, ◌∷◌, ◌≡◌, ◌≢◌, ◌≤◌}
+unfoldable pub use Rattle.calls_on_blocks.proofs.Vocabulary.{May, exec, get_of, put, sizes_of}
+pub use Rattle.inodes_on_blocks.proofs.Vocabulary.{BlockInHand as FetchedBlock, Carry, FilledMemory, GetLaws, Handover, IfSome, LockedState, Locks, LowerLayer, Machine, Prog, State, address, bind, block_len, blocks_between, drop, end_of, fetch, fetch_at, fetch_block, fetch_named, fetch_number, file_locked, filled_with, get_laws, get_or_past, give_fetched, give_read, kept, length-append, length-take, load_unless, next_block, overwrite, part_of, read_file, read_from, read_part, read_unless, record_in, replicate, seen_of, slice_get_past, table_of, take-append-drop, unwrap_or, ◌%◌}
 unfoldable pub use Rattle.inodes_on_blocks.proofs.Vocabulary.{read_blocks}
-pub use Rattle.hart_core.proofs.Vocabulary.{AllAnswer, Answers, DidRun, DidStop, DidWait, HartsOf, IsMounted, Makes, MayOf, OutcomeOf, P, Plain, PlainMade, Refused, Rests, Running, SoundPlain, Started, WasIdle, WasStopped, WorldOf, all_shown, begun_here, calls_of, came_of, changed, event_of, is_called as is_some, is_code, lawful, nat_eq, outcome_of, plain, plain_begun, plain_makes, plain_moved, plain_prog, plain_run, plain_start, plain_step, plain_tried, plain_unless, program_at, reason_of, shared_of, shown, shown_outcome, sound_may, with_answer}
+pub use Rattle.hart_core.proofs.Vocabulary.{AllAnswer, Answers, DidWait, HartsOf, IsMounted, Makes, MayOf, OutcomeOf, P, Plain, PlainMade, Refused, Rests, Running, SoundPlain, Started, WorldOf, all_shown, begun_here, calls_of, came_of, changed, event_of, is_called as is_some, is_code, lawful, nat_eq, outcome_of, plain, plain_begun, plain_makes, plain_moved, plain_prog, plain_run, plain_start, plain_step, plain_tried, plain_unless, program_at, reason_of, shared_of, shown, shown_outcome, sound_may, with_answer}
 unfoldable pub use Rattle.hart_core.proofs.Vocabulary.{running_of}
 pub use Rattle.locked_world.specs.Vocabulary.{CallsOnce, ComesByCalls, Fuse, IsFusedCall, Stop}
 pub use Rattle.fs_layout.proofs.Vocabulary.{get_or-set_other, get_or-set_same, length-drop}
@@ -46,9 +46,6 @@ pub use Rattle.hart_core.specs.declared.outcome.Outcome.{Outcome}
 pub use Rattle.hart_core.specs.declared.starts.StartRefused.{StartRefused}
 pub use Rattle.inode_data.specs.declared.addresses.Address.{Address}
 pub use Rattle.inode_data.specs.declared.addresses.Address.TheVariants.{Direct, InTable}
-pub use Rattle.plain_tree.specs.declared.answer.Cause.{Cause}
-pub use Rattle.plain_tree.specs.declared.answer.Cause.TheVariants.{NoEntry}
 pub use Rattle.plain_tree.specs.declared.answer.Reply.{Reply}
 pub use Rattle.plain_tree.specs.declared.call.Call.{Call}
 pub use Rattle.plain_tree.specs.declared.call.Call.TheVariants.{Chdir, Close, Dup, Fstat, Inherit, Link, Mkdir, Open as OpenCall, Read, Unlink, Write}
-pub use Rattle.plain_tree.specs.declared.step.Action.{Action}

@@ -4,7 +4,8 @@ use Rattle.run_laws.proofs.Vocabulary.{◌≡◌, ◌⊎◌, inl, inr, ℕ, List
 use Rattle.plain_tree.specs.declared.answer.Answer.TheVariants as answers
 use Rattle.inode_machine.specs.World.{World}
 use Rattle.run_laws.proofs.Running.{some_answer}
-use Rattle.run_laws.proofs.WantsCalls.{Blames, GivesBack, goes_or}
+use Rattle.call_programs.specs.Asks.{GivesBack}
+use Rattle.run_laws.proofs.WantsCalls.{Blames, goes_or}
 
 -- ---- lists
 

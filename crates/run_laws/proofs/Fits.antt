@@ -2,7 +2,7 @@
 -- And a mark says that there was no room just where the answer says so.
 use Rattle.run_laws.proofs.Vocabulary.{◌≡◌, ◌<◌, ◌≤◌, ℕ, length, IsBytes, Ret, Do, P, Answer, Claim, Enter, WriteFile, IsMade, says_no_room, name_len}
 use Rattle.inode_machine.specs.World.{Op}
-use Rattle.run_laws.proofs.Telling.{spoils}
+use Rattle.call_programs.specs.Asks.{spoils}
 
 -- no more than so many bytes are written at once
 abbrev pub Fits : ℕ → Op → Type 0

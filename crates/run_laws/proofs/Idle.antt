@@ -1,5 +1,5 @@
 -- A hart without a call has begun nothing; and where no hart has one nothing is left of any call.
-use Rattle.run_laws.proofs.Vocabulary.{◌≡◌, ◌≢◌, ℕ, Bool, true, false, if◌then◌else◌, List, Option, Some, None, get_or, sym, ◌∙◌, ap, subst, Super, sizes_of, Call, eq_self, Theory, AllHonest, EventOf, Run, State, fresh, run, Holds, IsExplained, program_at, Code, Plain, erase, plain_run, erase-run, explains, Outside, Running, running_of, Held, Idle, Inv, if_kept, view, Shows, loaded, IsMountable, ShowsItsTree, mounts_show_their_trees, quiet_worlds_are_images, first, block_calls, block_code, first_holds, first_idle, is_code, lawful, HartsOf, AllAnswer, IsHistory, WorldOf, calls_of, all_honest, mountable, rests_erased, nones, CountsReferences, HasBegunNothing, IdleHartsAreThrough, IdleHartsHaveBegunNothing, NothingIsLeft}
+use Rattle.run_laws.proofs.Vocabulary.{◌≡◌, ◌≢◌, ℕ, Bool, true, false, if◌then◌else◌, List, Option, Some, None, get_or, sym, ◌∙◌, ap, subst, Super, sizes_of, Call, eq_self, Theory, AllHonest, EventOf, State, fresh, run, Holds, IsExplained, program_at, Code, Plain, erase, plain_run, erase-run, explains, Outside, Running, running_of, Held, Idle, Inv, if_kept, view, Shows, loaded, IsMountable, ShowsItsTree, mounts_show_their_trees, quiet_worlds_are_images, first, block_calls, block_code, first_holds, first_idle, is_code, lawful, HartsOf, AllAnswer, IsHistory, WorldOf, calls_of, all_honest, mountable, rests_erased, nones, CountsReferences, HasBegunNothing, IdleHartsAreThrough, IdleHartsHaveBegunNothing, NothingIsLeft}
 use Rattle.fs_machine.specs.Steps as steps
 use Rattle.inode_machine.specs.World as above
 use Rattle.hart_core.specs.Harts.{shared_of}
@@ -57,7 +57,7 @@ module _ {D : Type 0} (contents : D → List (List ℕ)) (failures : D → ℕ) 
 
     -- also once a failure of the device has stopped the harts
     held : (b : Bool) → Holds L b s.world → Shows t.tables seen (loaded t.tables) × Inv seen
-    held true h = (h.0.0, h.1)
+    held true h = (h.0.0.tables, h.1)
     held false h = (h.0.0.tables, h.1)
 
     known : Shows t.tables seen (loaded t.tables) × Inv seen

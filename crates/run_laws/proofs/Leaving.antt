@@ -1,7 +1,10 @@
--- What a program's operations have changed where it ends for want of room: of a run of it, and of the parts of which calls are made.
-use Rattle.run_laws.proofs.Vocabulary.{◌≡◌, ◌⊎◌, inl, inr, ℕ, Bool, true, false, if◌then◌else◌, List, [], ◌∷◌, ◌++◌, Option, Some, None, refl, sym, ◌∙◌, ap, subst, append_assoc, append-nil, Full, MemInodes, Reply, Call, Action, Name, elements, is_absolute, eq_self, In, Ret, Do, unmarked, AtName, AtNothing, is_directory_face, NoMemory, NotThere, P, WalkStop, drop, free_all, full, give_up, leave_directory, say, see_parent, start, start_on, stopped, tail, walk, walk_parent, walk_step, with_last, Answer, Forget, Free, UnlockInode, Leave, Take, Up, UpStart, Frees, Change, Freed, Sighting, by_free, changed_by, changes_after, seen_by, Stands, wanted, HasWanted, IsRunOf, Operation}
+-- What a program's operations have changed where it ends for want of room: of a run of it, and of each call's program.
+use Rattle.image_versions.specs.declared.version.Version.TheVariants.{One}
+use Rattle.run_laws.proofs.Vocabulary.{◌≡◌, ◌⊎◌, inl, inr, ℕ, Bool, true, false, if◌then◌else◌, List, [], ◌∷◌, ◌++◌, Option, Some, None, refl, sym, ◌∙◌, ap, subst, append_assoc, append-nil, Full, Reply, Call, eq_self, In, Ret, Do, P, program, Answer, Mark, New, Free, Claim, Frees, Change, Freed, Sighting, by_free, changed_by, changes_after, seen_by, Stands, wanted, HasWanted, IsRunOf, Operation}
 use Rattle.plain_tree.specs.declared.answer.Answer.TheVariants as answers
 use Rattle.inode_machine.specs.World.{Op}
+use Rattle.call_programs.specs.Asks.{Asks, AsksSo, Because, Before, Excused, Lacks, Nothing, Wants, after, changed_after, excused, fresh, holding, or_still, wants_after, wants_back, with_more}
+use Rattle.call_programs.proofs.Calls.{calls_ask}
 
 -- ---- what comes after an operation
 
@@ -15,14 +18,6 @@ never_so e = cc
 abbrev pub or_wanted : Option Full → Bool → Bool
 or_wanted None found_none = found_none
 or_wanted (Some room) found_none = true
-
-abbrev pub with_more : List Change → List Change → List Change
-with_more cs [] = cs
-with_more cs (d ∷ ds) = cs ++ d ∷ ds
-
--- what has changed with this operation
-abbrev pub after : List Change → (op : Op) → Answer op → List Change
-after cs op a = with_more cs (changed_by None op a None)
 
 -- an inode is freed, and goes from the tree with that
 none_freed : (cs : List Change) (n : ℕ) → cs ≡ with_more cs (by_free n (Some (Frees n)))
@@ -46,6 +41,26 @@ wanted_later op a b e es room own (inr w) = at w.0 w.1 w.2
     at : (x : Operation) → In x (e ∷ es) → wanted x.op x.answer ≡ Some room → (or_wanted (wanted op a) b ≡ true) ⊎ HasWanted es room
     at x (inl q) want = inl (ap (λ (o : Option Full). or_wanted o b) (own x q want))
     at x (inr i) want = inr (x, i, want)
+
+-- ---- what is wanting
+
+abbrev lacks : Wants → Bool
+lacks Nothing = false
+lacks (Lacks room) = true
+lacks Excused = false
+
+excused_so : (w : Wants) → lacks (excused w) ≡ lacks w
+excused_so Nothing = refl
+excused_so (Lacks room) = refl
+excused_so Excused = refl
+
+back_so : {A : Type 0} (w : Wants) (back : A ⊎ Unit {0}) → lacks (wants_back w back) ≡ lacks w
+back_so w (inl back) = excused_so w
+back_so w (inr other) = refl
+
+still_so : (o : Option Full) (w : Wants) → lacks (or_still o w) ≡ or_wanted o (lacks w)
+still_so None w = refl
+still_so (Some room) w = refl
 
 module _ (call : Call) where
   -- what stands with the reply, where some operation has found no room
@@ -82,111 +97,30 @@ module _ (call : Call) where
       (sym g.2)
       (subst (λ (z : List Change). Stands room call z) (joined cs ds (changes_after (seen_by op a) es)) rest)
 
-  -- ---- how a program ends
+  -- ---- from what a program asks for
 
-  pub ends_full : (b : Bool) (cs : List Change) (kind : Full) → Stands kind call cs → Ends b cs (full call kind)
-  ends_full b cs kind stands t room e = subst (λ (z : Full). Stands z call cs) (kind_is kind room e) stands
+  ends_so : (w : Wants) (cs : List Change) (r : Reply) → Because call w cs r.answer → Ends (lacks w) cs r
+  ends_so Nothing cs r is t room e = absurd (never_so t)
+  ends_so Excused cs r is t room e = absurd (never_so t)
+  ends_so (Lacks kind) cs r is t room e = (let so : Because call (Lacks kind) cs (answers.Full room) = subst (λ z. Because call (Lacks kind) cs z) e is in so.1)
 
-  -- no operation has found none, and so there is no such reply
-  pub ends_unwanted : (cs : List Change) (r : Reply) → Ends false cs r
-  ends_unwanted cs r t room e = absurd (never_so t)
+  wants_so : (s : Before) (op : Op) (m : Answer op → Option Mark) (k : Answer op → P Reply) (is : Asks One call s op m k) (a : Answer op)
+      → lacks (wants_after One call s op m k is a) ≡ or_wanted (wanted op a) (lacks s.wants)
+  wants_so s (Claim inode_type) m k is (New n) = back_so s.wants (is.1.2 n)
+  wants_so s (Claim inode_type) m k is a = still_so (wanted (Claim inode_type) a) s.wants
+  wants_so s op m k is a = still_so (wanted op a) s.wants
 
-  pub say_l : (b : Bool) (cs : List Change) (r : Reply) → Ends b cs r → Leaves b cs (say r)
-  say_l b cs r ends = λ _. ends
+  changed_so : (s : Before) (op : Op) (m : Answer op → Option Mark) (k : Answer op → P Reply) → Asks One call s op m k → (a : Answer op)
+      → changed_after One call s op m a ≡ with_more s.changed (changed_by s.seen op a (m a))
+  changed_so s (Free n) m k is a = subst (λ (z : Unit {0} → Option Mark). s.changed ≡ with_more s.changed (by_free n (z a))) (sym is.1.1) (none_freed s.changed n)
+  changed_so s op m k is a = refl
 
-  -- ---- what calls are made of
+  leaves : (s : Before) (p : P Reply) → AsksSo One call s p → LeavesFrom s.seen (lacks s.wants) s.changed p
+  leaves s (Ret r) so = ends_so s.wants s.changed r so.1
+  leaves s (Do op m k) so =
+      λ a. subst (λ (z : Bool). LeavesFrom (seen_by op a) z (with_more s.changed (changed_by s.seen op a (m a))) (k a)) (wants_so s op m k so.0 a)
+      (subst (λ (z : List Change). LeavesFrom (seen_by op a) (lacks (wants_after One call s op m k so.0 a)) z (k a)) (changed_so s op m k so.0 a)
+      (leaves (after One call s op m k so.0 a) (k a) (so.1 a)))
 
-  pub drop_l : (b : Bool) (cs : List Change) (n : ℕ) (k : P Reply) → Leaves b cs k → Leaves b cs (drop n k)
-  drop_l b cs n k goes = λ last. ifs last
-    where
-      ifs : (last : Bool)
-          → Leaves b cs
-          (if last then Do (Free n) (λ _. Some (Frees n)) (λ _. Do (UnlockInode n) unmarked (λ _. Do (Forget n) unmarked (λ _. k))) else k)
-      ifs true =
-          λ _. subst (λ (z : List Change). Leaves b z (Do (UnlockInode n) unmarked (λ _. Do (Forget n) unmarked (λ _. k)))) (none_freed cs n)
-          (λ _ _. goes)
-      ifs false = goes
-
-  pub give_up_l : (b : Bool) (cs : List Change) (n : ℕ) (k : P Reply) → Leaves b cs k → Leaves b cs (give_up n k)
-  give_up_l b cs n k goes = λ _. drop_l b cs n k goes
-
-  free_all_l : (b : Bool) (cs : List Change) (ns : List ℕ) (r : Reply) → Ends b cs r → Leaves b cs (free_all ns (say r))
-  free_all_l b cs [] r ends = say_l b cs r ends
-  free_all_l b cs (n ∷ ns) r ends =
-      λ _ _ _. subst (λ (z : List Change). Leaves b z rest) (none_freed cs n) (λ _ _ _. free_all_l b cs ns r ends)
-    where
-      rest : P Reply
-      rest = Do (UnlockInode n) unmarked (λ _. Do (Forget n) unmarked (λ _. Do Leave unmarked (λ _. free_all ns (say r))))
-
-  pub tail_l : (b : Bool) (cs : List Change) (ns : List ℕ) (r : Reply) → Ends b cs r → Leaves b cs (tail ns r)
-  tail_l b cs ns r ends = λ _. free_all_l b cs ns r ends
-
-  pub refused_l : (b : Bool) (cs : List Change) (n : ℕ) (ns : List ℕ) (r : Reply) → Ends b cs r → Leaves b cs (give_up n (tail ns r))
-  refused_l b cs n ns r ends = give_up_l b cs n (tail ns r) (tail_l b cs ns r ends)
-
-  leave_l : (b : Bool) (cs : List Change) (d : ℕ) (ns : List ℕ) (k : List ℕ → P Reply) → ((ms : List ℕ) → Leaves b cs (k ms))
-      → Leaves b cs (leave_directory d ns k)
-  leave_l b cs d ns k goes = λ _ last. goes (with_last ns d last)
-
-  -- ---- walks
-
-  -- these change nothing, and where there is no place in memory they are lost
-  module _ (cs : List Change) (lost : WalkStop → List ℕ → P Reply)
-      (missing : (ns : List ℕ) → Leaves false cs (lost NotThere ns)) (placeless : (ns : List ℕ) → Leaves true cs (lost NoMemory ns)) where
-    step_l : (seen : Option Sighting) (d : ℕ) (ns : List ℕ) (go : ℕ → List ℕ → P Reply)
-        → ((n : ℕ) (ms : List ℕ) → Leaves false cs (go n ms)) → (o : Option ℕ) → LeavesFrom seen false cs (walk_step d ns go lost o)
-    step_l seen d ns go goes None = leave_l false cs d ns (lost NotThere) missing
-    step_l seen d ns go goes (Some j) = λ there. by there
-      where
-        by : (there : Bool)
-            → Leaves (or_wanted (wanted (Up j) there) false) cs (leave_directory d ns (if there then go j else lost NoMemory))
-        by true = leave_l false cs d ns (go j) (goes j)
-        by false = leave_l true cs d ns (lost NoMemory) placeless
-
-    start_l : (s : Action) (path ns : List ℕ) (next : ℕ → P Reply) → ((d : ℕ) → Leaves false cs (next d))
-        → Leaves false cs (start s path ns next lost)
-    start_l s path ns next goes = λ o. by o
-      where
-        by : (o : Option ℕ) → Leaves (or_wanted (wanted (UpStart (is_absolute path)) o) false) cs (start_on next lost ns o)
-        by None = placeless ns
-        by (Some d) = goes d
-
-    module _ (s : Action) (found : ℕ → List ℕ → P Reply) (found_l : (n : ℕ) (ns : List ℕ) → Leaves false cs (found n ns)) where
-      walk_l : (es : List Name) (d : ℕ) (ns : List ℕ) → Leaves false cs (walk s d es ns found lost)
-      walk_l [] d ns = found_l d ns
-      walk_l (e ∷ es) d ns = λ a. step_l (seen_by (Take d (AtName e)) a) d ns (λ j ms. walk s j es ms found lost) (walk_l es) a.found
-
-      pub path_l : (path ns : List ℕ) → Leaves false cs (start s path ns (λ d. walk s d (elements path) ns found lost) lost)
-      path_l path ns = start_l s path ns (λ d. walk s d (elements path) ns found lost) (λ d. walk_l (elements path) d ns)
-
-    module _ (s : Action) (found : ℕ → Name → List ℕ → P Reply)
-        (found_l : (n : ℕ) (e : Name) (ns : List ℕ) → Leaves false cs (found n e ns)) where
-      see_l : (e : Name) (d : ℕ) (ns : List ℕ) → Leaves false cs (see_parent s d ns (found d e) lost)
-      see_l e d ns = λ a. by (seen_by (Take d AtNothing) a) (is_directory_face a.face)
-        where
-          by : (seen : Option Sighting) (b : Bool)
-              → LeavesFrom seen false cs
-              (if b then Do (UnlockInode d) unmarked (λ _. found d e ns) else leave_directory d ns (lost NotThere))
-          by seen true = λ _. found_l d e ns
-          by seen false = leave_l false cs d ns (lost NotThere) missing
-
-      parent_walk_l : (e : Name) (es : List Name) (d : ℕ) (ns : List ℕ) → Leaves false cs (walk_parent s d e es ns found lost)
-      parent_walk_l e [] d ns = see_l e d ns
-      parent_walk_l e (e' ∷ es) d ns =
-          λ a. step_l (seen_by (Take d (AtName e)) a) d ns (λ j ms. walk_parent s j e' es ms found lost) (parent_walk_l e' es) a.found
-
-      pub parent_l : (path ns : List ℕ) (e : Name) (es : List Name)
-          → Leaves false cs (start s path ns (λ d. walk_parent s d e es ns found lost) lost)
-      parent_l path ns e es = start_l s path ns (λ d. walk_parent s d e es ns found lost) (λ d. parent_walk_l e es d ns)
-
-  -- ---- a walk that is lost before anything was changed
-
-  pub lost_missing : (ns : List ℕ) → Leaves false [] (tail ns (stopped call NotThere))
-  lost_missing ns = tail_l false [] ns (stopped call NotThere) (ends_unwanted [] (stopped call NotThere))
-
-  pub lost_placeless : Stands MemInodes call [] → (ns : List ℕ) → Leaves true [] (tail ns (stopped call NoMemory))
-  lost_placeless stands ns = tail_l true [] ns (stopped call NoMemory) (ends_full true [] MemInodes stands)
-
-  -- where no place was left in memory
-  pub no_place_l : Stands MemInodes call [] → (d : ℕ) (ns : List ℕ) → Leaves true [] (give_up d (tail ns (full call MemInodes)))
-  no_place_l stands d ns = refused_l true [] d ns (full call MemInodes) (ends_full true [] MemInodes stands)
+  pub calls_leave : Leaves false [] (program call)
+  calls_leave = leaves (holding [] fresh []) (program call) (calls_ask One call)

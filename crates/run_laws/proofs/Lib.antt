@@ -2,15 +2,7 @@ pub mod Vocabulary
 pub mod IdleCounts
 pub mod IdleRuns
 pub mod Idle
-pub mod Telling
-pub mod Names
 pub mod Fits
-pub mod PathFits
-pub mod MakeFits
-pub mod LinkFits
-pub mod UnlinkFits
-pub mod WriteFits
-pub mod InheritFits
 pub mod CallFits
 pub mod Running
 pub mod Reserved
@@ -63,8 +55,6 @@ pub mod Members
 pub mod Transactions
 pub mod Answered
 pub mod Leaving
-pub mod LeavingWrites
-pub mod LeavingCalls
 pub mod Standing
 pub mod Untold
 pub mod Written
@@ -72,3 +62,7 @@ pub mod Limits
 pub mod Counts
 pub mod Bounds
 pub mod Runs
+pub mod ShortWrites
+pub mod Referred
+pub mod Unlinked
+pub mod FreedPuts

@@ -2,7 +2,7 @@
 use Rattle.run_laws.proofs.Vocabulary.{◌≡◌, ◌≤◌, ◌&&◌, ℕ, Bool, true, false, List, [], ◌∷◌, ◌++◌, length, Option, Some, None, if◌then◌else◌, refl, sym, ap, subst, arith, length-append, slice_get, Super, one_if, Open, has, members_with, one_more, with_block, pick, Ret, Do, bind, LogPart, AnswerBelow as Answer, JoinToWrite, Op, Put, inode_block, Spent, size, with_contents, Accounts, IsSpent, recorded_in, used, Acts, NoMore, other_put, spent_put, has_last, put_grows, AreAtMostTen, recorded_after}
 use Rattle.fs_machine.specs.Steps.{Join}
 use Rattle.inodes_on_blocks.specs.Handlers.{P}
-use Rattle.inode_machine.proofs.Budgets.{one_bit}
+use Rattle.inode_machine.proofs.Counting.{one_most}
 
 abbrev pub Recorded : Type 0
 Recorded = Option (List ℕ)
@@ -34,13 +34,13 @@ small_to (Do op m k) Q R o stays to = (stays.0, λ apart a. small_to (k a) Q R (
 
 one_less : (t u : Bool) → one_if (t && u) ≤ one_if t
 unfolding one_if
-one_less true u = one_bit u
+one_less true u = one_most u
 one_less false u = let z : 0 ≤ 0 = omega arith in z
 
 few_records : (sizes : Super) (ks ns : List ℕ) → recorded_in sizes ks ns ≤ length ns
 few_records sizes ks [] = omega arith
 few_records sizes ks (n ∷ ns) =
-    let a = one_bit (has ks (inode_block sizes.inodestart n)) in
+    let a = one_most (has ks (inode_block sizes.inodestart n)) in
     let more = few_records sizes ks ns in
     omega (arith, a, more)
 

@@ -5,11 +5,10 @@ use Rattle.plain_tree.specs.declared.call.Call.TheVariants as calls
 use Rattle.plain_tree.specs.declared.step.Action.TheVariants as actions
 use Rattle.fs_machine.specs.Steps as steps
 use Rattle.inode_machine.specs.World as above
-use Rattle.run_laws.proofs.CallFits.{call_fits, most_written}
+use Rattle.run_laws.proofs.CallFits.{call_fits, most_written, piece_few}
 use Rattle.run_laws.proofs.Fits.{AllFit, AllFitUpTo, Fits}
 use Rattle.run_laws.proofs.Recording.{Covers, Recorded, StaysSmall, Within, ended, quiet, small_bind, small_of, then_}
 use Rattle.run_laws.proofs.RecordingParts.{claims_inode, clears, empties, frees_inode, locks_file, locks_open, no_commit, reads_file, stats, stores, takes}
-use Rattle.run_laws.proofs.WriteFits.{piece_few}
 use Rattle.run_laws.proofs.RecordingWrites.{enters, fills, writes_piece}
 
 few_at_first : size unspent ≤ 10

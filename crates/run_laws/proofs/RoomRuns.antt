@@ -4,7 +4,7 @@ use Rattle.inode_machine.specs.World as above
 use Rattle.run_laws.proofs.CallFits.{call_fits, most_written}
 use Rattle.run_laws.proofs.Fits.{AllFitUpTo}
 use Rattle.run_laws.proofs.Running.{Goes, goes_on, kept_of}
-use Rattle.run_laws.proofs.Telling.{spoils}
+use Rattle.call_programs.specs.Asks.{spoils}
 use Rattle.run_laws.proofs.Worlds.{worlds_refine}
 
 -- ---- one step

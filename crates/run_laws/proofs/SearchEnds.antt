@@ -190,7 +190,7 @@ module _ (sizes : Super) where
 
   module _ (fd n offset : ℕ) (bytes : List ℕ) (c : Carry) (m : Wrote → Option above.Mark) where
     -- the inode is stored, up to where it was written
-    stored_upto : (w v : WriteResult) (es : List AnsweredStep) → ComesTo {M = Acts} (store_written sizes n w) es v → v.upto ≡ w.upto
+    pub stored_upto : (w v : WriteResult) (es : List AnsweredStep) → ComesTo {M = Acts} (store_written sizes n w) es v → v.upto ≡ w.upto
     stored_upto w v es q =
         let s = split (store sizes.inodestart n (grown w)) (λ _. ends) es v q in
         last s.back s.then_

@@ -114,7 +114,7 @@ module _ (sizes : Super) where
 
   -- ---- a block of a content
 
-  abbrev Lacks : List AnsweredStep → Located → Type 0
+  abbrev pub Lacks : List AnsweredStep → Located → Type 0
   Lacks es l = l.number ≡ None → SawNoBlock sizes es
 
   located_there : (d : Dinode) (b : ℕ) (es : List AnsweredStep) (l : Located) → ComesTo {M = Acts} (located d (Some b)) es l →
@@ -162,7 +162,7 @@ module _ (sizes : Super) where
   new_table_lacks i d es xs (Some table) c ys l is n e =
       saw_back es xs ys is (fetched_lacks i (with_address direct table d) table ys l n e)
 
-  at_lacks : (d : Dinode) (a : Address) (es : List AnsweredStep) (l : Located) → ComesTo {M = Acts} (locate_at sizes d a) es l → Lacks es l
+  pub at_lacks : (d : Dinode) (a : Address) (es : List AnsweredStep) (l : Located) → ComesTo {M = Acts} (locate_at sizes d a) es l → Lacks es l
   at_lacks d (Direct i) es l c = at (slice_index d.addrs i == 0) c
     where
       at : (b : Bool) → ComesTo {M = Acts} (if b then bind (take_one sizes) (name_direct i d) else located d
@@ -182,7 +182,7 @@ module _ (sizes : Super) where
 
   -- ---- bytes written
 
-  next_count : (n at len f : ℕ) → suc n ≡ blocks_between at (at + len) → f ≡ min (block_len - at % block_len) len
+  pub next_count : (n at len f : ℕ) → suc n ≡ blocks_between at (at + len) → f ≡ min (block_len - at % block_len) len
       → n ≡ blocks_between (at + f) ((at + f) + (len - f))
   next_count n at len f is part =
       let lt : at < at + len = some_between n at (at + len) is in

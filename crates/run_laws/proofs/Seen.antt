@@ -7,7 +7,7 @@ use Rattle.inode_machine.specs.World as above
 use Rattle.run_laws.specs.Seen.{step_unless}
 use Rattle.run_laws.proofs.Searches.{in_back, in_front, split}
 use Rattle.run_laws.proofs.SearchEnds.{all_see, claims_find, seen_behind, seen_front}
-use Rattle.run_laws.proofs.WantsCalls.{Blames, call_b, goes_or}
+use Rattle.run_laws.proofs.WantsCalls.{Blames, calls_blame, goes_or}
 
 -- ---- from program to program
 
@@ -336,7 +336,7 @@ module _ (sizes : Super) where
   call_sees : (room : Full) (apart : MemInodes ≢ room) (call : Call) (es : List AnsweredStep) (reply : Reply)
       → ComesTo (L.program call) es reply
       → reply.answer ≡ answers.Full room → SawNone sizes es room
-  call_sees room apart call es reply q full = program_sees room apart (program call) nothing (call_b room call) es reply q full
+  call_sees room apart call es reply q full = program_sees room apart (program call) nothing (calls_blame room call) es reply q full
 
   -- the step that was so answered
   step_there : (x : AnsweredStep) (es : List MadeStep) → In x (answered es) → (e : MadeStep) × In e es × (e.step ≡ x)

@@ -1,10 +1,6 @@
 -- What a run's events show of calls is what those of its history do.
-use Rattle.run_laws.proofs.Vocabulary.{◌≡◌, ℕ, List, [], ◌∷◌, refl, ◌∙◌, Super, Call, EventOf, Start, Step, Started, WasRefused as Refused, WasIdle, DidWait, DidRun, DidEnd, DidStop, WasStopped, EventOutcome, all_asked, asked, all_by_kind, by_kind, Outside, shown_by, block_calls, block_code, Event, Outcome, all_shown, events_of, outcomes_of, shown}
+use Rattle.run_laws.proofs.Vocabulary.{◌≡◌, List, [], ◌∷◌, refl, ◌∙◌, Super, Call, EventOf, EventOutcome, all_asked, all_by_kind, Outside, block_calls, block_code, Event, all_shown, events_of, outcomes_of}
 use Rattle.hart_core.specs.declared.events.Came.{Came}
-use Rattle.hart_core.specs.declared.events.Came.TheVariants as came
-use Rattle.hart_core.specs.declared.events.Event.TheVariants as event
-use Rattle.hart_core.specs.declared.outcome.Outcome.TheVariants as outcome
-use Rattle.hart_core.specs.declared.outcome.Stop.TheVariants as stop
 use Rattle.run_laws.proofs.Traced.{all_shown_by}
 use Rattle.hart_core.proofs.Histories.{zipped, all_same, kind_same}
 

@@ -2,14 +2,13 @@
 use Rattle.run_laws.proofs.Vocabulary.{◌≡◌, inr, ℕ, false, List, [], Option, None, subst, Super, sizes_of, Full, Reply, Call, TracedCall, fresh, run, program, first, trace_in, WorldOf, changes_of, operations_of, CallsWithoutRoomTakeBack, LeavesThat, Stands, IsRunOfCall, Operation, lowered_inode_calls, IsRun, RunsTo}
 use Rattle.plain_tree.specs.declared.answer.Answer.TheVariants as answers
 use Rattle.run_laws.proofs.Answered.{both_of}
-use Rattle.run_laws.proofs.Leaving.{run_leaves}
-use Rattle.run_laws.proofs.LeavingCalls.{call_l}
+use Rattle.run_laws.proofs.Leaving.{calls_leave, run_leaves}
 use Rattle.run_laws.proofs.Worlds.{worlds_refine}
 
 call_leaves : (call : Call) (es : List Operation) (reply : Reply) (room : Full) → IsRunOfCall call es reply
     → reply.answer ≡ answers.Full room → Stands room call (changes_of es)
 call_leaves call es reply room g full =
-    run_leaves call (program call) None false [] es reply room (call_l call) g.runs full (inr (g.wants room full))
+    run_leaves call (program call) None false [] es reply room (calls_leave call) g.runs full (inr (g.wants room full))
 
 pub take_back : {D : Type 0} (contents : D → List (List ℕ)) (failures : D → ℕ) (w : WorldOf D)
     → CallsWithoutRoomTakeBack contents failures w

@@ -6,7 +6,7 @@ use Rattle.inodes_on_blocks.specs.Lowering.{Keeps}
 use Rattle.run_laws.proofs.Blamed.{IsBlamed, begun_wanted, blamed_on, ends_wanted, some_run}
 use Rattle.run_laws.proofs.Reserved.{start_same}
 use Rattle.run_laws.proofs.Running.{never_stops}
-use Rattle.run_laws.proofs.WantsCalls.{call_b}
+use Rattle.run_laws.proofs.WantsCalls.{calls_blame}
 
 pub whole_laws : Laws whole_inodes
 whole_laws =
@@ -60,7 +60,7 @@ module _ (call : Call) where
       )
 
   begins : OnWay (program call) []
-  begins = record { runs = λ rest r is. is; blamed = λ room. inr (call_b room call) }
+  begins = record { runs = λ rest r is. is; blamed = λ room. inr (calls_blame room call) }
 
   -- whatever else is shown of a program, it makes its own operations one after the other
   follows : (h : ℕ) (B : List MoveStep → Type 0) (Q : Reply → List MoveStep → World → Type 0) → ((a : Reply) (es : List MoveStep) (w : World) → Q a es w → Idle h w)

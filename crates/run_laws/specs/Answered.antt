@@ -4,7 +4,7 @@ use Rattle.std.specs.List.{All}
 use Rattle.run_laws.specs.Vocabulary.{Super, sizes_of, Full, Reply, Call, TracedCall, Theory, EventOf, PlacedStep, State, fresh, run, Chain, Outside, World, first_world, first, Came, Event, HartsOf, IsHistory, IsMounted, trace_in, WorldOf}
 use Rattle.plain_tree.specs.declared.answer.Answer.TheVariants as answers
 use Rattle.run_laws.specs.Laws.{operations_made}
-use Rattle.run_laws.specs.Wanted.{wanted}
+use Rattle.call_programs.specs.Wanted.{wanted}
 use Rattle.run_laws.specs.Wants.{HasNone}
 use Rattle.run_laws.specs.WholeInodes.{lowered_inode_calls}
 

@@ -1,6 +1,5 @@
 pub mod Vocabulary
 pub mod Idle
-pub mod Wanted
 pub mod WholeInodes
 pub mod Laws
 pub mod Worlds
@@ -18,3 +17,5 @@ pub mod Changes
 pub mod Standing
 pub mod Steps
 pub mod StepBounds
+pub mod ShortWrites
+pub mod Unlinked

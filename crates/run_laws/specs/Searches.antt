@@ -3,7 +3,7 @@ use Rattle.std.specs.Prelude.{◌≡◌, ◌⊎◌, ℕ, ◌<◌, ◌≤◌, tru
 use Rattle.run_laws.specs.Vocabulary.{Super, bit_of, dinode_at, Full, Blocks, Descriptors, Directory, DiskInodes, MemInodes, OpenFiles, name_len, In, Handover, Prog, Ret, Do, Ran, place_in_memory, Outside, AnswerBelow as Answer, Get, HasNoInode as NoInode, Read, exec, is_zero, inode_block, place_of, Enter, Carry, handlers}
 use Rattle.fs_machine.specs.Steps.{Claim, Op, State}
 use Rattle.inode_machine.specs.World as above
-use Rattle.run_laws.specs.Wanted.{wanted}
+use Rattle.call_programs.specs.Wanted.{wanted}
 
 -- an operation on the blocks with its answer
 abbrev pub AnsweredStep : Type 0

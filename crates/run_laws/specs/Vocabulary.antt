@@ -1,7 +1,7 @@
 -- What the crates below call things: the words that this crate's definitions and contracts use.
-pub use Rattle.inodes_on_blocks.specs.Vocabulary.{Answer as AnswerBelow, Both, Claim, Clear, Desk, ExecResult, Do, Double, Empty, Enter, Entry, Fill, Free, Handover, Install, Inv, IsMember, IsNamedPart, Lend, LendDirectory, LockFile, LockOpen, LowerLayer, Machine, Name, Outside, Prog, Put, Ran, ReadFile, Ret, SetDirectory, Short, Shut, Slot, StatFile, Stopped as Refused, Stops, Store, TablesState, Take, Tree, Up, UpStart, Waits, Whole, World, WriteFile, Wrote, all_slots, bit_of, descriptor_count, dinode_at, entry_of, file_count, go, hart_count, inode_block, joined, option_map, place_of as place_in_memory, tree_in, tree_of, bind}
+pub use Rattle.inodes_on_blocks.specs.Vocabulary.{Answer as AnswerBelow, Both, Claim, Desk, ExecResult, Do, Enter, Entry, Handover, Inv, IsMember, IsNamedPart, LockFile, LockOpen, LowerLayer, Machine, Name, Outside, Prog, Put, Ran, Ret, Short, StatFile, Stops, TablesState, Take, Tree, Waits, World, WriteFile, Wrote, all_slots, bit_of, descriptor_count, dinode_at, entry_of, file_count, go, hart_count, inode_block, joined, option_map, place_of as place_in_memory, tree_in, tree_of, bind}
 unfoldable pub use Rattle.inodes_on_blocks.specs.Vocabulary.{one_if, sizes_of}
-pub use Rattle.inode_machine.specs.Vocabulary.{AllHonest, Deed, DidEnd, DidRun, DidStop, DidWait, Event as EventOf, FinishedCall, Outcome, Own, Refused as WasRefused, Run, Start, Started, State, Step, Theory, TreeData, WasIdle, WasStopped, creates, fresh, next, node_or, outcomes, run, EventOutcome, MoveStep, makes}
+pub use Rattle.inode_machine.specs.Vocabulary.{AllHonest, Deed, DidEnd, DidRun, DidStop, DidWait, Event as EventOf, FinishedCall, Outcome, Refused as WasRefused, Run, Start, Started, State, Step, Theory, TreeData, WasIdle, WasStopped, fresh, next, node_or, outcomes, run, EventOutcome, MoveStep, makes}
 pub use Rattle.plain_tree.specs.VersionOne.{Explains, name_len}
 unfoldable pub use Rattle.inode_machine.specs.Vocabulary.{look, sum_below}
 pub use Rattle.calls_on_blocks.specs.Vocabulary.{IsMarked, IsMountable, Leave, P, before, first_world, handlers, lowered_calls, or_else}
@@ -14,7 +14,7 @@ pub use Rattle.hart_core.specs.Worlds.{WorldOf}
 pub use Rattle.hart_core.specs.declared.events.Came.{Came}
 pub use Rattle.hart_core.specs.declared.events.Event.{Event}
 pub use Rattle.atomic_programs.specs.Explained.{Chain, In, IsOfCall, IsRising, history, steps_of}
-pub use Rattle.inode_machine.specs.World.{Answer, ClaimResult, EntryResult, InPlace, Mark, New, NoBlock, NoInode, NoPlace, NoSlot, Op}
+pub use Rattle.inode_machine.specs.World.{Answer, Mark, Op}
 pub use Rattle.atomic_programs.specs.Calls.{PlacedStep, hart_of, changed, Made}
 pub use Rattle.calls_on_blocks.specs.Layer.{layer}
 pub use Rattle.fs_machine.specs.Steps.{Get, Join, JoinResult, JoinToWrite, Joins, NoInode as HasNoInode, Read, RefusesJoin}
@@ -32,7 +32,6 @@ pub use Rattle.group_log.specs.declared.limits.TheConstants.{BLOCKS_OF_A_TRANSAC
 pub use Rattle.hart_core.specs.Promised.{ShowsImage}
 pub use Rattle.hart_core.specs.Stops.{after_first, marks_of}
 pub use Rattle.inode_machine.specs.Exec.{entry_moved, place_count, referenced, slot_limit, with_bytes}
-pub use Rattle.inode_machine.specs.Inodes.{face_or}
 pub use Rattle.inode_machine.specs.VersionOne.{seen_in}
 pub use Rattle.inode_machine.specs.VersionOne.{history_of, placed}
 pub use Rattle.inode_machine.specs.Marks.{new_id, roomy}
@@ -50,8 +49,6 @@ pub use Rattle.plain_tree.specs.declared.answer.Full.{Full}
 pub use Rattle.plain_tree.specs.declared.answer.Full.TheVariants.{Blocks, Descriptors, Directory, DiskInodes, MemInodes, OpenFiles}
 pub use Rattle.plain_tree.specs.declared.answer.Reply.{Reply}
 pub use Rattle.plain_tree.specs.declared.call.Call.{Call}
-pub use Rattle.plain_tree.specs.declared.call.Call.TheVariants.{Chdir, Dup, Link, Mkdir, Open, Unlink, Write}
 pub use Rattle.plain_tree.specs.declared.node.Node.{Node}
-pub use Rattle.plain_tree.specs.declared.step.Action.TheVariants.{Bump, Unbump}
 pub use Rattle.plain_tree.specs.declared.trace.Placed.{Placed}
 pub use Rattle.plain_tree.specs.declared.trace.TracedCall.{TracedCall}

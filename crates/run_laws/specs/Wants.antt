@@ -3,7 +3,7 @@ use Rattle.std.specs.Prelude.{◌≡◌, ◌⊎◌, ℕ, ◌<◌, ◌≤◌, Lis
 use Rattle.std.specs.List.{All}
 use Rattle.run_laws.specs.Vocabulary.{Super, sizes_of, Full, Blocks, Descriptors, Directory, DiskInodes, MemInodes, OpenFiles, Call, Node, all_slots, descriptor_count, hart_count, EventOf, PlacedStep, fresh, run, Outside, file_count, place_count, referenced, slot_limit, Op, World, Enter, first_world, first, Came, Event, HartsOf, IsHistory, IsMounted, WorldOf}
 use Rattle.run_laws.specs.Laws.{operations_made}
-use Rattle.run_laws.specs.Wanted.{wanted}
+use Rattle.call_programs.specs.Wanted.{wanted}
 use Rattle.run_laws.specs.WholeInodes.{IsStep, Operation, lowered_inode_calls, unreserved}
 
 -- ---- where there is none

@@ -4,7 +4,7 @@ use Rattle.run_laws.specs.Vocabulary.{Super, Full, Reply, Call, descriptor_count
 use Rattle.plain_tree.specs.declared.answer.Answer.TheVariants as answers
 use Rattle.inode_machine.specs.Rules as rules
 use Rattle.inode_machine.specs.World.{Outside}
-use Rattle.run_laws.specs.Wanted.{wanted}
+use Rattle.call_programs.specs.Wanted.{wanted}
 
 -- ---- the machine of whole inodes
 

@@ -13,8 +13,10 @@ ghost use Rattle.run_laws.specs.OneList.{RunsHaveOneList};
 ghost use Rattle.run_laws.specs.Rooms.{RoomIsToldByAnswers};
 ghost use Rattle.run_laws.specs.Searches.{ClaimsFindReferences, SearchesSeeAll};
 ghost use Rattle.run_laws.specs.Seen.{CallsLookEverywhere};
+ghost use Rattle.run_laws.specs.ShortWrites.{ShortWritesEndBeforeMissing};
 ghost use Rattle.run_laws.specs.Standing.{CallsWithoutRoomTakeBack};
 ghost use Rattle.run_laws.specs.Transactions.{TransactionsRecordAtMostTen};
+ghost use Rattle.run_laws.specs.Unlinked.{FreesPutNoType, NothingIsLost};
 ghost use Rattle.run_laws.specs.UnderWay.{MovesAreMadeAsOperationsAct, StepsPlaceInTime};
 ghost use Rattle.run_laws.specs.Wants.{NoRoomOnlyWhereThereIsNone};
 ghost use Rattle.run_laws.specs.Worlds.{WorldsRefineWholeInodes};
@@ -116,6 +118,13 @@ pub fn searches_see_all()
     ensures finds_references { ClaimsFindReferences }
 {}
 
+/// Whatever the steps of its program on the blocks are answered, a write that is told that there was no block for all of its bytes has
+/// written just those before one block of the content: a block that the inode lacked, as its record and its indirect block had it, and for
+/// which no bit of the bitmap was clear.
+pub fn short_writes_end_before_missing()
+    ensures { ShortWritesEndBeforeMissing }
+{}
+
 /// So in each run of a mounted world a call is answered that there is no block only where one of its steps, between its start and its
 /// return, had the bitmap with no clear bit below the size; and that there is no inode only where its steps had the block of each inode of
 /// the disk, and the inode had a type there, or a reference to it stood as the block's free ones were to be claimed.
@@ -149,6 +158,16 @@ pub fn runs_have_one_list<D: Device>(world: &World<D>)
 /// files and current directories have, no place is left taken for a file, and the blocks are a well-formed image.
 pub fn idle_harts_have_begun_nothing<D: Device>(world: &World<D>)
     ensures { IdleHartsHaveBegunNothing D.contents D.failures world.now }
+{
+    let _ = world;
+}
+
+/// And where no hart has a call each inode on the disk whose count is 0 is that of an open file or of a current directory: what has lost
+/// its last name is freed once nobody uses it. Whatever its program's steps are answered, the last step of a freeing puts the inode's
+/// block as it was read, with a record of the inode that has no type.
+pub fn nothing_is_lost<D: Device>(world: &World<D>)
+    ensures lost { NothingIsLost D.contents D.failures world.now }
+    ensures freed { FreesPutNoType }
 {
     let _ = world;
 }

@@ -1,4 +1,4 @@
-use Rattle.image_tree.proofs.Lemmas.{◌∙◌, ◌<◌, ◌≤◌, subst, arith, calls_after, Super, image_next, reclaimed_next, same_next, named_all, all_freed}
+use Rattle.image_tree.proofs.Lemmas.{◌∙◌, ◌<◌, ◌≤◌, subst, arith, calls_after, Super, image_next, reclaimed_next, same_next, named_all, are_freed}
 use Rattle.image_tree.proofs.freeing.reclaim.Goals as goal
 
 pub returns-in_err-reclaim_at-clause-same : goal.returns-in_err-reclaim_at-clause-same
@@ -30,7 +30,7 @@ pub returns-clause-freed : goal.returns-clause-freed
 returns-clause-freed g c =
     let d = g.D.Device.contents c.args.device.now in
     let e = g.D.Device.contents c.loop-i.device in
-    all_freed d e c.loop-i.i c.loop-i.invariant.to (subst (λ (z : Super). z.ninodes ≤ c.loop-i.i) c.requires.sizes (omega arith))
+    are_freed d e c.loop-i.i c.loop-i.invariant.to (subst (λ (z : Super). z.ninodes ≤ c.loop-i.i) c.requires.sizes (omega arith))
 
 pub returns-clause-same : goal.returns-clause-same
 returns-clause-same g c = λ all. c.loop-i.invariant.to.same (λ k lo lt. all k)

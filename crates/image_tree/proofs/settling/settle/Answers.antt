@@ -1,4 +1,4 @@
-use Rattle.image_tree.proofs.Lemmas.{◌≡◌, ◌≢◌, ◌∙◌, ℕ, true, false, List, ap, All, block_at, recovered, sizes_of, IsOutsideLog, is_marked, numbers_by, is_orphan, trees_see_recovered, on_ok, on_ok_any, freed_seen, named_seen, well_seen}
+use Rattle.image_tree.proofs.Lemmas.{◌≡◌, ◌∙◌, ℕ, List, ap, AreFreed, block_at, recovered, sizes_of, IsOutsideLog, trees_see_recovered, on_ok, on_ok_any, freed_seen, named_seen, well_seen}
 use Rattle.image_tree.proofs.settling.settle.Goals as goal
 
 pub returns-in_err-install-clause-well : goal.returns-in_err-install-clause-well
@@ -22,7 +22,7 @@ returns-clause-freed g c =
     let d : List (List ℕ) = g.D.Device.contents c.args.device.now in
     let e : List (List ℕ) = g.D.Device.contents c.install.new.device in
     let n : List (List ℕ) = g.D.Device.contents c.reclaim.new.device in
-    on_ok c.reclaim.result ((i : ℕ) → is_orphan e i ≡ true → All (λ b. b ≢ 0 → is_marked n b ≡ false) (numbers_by e i)) ((i : ℕ) → is_orphan d i ≡ true → All (λ b. b ≢ 0 → is_marked n b ≡ false) (numbers_by d i))
+    on_ok c.reclaim.result (AreFreed e n) (AreFreed d n)
     (λ freed. freed_seen c.args.version d e c.install.ensures.view c.requires.well n freed) c.reclaim.ensures.freed
 
 pub returns-clause-home : goal.returns-clause-home

@@ -1,6 +1,8 @@
 -- What an answer says is wanting.
 use Rattle.std.specs.Prelude.{ℕ, Bool, true, false, Option, Some, None}
-use Rattle.run_laws.specs.Vocabulary.{Full, Blocks, Descriptors, Directory, DiskInodes, MemInodes, OpenFiles, Answer, ClaimResult, EntryResult, InPlace, New, NoBlock, NoInode, NoPlace, NoSlot, Op, Refused, Short, Whole, Wrote, Claim, Double, Enter, Fill, Install, Slot, Up, UpStart, WriteFile}
+use Rattle.inode_machine.specs.Vocabulary.{Full, Blocks, Descriptors, DirectorySlots as Directory, DiskInodes, MemInodes, OpenFiles}
+use Rattle.inode_machine.specs.Basics.{Answer, ClaimResult, EntryResult, InPlace, New, NoBlock, NoInode, NoPlace, NoSlot, Op, Refused, Short, Whole, Wrote}
+use Rattle.inode_machine.specs.World.Op.{Claim, Double, Enter, Fill, Install, Slot, Up, UpStart, WriteFile}
 
 abbrev pub wanted_unless : Full → Bool → Option Full
 wanted_unless room true = None

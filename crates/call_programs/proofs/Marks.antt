@@ -1,19 +1,8 @@
--- An operation's mark says that there was no room just where its answer says so.
-use Rattle.run_laws.proofs.Vocabulary.{◌≡◌, ℕ, Bool, true, false, not, if◌then◌else◌, List, Option, Some, None, refl, Action, empty_it, dups, refused_read, refused_to, writes, is_nothing, Face, Sight, is_directory_type, is_live_face, lends, bump_refused, bumps_if, enters, is_refused, entered_file, installs, mends_unless_new, truncates, begins_unless_full, looks_if, looks_or_quits, looks_where, mends_if_full, own_step, quits_unless, ClaimResult, EntryResult, InPlace, JoinResult, Joined, Lent, LoanResult, LockResult, LocksIt, Mark, Moved, New, NoBlock, NoPlace, NoSlot, NotJoined, NotLocked, Refused, Short, Whole, Wrote, Fills, Frees, Makes, Mends, Orphans, Spoils, Move, Look, GiveUpWalk, is_no_descriptor, is_no_entry, is_no_inode, is_short}
-use Rattle.plain_tree.specs.declared.step.Action.TheVariants as actions
+-- An operation's mark says that there was no room exactly when its answer says so.
+use Rattle.call_programs.proofs.Vocabulary.{◌≡◌, ℕ, Bool, true, false, not, if◌then◌else◌, List, Option, Some, None, refl, Face, Sight, is_directory_type, is_live_face, is_nothing, installs, truncates, entered_file, mends_unless_new, begins_unless_full, looks_if, looks_or_quits, looks_where, mends_if_full, own_step, quits_unless, ClaimResult, EntryResult, InPlace, JoinResult, Joined, Lent, LoanResult, LockResult, LocksIt, New, NoBlock, NoPlace, NoSlot, NotJoined, NotLocked, Refused, Short, Whole, Mark, Move, Look, GiveUpWalk, dups, refused_read, refused_to, writes, lends, bump_refused, bumps_if, enters, is_refused, is_no_descriptor, is_no_entry, is_no_inode, is_short, Action, empty_it, makes, NoInode, spoils}
+use Rattle.inode_machine.proofs.Vocabulary.{Moved, Wrote}
 use Rattle.plain_tree.specs.Steps.{has}
-use Rattle.inode_machine.specs.Parts.{makes}
-use Rattle.inode_machine.specs.World.{NoInode}
-
--- no room was found, by the mark
-abbrev pub spoils : Option Mark → Bool
-spoils None = false
-spoils (Some (Makes v)) = false
-spoils (Some (Frees n)) = false
-spoils (Some (Orphans n)) = false
-spoils (Some Fills) = true
-spoils (Some Mends) = true
-spoils (Some (Spoils s)) = true
+use Rattle.plain_tree.specs.declared.step.Action.TheVariants as actions
 
 pub mends_tell : (there : Bool) → spoils (mends_if_full there) ≡ not there
 mends_tell true = refl

@@ -1,0 +1,12 @@
+pub mod Vocabulary
+pub mod Names
+pub mod Marks
+pub mod Parts
+pub mod UnlinkCalls
+pub mod OpenCalls
+pub mod MkdirCalls
+pub mod LinkCalls
+pub mod Pieces
+pub mod Writes
+pub mod Calls
+pub mod Budgets

@@ -1,0 +1,4 @@
+pub mod Along
+pub mod Wanted
+pub mod Changes
+pub mod Asks
