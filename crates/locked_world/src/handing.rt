@@ -76,7 +76,10 @@ pub fn is_handed_back(given: &Call, reply: &Reply) -> bool
 {
     match given {
         Call::Read { fd, buf } => match &reply.call {
-            Call::Read { fd: other, buf: bytes } => {
+            Call::Read {
+                fd: other,
+                buf: bytes,
+            } => {
                 fd == other
                     && keeps_after(read_count(&reply.answer), buf.as_slice(), bytes.as_slice())
             }
