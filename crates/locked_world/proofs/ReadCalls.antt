@@ -85,12 +85,12 @@ module _ (sizes : Super) (fd : ℕ) (buffer : List ℕ) where
 
   -- a buffer in which nothing was put
   unread : (back : List ℕ) × (Read fd buffer ≡ Read fd back) × KeepsAfter 0 buffer back
-  unread = (buffer, (refl, (refl, refl)))
+  unread = (buffer, refl, (refl, refl))
 
   replies : (c : Carry) (b : List ℕ) → length b ≤ length buffer → Ends HandsIt (lowered machine (layer sizes) (handlers sizes) c (say (read_reply fd buffer b)))
   replies c b few =
       let same : length (b ++ drop (length b) buffer) ≡ length buffer = omega (arith, few, length-append b (drop (length b) buffer), length-drop (length b) buffer) in
-      λ a fits. (b ++ drop (length b) buffer, (refl, (same, drop-append-drop (length b) buffer b (length b) (omega arith) refl)))
+      λ a fits. (b ++ drop (length b) buffer, refl, (same, drop-append-drop (length b) buffer b (length b) (omega arith) refl))
 
   reads : (c : Carry) (n offset : ℕ) → Ends HandsIt (lowered machine (layer sizes) (handlers sizes) c (read_on fd buffer (LocksIt n offset)))
   reads c n offset =

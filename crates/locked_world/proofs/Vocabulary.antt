@@ -34,6 +34,7 @@ pub use Rattle.locked_world.specs.declared.note.Note.{Note}
 pub use Rattle.locked_world.specs.declared.note.What.{What}
 pub use Rattle.std.proofs.Math.ListN.{length-replicate}
 pub use Rattle.std.proofs.lemmas.Option.{slice_get_cases, slice_get_read}
+pub use Rattle.std.proofs.lemmas.Slice.{drop-append-drop}
 pub use Rattle.buffer_cache.specs.declared.got.Got.{Got}
 pub use Rattle.fs_layout.specs.declared.inode.Dinode.{Dinode}
 pub use Rattle.fs_layout.specs.declared.superblock.Super.{Super}
