@@ -102,7 +102,7 @@ has_appended : (out : Option (List ℕ)) (text : List ℕ) → Appends out (appe
 has_appended None text = tt
 has_appended (Some bytes) text = refl
 
-module _ {D : Type 0} (contents : D → List (List ℕ)) (failures : D → ℕ) (help : List ℕ) where
+module _ {D : Type 0} (contents : D → List (List ℕ)) (failures : D → ℕ) where
   -- ---- a line of a script
 
   with_hint : (l : Line) (s t : RunOf D) (out end : Option (List ℕ)) (n m : NotesOf) (r : Result (Unit {0}) ConsoleFault)
@@ -122,6 +122,7 @@ module _ {D : Type 0} (contents : D → List (List ℕ)) (failures : D → ℕ) 
       subst (λ x. Runs (does_line contents failures l) s out n x t end m) (sym is)
       (with_hint l s t out end n m (Err fault) (ends_in_fault (line contents failures l) (λ u. prints (λ v. hint_of (stepless (started_on l) s.session.doing))) fault s t out end n m runs))
 
+module _ {D : Type 0} (contents : D → List (List ℕ)) (failures : D → ℕ) (help : List ℕ) where
   -- ---- what is asked
 
   pub done_as : (asked want : Asked) (s t : RunOf D) (out end : Option (List ℕ)) (n l : NotesOf) (r : Result Bool ConsoleFault) → asked ≡ want → Runs (does contents failures help want) s out n r t end l → Runs (does contents failures help asked) s out n r t end l

@@ -6,13 +6,11 @@ pub mod Events
 pub mod Faults
 pub mod Histories
 pub mod Images
-pub mod Kept
 pub mod Lines
 pub mod Notes
 pub mod Numbers
 pub mod Prompts
 pub mod Queues
-pub mod Rows
 pub mod Runs
 pub mod Scripts
 pub mod Sessions

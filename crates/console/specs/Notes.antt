@@ -2,7 +2,6 @@
 -- --explain.
 use Rattle.std.specs.Prelude.{ℕ, ◌+◌, Bool, true, false, List, [], ◌∷◌, ◌++◌, Option, Some, None}
 use Rattle.console.specs.Vocabulary.{Came, Event, Outcome, Mode, TailView, tail, with_event}
-pub use Rattle.console.specs.Kept.{KeptRun, no_events, one_longer}
 use Rattle.hart_core.specs.declared.events.Came.TheVariants as came
 use Rattle.hart_core.specs.declared.outcome.Outcome.TheVariants as outcome
 use Rattle.console.specs.declared.verb.Verb.{Verb}
@@ -24,12 +23,20 @@ what_of verb came.Started = Some (Start verb)
 what_of verb (came.Refused why) = Some (Refused why)
 what_of verb (came.Stepped outcome) = what_of_step outcome
 
+-- events in their order, and what each came to
+pub record KeptRun : Type 0 where
+  pub events : List Event
+  pub outcomes : List Came
+
 -- the last notes, and how many there were in all; all notes, where there is a timeline; and the whole run, where it is kept
 pub record NotesOf : Type 0 where
   pub tail : TailView Note
   pub timeline : Option (List Note)
   pub count : ℕ
   pub kept : Option KeptRun
+
+abbrev pub no_events : KeptRun
+no_events = record { events = []; outcomes = [] }
 
 -- where it is wanted
 abbrev pub none_kept : Bool → Option KeptRun
@@ -62,7 +69,7 @@ copy_for (Some run) event = Some event
 abbrev pub with_kept : Option KeptRun → Option Event → Came → Option KeptRun
 with_kept None copy came = None
 with_kept (Some run) None came = Some run
-with_kept (Some run) (Some event) came = Some (one_longer run event came)
+with_kept (Some run) (Some event) came = Some (record { events = run.events ++ event ∷ []; outcomes = run.outcomes ++ came ∷ [] })
 
 -- what is kept
 abbrev pub run_in : Option KeptRun → KeptRun

@@ -157,19 +157,20 @@ Follows (Ok true) old (Some line) new = IsFirst old line new
 Follows (Ok false) old next new = Unit {0}
 Follows (Err fault) old next new = Unit {0}
 
-module _ {D : Type 0} (contents : D → List (List ℕ)) (failures : D → ℕ) (help : List ℕ) where
+module _ {D : Type 0} (contents : D → List (List ℕ)) (failures : D → ℕ) where
   -- A line of a script does what it does there. Where it only starts a call on a hart that has one that has made no step, it is told besides
   -- what makes them.
   abbrev pub does_line : Line → Behaviour (RunOf D) (Unit {0})
   does_line l s = followed_by (line contents failures l) (λ u. prints (λ t. hint_of (stepless (started_on l) s.session.doing))) s
 
+module _ {D : Type 0} (contents : D → List (List ℕ)) (failures : D → ℕ) (help : List ℕ) where
   -- What is asked is done. It comes to whether more lines are read.
   abbrev pub does : Asked → Behaviour (RunOf D) Bool
   does Nothing = gives true
   does Help = followed_by (prints (λ s. help)) (λ u. gives true)
   does State = followed_by (prints (λ s. state_text all_harts s.session)) (λ u. gives true)
   does Quit = gives false
-  does (Run l) = followed_by (does_line l) (λ u. gives true)
+  does (Run l) = followed_by (does_line contents failures l) (λ u. gives true)
 
   abbrev pub does_or_tells : ℕ → Option Asked → Behaviour (RunOf D) Bool
   does_or_tells n None = followed_by (tells_bad n) (λ u. gives true)

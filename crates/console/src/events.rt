@@ -1,7 +1,7 @@
 //! The lines that are printed after a script: the last events, and the columns of the timeline.
 ghost use Rattle.std.specs.Prelude.{◌*◌, ◌^◌, ◌-◌, ◌++◌, ◌<◌, OnOk, min, true, codes, decimal, replicate};
 ghost use Rattle.console.specs.Vocabulary.{format_spec, styled_decimal, Appends, numbered_text, stat_text};
-ghost use Rattle.console.specs.Events.{answer_cell, cell, hart_mark, last_line, last_of, timeline_line, timeline_of, what_text};
+ghost use Rattle.console.specs.Events.{answer_cell, cell, hart_mark, last_line, last_of, timeline_line, timeline_of, timeline_rows, what_text};
 
 use crate::notes::{Note, Notes, What};
 use crate::numbers::{kind_word, start_name, start_number, stop_name, stop_number};
@@ -56,11 +56,19 @@ pub fn write_timeline<W: Write>(out: &mut W, notes: &Notes) -> io::Result<()>
     ensures { OnOk result (Appends (W.contents out.old) (W.contents out.new) (timeline_of true notes.now)) }
 {
     writeln!(out, "{HEAD}")?;
-    notes.write_rows(out)
+    write_rows(out, notes.timeline())
 }
 
-/// The line of an event of the timeline.
-pub(crate) fn write_row<W: Write>(out: &mut W, note: &Note) -> io::Result<()>
+fn write_rows<W: Write>(out: &mut W, rows: &[Note]) -> io::Result<()>
+    ensures { OnOk result (Appends (W.contents out.old) (W.contents out.new) (timeline_rows rows.now)) }
+{
+    for note in rows {
+        write_row(out, note)?;
+    }
+    Ok(())
+}
+
+fn write_row<W: Write>(out: &mut W, note: &Note) -> io::Result<()>
     ensures { OnOk result (Appends (W.contents out.old) (W.contents out.new) (timeline_line note.now)) }
 {
     write_number(out, note.number)?;

@@ -7,7 +7,7 @@ ghost use Rattle.console.specs.Notes.{run_in};
 
 use crate::fault::ConsoleFault;
 use crate::notes::Notes;
-use explain::{ExplainRefused, Keeper, explain, explain_traced};
+use explain::{ExplainRefused, Keeper, explain, explain_noted};
 use plain_tree::{Placed, Tree};
 use script::write_entry;
 use std::alloc::Global;
@@ -26,10 +26,8 @@ pub fn write_history<W: Write>(
 ) -> Result<(), ConsoleFault>
     ensures { TellsHistory (history_kept base.now keeper) (run_in notes.now.kept) result (W.contents out.old) (W.contents out.new) }
 {
-    let Ok(trace) = notes.trace(alloc) else {
-        return Err(ConsoleFault::Memory);
-    };
-    match explain_traced(alloc, base, &trace, keeper) {
+    let (events, outcomes) = (notes.kept_events(), notes.kept_outcomes());
+    match explain_noted(alloc, base, events, outcomes, keeper) {
         Ok(list) => tell_list(out, list.as_slice()),
         Err(why) => tell_why(out, why),
     }
@@ -45,8 +43,7 @@ pub fn write_history_on<W: Write>(
 ) -> Result<(), ConsoleFault>
     ensures { TellsHistory (history_on image.now) (run_in notes.now.kept) result (W.contents out.old) (W.contents out.new) }
 {
-    let events = notes.kept_events(alloc)?;
-    match explain(alloc, image, events.as_slice()) {
+    match explain(alloc, image, notes.kept_events()) {
         Ok(list) => tell_list(out, list.as_slice()),
         Err(why) => tell_why(out, why),
     }

@@ -1,21 +1,15 @@
 //! What is noted of events.
-ghost use Rattle.std.specs.Prelude.{◌≡◌, IfOk, IfSome, OnErr, OnOk, length};
-ghost use Rattle.console.specs.Vocabulary.{Appends, trace_in};
-ghost use Rattle.console.specs.Events.{timeline_rows};
+ghost use Rattle.std.specs.Prelude.{◌≡◌, IfOk, OnOk, option_map};
 ghost use Rattle.hart_core.specs.declared.events.Event.TheVariants.{Step};
 ghost use Rattle.console.specs.Notes.{copy_for, no_notes, run_in, rows_in, what_of, what_of_step, with_kept, with_note, with_row};
 
-use crate::kept::Kept;
-use crate::rows::Rows;
 use crate::verb::Verb;
 use circular_buffer::Iter;
 use fs_machine::Kind;
 use hart_core::{Came, Event, Outcome, StartRefused, Stop};
-use plain_tree::{Answer, NoMemory, Trace};
+use plain_tree::Answer;
 use script::{Mode, Tail};
 use std::alloc::{AllocError, Global};
-use std::io;
-use std::io::Write;
 use std::marker::Model;
 
 /// What an event came to.
@@ -61,11 +55,26 @@ pub fn what_of_step(outcome: &Outcome) -> Option<What>
     }
 }
 
+/// Events in their order, and what each came to.
+#[derive(Drop)]
+pub struct Kept {
+    events: Vec<Event>,
+    outcomes: Vec<Came>,
+}
+
+impl Model for Kept {
+    ghost use Rattle.console.specs.Notes.{KeptRun};
+
+    ghost Value = { KeptRun };
+
+    ghost view = { λ k. record { events = k.events.items; outcomes = k.outcomes.items } };
+}
+
 /// What is noted of the last events, and how many there were; of all, where a timeline is wanted; and the whole run, where it is wanted.
 #[derive(Drop)]
 pub struct Notes {
     tail: Tail<Note>,
-    timeline: Option<Rows>,
+    timeline: Option<Vec<Note>>,
     count: u64,
     kept: Option<Kept>,
 }
@@ -75,21 +84,22 @@ impl Model for Notes {
 
     ghost Value = { NotesOf };
 
-    ghost use Rattle.std.specs.Prelude.{◌≡◌, IfSome, length};
+    ghost use Rattle.std.specs.Prelude.{option_map};
 
-    ghost view = { λ n. record { tail = n.tail; timeline = n.timeline; count = n.count; kept = n.kept } };
-
-    ghost invariant = { λ n. IfSome n.timeline (λ rows. length rows ≡ n.count) };
+    ghost view = { λ n. record {
+      tail = n.tail;
+      timeline = option_map (λ v. v.items) n.timeline;
+      count = n.count;
+      kept = n.kept;
+    } };
 }
 
-// Puts an event behind those of the timeline, of which there are so many.
-fn add_row(timeline: &mut Option<Rows>, note: Note) -> Result<(), AllocError>
-    requires { IfSome timeline.old (λ rows. length rows ≡ note.number) }
-    ensures added { OnOk result (timeline.new ≡ with_row timeline.old note) }
-    ensures same { OnErr result (timeline.new ≡ timeline.old) }
+// Puts a note behind those of the timeline.
+fn add_row(timeline: &mut Option<Vec<Note>>, note: Note) -> Result<(), AllocError>
+    ensures { OnOk result (option_map (λ v. v.items) timeline.new ≡ with_row (option_map (λ v. v.items) timeline.old) note) }
 {
-    if let Some(rows) = timeline {
-        rows.push(note.hart, note.what)?;
+    if let Some(notes) = timeline {
+        notes.push(note)?;
     }
     Ok(())
 }
@@ -99,7 +109,8 @@ fn keep(kept: &mut Option<Kept>, copy: Option<Event>, came: Came) -> Result<(), 
     ensures { OnOk result (kept.new ≡ with_kept kept.old copy came) }
 {
     if let (Some(run), Some(event)) = (kept, copy) {
-        run.push(event, came)?;
+        run.events.push(event)?;
+        run.outcomes.push(came)?;
     }
     Ok(())
 }
@@ -110,12 +121,15 @@ impl Notes {
         ensures { IfOk result (λ n. n ≡ no_notes mode) }
     {
         let timeline = if mode.timeline {
-            Some(Rows::new(alloc))
+            Some(Vec::new(alloc))
         } else {
             None
         };
         let kept = if mode.explain {
-            Some(Kept::new(alloc))
+            Some(Kept {
+                events: Vec::new(alloc),
+                outcomes: Vec::new(alloc),
+            })
         } else {
             None
         };
@@ -163,40 +177,40 @@ impl Notes {
             return Err(AllocError);
         };
         let note = Note { number, hart, what };
-        self.tail.note(note)?;
-        keep(&mut self.kept, copy, came)?;
         add_row(&mut self.timeline, note)?;
+        keep(&mut self.kept, copy, came)?;
+        self.tail.note(note)?;
         self.count = count;
         Ok(())
     }
 
-    /// What the events that are kept show of calls.
-    pub fn trace(&self, alloc: Global) -> Result<Trace, NoMemory>
-        ensures { IfOk result (λ t. t ≡ trace_in (run_in self.now.kept).events (run_in self.now.kept).outcomes) }
+    /// The events that are kept, in their order.
+    pub fn kept_events(&self) -> &[Event]
+        ensures { result.now ≡ (run_in self.now.kept).events }
     {
         match &self.kept {
-            Some(run) => run.trace(alloc),
-            None => Kept::new(alloc).trace(alloc),
+            Some(run) => run.events.as_slice(),
+            None => &[],
         }
     }
 
-    /// Copies of the events that are kept, in their order.
-    pub fn kept_events(&self, alloc: Global) -> Result<Vec<Event>, AllocError>
-        ensures { IfOk result (λ events. events.items ≡ (run_in self.now.kept).events) }
+    /// What each of the events that are kept came to.
+    pub fn kept_outcomes(&self) -> &[Came]
+        ensures { result.now ≡ (run_in self.now.kept).outcomes }
     {
         match &self.kept {
-            Some(run) => run.events(alloc),
-            None => Ok(Vec::new(alloc)),
+            Some(run) => run.outcomes.as_slice(),
+            None => &[],
         }
     }
 
-    /// Prints a line for each event, the oldest first, where a timeline is wanted.
-    pub fn write_rows<W: Write>(&self, out: &mut W) -> io::Result<()>
-        ensures { OnOk result (Appends (W.contents out.old) (W.contents out.new) (timeline_rows (rows_in self.now.timeline))) }
+    /// All events, the oldest first, where a timeline is wanted.
+    pub fn timeline(&self) -> &[Note]
+        ensures { result.now ≡ rows_in self.now.timeline }
     {
         match &self.timeline {
-            Some(rows) => rows.write(out),
-            None => Ok(()),
+            Some(notes) => notes.as_slice(),
+            None => &[],
         }
     }
 

@@ -71,31 +71,13 @@ pub fn explain_noted(
     ensures kept { IfOk result (λ v. HandsOut keeper base.now (trace_in events.now outcomes.now) v.items) }
     ensures flat { IfOk result (λ _. any_climbs (trace_in events.now outcomes.now).calls ≡ false) }
 {
-    let full = keeper.is_full();
-    if full {
-        return Err(ExplainRefused::FullSeen);
-    }
-    let Ok(trace) = trace(alloc, events, outcomes) else {
-        return Err(ExplainRefused::NoMemory);
-    };
-    explain_traced(alloc, base, &trace, keeper)
-}
-
-/// The same of a run of which this is the trace: its events needn't be had in memory.
-pub fn explain_traced(
-    alloc: Global,
-    base: &Tree,
-    trace: &Trace,
-    keeper: Keeper,
-) -> Result<Vec<Placed>, ExplainRefused>
-    ensures found { IsFoundFor keeper base.now trace.now result }
-    ensures kept { IfOk result (λ v. HandsOut keeper base.now trace.now v.items) }
-    ensures flat { IfOk result (λ _. any_climbs trace.now.calls ≡ false) }
-{
     if keeper.is_full() {
         return Err(ExplainRefused::FullSeen);
     }
     let Ok(kept) = keeper.into_list() else {
+        return Err(ExplainRefused::NoMemory);
+    };
+    let Ok(trace) = trace(alloc, events, outcomes) else {
         return Err(ExplainRefused::NoMemory);
     };
     if any_full(trace.calls.as_slice()) {
@@ -104,7 +86,7 @@ pub fn explain_traced(
     if any_climbs(trace.calls.as_slice()) {
         return Err(ExplainRefused::Climbs);
     }
-    match kept_or_found(alloc, base, trace, kept) {
+    match kept_or_found(alloc, base, &trace, kept) {
         Ok(Some(list)) => Ok(list),
         Ok(None) => Err(ExplainRefused::FullSeen),
         Err(NoMemory) => Err(ExplainRefused::NoMemory),
