@@ -7,6 +7,8 @@ pub use Rattle.plain_tree.specs.Numbers.{type_number}
 pub use Rattle.script.proofs.Appending.{hex_turn, tells_both}
 pub use Rattle.script.proofs.Pairs.{no_pair, one_pair, push_front, with_front}
 pub use Rattle.script.proofs.Scripts.{gives_front, none_left, nothing_said, one_said, passed_over, with_lines}
+pub use Rattle.script.proofs.Spacing.{all_spaced, word_spaced}
+unfoldable pub use Rattle.script.specs.Asking.{single_spaced}
 pub use Rattle.script.specs.Reading.{ends_in_return, lines_of, script_in, words_of}
 pub use Rattle.script.specs.Said.{line_said, numbered}
 pub use Rattle.script.specs.Text.{stat_text, told_line}

@@ -1,5 +1,5 @@
 -- A script read line by line.
-use Rattle.script.proofs.Vocabulary.{◌≡◌, ℕ, ◌+◌, ◌<◌, ◌≤◌, true, false, List, [], ◌∷◌, ◌++◌, length, drop, get_or, cond, Option, Some, None, refl, ap, sym, ◌∙◌, at_drop_more, at_drop_all, append_assoc, append-nil, Line, NumberedLine, lines_from, first_said, said_in, is_passed_over}
+use Rattle.script.proofs.Vocabulary.{◌≡◌, ℕ, ◌+◌, ◌<◌, ◌≤◌, true, false, List, [], ◌∷◌, ◌++◌, length, drop, get_or, cond, Option, Some, None, ap, sym, ◌∙◌, at_drop_more, at_drop_all, append_assoc, append-nil, Line, NumberedLine, lines_from, first_said, said_in, is_passed_over}
 use Rattle.script.specs.Reading.{ReadLines}
 use Rattle.script.specs.Gives.{GivesFront, number_told}
 use Rattle.script.specs.Reading.{lines_of}

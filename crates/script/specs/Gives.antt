@@ -22,7 +22,7 @@ Gives view (Err e) said = Fails e said
 abbrev pub words_now : List (Bor (List ℕ)) → List (List ℕ)
 words_now words = map (λ w. w.now) words
 
--- what reading a script answers: its commands, each with its line's number, or its first line that says nothing, unless memory was refused
+-- the number of a bad line
 abbrev pub number_told : BadLine → ℕ
 number_told bad = bad.number
 
@@ -31,6 +31,7 @@ pub record GivesFront (front : Front) (text : List ℕ) : Type 0 where
   pub lines : map numbered front.lines.items ≡ front_in text
   pub bad : option_map number_told front.bad ≡ bad_in text
 
+-- what reading a script answers: its commands, each with its line's number, or its first line that says nothing, unless memory was refused
 abbrev pub GivesScript : Result (Vec ScriptLine Global) ScriptFault → Result (List NumberedLine) ℕ → Type 0
 GivesScript (Ok lines) said = said ≡ Ok (map numbered lines.items)
 GivesScript (Err (scripts.Line n reason)) said = said ≡ Err n
