@@ -54,11 +54,14 @@ abbrev pub waits_text : Bool → List ℕ
 waits_text true = codes ", waits\n"
 waits_text false = codes "\n"
 
+-- how far a call has come, and what it has
+abbrev pub progress_text : Doing → List ℕ
+progress_text d = step_text d.last ++ locks_text (locks_of d) ++ joined_text (is_joined d) ++ waits_text d.waits
+
 -- a hart that has a call: which, its last step, what it has since, and whether the step that was tried since waited
 abbrev pub doing_text : ℕ → Option Doing → List ℕ
 doing_text hart None = []
-doing_text hart (Some d) = decimal hart ++ codes " " ++ word_of d.verb ++ child_text d.verb ++ step_text d.last ++ locks_text (locks_of d)
-    ++ joined_text (is_joined d) ++ waits_text d.waits
+doing_text hart (Some d) = decimal hart ++ codes " " ++ word_of d.verb ++ child_text d.verb ++ progress_text d
 
 -- of each of these harts
 unfoldable pub calls_text : List ℕ → List (Option Doing) → List ℕ

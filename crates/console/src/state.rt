@@ -1,7 +1,7 @@
 //! How far each hart's call has come, and where the log's commit is, for whoever types lines.
 ghost use Rattle.std.specs.Prelude.{◌≡◌, ◌++◌, OnOk, codes, decimal};
 ghost use Rattle.console.specs.Vocabulary.{Appends};
-ghost use Rattle.console.specs.Prompts.{calls_text, child_text, doing_text, joined_text, locks_text, phase_text, state_text, step_text, waits_text};
+ghost use Rattle.console.specs.Prompts.{calls_text, child_text, doing_text, joined_text, locks_text, phase_text, progress_text, state_text, step_text, waits_text};
 ghost use Rattle.console.specs.Sessions.{doing_at};
 
 use crate::doing::Doing;
@@ -56,6 +56,13 @@ fn write_call<W: Write>(out: &mut W, hart: u8, doing: &Doing) -> io::Result<()>
     let word = doing.verb.word();
     write!(out, "{hart} {word}")?;
     write_child(out, doing.verb)?;
+    write_progress(out, doing)
+}
+
+// How far a call has come, and what it has.
+fn write_progress<W: Write>(out: &mut W, doing: &Doing) -> io::Result<()>
+    ensures { OnOk result (Appends (W.contents out.old) (W.contents out.new) (progress_text doing.now)) }
+{
     write_step(out, doing.last)?;
     write_locks(out, doing.locks())?;
     write_joined(out, doing.is_joined())?;
