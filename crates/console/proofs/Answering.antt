@@ -1,5 +1,6 @@
 -- Lines that are typed, answered part by part.
 use Rattle.console.proofs.Vocabulary.{◌≡◌, ℕ, ◌+◌, List, [], ◌∷◌, Bool, true, false, Option, Some, None, IfSome, Result, Ok, Err, refl, ap, sym, ◌∙◌, subst, OnOk, codes, Appends, append_known, Asked, Run, asked_in, typed_lines, Line, ConsoleFault, Behaviour, IsWritten, Runs, followed_by, gives, in_case, prints, takes_memory, RunOf, line, NotesOf, FailsUnread, Follows, IsFirst, PromptsAll, PromptsLine, ReadsLine, TellsBad, answers, answers_next, bad_text, does, does_or_tells, first_of, mark, prompts, prompts_all, reads, tells_bad}
+use Rattle.console.specs.Prompts.{does_line, hint_of, started_on, stepless}
 use Rattle.console.specs.declared.fault.ConsoleFault.TheVariants as faults
 use Rattle.console.proofs.Behaving.{ends_in_fault, gives_at_once, goes_on as then, has_memory, printed_so, told_nothing}
 
@@ -101,18 +102,38 @@ has_appended : (out : Option (List ℕ)) (text : List ℕ) → Appends out (appe
 has_appended None text = tt
 has_appended (Some bytes) text = refl
 
+module _ {D : Type 0} (contents : D → List (List ℕ)) (failures : D → ℕ) where
+  -- ---- a line of a script
+
+  with_hint : (l : Line) (s t : RunOf D) (out end : Option (List ℕ)) (n m : NotesOf) (r : Result (Unit {0}) ConsoleFault)
+      → Runs (followed_by (line contents failures l) (λ u. prints (λ v. hint_of (stepless (started_on l) s.session.doing)))) s out n r t end m → Runs (does_line contents failures l) s out n r t end m
+  with_hint l s t out end n m r runs = record { events = runs.events; text = runs.text; does = runs.does; told = runs.told }
+
+  pub line_hinted : (l : Line) (hart : Option ℕ) (r : Result (Unit {0}) ConsoleFault) (s t : RunOf D) (out mid end : Option (List ℕ)) (n m : NotesOf) → hart ≡ stepless (started_on l) s.session.doing
+      → Runs (line contents failures l) s out n (Ok tt) t mid m → IsWritten r → OnOk r (Appends mid end (hint_of hart)) → Runs (does_line contents failures l) s out n r t end m
+  line_hinted l hart r s t out mid end n m is runs written told =
+      with_hint l s t out end n m r
+      (then (line contents failures l) (λ u. prints (λ v. hint_of (stepless (started_on l) s.session.doing))) tt s t t out mid end n m m r runs
+      (printed_so (λ v. hint_of (stepless (started_on l) s.session.doing)) t mid end m r written (subst (λ h. OnOk r (Appends mid end (hint_of h))) is told)))
+
+  pub line_unhinted : (l : Line) (fault : ConsoleFault) (r : Result (Unit {0}) ConsoleFault) (s t : RunOf D) (out end : Option (List ℕ)) (n m : NotesOf) → r ≡ Err fault → Runs (line contents failures l) s out n (Err fault) t end m
+      → Runs (does_line contents failures l) s out n r t end m
+  line_unhinted l fault r s t out end n m is runs =
+      subst (λ x. Runs (does_line contents failures l) s out n x t end m) (sym is)
+      (with_hint l s t out end n m (Err fault) (ends_in_fault (line contents failures l) (λ u. prints (λ v. hint_of (stepless (started_on l) s.session.doing))) fault s t out end n m runs))
+
 module _ {D : Type 0} (contents : D → List (List ℕ)) (failures : D → ℕ) (help : List ℕ) where
   -- ---- what is asked
 
   pub done_as : (asked want : Asked) (s t : RunOf D) (out end : Option (List ℕ)) (n l : NotesOf) (r : Result Bool ConsoleFault) → asked ≡ want → Runs (does contents failures help want) s out n r t end l → Runs (does contents failures help asked) s out n r t end l
   done_as asked want s t out end n l r is runs = subst (λ a. Runs (does contents failures help a) s out n r t end l) (sym is) runs
 
-  pub ran : (l : Line) (s t : RunOf D) (out end : Option (List ℕ)) (n m : NotesOf) → Runs (line contents failures l) s out n (Ok tt) t end m → Runs (does contents failures help (Run l)) s out n (Ok true) t end m
-  ran l s t out end n m runs = then (line contents failures l) (λ u. gives true) tt s t t out end end n m m (Ok true) runs (gives_at_once true t end m)
+  pub ran : (l : Line) (s t : RunOf D) (out end : Option (List ℕ)) (n m : NotesOf) → Runs (does_line contents failures l) s out n (Ok tt) t end m → Runs (does contents failures help (Run l)) s out n (Ok true) t end m
+  ran l s t out end n m runs = then (does_line contents failures l) (λ u. gives true) tt s t t out end end n m m (Ok true) runs (gives_at_once true t end m)
 
-  pub ran_to_fault : (l : Line) (fault : ConsoleFault) (r : Result Bool ConsoleFault) (s t : RunOf D) (out end : Option (List ℕ)) (n m : NotesOf) → r ≡ Err fault → Runs (line contents failures l) s out n (Err fault) t end m
+  pub ran_to_fault : (l : Line) (fault : ConsoleFault) (r : Result Bool ConsoleFault) (s t : RunOf D) (out end : Option (List ℕ)) (n m : NotesOf) → r ≡ Err fault → Runs (does_line contents failures l) s out n (Err fault) t end m
       → Runs (does contents failures help (Run l)) s out n r t end m
-  ran_to_fault l fault r s t out end n m is runs = subst (λ x. Runs (does contents failures help (Run l)) s out n x t end m) (sym is) (ends_in_fault (line contents failures l) (λ u. gives true) fault s t out end n m runs)
+  ran_to_fault l fault r s t out end n m is runs = subst (λ x. Runs (does contents failures help (Run l)) s out n x t end m) (sym is) (ends_in_fault (does_line contents failures l) (λ u. gives true) fault s t out end n m runs)
 
   -- ---- a line
 

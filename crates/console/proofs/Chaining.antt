@@ -1,5 +1,6 @@
 -- What a script does, and what typed lines do, is its events, one after the other.
 use Rattle.console.proofs.Vocabulary.{◌≡◌, ℕ, zero, suc, ◌+◌, Bool, true, false, List, [], ◌∷◌, ◌++◌, Option, Some, None, Result, Ok, Err, refl, sym, ap, subst, codes, Asked, Nothing, Help, Quit, Run, asked_in, ConsoleFault, Flow, PlanOf, Until, Verb, Doing, Event, Behaviour, GoesOn, gives, in_case, followed_by, takes_memory, prints, RunOf, acts, acts_as, all_harts, goes_on, happens, in_steps, is_enough, joined, line, lines, settles, starts, tells_flow, tells_waits, to_end, turn, turns, up_to, called, answers, answers_next, bad_text, does, does_or_tells, mark, prompts, prompts_all, reads, state_text, tells_bad, left_to, SessionOf, EventOfCall, Happens, doing_at, verb_of}
+use Rattle.console.specs.Prompts.{does_line, hint_of, started_on, stepless}
 use Rattle.script.specs.Asking.{State}
 use Rattle.script.specs.Said as said
 use Rattle.console.specs.declared.flow.Flow.TheVariants as flows
@@ -117,13 +118,18 @@ module _ {D : Type 0} (contents : D → List (List ℕ)) (failures : D → ℕ) 
   unfolding tells_bad
   bad_chain n s es text r t does = prints_chain (λ u. bad_text n does.0) s es text r t does.1
 
+  does_line_chain : (l : said.Line) → Chains (does_line contents failures l)
+  does_line_chain l s =
+      then_chain (line contents failures l) (λ u. prints (λ t. hint_of (stepless (started_on l) s.session.doing))) (line_chain l)
+      (λ u. prints_chain (λ t. hint_of (stepless (started_on l) s.session.doing))) s
+
   module _ (help : List ℕ) where
     does_chain : (asked : Asked) → Chains (does contents failures help asked)
     does_chain Nothing = gives_chain true
     does_chain Help = then_chain _ _ (prints_chain (λ s. help)) (λ u. gives_chain true)
     does_chain State = then_chain _ _ (prints_chain (λ s. state_text all_harts s.session)) (λ u. gives_chain true)
     does_chain Quit = gives_chain false
-    does_chain (Run l) = then_chain _ _ (line_chain l) (λ u. gives_chain true)
+    does_chain (Run l) = then_chain _ _ (does_line_chain l) (λ u. gives_chain true)
 
     does_or_tells_chain : (n : ℕ) (asked : Option Asked) → Chains (does_or_tells contents failures help n asked)
     does_or_tells_chain n None = then_chain _ _ (bad_chain n) (λ u. gives_chain true)

@@ -6,12 +6,13 @@ pub use Rattle.std.proofs.Common.{rules, tests, true≢false}
 pub use Rattle.script.proofs.Appending.{tells_both}
 pub use Rattle.console.proofs.Mounting.{judged_as, image_prompted, image_run, image_untaken, mount_refused, mounted_on, not_taken, prompted_on, ran_on, refused_judged}
 pub use Rattle.console.proofs.Telling.{found, found_on, line_told, list_told, unfound, unfound_on, why_told}
-pub use Rattle.console.specs.Lines.{course, course_in}
+pub use Rattle.console.specs.Lines.{course, or_bad}
 pub use Rattle.std.proofs.lemmas.Iterator.Adapters.{YieldsList-from_vec}
 pub use Rattle.std.proofs.lemmas.Iterator.Consumers.{YieldsList-end, YieldsList-turn}
 pub use Rattle.std.proofs.lemmas.List.{append_assoc, length_push, set_past}
 pub use Rattle.std.specs.Prelude.{decimal, ◌^◌}
-pub use Rattle.console.proofs.Answering.{answered, bad_answered, bad_told, bad_unanswered, done_as, end_untold, ends_all, input_ends, line_answered, no_line_more, no_memory_to_answer, one_line_more, ran, ran_to_fault, told_then, too_many_lines, unasked, unread, untold}
+pub use Rattle.console.proofs.Answering.{answered, bad_answered, bad_told, bad_unanswered, done_as, end_untold, ends_all, input_ends, line_answered, line_hinted, line_unhinted, no_line_more, no_memory_to_answer, one_line_more, ran, ran_to_fault, told_then, too_many_lines, unasked, unread, untold}
+pub use Rattle.console.proofs.BadLines.{course_read, fails_before, memory_fails}
 pub use Rattle.console.proofs.Behaving.{gives_at_once}
 pub use Rattle.console.proofs.Calm.{run_judged}
 pub use Rattle.console.proofs.Commanding.{all_is, began_next, end_is, had_enough, had_none, happened, line_fault, line_more, lines_end, made_step, not_started, of_line, quiet, run_line, run_line_fault, settle_fault, settle_line, settled_so, start_line, start_line_fault, started, step_line, step_line_fault, turn_end, turn_fault, turn_more, turns_end, turns_fault, turns_more, turns_rest, upto_is, wait_end, wait_fault, wait_more, with_plan, with_turns}

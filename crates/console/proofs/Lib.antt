@@ -1,6 +1,7 @@
 pub mod Lemmas
 pub mod Vocabulary
 pub mod Printing
+pub mod BadLines
 pub mod Behaving
 pub mod Commanding
 pub mod Queueing

@@ -1,6 +1,6 @@
 -- The lines of a script as what is run: in their order, or queued for each hart.
-use Rattle.std.specs.Prelude.{◌≡◌, ℕ, min, List, [], ◌∷◌, map, replicate, Result, Ok, Err}
-use Rattle.console.specs.Vocabulary.{Call, script_in, Schedule, Listed, Round}
+use Rattle.std.specs.Prelude.{◌≡◌, ℕ, min, List, [], ◌∷◌, map, replicate, Option, Some, None, Result, Ok, Err}
+use Rattle.console.specs.Vocabulary.{Call, bad_in, front_in, Schedule, Listed, Round}
 use Rattle.plain_tree.specs.declared.call.Call.TheVariants as calls
 use Rattle.script.specs.Said as said
 use Rattle.script.specs.Said.{Line, NumberedLine, Open, Read, Write, Fill, Link, Unlink, Mkdir, Chdir, Dup, Fstat, Close, Inherit, All, line_said}
@@ -45,13 +45,15 @@ abbrev pub course_of : Schedule → List NumberedLine → Result CourseOf ℕ
 course_of Listed lines = Ok (record { left = none_left; lines = map (λ l. l.says) lines })
 course_of Round lines = all_turns (queued none_left lines)
 
-abbrev pub course_in : Schedule → Result (List NumberedLine) ℕ → Result CourseOf ℕ
-course_in schedule (Ok lines) = course_of schedule lines
-course_in schedule (Err n) = Err n
+-- what the lines before it run, unless one of them is bad too
+abbrev pub or_bad : Option ℕ → Result CourseOf ℕ → Result CourseOf ℕ
+or_bad None course = course
+or_bad (Some n) (Ok course) = Err n
+or_bad (Some n) (Err m) = Err m
 
--- what a script runs, or the number of the line that is bad: the first that says nothing, or else the first that the schedule doesn't allow
+-- what a script runs, or the number of its first line that says nothing, or that the schedule doesn't allow
 abbrev pub script_course : Schedule → List ℕ → Result CourseOf ℕ
-script_course schedule text = course_in schedule (script_in text)
+script_course schedule text = or_bad (bad_in text) (course_of schedule (front_in text))
 
 -- ---- what is answered of lines
 

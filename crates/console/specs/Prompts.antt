@@ -2,6 +2,12 @@
 use Rattle.std.specs.Prelude.{◌≡◌, ◌⊎◌, ℕ, ◌+◌, ◌==◌, if◌then◌else◌, Bool, true, false, List, [], ◌∷◌, ◌++◌, replicate, Option, Some, None, IfSome, Result, Ok, Err, Vec, codes, decimal}
 use Rattle.console.specs.Vocabulary.{Appends, Global, KeptTree, blocks_of, Phase, Open, Staging, Installing, Halted, Kind, Rests, Asked, Nothing, Help, State, Quit, Run, asked_in, typed_lines, kind_word, Mode}
 use Rattle.console.specs.declared.doing.Doing.{Doing}
+use Rattle.console.specs.declared.verb.Verb.{Verb}
+use Rattle.console.specs.declared.verb.Verb.TheVariants.{Read, Write, Link, Unlink, Mkdir, Chdir, Dup, Fstat, Close, Inherit}
+use Rattle.console.specs.declared.verb.Verb.TheVariants as verb
+use Rattle.script.specs.Said.{Line, Start, Step, Upto, End, All}
+use Rattle.script.specs.Said as lines
+use Rattle.plain_tree.specs.Basics.{is_nothing}
 use Rattle.console.specs.declared.fault.ConsoleFault.{ConsoleFault}
 use Rattle.console.specs.declared.fault.ConsoleFault.TheVariants as faults
 use Rattle.console.specs.Behaviours.{Behaviour, DoesNothing, Runs, followed_by, gives, in_case, prints, takes_memory}
@@ -16,6 +22,20 @@ use Rattle.console.specs.Scripts.{HandsOut, TakesNoImage}
 -- what stands before each line
 abbrev pub mark : List ℕ
 mark = codes "> "
+
+-- the hart that an inherit holds
+abbrev pub child_text : Verb → List ℕ
+child_text verb.Open = []
+child_text Read = []
+child_text Write = []
+child_text Link = []
+child_text Unlink = []
+child_text Mkdir = []
+child_text Chdir = []
+child_text Dup = []
+child_text Fstat = []
+child_text Close = []
+child_text (Inherit child) = codes " " ++ decimal child
 
 -- how far a call has come
 abbrev pub step_text : Option Kind → List ℕ
@@ -34,11 +54,14 @@ abbrev pub waits_text : Bool → List ℕ
 waits_text true = codes ", waits\n"
 waits_text false = codes "\n"
 
+-- how far a call has come, and what it has
+abbrev pub progress_text : Doing → List ℕ
+progress_text d = step_text d.last ++ locks_text (locks_of d) ++ joined_text (is_joined d) ++ waits_text d.waits
+
 -- a hart that has a call: which, its last step, what it has since, and whether the step that was tried since waited
 abbrev pub doing_text : ℕ → Option Doing → List ℕ
 doing_text hart None = []
-doing_text hart (Some d) = decimal hart ++ codes " " ++ word_of d.verb ++ step_text d.last ++ locks_text (locks_of d)
-    ++ joined_text (is_joined d) ++ waits_text d.waits
+doing_text hart (Some d) = decimal hart ++ codes " " ++ word_of d.verb ++ child_text d.verb ++ progress_text d
 
 -- of each of these harts
 unfoldable pub calls_text : List ℕ → List (Option Doing) → List ℕ
@@ -55,6 +78,32 @@ phase_text Halted = codes "log halted\n"
 -- all of a file system on which lines are typed
 abbrev pub state_text : {D : Type 0} → List ℕ → SessionOf D → List ℕ
 state_text harts s = calls_text harts s.doing ++ phase_text s.world.harts.core.log.phase
+
+-- the hart on which a line only starts a call
+abbrev pub started_on : Line → Option ℕ
+started_on (Start hart call) = Some hart
+started_on (lines.Run hart call) = None
+started_on (Step hart steps) = None
+started_on (Upto hart kind steps) = None
+started_on (End hart) = None
+started_on All = None
+
+-- where it has a call that was started, and has made no step
+abbrev pub without_step : ℕ → Option Doing → Option ℕ
+without_step hart None = None
+without_step hart (Some d) = if is_nothing d.last then Some hart else None
+
+abbrev pub stepless : Option ℕ → List (Option Doing) → Option ℕ
+stepless None doing = None
+stepless (Some hart) doing = without_step hart (doing_at hart doing)
+
+-- what makes the steps of such a call
+abbrev pub steps_text : ℕ → List ℕ
+steps_text hart = codes "hart " ++ decimal hart ++ codes " has a call without a step: end " ++ decimal hart ++ codes " makes its steps\n"
+
+abbrev pub hint_of : Option ℕ → List ℕ
+hint_of None = []
+hint_of (Some hart) = steps_text hart
 
 -- a bad line, and why it is bad
 abbrev pub bad_text : ℕ → List ℕ → List ℕ
@@ -111,14 +160,20 @@ Follows (Ok true) old (Some line) new = IsFirst old line new
 Follows (Ok false) old next new = Unit {0}
 Follows (Err fault) old next new = Unit {0}
 
+module _ {D : Type 0} (contents : D → List (List ℕ)) (failures : D → ℕ) where
+  -- A line of a script does what it does there. Where it only starts a call on a hart that has one that has made no step, it is told besides
+  -- what makes them.
+  abbrev pub does_line : Line → Behaviour (RunOf D) (Unit {0})
+  does_line l s = followed_by (line contents failures l) (λ u. prints (λ t. hint_of (stepless (started_on l) s.session.doing))) s
+
 module _ {D : Type 0} (contents : D → List (List ℕ)) (failures : D → ℕ) (help : List ℕ) where
-  -- What is asked is done; a line of a script does what it does there. It comes to whether more lines are read.
+  -- What is asked is done. It comes to whether more lines are read.
   abbrev pub does : Asked → Behaviour (RunOf D) Bool
   does Nothing = gives true
   does Help = followed_by (prints (λ s. help)) (λ u. gives true)
   does State = followed_by (prints (λ s. state_text all_harts s.session)) (λ u. gives true)
   does Quit = gives false
-  does (Run l) = followed_by (line contents failures l) (λ u. gives true)
+  does (Run l) = followed_by (does_line contents failures l) (λ u. gives true)
 
   abbrev pub does_or_tells : ℕ → Option Asked → Behaviour (RunOf D) Bool
   does_or_tells n None = followed_by (tells_bad n) (λ u. gives true)

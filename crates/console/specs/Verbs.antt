@@ -16,7 +16,7 @@ verb_of (calls.Chdir path) = Chdir
 verb_of (calls.Dup fd) = Dup
 verb_of (calls.Fstat fd) = Fstat
 verb_of (calls.Close fd) = Close
-verb_of (calls.Inherit child) = Inherit
+verb_of (calls.Inherit child) = Inherit child
 
 abbrev pub word_of : Verb → List ℕ
 word_of Open = codes "open"
@@ -29,4 +29,4 @@ word_of Chdir = codes "chdir"
 word_of Dup = codes "dup"
 word_of Fstat = codes "fstat"
 word_of Close = codes "close"
-word_of Inherit = codes "inherit"
+word_of (Inherit child) = codes "inherit"

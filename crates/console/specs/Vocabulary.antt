@@ -30,7 +30,7 @@ pub use Rattle.mkfs.specs.Image.{image_of}
 pub use Rattle.script.specs.Asking.{Asked, Help, Nothing, Quit, Run, State, asked_by, asked_in}
 unfoldable pub use Rattle.script.specs.Asking.{typed_lines}
 pub use Rattle.script.specs.Entries.{entry_line}
-pub use Rattle.script.specs.Reading.{script_in}
+pub use Rattle.script.specs.Reading.{bad_in, front_in}
 pub use Rattle.script.specs.Tails.{TailView, tail, with_event}
 pub use Rattle.script.specs.declared.command.ScriptFault.{ScriptFault}
 pub use Rattle.script.specs.declared.mode.Schedule.{Schedule}

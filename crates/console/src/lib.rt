@@ -25,7 +25,7 @@ mod tell;
 mod verb;
 
 pub use crate::fault::{ConsoleFault, status};
-pub use crate::lines::{Course, call_of, course_of};
+pub use crate::lines::{Course, call_of, course_in, course_of};
 pub use crate::notes::{Notes, What, what_of, what_of_step};
 pub use crate::prompt::{HELP, prompt_on, run_prompt};
 pub use crate::queues::Queues;

@@ -1,14 +1,14 @@
 //! The lines of a script as what is run.
 ghost use Rattle.std.specs.Prelude.{◌≡◌, ◌<◌, IfOk, IfSome, map, option_map};
 ghost use Rattle.console.specs.Vocabulary.{call_said, line_said, numbered};
-ghost use Rattle.console.specs.Lines.{GivesCourse, GivesQueues, called, course_of, part_of};
+ghost use Rattle.console.specs.Lines.{GivesCourse, GivesQueues, called, course_of, part_of, script_course};
 ghost use Rattle.console.specs.Queues.{none_left, queued, started_in};
 
 use crate::fault::ConsoleFault;
 use crate::queues::Queues;
 use crate::session::HARTS;
 use plain_tree::{Bytes, Call};
-use script::{CallLine, Command, Reason, Schedule, ScriptLine};
+use script::{BadLine, CallLine, Command, Front, Reason, Schedule, ScriptLine, parse_front};
 use std::alloc::{AllocError, Global};
 
 /// The most bytes that one call reads or writes.
@@ -51,6 +51,18 @@ pub fn course_of(
                 .map_err(AllocError::from)?;
             Ok(Course { queues, lines })
         }
+    }
+}
+
+/// What is run of this text, or its first bad line: one that says nothing, or one that this schedule doesn't allow.
+pub fn course_in(alloc: Global, schedule: Schedule, text: &[u8]) -> Result<Course, ConsoleFault>
+    ensures { GivesCourse result (script_course schedule text.now) }
+{
+    let Front { lines, bad } = parse_front(alloc, text)?;
+    let course = course_of(alloc, schedule, lines)?;
+    match bad {
+        None => Ok(course),
+        Some(BadLine { number, why }) => Err(ConsoleFault::Line(number, why)),
     }
 }
 

@@ -179,7 +179,7 @@ impl Notes {
         let note = Note { number, hart, what };
         add_row(&mut self.timeline, note)?;
         keep(&mut self.kept, copy, came)?;
-        self.tail.note(note);
+        self.tail.note(note)?;
         self.count = count;
         Ok(())
     }

@@ -1,11 +1,11 @@
 //! Lines that are typed at a prompt: each is answered before the next is read.
 ghost use Rattle.std.specs.Prelude.{◌≡◌, IfOk, IfErr, OnOk};
-ghost use Rattle.console.specs.Vocabulary.{Appends, IsWellFormed, asked_by};
+ghost use Rattle.console.specs.Vocabulary.{Appends, IsWellFormed, asked_by, line_said};
 ghost use Rattle.console.specs.Behaviours.{IsWritten, Runs};
 ghost use Rattle.console.specs.Commands.{all_harts, state};
 ghost use Rattle.console.specs.Histories.{history_from};
 ghost use Rattle.console.specs.Images.{disk_for};
-ghost use Rattle.console.specs.Prompts.{PromptsAll, PromptsImage, PromptsLine, PromptsReader, ReadsLine, TellsBad, answers, bad_text, does, mark, state_text};
+ghost use Rattle.console.specs.Prompts.{PromptsAll, PromptsImage, PromptsLine, PromptsReader, ReadsLine, TellsBad, answers, bad_text, does, does_line, hint_of, mark, started_on, state_text, stepless, steps_text};
 ghost use Rattle.console.specs.Runs.{FailsUnread};
 
 use crate::commands::{ALL_HARTS, ScriptState, run_line};
@@ -17,8 +17,9 @@ use crate::session::Session;
 use crate::state::write_state;
 use block_device::{Device, MemoryDisk};
 use plain_tree::Tree;
-use script::{Asked, Mode, Reason, ScriptFault, asked_in};
+use script::{Asked, Command, Mode, Reason, ScriptFault, asked_in};
 use std::alloc::Global;
+use std::io;
 use std::io::{BufRead, Write};
 
 /// What stands before each line.
@@ -43,7 +44,7 @@ upto H KIND N      makes steps up to H's Nth lock, unlock, get, read, put, join,
 end H              makes steps of H until its call ends, or waits
 do H CALL ..       starts a call, and makes steps of H until it ends, or waits
 all                makes steps of all harts in turn, until each is idle, or waits
-state              tells of each call: its last step, locks, transaction, wait; and where the log's commit is
+state              tells of each call: inherit's child, last step, locks, transaction, wait; where the log's commit is
 help               tells which lines there are
 quit               ends the input, as exit does
 # ..               is a comment
@@ -111,6 +112,63 @@ fn write_bad<W: Write>(out: &mut W, number: u64, why: &str) -> Result<(), Consol
     writeln!(out, "line {number}: bad command\n{why}").map_err(ConsoleFault::Write)
 }
 
+// The hart on which a line only starts a call.
+fn started_on(command: &Command) -> Option<u8>
+    ensures { result ≡ started_on (line_said command.now) }
+{
+    match command {
+        Command::Start { hart, .. } => Some(*hart),
+        _ => None,
+    }
+}
+
+// The hart on which a line only starts a call though it has one that was started and has made no step.
+fn stepless<D: Device>(session: &Session<D>, command: &Command) -> Option<u8>
+    ensures { result ≡ stepless (started_on (line_said command.now)) session.now.doing }
+{
+    let hart = started_on(command)?;
+    let doing = session.doing(hart)?;
+    match doing.last {
+        None => Some(hart),
+        Some(_) => None,
+    }
+}
+
+fn tell_hint<W: Write>(out: &mut W, hart: Option<u8>) -> Result<(), ConsoleFault>
+    ensures written { IsWritten result }
+    ensures prints { OnOk result (Appends (W.contents out.old) (W.contents out.new) (hint_of hart)) }
+{
+    match hart {
+        None => Ok(()),
+        Some(hart) => write_hint(out, hart).map_err(ConsoleFault::Write),
+    }
+}
+
+fn write_hint<W: Write>(out: &mut W, hart: u8) -> io::Result<()>
+    ensures { OnOk result (Appends (W.contents out.old) (W.contents out.new) (steps_text hart)) }
+{
+    writeln!(
+        out,
+        "hart {hart} has a call without a step: end {hart} makes its steps"
+    )
+}
+
+// Runs a line of a script. Where it only starts a call on a hart that has one that was started and has made no step, tells what makes them.
+fn run_typed<D: Device, W: Write>(
+    alloc: Global,
+    session: &mut Session<D>,
+    running: &mut ScriptState,
+    out: &mut W,
+    command: Command,
+) -> Result<(), ConsoleFault>
+    ensures { Runs (does_line D.contents D.failures (line_said command)) (state session.old running.old.queues)
+        (W.contents out.old) running.old.notes result (state session.new running.new.queues) (W.contents out.new) running.new.notes }
+{
+    let hart = stepless(session, &command);
+    run_line(alloc, session, running, out, command)?;
+    tell_hint(out, hart)
+}
+
 // Does what is asked. Tells whether more lines are read.
 fn do_asked<D: Device, W: Write>(
     alloc: Global,
@@ -135,7 +193,7 @@ fn do_asked<D: Device, W: Write>(
         }
         Asked::Quit => Ok(false),
         Asked::Run(command) => {
-            run_line(alloc, session, running, out, command)?;
+            run_typed(alloc, session, running, out, command)?;
             Ok(true)
         }
     }

@@ -15,7 +15,7 @@ use crate::commands::{ScriptState, run_lines};
 use crate::events::{write_last, write_timeline};
 use crate::fault::{ConsoleFault, Unread};
 use crate::history::{write_history, write_history_on};
-use crate::lines::{Course, course_of};
+use crate::lines::{Course, course_in};
 use crate::mount::{Mounted, mount_disk};
 use crate::notes::Notes;
 use crate::queues::Queues;
@@ -26,7 +26,7 @@ use image_tree::{examine, find_version};
 use image_versions::Version;
 use mkfs::{MakeRefused, make};
 use plain_tree::Tree;
-use script::{Mode, parse, write_shape};
+use script::{Mode, write_shape};
 use std::alloc::Global;
 use std::io;
 use std::io::{Read, Write};
@@ -175,8 +175,7 @@ fn run_text<D: Device, W: Write>(
     ensures { RunsScript D.contents D.failures mode (history_from base.now) session.old (script_course mode.schedule text.now) result
         session.new (W.contents out.old) (W.contents out.new) }
 {
-    let lines = parse(alloc, text)?;
-    let planned = course_of(alloc, mode.schedule, lines)?;
+    let planned = course_in(alloc, mode.schedule, text)?;
     run_course(alloc, session, mode, base, planned, out)
 }
 

@@ -1,12 +1,13 @@
 //! How far each hart's call has come, and where the log's commit is, for whoever types lines.
 ghost use Rattle.std.specs.Prelude.{◌≡◌, ◌++◌, OnOk, codes, decimal};
 ghost use Rattle.console.specs.Vocabulary.{Appends};
-ghost use Rattle.console.specs.Prompts.{calls_text, doing_text, joined_text, locks_text, phase_text, state_text, step_text, waits_text};
+ghost use Rattle.console.specs.Prompts.{calls_text, child_text, doing_text, joined_text, locks_text, phase_text, progress_text, state_text, step_text, waits_text};
 ghost use Rattle.console.specs.Sessions.{doing_at};
 
 use crate::doing::Doing;
 use crate::numbers::kind_word;
 use crate::session::Session;
+use crate::verb::Verb;
 use block_device::Device;
 use fs_machine::Kind;
 use group_log::Phase;
@@ -25,8 +26,8 @@ pub fn write_state<D: Device, W: Write>(
     write_phase(out, session.phase())
 }
 
-// Of each hart that has a call: which, the kind of its last step, how many inodes' locks it has, whether it is in a transaction, and
-// whether the step that was tried since waited.
+// Of each hart that has a call: which, and the hart that an inherit holds, the kind of its last step, how many inodes' locks it has,
+// whether it is in a transaction, and whether the step that was tried since waited.
 fn write_calls<D: Device, W: Write>(
     session: &Session<D>,
     out: &mut W,
@@ -54,10 +55,28 @@ fn write_call<W: Write>(out: &mut W, hart: u8, doing: &Doing) -> io::Result<()>
 {
     let word = doing.verb.word();
     write!(out, "{hart} {word}")?;
+    write_child(out, doing.verb)?;
+    write_progress(out, doing)
+}
+
+// How far a call has come, and what it has.
+fn write_progress<W: Write>(out: &mut W, doing: &Doing) -> io::Result<()>
+    ensures { OnOk result (Appends (W.contents out.old) (W.contents out.new) (progress_text doing.now)) }
+{
     write_step(out, doing.last)?;
     write_locks(out, doing.locks())?;
     write_joined(out, doing.is_joined())?;
     write_wait(out, doing.waits)
+}
+
+// The hart that an inherit holds, which gets its descriptors.
+fn write_child<W: Write>(out: &mut W, verb: Verb) -> io::Result<()>
+    ensures { OnOk result (Appends (W.contents out.old) (W.contents out.new) (child_text verb)) }
+{
+    match verb {
+        Verb::Inherit(child) => write!(out, " {child}"),
+        _ => Ok(()),
+    }
 }
 
 // How far a call has come.

@@ -17,7 +17,8 @@ pub enum Verb {
     Dup,
     Fstat,
     Close,
-    Inherit,
+    /// Of which hart it is to be the parent.
+    Inherit(u8),
 }
 
 impl Verb {
@@ -36,7 +37,7 @@ impl Verb {
             Call::Dup { .. } => Verb::Dup,
             Call::Fstat { .. } => Verb::Fstat,
             Call::Close { .. } => Verb::Close,
-            Call::Inherit { .. } => Verb::Inherit,
+            Call::Inherit { child } => Verb::Inherit(*child),
         }
     }
 
@@ -55,7 +56,7 @@ impl Verb {
             Verb::Dup => "dup",
             Verb::Fstat => "fstat",
             Verb::Close => "close",
-            Verb::Inherit => "inherit",
+            Verb::Inherit(_) => "inherit",
         }
     }
 }

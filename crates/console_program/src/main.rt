@@ -8,32 +8,39 @@
 
 use clap::ArgMatches;
 use clap::error::ErrorKind;
+use clap::parser::ValueSource;
 use console::{ConsoleFault, run_prompt, run_script, status};
 use console_threads::{ThreadsFault, run_threads};
-use mkfs::{ImageRefused, SaveRefused, read_image, save, try_to_save};
-use script::{IMAGE, Mode, SAVE, Schedule, has_prompt, has_threads, mode_of, options};
+use mkfs::{ImageRefused, SaveRefused, WordsRefused, read_image, read_words, save, try_to_save};
+use script::{
+    EXPLAIN, IMAGE, LAST, Mode, PROMPT, SAVE, SCHEDULE, Schedule, THREADS, TIMELINE, has_prompt,
+    has_threads, mode_of, options,
+};
 use std::alloc::AllocError;
+use std::io;
 use std::io::{BufWriter, Write};
 use std::process::ExitCode;
 use std::sync::Wait;
 use std::thread::Threads;
-use std::{env, io};
 use thiserror::Error;
 
 /// Why the console didn't come to its end.
 #[derive(Debug, Drop, Error)]
 enum Fault<'a> {
     /// The command line has a word that is no text.
-    #[error("the command line: {0}")]
-    Words(io::Error),
+    #[error("{0}")]
+    Words(WordsRefused),
     /// The command line names a schedule that there isn't.
     #[error("error: invalid value for '--schedule <SCHEDULE>': listed or round is wanted")]
     Schedule,
     /// An image that is only examined isn't changed, so there is nothing to be saved.
     #[error("error: '--check' examines the image, and has nothing for '--save <FILE>' to write")]
     CheckAndSave,
+    /// No script is run on an image that is only examined.
+    #[error("error: '--check' examines the image, and runs no script: '--{0}' says how to run one")]
+    CheckAndRun(&'static str),
     /// What is asked for goes by a whole script, and typed lines are none.
-    #[error("error: '--prompt' answers each line when it is typed, and goes with no '--check', '--explain', '--threads' or '--schedule round'")]
+    #[error("error: '--prompt' answers each line when it is typed, and goes with no '--threads' or '--schedule round'")]
     Prompt,
     /// The image's file can't be read, or is too large.
     #[error("{0:?}: {1}")]
@@ -80,11 +87,11 @@ impl<'a> From<SaveRefused> for Fault<'a> {
 
 impl<'a> Fault<'a> {
     // What came of reading the words of the command line.
-    fn of_words(error: io::Error) -> Fault<'a> {
-        if error.kind() == io::ErrorKind::OutOfMemory {
-            return Fault::Run(ConsoleFault::Memory);
+    fn of_words(refused: WordsRefused) -> Fault<'a> {
+        match refused {
+            WordsRefused::NoMemory => Fault::Run(ConsoleFault::Memory),
+            refused => Fault::Words(refused),
         }
-        Fault::Words(error)
     }
 
     // What came of reading the image's file.
@@ -106,7 +113,11 @@ impl<'a> Fault<'a> {
     // The program's exit status.
     fn status(&self) -> u8 {
         match self {
-            Fault::Words(_) | Fault::Schedule | Fault::CheckAndSave | Fault::Prompt => 2,
+            Fault::Words(_)
+            | Fault::Schedule
+            | Fault::CheckAndSave
+            | Fault::CheckAndRun(_)
+            | Fault::Prompt => 2,
             Fault::Image(..) | Fault::Save(_) => 1,
             Fault::Run(fault) => status(fault),
             Fault::Threads(fault) => console_threads::status(fault),
@@ -125,15 +136,18 @@ fn tell(rt: &HostRuntime, fault: &Fault) -> io::Result<()> {
 
 // The command line's words.
 fn words(rt: &HostRuntime) -> Result<Vec<String>, Fault<'static>> {
-    match env::args(rt) {
-        Ok(words) => Ok(words.collect(rt.alloc())?),
-        Err(error) => Err(Fault::of_words(error)),
-    }
+    read_words(rt).map_err(|refused| Fault::of_words(refused))
 }
 
-// Whether this mode is one of a whole script, or of none.
-fn is_of_script(mode: &Mode) -> bool {
-    mode.check || mode.explain || mode.schedule == Schedule::Round
+// The options that say how a script is run.
+const RUNNING: [&str; 6] = [SCHEDULE, THREADS, PROMPT, LAST, TIMELINE, EXPLAIN];
+
+// The first of them that the words give.
+fn running_option(matches: &ArgMatches) -> Option<&'static str> {
+    RUNNING
+        .iter()
+        .find(|id| matches.value_source(**id) == Some(ValueSource::CommandLine))
+        .copied()
 }
 
 // How to run, where what is asked for goes together.
@@ -144,7 +158,13 @@ fn mode_in(matches: &ArgMatches) -> Result<Mode, Fault<'static>> {
     if mode.check && matches.get_str(SAVE).is_some() {
         return Err(Fault::CheckAndSave);
     }
-    if has_prompt(matches) && (has_threads(matches) || is_of_script(&mode)) {
+    if mode.check {
+        return match running_option(matches) {
+            Some(id) => Err(Fault::CheckAndRun(id)),
+            None => Ok(mode),
+        };
+    }
+    if has_prompt(matches) && (has_threads(matches) || mode.schedule == Schedule::Round) {
         return Err(Fault::Prompt);
     }
     Ok(mode)

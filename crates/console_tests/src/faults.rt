@@ -111,8 +111,8 @@ fn faults_have_lines_and_statuses(rt: HostRuntime) -> Result<(), Fail> {
             3,
         ),
         (
-            ConsoleFault::Line(7, Reason::EmptyWord),
-            "line 7: bad command\na single space between words, and none at an end",
+            ConsoleFault::Line(7, Reason::DoubledSpace),
+            "line 7: bad command\ntwo spaces beside one another: a single one between words, and none at an end",
             2,
         ),
     ] {

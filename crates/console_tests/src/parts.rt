@@ -42,7 +42,7 @@ fn tails_hold_the_last_events(rt: HostRuntime) -> Result<(), Fail> {
     for (most, first) in [(0u32, 40u32), (3, 37), (20, 20), (100, 0)] {
         let mut tail = Tail::new(rt.alloc(), most)?;
         for event in 0..40u32 {
-            tail.note(event);
+            tail.note(event)?;
         }
         let mut want = first;
         for event in tail.events() {

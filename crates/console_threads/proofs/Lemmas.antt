@@ -7,7 +7,7 @@ pub use Rattle.std.proofs.Common.{eqb-true, map-id, rules}
 pub use Rattle.console_threads.proofs.Sent.{task_send}
 pub use Rattle.hart_runner.proofs.Sent.{four_send, kernel_sync, six_send, three_send}
 pub use Rattle.hart_runner.specs.contracts.gate.NoGate.{the_row}
-pub use Rattle.console.specs.Lines.{course, course_in}
+pub use Rattle.console.specs.Lines.{course}
 pub use Rattle.console_threads.proofs.Answering.{none_made, one_made}
 pub use Rattle.console_threads.proofs.Asking.{queues_called}
 pub use Rattle.console_threads.proofs.Closing.{all_closed}

@@ -3,9 +3,9 @@ ghost use Rattle.std.specs.Prelude.{◌≡◌, IfOk, IfErr, map};
 ghost use Rattle.console_threads.specs.Vocabulary.{call_said, called};
 ghost use Rattle.console_threads.specs.Asked.{IsAsked, IsUnasked};
 
-use console::{ConsoleFault, Course, LONGEST_SCRIPT, call_of, course_of, read_script};
+use console::{ConsoleFault, Course, LONGEST_SCRIPT, call_of, course_in, read_script};
 use plain_tree::Call;
-use script::{CallLine, Schedule, parse};
+use script::{CallLine, Schedule};
 use std::alloc::{AllocError, Global};
 use std::collections::VecDeque;
 use std::io::Read;
@@ -24,8 +24,7 @@ pub fn asked_in<S: Read + Drop>(alloc: Global, script: S) -> Result<Asked, Conso
     ensures err { IfErr result (IsUnasked (S.remaining script)) }
 {
     let text = read_script(alloc, script, LONGEST_SCRIPT)?;
-    let lines = parse(alloc, text.as_slice())?;
-    let Course { queues, lines: _ } = course_of(alloc, Schedule::Round, lines)?;
+    let Course { queues, lines: _ } = course_in(alloc, Schedule::Round, text.as_slice())?;
     let calls = all_calls(alloc, queues.into_calls())?;
     let copies = copies_of(&calls)?;
     Ok(Asked { calls, copies })

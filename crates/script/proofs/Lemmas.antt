@@ -6,7 +6,9 @@ pub use Rattle.std.proofs.Common.{rules, string_bytes, tests}
 pub use Rattle.plain_tree.specs.Numbers.{type_number}
 pub use Rattle.script.proofs.Appending.{hex_turn, tells_both}
 pub use Rattle.script.proofs.Pairs.{no_pair, one_pair, push_front, with_front}
-pub use Rattle.script.proofs.Scripts.{none_left, nothing_said, one_said, passed_over, with_lines}
+pub use Rattle.script.proofs.Scripts.{gives_front, none_left, nothing_said, one_said, passed_over, with_lines}
+pub use Rattle.script.proofs.Spacing.{all_spaced, word_spaced}
+unfoldable pub use Rattle.script.specs.Asking.{single_spaced}
 pub use Rattle.script.specs.Reading.{ends_in_return, lines_of, script_in, words_of}
 pub use Rattle.script.specs.Said.{line_said, numbered}
 pub use Rattle.script.specs.Text.{stat_text, told_line}
@@ -15,7 +17,7 @@ pub use Rattle.std.proofs.lemmas.Iterator.Splits.{YieldsList-from_slice_split}
 pub use Rattle.std.specs.Prelude.{decimal}
 pub use Rattle.std.specs.Slice.Iter.{chunks_rest, chunks_size, split_callee, split_done, split_rest}
 pub use Rattle.script.proofs.Lines.{too_many_words}
-pub use Rattle.script.proofs.Prompting.{is_run, run_is_said}
+pub use Rattle.script.proofs.Prompting.{run_was_said, runs_so}
 pub use Rattle.script.proofs.Reading.{faults_as, line_is_simple, read_as}
 pub use Rattle.script.proofs.Saying.{line_read}
 pub use Rattle.script.proofs.Standing.{line_says}

@@ -6,6 +6,7 @@ mod Pairs
 mod Prompting
 mod Saying
 mod Scripts
+mod Spacing
 mod Standing
 pub mod Appending
 pub mod Reading

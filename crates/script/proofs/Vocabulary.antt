@@ -3,7 +3,7 @@ pub use Rattle.script.specs.Vocabulary.{App, Appends, FailsBy, Kind, Text, bytes
 pub use Rattle.buffer_cache.proofs.Vocabulary.{Bool, Err, List, None, Ok, OnOk, Option, Result, Some, [], ap, append_assoc, arith, cond, false, get_or, length, none-some, refl, same_Some, subst, sym, true, ℕ, ◌%◌, ◌++◌, ◌+◌, ◌-◌, ◌<◌, ◌∙◌, ◌∷◌, ◌≡◌, ◌≢◌, ◌≤◌}
 pub use Rattle.fs_layout.proofs.Vocabulary.{append-nil, drop, drop-drop, drop_all, length-append, length-drop, take, ◌/◌}
 pub use Rattle.plain_tree.proofs.Vocabulary.{take_more, ◌||◌}
-pub use Rattle.script.specs.Reading.{all_in, do_in, end_in, first_said, hart_with_call, is_passed_over, said_in, start_in, step_in, upto_in, with_line, with_one, with_two}
+pub use Rattle.script.specs.Reading.{all_in, do_in, end_in, first_said, hart_with_call, is_passed_over, said_in, start_in, step_in, upto_in, with_one, with_two}
 unfoldable pub use Rattle.script.specs.Reading.{call_in, kind_in, line_in, lines_from, one_operand, two_operands}
 pub use Rattle.script.specs.Said.{All, Call, Chdir, Close, Dup, End, Fill, Fstat, Inherit, Line, Link, Mkdir, NumberedLine, Open, Read, Run, Start, Step, Unlink, Upto, Write}
 pub use Rattle.std.proofs.Common.{IfOk, codes, min, slice_index_or}

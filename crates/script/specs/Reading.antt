@@ -112,19 +112,31 @@ said_in line = if ends_in_return line then None else line_in (words_of line)
 abbrev pub is_passed_over : List ℕ → Bool
 is_passed_over line = bytes_eq line [] || begins_with (codes "#") line
 
-abbrev pub with_line : NumberedLine → Result (List NumberedLine) ℕ → Result (List NumberedLine) ℕ
-with_line line (Ok lines) = Ok (line ∷ lines)
-with_line line (Err n) = Err n
+-- what the lines say up to the first that says nothing, and the number of that one
+pub record ReadLines : Type 0 where
+  pub front : List NumberedLine
+  pub bad : Option ℕ
 
-abbrev pub first_said : ℕ → Option Line → Result (List NumberedLine) ℕ → Result (List NumberedLine) ℕ
-first_said n None rest = Err n
-first_said n (Some said) rest = with_line (record { number = n; says = said }) rest
+abbrev pub first_said : ℕ → Option Line → ReadLines → ReadLines
+first_said n None rest = record { front = []; bad = Some n }
+first_said n (Some said) rest = record { front = record { number = n; says = said } ∷ rest.front; bad = rest.bad }
 
--- what the lines say, or the number of the first that says nothing; the first line is number n
-unfoldable pub lines_from : ℕ → List (List ℕ) → Result (List NumberedLine) ℕ
-lines_from n [] = Ok []
+-- the first line is number n
+unfoldable pub lines_from : ℕ → List (List ℕ) → ReadLines
+lines_from n [] = record { front = []; bad = None }
 lines_from n (line ∷ lines) =
     if is_passed_over line then lines_from (n + 1) lines else first_said n (said_in line) (lines_from (n + 1) lines)
 
+abbrev pub front_in : List ℕ → List NumberedLine
+front_in text = (lines_from 1 (lines_of text)).front
+
+abbrev pub bad_in : List ℕ → Option ℕ
+bad_in text = (lines_from 1 (lines_of text)).bad
+
+-- what all lines say, or the number of the first that says nothing
+abbrev pub unless_bad : List NumberedLine → Option ℕ → Result (List NumberedLine) ℕ
+unless_bad lines None = Ok lines
+unless_bad lines (Some n) = Err n
+
 abbrev pub script_in : List ℕ → Result (List NumberedLine) ℕ
-script_in text = lines_from 1 (lines_of text)
+script_in text = unless_bad (front_in text) (bad_in text)

@@ -1,13 +1,13 @@
 //! The lines that are typed at a prompt.
-ghost use Rattle.std.specs.Prelude.{◌≡◌};
-ghost use Rattle.script.specs.Asking.{Run, asked_in, ends_input, GivesAsked};
-ghost use Rattle.script.specs.Reading.{said_in, with_one};
+ghost use Rattle.std.specs.Prelude.{◌≡◌, [], IfOk, OnOk};
+ghost use Rattle.script.specs.Asking.{Run, asked_as_typed, asked_in, ends_input, single_spaced, with_word, GivesAsked};
+ghost use Rattle.script.specs.Reading.{said_in, with_one, words_of};
 
 use crate::command::{Command, ScriptFault};
 use crate::fault::LineFault;
 use crate::line::{command, is_word};
 use crate::text::{is_passed_over, plainest};
-use std::alloc::Global;
+use std::alloc::{AllocError, Global};
 
 /// What a line asks that is typed at a prompt.
 #[derive(Debug, PartialEq, Drop)]
@@ -24,9 +24,49 @@ pub enum Asked {
     Run(Command),
 }
 
-/// What a line asks that is typed as the one of this number, counted from 1.
+/// What a line asks that is typed as the one of this number, counted from 1. Where it says nothing, spaces at its ends and beside others
+/// are passed over.
 pub fn asked_in(alloc: Global, number: u64, line: &[u8]) -> Result<Asked, ScriptFault>
     ensures { GivesAsked number result (asked_in line.now) }
+{
+    match asked_as_typed(alloc, number, line) {
+        Err(ScriptFault::Line(..)) => {
+            let Ok(single) = single_spaced(alloc, line) else {
+                return Err(ScriptFault::Memory);
+            };
+            asked_as_typed(alloc, number, single.as_slice())
+        }
+        asked => asked,
+    }
+}
+
+// The line with one space between its words, and none at an end.
+fn single_spaced(alloc: Global, line: &[u8]) -> Result<Vec<u8>, AllocError>
+    ensures { IfOk result (λ single. single.items ≡ single_spaced [] (words_of line.now)) }
+{
+    let mut single = Vec::new(alloc);
+    for word in line.split(|b| *b == b' ') {
+        put_word(&mut single, word)?;
+    }
+    Ok(single)
+}
+
+// Appends a word, where it is one, behind a space where there is one before it.
+fn put_word(line: &mut Vec<u8>, word: &[u8]) -> Result<(), AllocError>
+    ensures { OnOk result (line.new.items ≡ with_word line.old.items word.now) }
+{
+    if word.is_empty() {
+        return Ok(());
+    }
+    if !line.is_empty() {
+        line.push(b' ')?;
+    }
+    line.extend_from_slice(word)
+}
+
+// What the line asks as it stands.
+fn asked_as_typed(alloc: Global, number: u64, line: &[u8]) -> Result<Asked, ScriptFault>
+    ensures { GivesAsked number result (asked_as_typed line.now) }
 {
     if is_passed_over(line) {
         Ok(Asked::Nothing)

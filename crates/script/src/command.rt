@@ -27,6 +27,20 @@ pub struct ScriptLine {
     pub command: Command,
 }
 
+/// Why a line says nothing, and which line it is, counted from 1.
+#[derive(Debug, PartialEq, Drop)]
+pub struct BadLine {
+    pub number: u64,
+    pub why: Reason,
+}
+
+/// The commands of a script up to its first line that says nothing, and that line, where there is one.
+#[derive(Debug, PartialEq, Drop)]
+pub struct Front {
+    pub lines: Vec<ScriptLine>,
+    pub bad: Option<BadLine>,
+}
+
 /// Why a script isn't run: its first line that is no command, counted from 1, with why; or want of memory.
 #[derive(Debug, PartialEq, Drop)]
 pub enum ScriptFault {

@@ -24,12 +24,15 @@ mod words;
 
 pub use crate::asked::{Asked, asked_in};
 pub use crate::call::CallLine;
-pub use crate::command::{Command, ScriptFault, ScriptLine};
-pub use crate::command_line::{IMAGE, SAVE, has_prompt, has_threads, mode_of, options};
+pub use crate::command::{BadLine, Command, Front, ScriptFault, ScriptLine};
+pub use crate::command_line::{
+    EXPLAIN, IMAGE, LAST, PROMPT, SAVE, SCHEDULE, THREADS, TIMELINE, has_prompt, has_threads,
+    mode_of, options,
+};
 pub use crate::entries::write_entry;
 pub use crate::laws::{lines_are_read, prompts_run_scripts};
 pub use crate::mode::{Mode, Schedule};
 pub use crate::reason::{Reason, Shown};
 pub use crate::replies::{write_numbered, write_reply, write_shape, write_waits};
 pub use crate::tail::{Tail, tails_hold_the_last};
-pub use crate::text::parse;
+pub use crate::text::{parse, parse_front};

@@ -17,6 +17,15 @@ use std::alloc::Global;
 /// The most words that a line has.
 const MOST_WORDS: usize = 5;
 
+/// The words of calls.
+const CALLS: [&[u8]; 12] = [
+    b"open", b"read", b"write", b"fill", b"link", b"unlink", b"mkdir", b"chdir", b"dup", b"fstat",
+    b"close", b"inherit",
+];
+
+/// The words that are lines of their own at a prompt alone.
+const TYPED: [&[u8]; 4] = [b"state", b"help", b"quit", b"exit"];
+
 /// What a line says. One that ends in a carriage return says nothing: its last word would end in a byte that nobody sees.
 pub fn command(alloc: Global, line: &[u8]) -> Result<Command, LineFault>
     ensures { Gives line_said result (said_in line.now) }
@@ -75,7 +84,7 @@ fn start_of(alloc: Global, words: &[&[u8]]) -> Result<Command, LineFault>
         return Err(LineFault::Bad(Reason::EmptyWord));
     };
     let Some(hart) = hart(first) else {
-        return Err(LineFault::Bad(no_command(first)));
+        return Err(LineFault::Bad(no_command(first, call)));
     };
     Ok(Command::Start {
         hart,
@@ -83,12 +92,24 @@ fn start_of(alloc: Global, words: &[&[u8]]) -> Result<Command, LineFault>
     })
 }
 
-// Why no line begins with this word.
-fn no_command(first: &[u8]) -> Reason {
+// Why no line begins with this word, and goes on with these.
+fn no_command(first: &[u8], more: &[&[u8]]) -> Reason {
     match first {
         [b'0'..=b'9', ..] => Reason::HartWanted("H"),
+        _ if is_call(first) => Reason::HartMissing(Shown::new(first)),
+        _ if is_typed(first) && !more.is_empty() => Reason::StandsAlone(Shown::new(first)),
         _ => Reason::NoSuchCommand(Shown::new(first)),
     }
+}
+
+// Whether the word is a call's.
+fn is_call(word: &[u8]) -> bool {
+    CALLS.iter().any(|call| *call == word)
+}
+
+// Whether the word is a line of its own at a prompt.
+fn is_typed(word: &[u8]) -> bool {
+    TYPED.iter().any(|typed| *typed == word)
 }
 
 fn step_of(words: &[&[u8]]) -> Result<Command, LineFault>

@@ -47,8 +47,20 @@ impl Display for Shown {
 pub enum Reason {
     /// The line ends in a byte 0x0d, as those of some editors do.
     CarriageReturn,
-    /// A space at an end of the line, or two beside one another.
+    /// The line has no word.
     EmptyWord,
+    /// The line begins with a space.
+    SpaceBefore,
+    /// The line ends with a space.
+    SpaceBehind,
+    /// Two spaces stand beside one another.
+    DoubledSpace,
+    /// Words are parted by spaces, also between quotation marks.
+    Quoted,
+    /// The line begins with a call's word, and no hart.
+    HartMissing(Shown),
+    /// More words stand behind one that has a line of its own at a prompt.
+    StandsAlone(Shown),
     /// The first word is neither the word of a command nor a number.
     NoSuchCommand(Shown),
     /// More words than any command has.
@@ -71,7 +83,28 @@ impl Display for Reason {
     fn fmt<W: Write>(&self, f: &mut Formatter<W>) -> fmt::Result {
         match self {
             Reason::CarriageReturn => write!(f, "ends in a carriage return"),
-            Reason::EmptyWord => write!(f, "a single space between words, and none at an end"),
+            Reason::EmptyWord => write!(f, "no word"),
+            Reason::SpaceBefore => write!(
+                f,
+                "begins with a space: a single one between words, and none at an end"
+            ),
+            Reason::SpaceBehind => write!(
+                f,
+                "ends with a space: a single one between words, and none at an end"
+            ),
+            Reason::DoubledSpace => write!(
+                f,
+                "two spaces beside one another: a single one between words, and none at an end"
+            ),
+            Reason::Quoted => write!(
+                f,
+                "quotation marks don't keep words together: bytes with a space among them are written as hex: and pairs of digits, hex:2f612062 for /a b"
+            ),
+            Reason::HartMissing(word) => write!(
+                f,
+                "a call wants a hart before it, from 0 to 7: 0 {word} .."
+            ),
+            Reason::StandsAlone(word) => write!(f, "no more words stand behind {word}"),
             Reason::NoSuchCommand(word) => write!(
                 f,
                 "no such command: {word} (do, step, upto, end, all, or a hart's number; at a prompt also state, help, quit)"

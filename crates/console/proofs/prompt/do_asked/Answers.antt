@@ -26,13 +26,13 @@ returns-in_err-tell_state-in-State g c =
     done_as g.D.Device.contents g.D.Device.failures c.args.help.now (asked_by c.args.asked) State _ _ _ _ _ _ c.from_residual-in_err-tell_state-in-State.result (ap asked_by c.in-State.is)
     (untold _ _ c.in_err-tell_state-in-State.field-0.0 c.from_residual-in_err-tell_state-in-State.result _ _ _ _ fails c.in_err-tell_state-in-State.ensures.written)
 
-pub returns-in_ok-run_line-in-Run : goal.returns-in_ok-run_line-in-Run
-returns-in_ok-run_line-in-Run g c =
+pub returns-in_ok-run_typed-in-Run : goal.returns-in_ok-run_typed-in-Run
+returns-in_ok-run_typed-in-Run g c =
     done_as g.D.Device.contents g.D.Device.failures c.args.help.now (asked_by c.args.asked) (Run (line_said c.in-Run.command)) _ _ _ _ _ _ (Ok true) (ap asked_by c.in-Run.is)
-    (ran g.D.Device.contents g.D.Device.failures c.args.help.now (line_said c.in-Run.command) _ _ _ _ _ _ c.in_ok-run_line-in-Run.ensures)
+    (ran g.D.Device.contents g.D.Device.failures c.args.help.now (line_said c.in-Run.command) _ _ _ _ _ _ c.in_ok-run_typed-in-Run.ensures)
 
-pub returns-in_err-run_line-in-Run : goal.returns-in_err-run_line-in-Run
-returns-in_err-run_line-in-Run g c =
-    let fails : c.from_residual-in_err-run_line-in-Run.result ≡ Err c.in_err-run_line-in-Run.field-0.0 = search rules in
-    done_as g.D.Device.contents g.D.Device.failures c.args.help.now (asked_by c.args.asked) (Run (line_said c.in-Run.command)) _ _ _ _ _ _ c.from_residual-in_err-run_line-in-Run.result (ap asked_by c.in-Run.is)
-    (ran_to_fault g.D.Device.contents g.D.Device.failures c.args.help.now (line_said c.in-Run.command) c.in_err-run_line-in-Run.field-0.0 c.from_residual-in_err-run_line-in-Run.result _ _ _ _ _ _ fails c.in_err-run_line-in-Run.ensures)
+pub returns-in_err-run_typed-in-Run : goal.returns-in_err-run_typed-in-Run
+returns-in_err-run_typed-in-Run g c =
+    let fails : c.from_residual-in_err-run_typed-in-Run.result ≡ Err c.in_err-run_typed-in-Run.field-0.0 = search rules in
+    done_as g.D.Device.contents g.D.Device.failures c.args.help.now (asked_by c.args.asked) (Run (line_said c.in-Run.command)) _ _ _ _ _ _ c.from_residual-in_err-run_typed-in-Run.result (ap asked_by c.in-Run.is)
+    (ran_to_fault g.D.Device.contents g.D.Device.failures c.args.help.now (line_said c.in-Run.command) c.in_err-run_typed-in-Run.field-0.0 c.from_residual-in_err-run_typed-in-Run.result _ _ _ _ _ _ fails c.in_err-run_typed-in-Run.ensures)

@@ -1,13 +1,13 @@
-use Rattle.console.proofs.Lemmas.{rules, ap, sym, ◌≡◌, ◌∙◌, subst, Err, history_from, FailsTo, course, course_in, failed_course, with_course}
+use Rattle.console.proofs.Lemmas.{rules, ◌≡◌, Err, history_from, course, failed_course, with_course}
 use Rattle.console.proofs.run.run_text.Goals as goal
 
 pub returns-in_err-planned : goal.returns-in_err-planned
 returns-in_err-planned g c =
     let is : c.from_residual-in_err-planned.result ≡ Err c.in_err-planned.field-0.0 = search rules in
     failed_course g.D.Device.contents g.D.Device.failures c.args.mode (history_from c.args.base.now) _ c.args.session.now c.in_err-planned.field-0.0 c.from_residual-in_err-planned.result _ is
-    (subst (λ w. FailsTo c.in_err-planned.field-0.0 w) (sym (ap (course_in c.args.mode.schedule) c.in_ok-lines.ensures)) c.in_err-planned.ensures)
+    c.in_err-planned.ensures
 
 pub returns : goal.returns
 returns g c =
     with_course g.D.Device.contents g.D.Device.failures c.args.mode (history_from c.args.base.now) _ (course c.in_ok-planned.planned) c.args.session.now c.run_course.new.session c.run_course.result _ _
-    (ap (course_in c.args.mode.schedule) c.in_ok-lines.ensures ∙ c.in_ok-planned.ensures) c.run_course.ensures
+    c.in_ok-planned.ensures c.run_course.ensures

@@ -1,10 +1,10 @@
-use Rattle.console_threads.proofs.Lemmas.{rules, ◌≡◌, ◌∙◌, Ok, ap, map, sym, Round, called, course, course_in, script_course, queues_called}
+use Rattle.console_threads.proofs.Lemmas.{rules, ◌≡◌, ◌∙◌, Ok, ap, map, sym, Round, called, course, script_course, queues_called}
 use Rattle.console_threads.proofs.asked.asked_in.Goals as goal
 
 pub returns-clause-calls : goal.returns-clause-calls
 returns-clause-calls g c =
     let same : c.as_slice.result.now ≡ c.in_ok-text.text.items = search rules in
-    let says : script_course Round c.in_ok-text.text.items ≡ Ok (course c.in_ok-queues.field-0) = ap (script_course Round) (sym same) ∙ (ap (course_in Round) c.in_ok-lines.ensures ∙ c.in_ok-queues.ensures) in (
+    let says : script_course Round c.in_ok-text.text.items ≡ Ok (course c.in_ok-queues.field-0) = ap (script_course Round) (sym same) ∙ c.in_ok-queues.ensures in (
       c.in_ok-text.text.items,
       c.in_ok-text.ensures.text,
       record {
