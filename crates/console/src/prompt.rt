@@ -44,7 +44,7 @@ upto H KIND N      makes steps up to H's Nth lock, unlock, get, read, put, join,
 end H              makes steps of H until its call ends, or waits
 do H CALL ..       starts a call, and makes steps of H until it ends, or waits
 all                makes steps of all harts in turn, until each is idle, or waits
-state              tells of each call: inherit's child, last step, locks, transaction, wait; where the log's commit is
+state              says of each call: inherit's child, last step, locks, transaction, wait; and of the log its commit
 help               tells which lines there are
 quit               ends the input, as exit does
 # ..               is a comment
