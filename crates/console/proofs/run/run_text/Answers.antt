@@ -3,8 +3,8 @@ use Rattle.console.proofs.run.run_text.Goals as goal
 
 pub returns-in_err-planned : goal.returns-in_err-planned
 returns-in_err-planned g c =
-    let is : c.from_residual-in_err-planned.result ≡ Err c.in_err-planned.field-0.0 = search rules in
-    failed_course g.D.Device.contents g.D.Device.failures c.args.mode (history_from c.args.base.now) _ c.args.session.now c.in_err-planned.field-0.0 c.from_residual-in_err-planned.result _ is
+    let is : c.from_residual.result ≡ Err c.in_err-planned.field-0.0 = search rules in
+    failed_course g.D.Device.contents g.D.Device.failures c.args.mode (history_from c.args.base.now) _ c.args.session.now c.in_err-planned.field-0.0 c.from_residual.result _ is
     c.in_err-planned.ensures
 
 pub returns : goal.returns
