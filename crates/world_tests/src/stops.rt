@@ -1,5 +1,5 @@
 //! Where the device fails, and what a mount refuses.
-use crate::images::{Image, disk_of, tree_in};
+use crate::images::{Image, SMALL, disk_of, tree_in};
 use crate::lists::{Group, Made, RunEnd, groups_in, holds, play, run_over, stopped_at};
 use crate::memory::copied;
 use crate::rows::Ask::{Fstat, Open, Read, Unlink, Write};
