@@ -16,7 +16,7 @@ pub enum ThreadsFault {
     /// The disk has failed, which one in memory does only after 2^64 - 1 calls.
     #[error("the disk has failed")]
     Device,
-    /// What the harts were told isn't what the run's list has.
+    /// The harts' replies differ from those in the run's list.
     #[error("the run isn't the one that its harts were told of")]
     Strange,
 }

@@ -135,7 +135,7 @@ pub enum InodeFault {
     Elsewhere {
         up: u16,
     },
-    /// Going up from it never comes to the root.
+    /// Going up from it never reaches the root.
     Astray {
         up: u16,
     },

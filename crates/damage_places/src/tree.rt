@@ -21,7 +21,7 @@ const ROOT: u16 = 1;
 /// More steps than there are inodes.
 const MOST_STEPS: u32 = 65_537;
 
-/// Whether going up from inode i comes to the root.
+/// Whether going up from inode i reaches the root.
 fn reaches_root(ups: &[u16], i: u16) -> bool
     ensures { IsTrue result ↔ Reaches (λ n. slice_index ups.now n) i }
 {
