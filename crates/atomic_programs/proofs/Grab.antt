@@ -460,7 +460,7 @@ lawful =
             rests = λ g ne b. idle g b;
             tree = refl;
             clean = λ y. y;
-            none = λ y. ([], None, tt);
+            none = λ y. tt;
             runs = λ a. (call_ok h i w (λ j. none_is h (w.lock j) j (idle h free j))).wp;
           });
     }

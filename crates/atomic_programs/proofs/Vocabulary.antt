@@ -2,7 +2,7 @@
 pub use Rattle.std.proofs.Common.{Bool, List, None, Option, Some, [], ap, append_assoc, arith, false, get_or, get_or-set_other, get_or-set_same, if◌then◌else◌, inl, inr, length, length-set, nat_eq, nat_lt, refl, set, slice_get, subst, suc, sym, true, zero, ℕ, ◌%◌, ◌++◌, ◌+◌, ◌-◌, ◌/◌, ◌<◌, ◌∙◌, ◌∷◌, ◌≡◌, ◌≢◌, ◌≤◌, ◌⊎◌}
 pub use Rattle.atomic_programs.specs.Prog.{Broke, ExecResult, Do, Ended, OfNext, OperationResult, Prog, Ran, Ret, StillWaits, Stops, Waits, WentOn, advance, asks, bind, exec_result_in, marked, moved_in, once, plain, unmarked, went}
 pub use Rattle.atomic_programs.specs.Logic.{Fine, Goes, Good, Grown, Halts, Laws, Machine, OpWithAnswer, P, PlacesOne, Safe, Wp, oldest_first, onto, own, placed_with}
-pub use Rattle.atomic_programs.specs.Calls.{AllHonest, Began, Begins, Begun, EventOutcome, DidEnd, DidRun, DidStop, DidWait, Ends, Event, FinishedCall, HonestStep, IsBeginning, IsHonest, Lawful, Made, Outcome, PlacedStep, Refused, Refuses, Right, Run, Sound, Start, Started, State, Step, Theory, WasIdle, WasStopped, all_asked, all_told, asked, begun, busy_in, changed, fresh, hart_of, is_some, makes, moved, next, outcomes, placed, run, start_of, start_run, step_prog, step_run, step_unless, told, tried, unchanged, with_answer}
+pub use Rattle.atomic_programs.specs.Calls.{AllHonest, Began, Begins, BeginsWhole, Begun, EventOutcome, DidEnd, DidRun, DidStop, DidWait, Ends, Event, FinishedCall, HonestStep, IsBeginning, IsHonest, Lawful, Made, Outcome, PlacedStep, Refused, Refuses, Right, Run, Sound, Start, Started, State, Step, Theory, WasIdle, WasStopped, all_asked, all_told, asked, begun, busy_in, changed, fresh, hart_of, is_some, makes, moved, next, outcomes, placed, run, start_of, start_run, step_prog, step_run, step_unless, told, tried, unchanged, with_answer}
 pub use Rattle.atomic_programs.specs.Explained.{Chain, Holds, In, IsBlocked, IsExplained, IsOfCall, IsRising, Leads, Steady, is_quiet, of_hart, steps_of}
 pub use Rattle.std.proofs.lemmas.Bool.{eq-eqb, eqb-false, eqb-true, ltb-true, ne_eqb}
 pub use Rattle.atomic_programs.specs.Joined.{ActOf, AtEnd, Atomic, Below, Both, Handlers, Handover, Lasts, LowerLayer, LowerLaws, both, holding, joined, lowered, placed_at, ran_to}

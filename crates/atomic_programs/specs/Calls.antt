@@ -21,12 +21,18 @@ pub record Theory : Type 1 where
   pub program : Call → Prog M.Op M.Answer M.Mark Reply
   -- these steps, the oldest first, are the whole sequence of the call, and make this reply
   pub Written : Call → List M.Step → Reply → Type 0
+  -- these steps, the oldest first, may be all that a call under way has made
+  pub WrittenSoFar : Call → List M.Step → Type 0
   -- the most steps of this call
   pub limit : Call → ℕ
 
--- these steps, the oldest first, begin a whole sequence of the call
+-- these steps, the oldest first, begin a whole sequence of the call, by what is written of whole ones
+abbrev pub BeginsWhole : {Call Step Reply : Type 0} → (Call → List Step → Reply → Type 0) → Call → List Step → Type 0
+BeginsWhole {Call} {Step} {Reply} Written call es = (rest : List Step) × (reply : Reply) × Written call (es ++ rest) reply
+
+-- these steps, the oldest first, may be all that the call under way has made
 abbrev pub IsBeginning : (L : Theory) → L.Call → List L.M.Step → Type 0
-IsBeginning L call es = (rest : List L.M.Step) × (reply : L.Reply) × L.Written call (es ++ rest) reply
+IsBeginning L call es = L.WrittenSoFar call es
 
 -- the same of steps that stand the newest first
 abbrev pub Begun : (L : Theory) → L.Call → List L.M.Step → Type 0

@@ -1,6 +1,6 @@
 -- An example: one number behind a lock, on a device that may fail. The number is a byte.
 use Rattle.std.specs.Prelude.{◌≡◌, ◌≢◌, ◌⊎◌, ◌<◌, ℕ, Bool, true, false, nat_eq, nat_lt, if◌then◌else◌, Option, Some, None, List, [], ◌∷◌}
-use Rattle.atomic_programs.specs.Basics.{Prog, Ret, Do, bind, once, unmarked, marked, ExecResult, Waits, Ran, Stops, Machine, one_more_fault, Theory, Began, Refuses, Begins}
+use Rattle.atomic_programs.specs.Basics.{Prog, Ret, Do, bind, once, unmarked, marked, ExecResult, Waits, Ran, Stops, Machine, one_more_fault, Theory, Began, Refuses, Begins, BeginsWhole}
 
 -- what the code has: who has the lock, the number, on the device, and how often the device has failed
 pub record Cell : Type 0 where
@@ -207,6 +207,7 @@ swaps =
       busy = Busy;
       program = program;
       Written = IsHistoryOf;
+      WrittenSoFar = BeginsWhole IsHistoryOf;
       limit = limit_of;
     }
 

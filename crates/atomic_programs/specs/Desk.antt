@@ -1,7 +1,7 @@
 -- An example: requests that another hart serves, tokens that are handed to an idle hart, and a call after which nothing is
 -- claimed of the list of steps any more.
 use Rattle.std.specs.Prelude.{◌≡◌, ◌⊎◌, ℕ, Bool, true, false, nat_eq, Option, Some, None, List, [], ◌∷◌}
-use Rattle.atomic_programs.specs.Basics.{Prog, Ret, Do, unmarked, ExecResult, Waits, Ran, Machine, Theory, Began, Refuses, Begins, changed}
+use Rattle.atomic_programs.specs.Basics.{Prog, Ret, Do, unmarked, ExecResult, Waits, Ran, Machine, Theory, Began, Refuses, Begins, BeginsWhole, changed}
 
 -- a hart's place at the desk: a number that it asks to be put in, or the old one, once another hart has done so
 pub data Slot : Type 0 where
@@ -212,6 +212,7 @@ desk =
       busy = Busy;
       program = program;
       Written = IsHistoryOf;
+      WrittenSoFar = BeginsWhole IsHistoryOf;
       limit = λ call. 2;
     }
 

@@ -91,6 +91,7 @@ grabs =
       busy = tt;
       program = λ i. Do (Hold i) unmarked (λ _. Do (Grab i) unmarked (λ r. Do (Drop i) unmarked (λ _. Ret r)));
       Written = λ i es r. Unit {0};
+      WrittenSoFar = λ i es. Unit {0};
       limit = λ i. 5;
     }
 

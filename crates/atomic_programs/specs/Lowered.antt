@@ -30,6 +30,7 @@ lowered_calls T R handler begin =
       busy = T.busy;
       program = λ call. lowered T.M R handler R.none (T.program call);
       Written = T.Written;
+      WrittenSoFar = T.WrittenSoFar;
       limit = T.limit;
     }
 

@@ -48,6 +48,7 @@ keeping L =
       busy = L.busy;
       program = λ call. carrying (L.program call);
       Written = L.Written;
+      WrittenSoFar = L.WrittenSoFar;
       limit = L.limit;
     }
 

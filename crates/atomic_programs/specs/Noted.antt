@@ -1,6 +1,6 @@
 -- Layers, event by event: the operations below as they run, and among them those above as they act.
 use Rattle.std.specs.Prelude.{◌≡◌, ◌⊎◌, ℕ, List, [], ◌∷◌}
-use Rattle.atomic_programs.specs.Basics.{Ret, Do, Machine, P, OpWithAnswer, Theory, PlacedStep, Event, AllHonest, outcomes, run, fresh, LowerLayer, joined, Handlers, Starts, lowered_calls, Core, operations, operations_of}
+use Rattle.atomic_programs.specs.Basics.{Ret, Do, Machine, P, OpWithAnswer, Theory, PlacedStep, BeginsWhole, Event, AllHonest, outcomes, run, fresh, LowerLayer, joined, Handlers, Starts, lowered_calls, Core, operations, operations_of}
 use Rattle.atomic_programs.specs.Explained.{history}
 
 -- An operation ran, with its answer; or a step was placed.
@@ -79,7 +79,7 @@ IsWhole U K R handler c (Do op m k) es r =
 
 -- The same calls, each explained by all that is noted of it.
 abbrev pub with_notes : (L : Theory) → (L.Call → Notes L.M → L.Reply → Type 0) → Theory
-with_notes L Written = record L { M = noted L.M; Written = Written }
+with_notes L Written = record L { M = noted L.M; Written = Written; WrittenSoFar = BeginsWhole Written }
 
 -- the lowered calls, each explained by the operations below that it ran, and those above within them
 abbrev pub noted_calls : (T : Theory) (K : Core T.M) (R : LowerLayer T.M.World) → Handlers T.M R → Starts T R → Theory

@@ -1,6 +1,6 @@
 -- Calls over the machine of whole inodes, with any history; and the history that is the machine's own operations.
 use Rattle.std.specs.Prelude.{◌≡◌, ℕ, nat_lt, if◌then◌else◌, List, [], ◌∷◌}
-use Rattle.atomic_programs.specs.Basics.{Prog, Theory, Refuses, Begins, OpWithAnswer, Core, Makes, all_of, Starts, World, Op, Answer, exec, Labels, whole}
+use Rattle.atomic_programs.specs.Basics.{Prog, Theory, Refuses, Begins, BeginsWhole, OpWithAnswer, Core, Makes, all_of, Starts, World, Op, Answer, exec, Labels, whole}
 use Rattle.atomic_programs.specs.Blocks.{hart_count, blocks}
 
 -- calls over the machine with these labels
@@ -25,6 +25,7 @@ theory l c =
       busy = c.busy;
       program = c.program;
       Written = c.Written;
+      WrittenSoFar = BeginsWhole c.Written;
       limit = c.limit;
     }
 

@@ -2,7 +2,7 @@
 use Rattle.std.specs.Prelude.{◌≡◌, ℕ, Bool, Option, List, [], ◌∷◌}
 use Rattle.atomic_programs.specs.Prog.{Ret, Do, ExecResult, Ran, Stops, exec_result_in}
 use Rattle.atomic_programs.specs.Logic.{Machine, P, OpWithAnswer}
-use Rattle.atomic_programs.specs.Calls.{Theory, Begins}
+use Rattle.atomic_programs.specs.Calls.{Theory, Begins, BeginsWhole}
 
 -- What is left of a machine's world where all that starts reserve, and that marks change, is left out; and what the
 -- operations make of it.
@@ -78,6 +78,7 @@ operations_of T K =
       busy = T.busy;
       program = T.program;
       Written = λ call es r. IsRun T.M (T.program call) es r;
+      WrittenSoFar = BeginsWhole (λ call es r. IsRun T.M (T.program call) es r);
       limit = T.limit;
     }
 
@@ -98,5 +99,6 @@ bare_calls T =
       busy = T.busy;
       program = T.program;
       Written = λ call es r. Unit {0};
+      WrittenSoFar = λ call es. Unit {0};
       limit = T.limit;
     }

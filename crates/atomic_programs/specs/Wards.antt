@@ -95,6 +95,7 @@ gifts =
       busy = Busy;
       program = λ j. Do (Give j) unmarked (λ _. once (Free j) unmarked);
       Written = λ j es r. Unit {0};
+      WrittenSoFar = λ j es. Unit {0};
       limit = λ j. 3;
     }
 
