@@ -9,7 +9,7 @@ use Rattle.inode_machine.proofs.Basics.{locked_held, s-give, one_most, fails, du
 use Rattle.inode_machine.proofs.Closes.{shut_step, s-shut}
 use Rattle.inode_machine.proofs.Stats.{stat_step, stat_face, s-stat-file}
 use Rattle.inode_machine.proofs.Readings.{read_step, s-lock-file, s-read-file}
-use Rattle.inode_machine.proofs.WriteCalls.{write_begins, write_ok}
+use Rattle.inode_machine.proofs.WriteCalls.{write_ok}
 
 -- The machine's laws.
 
@@ -64,7 +64,7 @@ dup_written fd f = (refl, record { through = refl; reply = refl; room = refl })
 
 pub dup_ok : (version : Version) (h fd : ℕ) (w : World) → (w.desks h).lender ≡ None → h < hart_count → Idle h w → Safe (machine version) h (Begun (descriptor_calls version) (calls.Dup fd)) (Ends (descriptor_calls version) h (calls.Dup fd)) (dup_program fd) rest_cost [] w
 dup_ok version h fd w free lt idle =
-    s-double version fd refl free lt (omega arith) idle.walk idle.pending idle.opening ([], parts.failed (calls.Dup fd) BadDescriptor, dup_failed fd) (λ f. ([], record { answer = answers.Fd f; call = calls.Dup fd }, dup_written fd f))
+    s-double version fd refl free lt (omega arith) idle.walk idle.pending idle.opening ((dup_failed fd).0, tt) (λ f. ((dup_written fd f).0, tt))
     (λ l u q own. record { wp = (λ c. dup_failed fd, idle_as h u _ own (rests_as (own_of h w) (own_of h w).row (own_of h w).desk idle refl refl refl refl refl refl refl refl)) })
     (λ l u q bad own. s-say version own free lt (omega (arith, q)) (unlocks_nothing (own_of h w).inodes idle.inodes) idle.joined
     (λ l2 u2 q2 spoilt own2. record { wp = (λ c. absurd (let a = spoilt refl in cc (a, c)), idle_as h u2 _ own2 (record { inodes = idle.inodes; refs = idle.refs; walk = idle.walk; pending = idle.pending; hold = idle.hold; hand = idle.hand; joined = idle.joined; lent = idle.lent; opening = idle.opening; left = idle.left; noted = idle.noted })) }))
@@ -93,7 +93,7 @@ refs_back r m = λ z n. each n z
 
 pub close_ok : (version : Version) (h fd : ℕ) (w : World) → (w.desks h).lender ≡ None → h < hart_count → Idle h w → Safe (machine version) h (Begun (descriptor_calls version) (calls.Close fd)) (Ends (descriptor_calls version) h (calls.Close fd)) (close_program fd) rest_cost [] w
 close_ok version h fd w free lt idle =
-    s-shut version fd refl free lt (omega arith) idle.walk idle.pending idle.opening (λ j. ap (λ (f : ℕ → Option Held). f j) idle.inodes) idle.noted idle.lent (λ j. let r = idle.refs j in let o = one_most ((w.desks h).directory == j) in omega (arith, r, o)) ([], parts.failed (calls.Close fd) BadDescriptor, close_failed fd) ([], parts.done (calls.Close fd), close_written fd)
+    s-shut version fd refl free lt (omega arith) idle.walk idle.pending idle.opening (λ j. ap (λ (f : ℕ → Option Held). f j) idle.inodes) idle.noted idle.lent (λ j. let r = idle.refs j in let o = one_most ((w.desks h).directory == j) in omega (arith, r, o)) ((close_failed fd).0, tt) ((close_written fd).0, tt)
     (λ l u q own. record { wp = (λ c. close_failed fd, idle_as h u _ own (rests_as (own_of h w) (own_of h w).row (own_of h w).desk idle refl refl refl refl refl refl refl refl)) })
     (λ l r d u q row desk own. s-say version own (desk.lender ∙ free) lt (omega (arith, q)) none (desk.joined ∙ idle.joined)
     (λ l2 u2 q2 _ own2. record { wp = (λ c. close_written fd, idle_as h u2 _ own2 (rests_same (own_of h w) r d idle row desk)) }))
@@ -127,7 +127,7 @@ stat_written version fd i v = (refl, record { through = refl; reply = λ j. reco
 
 pub stat_ok : (version : Version) (h fd : ℕ) (w : World) → (w.desks h).lender ≡ None → h < hart_count → Idle h w → Safe (machine version) h (Begun (descriptor_calls version) (calls.Fstat fd)) (Ends (descriptor_calls version) h (calls.Fstat fd)) (stat_program fd) rest_cost [] w
 stat_ok version h fd w free lt idle =
-    s-stat-file version fd refl free lt (omega arith) idle.walk idle.pending idle.opening (λ j. ap (λ (f : ℕ → Option Held). f j) idle.inodes) ([], parts.failed (calls.Fstat fd) BadDescriptor, stat_failed fd) (λ i v. ([], stat_reply fd i (face_or (face_of version (Some v))), stat_written version fd i v))
+    s-stat-file version fd refl free lt (omega arith) idle.walk idle.pending idle.opening (λ j. ap (λ (f : ℕ → Option Held). f j) idle.inodes) ((stat_failed fd).0, tt) (λ i v. ((stat_written version fd i v).0, tt))
     (λ l u q own. record { wp = (λ c. stat_failed fd, idle_as h u _ own (rests_as (own_of h w) (own_of h w).row (own_of h w).desk idle refl refl refl refl refl refl refl refl)) })
     (λ l i v u q own.
     s-give version own free lt (omega (arith, q)) (put_same (own_of h w).inodes i (Some (locked_held (Some v)))) refl refl refl refl (λ l2 u2 q2 own2.
@@ -152,11 +152,11 @@ read_written fd buffer b = (refl, record { through = refl; reply = refl; room = 
 
 pub read_ok : (version : Version) (h fd : ℕ) (buffer : List ℕ) (w : World) → (w.desks h).lender ≡ None → h < hart_count → Idle h w → length buffer ≤ asked_limit → Safe (machine version) h (Begun (descriptor_calls version) (calls.Read fd buffer)) (Ends (descriptor_calls version) h (calls.Read fd buffer)) (read_program fd buffer) rest_cost [] w
 read_ok version h fd buffer w free lt idle asked =
-    s-lock-file version fd (length buffer) refl free lt (omega arith) idle.walk idle.pending idle.opening (λ j. ap (λ (f : ℕ → Option Held). f j) idle.inodes) (λ c. ([], parts.failed (calls.Read fd buffer) c, read_failed fd buffer c))
+    s-lock-file version fd (length buffer) refl free lt (omega arith) idle.walk idle.pending idle.opening (λ j. ap (λ (f : ℕ → Option Held). f j) idle.inodes) (λ c. ((read_failed fd buffer c).0, tt))
     (λ l c u q own. record { wp = (λ y. read_failed fd buffer c, idle_as h u _ own (rests_as (own_of h w) (own_of h w).row (own_of h w).desk idle refl refl refl refl refl refl refl refl)) })
     (λ l i offset x u q key stands own.
     s-read-file version fd i offset (length buffer) x own free lt (omega (arith, q)) asked idle.walk idle.pending idle.opening (put_same (own_of h w).inodes i (Some (locked_held x)))
-    (record { opened = record { slot = key.opened.slot; below = key.opened.below; is = key.opened.is; key = key.opened.key; at = key.opened.at; number = key.opened.number }; readable = key.readable; read = key.read }) (record { entry = stands.entry; at = stands.at; number = stands.number; offset_is = stands.offset_is }) (λ b. ([], read_reply fd buffer b, read_written fd buffer b))
+    (record { opened = record { slot = key.opened.slot; below = key.opened.below; is = key.opened.is; key = key.opened.key; at = key.opened.at; number = key.opened.number }; readable = key.readable; read = key.read }) (record { entry = stands.entry; at = stands.at; number = stands.number; offset_is = stands.offset_is }) (λ b. ((read_written fd buffer b).0, tt))
     (λ l2 b u2 q2 own2.
     s-say version own2 free lt (omega (arith, q, q2)) (unlocks_nothing _ (given_is (own_of h w).inodes i (Some (locked_held x)) idle.inodes)) idle.joined (λ l3 u3 q3 _ own3.
     record {
@@ -198,12 +198,12 @@ asks_within : (n : ℕ) → not (nat_lt asked_limit n) ≡ true → n ≤ asked_
 asks_within n q = grind (arith, nat_tests)
 
 pub descriptors_right : (version : Version) (kind : Call → Bool) → IsRight version kind on_descriptors
-descriptors_right version kind h (calls.Dup fd) busy w u lt here out idle free is = right version kind h (calls.Dup fd) busy w u idle free is (fails (steps.Dup fd) BadDescriptor ∷ [], parts.failed (calls.Dup fd) BadDescriptor, dup_failed fd) (λ _ i. dup_ok version h fd u out lt i)
-descriptors_right version kind h (calls.Close fd) busy w u lt here out idle free is = right version kind h (calls.Close fd) busy w u idle free is (fails (steps.Close fd) BadDescriptor ∷ [], parts.failed (calls.Close fd) BadDescriptor, close_failed fd) (λ _ i. close_ok version h fd u out lt i)
-descriptors_right version kind h (calls.Fstat fd) busy w u lt here out idle free is = right version kind h (calls.Fstat fd) busy w u idle free is (fails (steps.Fstat fd) BadDescriptor ∷ [], parts.failed (calls.Fstat fd) BadDescriptor, stat_failed fd) (λ _ i. stat_ok version h fd u out lt i)
-descriptors_right version kind h (calls.Read fd buffer) busy w u lt here out idle free is = right version kind h (calls.Read fd buffer) busy w u idle free is (fails (steps.Read fd (length buffer)) BadDescriptor ∷ [], parts.failed (calls.Read fd buffer) BadDescriptor, read_failed fd buffer BadDescriptor) (λ _ i. read_ok version h fd buffer u out lt i (asks_within (length buffer) here))
+descriptors_right version kind h (calls.Dup fd) busy w u lt here out idle free is = right version kind h (calls.Dup fd) busy w u idle free is tt (λ _ i. dup_ok version h fd u out lt i)
+descriptors_right version kind h (calls.Close fd) busy w u lt here out idle free is = right version kind h (calls.Close fd) busy w u idle free is tt (λ _ i. close_ok version h fd u out lt i)
+descriptors_right version kind h (calls.Fstat fd) busy w u lt here out idle free is = right version kind h (calls.Fstat fd) busy w u idle free is tt (λ _ i. stat_ok version h fd u out lt i)
+descriptors_right version kind h (calls.Read fd buffer) busy w u lt here out idle free is = right version kind h (calls.Read fd buffer) busy w u idle free is tt (λ _ i. read_ok version h fd buffer u out lt i (asks_within (length buffer) here))
 descriptors_right version kind h (calls.Open path flags) busy w u lt here out idle free is = absurd cc
-descriptors_right version kind h (calls.Write fd bytes) busy w u lt here out idle free is = right version kind h (calls.Write fd bytes) busy w u idle free is (write_begins version fd bytes) (λ _ i. write_ok version h fd bytes u out lt i)
+descriptors_right version kind h (calls.Write fd bytes) busy w u lt here out idle free is = right version kind h (calls.Write fd bytes) busy w u idle free is tt (λ _ i. write_ok version h fd bytes u out lt i)
 descriptors_right version kind h (calls.Link old new) busy w u lt here out idle free is = absurd cc
 descriptors_right version kind h (calls.Unlink path) busy w u lt here out idle free is = absurd cc
 descriptors_right version kind h (calls.Mkdir path) busy w u lt here out idle free is = absurd cc

@@ -1,11 +1,12 @@
 -- An open that may make its file is right, whatever the other harts do: what is there is opened, what isn't is made.
 use Rattle.image_versions.specs.declared.version.Version.{Version}
-use Rattle.inode_machine.proofs.Vocabulary.{◌≡◌, ◌≢◌, ◌⊎◌, inl, inr, ℕ, ◌+◌, ◌*◌, ◌<◌, ◌≤◌, Bool, true, false, ◌==◌, nat_lt, List, [], ◌∷◌, length, Option, Some, None, refl, sym, ◌∙◌, ap, subst, arith, if◌then◌else◌, own, onto, Fine, Safe, Wp, Begun, Ends, Cause, NoEntry, Full, Descriptors, DiskInodes, MemInodes, Reply, Call, Node, Action, Opened, Failed, NoRoom, next_of, Key, Row, key_is, IsLeastUnused, creates, has_room, is_file, lowest, makes_node, node_at, node_or, open_kind, refusal_with, refusal_by, effect_by, answer_by, StepWith, Name, Tree, put, look, elements, is_live, live_directory, settle, hart_count, descriptor_count, settle_again, one_if, look_live, either, eq_not, same_or, put_same, put_other, live_some, look_same, Walk, Stage, Step, Look, GiveUpWalk, Desk, Mark, Note, World, stage_of, Take, OfFile, InodeType, AtName, face_of, seen_in, is_live_face, open_refusal, type_of, type_of_kind, with_walk, acts, look_made, looked, made_by, marked, mended, new_id, places, Held, Own, own_names, own_of, nothing, Idle, Inv, machine, ThisP as P, failed, full, give_up, is_some, is_there, looks_if, looks_where, makes, tail, create_found, create_in, file_for, open_at, open_new, open_old, open_program, in_parent, path_cost, rest_cost, covered_calls, look_cost}
+use Rattle.inode_machine.proofs.Vocabulary.{◌≡◌, ◌≢◌, ◌⊎◌, inl, inr, ℕ, ◌+◌, ◌*◌, ◌<◌, ◌≤◌, Bool, true, false, ◌==◌, nat_lt, List, [], ◌∷◌, length, Option, Some, None, refl, sym, ◌∙◌, ap, subst, arith, if◌then◌else◌, own, onto, Fine, Safe, Wp, Begun, Ends, Cause, NoEntry, Full, Descriptors, DiskInodes, MemInodes, Reply, Call, Node, Action, Opened, Failed, NoRoom, next_of, Key, Row, key_is, IsLeastUnused, creates, has_room, is_file, lowest, makes_node, node_at, node_or, open_kind, refusal_with, refusal_by, effect_by, answer_by, StepWith, Name, Tree, put, look, elements, is_live, live_directory, settle, hart_count, descriptor_count, settle_again, one_if, look_live, either, eq_not, same_or, put_same, put_other, live_some, look_same, Stage, Step, Look, GiveUpWalk, Desk, Mark, Note, World, stage_of, Take, OfFile, InodeType, AtName, face_of, seen_in, is_live_face, open_refusal, type_of, type_of_kind, with_walk, acts, marked, mended, new_id, places, Held, Own, own_names, own_of, nothing, Idle, Inv, machine, ThisP as P, failed, full, give_up, is_some, is_there, looks_if, looks_where, makes, tail, create_found, create_in, file_for, open_at, open_new, open_old, open_program, in_parent, path_cost, rest_cost, covered_calls, look_cost}
 use Rattle.plain_tree.specs.declared.call.Call.TheVariants as calls
 use Rattle.plain_tree.specs.declared.step.Action.TheVariants as steps
 use Rattle.inode_machine.proofs.Basics.{AllNames, Fair, fair, fair_same, fair_then, has_inode, has_node, locked_held, my_refs, noted_type, quiet, s-up, one_most, own_walk, stage_walk, walk_did, lowest_same, Flagging, not_at, KeepsHold, MoveFine, live_face, mends, note_of, noting, quit_good, s-take-then, spoilt, times, one_at, one_else, listed_held, At, Mending, On, Ready, Stays, names_stay, stays_same, known_there, on_refers, Finding, finding, found_world, refused_made, Walked, home, joined_own, may_rest, ready_at, Opening, fresh_id, opened_row, opened_tree, opened_world, opening, row_back, unopened_row, claimed_held, mended_own, s-claim, act_good_to, told_step, Holding, HasJoined, holding_on, holding_same, holding_set, holding_to, mendable, stays_mended, unlisted, s-give-end, s-give-up-in, Follows, begun_refused, quit_step, walking_quit, walking_told, written_by}
 use Rattle.inode_machine.proofs.Unopens.{mends_opened}
-use Rattle.inode_machine.proofs.Opens.{dirties, moves_full, open_place, refusal_by_type, file_by_type}
+use Rattle.inode_machine.proofs.SoFar.{full_begins}
+use Rattle.inode_machine.proofs.Opens.{open_place, refusal_by_type, file_by_type}
 use Rattle.inode_machine.proofs.OpenEnds.{open_refused, opened_act, opened_begins, s-open-full, s-open-refused, s-opened}
 use Rattle.inode_machine.proofs.Pairs.{pair_new}
 use Rattle.inode_machine.proofs.Makings.{makes_file, names_opened}
@@ -49,6 +50,17 @@ there_full : (version : Version) (t : Tree) (h j id : ℕ) (path : List ℕ) (fl
 unfolding effect_by answer_by
 there_full version t h j id path flags d e flag is goes room = rw (there_kind version t h j path flags d e (Some j) flag is ∙ goes) (rw (flag, is, room) refl)
 
+there_full_step : (version : Version) (t : Tree) (h j id : ℕ) (path : List ℕ) (flags d : ℕ) (e : Name) → h < hart_count → creates flags ≡ true → look t.nodes d e ≡ Some j → open_kind flags (node_at t j).kind ≡ None → has_room (t.fds h) ≡ false
+    → StepWith version t h (steps.Open path flags) (Some j) (Some (d, e)) (NoRoom Descriptors) 0 id (settle t)
+unfolding effect_by answer_by
+there_full_step version t h j id path flags d e lt flag is goes room = (
+  there_kind version t h j path flags d e (Some j) flag is ∙ goes,
+  rw (flag, is, room) refl,
+  record { node = λ z. absurd (let a = there_makes t path flags d j e flag is in cc (a, z)); file = λ q. absurd (cc (q, room)) },
+  rw (flag, is, room) refl,
+  open_place t h path flags lt,
+)
+
 no_parent : (version : Version) (t : Tree) (h : ℕ) (path : List ℕ) (flags : ℕ) (res : Option ℕ) → creates flags ≡ true → refusal_with version t h (steps.Open path flags) res None ≡ Some NoEntry
 unfolding refusal_by
 no_parent version t h path flags res flag = rw flag refl
@@ -59,6 +71,12 @@ comes_first path flags = refl
 
 follows : (path : List ℕ) (flags : ℕ) → Follows (calls.Open path flags) [] (steps.Open path flags)
 follows path flags = record { next = comes_first path flags; rest = λ k. []; reply = λ k. failed (calls.Open path flags) k; fails = λ k. open_refused path flags k }
+
+-- an open's last step may find no descriptor free
+full_begun : (version : Version) (path : List ℕ) (flags : ℕ) (es : List Step) → Walked (calls.Open path flags) [] es → Begun (covered_calls version) (calls.Open path flags) (told_step 0 (steps.Open path flags) (NoRoom Descriptors) ∷ es)
+full_begun version path flags es told =
+    full_begins version (calls.Open path flags) es (Look 0) (Some (record { act = record { step = steps.Open path flags; answer = Failed NoEntry }; new = 0 })) (Some (record { act = record { step = steps.Open path flags; answer = NoRoom Descriptors }; new = 0 }))
+    (begun_refused version (calls.Open path flags) [] (steps.Open path flags) NoEntry (told_step 0 (steps.Open path flags) (Failed NoEntry) ∷ es) (follows path flags) (walking_told (calls.Open path flags) [] (steps.Open path flags) (Failed NoEntry) 0 es told))
 
 module _ (version : Version) (h : ℕ) (path : List ℕ) (flags : ℕ) (w : World) (free : (w.desks h).lender ≡ None) (lt : h < hart_count) (holds : Inv w) (idle : Idle h w) (flag : creates flags ≡ true) where
   abbrev c : Call
@@ -250,11 +268,11 @@ module _ (version : Version) (h : ℕ) (path : List ℕ) (flags : ℕ) (w : Worl
 
       full_at : open_kind flags (node_at u.all j).kind ≡ None → has_room (u.all.fds h) ≡ false → MoveFine version h look_cost n B Q es u (Look 0) (create_found path flags d e ns (Some j))
       full_at goes room =
-          let dirty = dirties h (found_world h j u) (ap (λ (o : Own). o.desk.lender) f.owned ∙ free_o) lt f.fair.inv in
-          moves_full version h look_cost n B Q es u u (Look 0) (create_found path flags d e ns (Some j)) (made_by version u.all h (new_id u) (u.harts h).walk (Look 0)) (record { all = u.all; walk = None; found = Some j; opened = None; entered = None; left = None; told = Some (record { act = record { step = s; answer = NoRoom Descriptors }; new = 0 }) })
-          (ap (λ (o : Option Walk). look_made version u.all h o 0 (new_id u)) mine ∙ (λ i. looked version u.all h (record { step = s; at = d; next = e; rest = [] }) [] (found i) 0 (new_id u)) ∙ there_full version u.all h j (new_id u) path flags d e flag found goes room)
-          (fair_then f.fair dirty) refl (omega (arith, few))
-          (λ l q. (same l (told_step 0 s (NoRoom Descriptors) ∷ es) (record (found_world h j u) { clean = false }) (omega (arith, q, few)) f.owned (λ l2 u2 R few2 desk at2.
+          act_good_to version h look_cost n B Q es u u s d 0 tt e (Some j) (NoRoom Descriptors) (record { all = u.all; walk = None; found = Some j; opened = None; entered = None; left = None; told = Some (record { act = record { step = s; answer = NoRoom Descriptors }; new = 0 }) }) (settle u.all) (create_found path flags d e ns (Some j)) lt inv mine live_at found (λ g q. absurd cc)
+          (there_full version u.all h j (new_id u) path flags d e flag found goes room) refl
+          (there_full_step version u.all h j (new_id u) path flags d e lt flag found goes room) (sym (settle_again u.all)) (λ q. absurd (let a = there_makes u.all path flags d j e flag found in cc (a, q)))
+          f.fair (λ z. record { tree = settle u.all; walk = walks_are z }) (full_begun version path flags es told) (omega (arith, few))
+          (λ l q. (same l (told_step 0 s (NoRoom Descriptors) ∷ es) (found_world h j u) (omega (arith, q, few)) f.owned (λ l2 u2 R few2 desk at2.
           s-open-full version h path flags w free lt holds idle j ns (Some (note_of u.all j)) inode_type l2 (told_step 0 s (NoRoom Descriptors) ∷ es) u2 R (omega (arith, few2)) at2 (typed O0 R u2 at2) (refusal ∙ goes)
           (ap (λ (z : Desk). has_room z.fds) desk ∙ ap (λ (z : ℕ). nat_lt z descriptor_count) (sym low) ∙ room))).wp)
 

@@ -1,10 +1,9 @@
 -- The act of an open that makes its file: at the entry's put the file is there, under its name, and open; or the hart has no descriptor left, and the file stays.
 use Rattle.image_versions.specs.declared.version.Version.{Version}
-use Rattle.inode_machine.proofs.Vocabulary.{◌≡◌, ◌≢◌, inl, ℕ, ◌+◌, ◌<◌, ◌≤◌, Bool, true, false, ◌&&◌, nat_lt, List, [], ◌∷◌, Option, Some, None, refl, sym, ◌∙◌, ap, subst, arith, if◌then◌else◌, nat_tests, Do, P, Safe, Descriptors, Node, Open, Opened, NoRoom, hart_count, descriptor_count, Name, Tree, put, look, live_directory, settle, node_or, with_nodes, new_file, IsNewNode, creates, has_room, lowest, refusal_with, refusal_by, effect_with, effect_by, answer_with, answer_by, is_absent, place_of, IsInPlace, key_is, IsWellFormed, look_same, well_file, absent_slot, Walk, Step, Look, Note, World, Mark, EntryResult, InPlace, NoBlock, NoSlot, Enter, Mends, with_entry, Made, made_by, look_made, looked, new_id, file_for, Own, Held, own_of, Inv, machine, IsName, makes, enter_cost}
+use Rattle.inode_machine.proofs.Vocabulary.{◌≡◌, ◌≢◌, inl, ℕ, ◌+◌, ◌<◌, ◌≤◌, Bool, true, false, ◌&&◌, nat_lt, List, [], ◌∷◌, Option, Some, None, refl, sym, ◌∙◌, ap, subst, arith, if◌then◌else◌, nat_tests, Do, P, Safe, Descriptors, Node, Open, Opened, NoRoom, hart_count, descriptor_count, Name, Tree, put, look, live_directory, settle, node_or, with_nodes, new_file, IsNewNode, creates, has_room, lowest, refusal_with, refusal_by, effect_with, effect_by, answer_with, answer_by, is_absent, place_of, IsInPlace, key_is, IsWellFormed, look_same, well_file, absent_slot, Step, Look, Note, World, Mark, EntryResult, InPlace, NoBlock, NoSlot, Enter, Mends, with_entry, Made, new_id, file_for, Own, Held, own_of, Inv, machine, IsName, makes, enter_cost}
 use Rattle.inode_machine.proofs.Basics.{fair, fair_then, has_node, my_refs, refs_walk, stage_walk, Mendable, mended_own, acts_gone, act_good, no_walk, of_range, told_step, lowest_same, not_at, Fresh, fresh_id, Opening, opened_row, opened_tree, opened_world, opening}
 use Rattle.inode_machine.proofs.Addings.{Adding, added_nodes, added_world, adding}
 use Rattle.inode_machine.proofs.Enters.{EnterFine, s-enter-with}
-use Rattle.inode_machine.proofs.Opens.{dirties, moves_full}
 
 open_goes : (version : Version) (t : Tree) (h d flags : ℕ) (e : Name) (path : List ℕ) → creates flags ≡ true → look t.nodes d e ≡ None → refusal_with version t h (Open path flags) None (Some (d, e)) ≡ None
 unfolding refusal_by
@@ -44,7 +43,7 @@ pub s-enter-file : (version : Version) {A : Type 0} {h : ℕ} (d i : ℕ) {x z :
     → m InPlace ≡ makes (Look i) → m NoBlock ≡ Some Mends → m NoSlot ≡ Some Mends
     → O.inodes d ≡ Some x → x.disk ≡ Some X → x.node ≡ Some X → x.alone ≡ false → x.locked ≡ true → live_directory (Some X) ≡ true → look (λ j. Some X) d e ≡ None
     → O.inodes i ≡ Some z → z.alone ≡ true → z.locked ≡ true → z.node ≡ None → 0 < O.mine.refs i → IsName version e → 1 ≤ i → i < O.ninodes → ((t : Note) → O.desk.noted ≡ Some t → t.number ≢ i)
-    → ((fd id : ℕ) → B (told_step i (Open path flags) (Opened fd id true) ∷ es))
+    → ((fd id : ℕ) → B (told_step i (Open path flags) (Opened fd id true) ∷ es)) → B (told_step i (Open path flags) (NoRoom Descriptors) ∷ es)
     → ((l fd id : ℕ) (u : World) → l + 1641 ≡ n → has_room O.desk.fds ≡ true → lowest O.desk.fds ≡ fd → O.row.fds fd ≡ None → O.row.keys fd ≡ None
     → own_of h u ≡ record O { inodes = created_inodes O d i e X x z; mine = record { refs = O.mine.refs; walk = None; pending = None }; row = opened_row O.row fd id (key_is (file_for i flags)); desk = record (O.desk) { opening = Some fd } }
     → Safe (machine version) h B Q (k InPlace) l (told_step i (Open path flags) (Opened fd id true) ∷ es) u)
@@ -53,7 +52,7 @@ pub s-enter-file : (version : Version) {A : Type 0} {h : ℕ} (d i : ℕ) {x z :
     → ((l : ℕ) (u : World) → l + 1641 ≡ n → own_of h u ≡ mended_own O → Safe (machine version) h B Q (k NoBlock) l es u)
     → ((l : ℕ) (u : World) → l + 1641 ≡ n → own_of h u ≡ mended_own O → Safe (machine version) h B Q (k NoSlot) l es u)
     → Safe (machine version) h B Q (Do (Enter d e i) m k) n es w
-s-enter-file version {A} {h} d i {x} {z} X e path flags {m} {k} {B} {Q} {n} {es} {w} {O} owns free lt pos joined walks none can flag in_place block slot isd xd xn shared locked live finds isi lone locked2 blank refers named from below notes b then_ full no_block no_slot =
+s-enter-file version {A} {h} d i {x} {z} X e path flags {m} {k} {B} {Q} {n} {es} {w} {O} owns free lt pos joined walks none can flag in_place block slot isd xd xn shared locked live finds isi lone locked2 blank refers named from below notes b b_full then_ full no_block no_slot =
     s-enter-with version d i X e owns free lt pos joined isd xd locked live named from below can block slot (λ v inv ov. subst (λ (o : Option Mark). EnterFine version h d e i o n B Q es v (record v { disk = put v.disk d (Some (with_entry e i X)) }) (k InPlace)) (sym in_place) (by_room v inv ov (has_room (v.all.fds h)) refl)) no_block no_slot
   where
     u1 : World → World
@@ -142,11 +141,15 @@ s-enter-file version {A} {h} d i {x} {z} X e path flags {m} {k} {B} {Q} {n} {es}
 
     lacks : (v : World) → Inv v → own_of h v ≡ O → has_room (v.all.fds h) ≡ false → EnterFine version h d e i (makes (Look i)) n B Q es v (u1 v) (k InPlace)
     lacks v inv ov room =
-        moves_full version h enter_cost n B Q es v (u1 v) (Look i) (k InPlace) (made_by version v.all h (new_id v) (v.harts h).walk (Look i)) made
-        (ap (λ (o : Option Walk). look_made version v.all h o i (new_id v)) (mine v ov) ∙ (λ r. looked version v.all h (record { step = Open path flags; at = d; next = e; rest = [] }) [] (look_is v ov r) i (new_id v)) ∙ acts_gone version v.all h (Open path flags) None (Some (d, e)) i (new_id v) (goes v ov)
+        act_good version h enter_cost n B Q es v (u1 v) (Open path flags) d i (of_range v i (fresh v ov).below) e None (NoRoom Descriptors) made (k InPlace) lt inv (mine v ov) (live_at v ov) (look_is v ov) (λ g q. absurd cc)
+        (acts_gone version v.all h (Open path flags) None (Some (d, e)) i (new_id v) (goes v ov)
         ∙ (λ r. record made { all = effect r; opened = if room r then Some (new_id v) else None; entered = if absent_is v.all d flags e flag (look_is v ov) r then Some i else None; told = Some (record { act = record { step = Open path flags; answer = full_answer version v.all h d (new_id v) flags e path room r }; new = i }) }))
-        (fair_then a.fair (dirties h (u2 v) (ap (λ (o : Own). o.desk.lender) ov ∙ free) lt a.fair.inv)) refl pos
-        (λ l q. (full l (record (u2 v) { clean = false }) q (has_too v inv ov ∙ room) a.owned).wp)
+        refl (goes v ov)
+        (goes v ov, sym (full_answer version v.all h d (new_id v) flags e path room), record { node = λ q. fresh v ov; file = λ q. absurd (cc (q, room)) }, ap (λ (t : Tree). settle t) (sym effect), open_place v.all h flags path lt)
+        (λ q g lg ne at. no_walk h i g v inv lt a.lone a.kept lg ne at)
+        a.fair
+        (stage_walk h None None (record (u1 v) { all = made.all })) b_full pos
+        (λ l q. (full l (u2 v) q (has_too v inv ov ∙ room) a.owned).wp)
       where
         a : Adding h d i (Some (with_entry e i X)) X (with_entry e i X) new_file x z v O
         a = added v inv ov

@@ -2,6 +2,7 @@
 use Rattle.image_versions.specs.declared.version.Version.{Version}
 use Rattle.inode_machine.proofs.Vocabulary.{◌≡◌, ◌≢◌, ◌⊎◌, inl, inr, ℕ, ◌+◌, ◌-◌, ◌*◌, ◌<◌, ◌≤◌, Bool, true, false, ◌==◌, ◌||◌, List, [], ◌∷◌, ◌++◌, length, Option, Some, None, refl, sym, ◌∙◌, ap, subst, arith, onto, oldest_first, Safe, Begun, Ends, onto_is, NoEntry, Reply, Call, Node, Action, Failed, Act, next_of, hart_count, put, hold_names, Row, key_names, Hold, holds_raised, one_if, one_yes, either, same_or, put_same, put_other, Deed, Step, Move, begins, fail, IsNext, MayEnd, IsPlayed, IsWholeCall, Begin, Look, GiveUpWalk, Desk, World, InodeType, type_of, face_of, is_directory_face, is_directory_type, is_at, Own, Held, key_in, nothing, own_names, own_of, Idle, Inv, Rests, left_or, machine, ThisP as P, WalkStop, NotThere, NoMemory, failed, give_up, stopped, tail, covered_calls}
 use Rattle.inode_machine.proofs.Rules.{locked_held}
+use Rattle.inode_machine.proofs.SoFar.{played_so_far}
 use Rattle.inode_machine.proofs.Counting.{s-give, one_most}
 use Rattle.inode_machine.proofs.Drops.{s-drop}
 use Rattle.inode_machine.proofs.Listing.{times, one_at, one_else, Listed, listed_among, Through, s-tail}
@@ -31,7 +32,7 @@ walked_tells c acts v d es next w = λ xs r p. w (tells v d ∷ xs) r (next, p)
 
 -- they begin the call, where something may come after them
 pub walked_begun : (version : Version) (c : Call) (acts : List Act) (es xs : List Step) (r : Reply) → Walked c acts es → IsPlayed c acts xs r → Begun (covered_calls version) c es
-walked_begun version c acts es xs r w p = (xs, r, subst (λ (z : List Step). IsWholeCall c z r) (onto_is es xs) (w xs r p))
+walked_begun version c acts es xs r w p = played_so_far c [] (oldest_first es) xs r (subst (λ (z : List Step). IsPlayed c [] z r) (onto_is es xs) (w xs r p))
 
 abbrev pub missed : Action → Act
 missed s = record { step = s; answer = Failed NoEntry }

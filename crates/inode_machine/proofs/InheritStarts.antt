@@ -4,7 +4,7 @@ use Rattle.inode_machine.proofs.Vocabulary.{◌≡◌, ◌≢◌, inl, inr, ℕ,
 use Rattle.plain_tree.specs.declared.call.Call.TheVariants as calls
 use Rattle.inode_machine.proofs.Basics.{Inherits, inherit_begins, SameTied, same_tied, tied_as}
 use Rattle.inode_machine.proofs.Turnings.{serving_child, serving_given, serving_none}
-use Rattle.inode_machine.proofs.Inherits.{begun_own, inherit_begins_with, inherit_ok}
+use Rattle.inode_machine.proofs.Inherits.{begun_own, inherit_ok}
 
 module _ (h c : ℕ) (w : World) (lt : h < hart_count) (below : c < hart_count) (apart : c ≢ h) (rests : Idle h w) (his : Idle c w) (free : (w.desks h).lender ≡ None) (unlent : (w.desks c).lender ≡ None) where
   abbrev x : Desk
@@ -169,7 +169,7 @@ inherit_right version h c busy w u lt out idle free e = subst (λ (z : World). R
   rests = λ g ne b. started_rests h c w lt i.below i.apart (idle h free) his unlent i.unlent g ne (idle g b);
   tree = refl;
   clean = λ q. q;
-  none = λ q. inherit_begins_with version c;
+  none = λ q. tt;
   runs = λ inv. (inherit_ok version h c (own_of h w) lt unlent (idle h free) (started_home h c w lt i.below i.apart (idle h free) his unlent i.unlent inv) (serving_world w h c) (started_own h c w lt i.below i.apart (idle h free) his unlent i.unlent)).wp;
 })
   where

@@ -1,6 +1,6 @@
 -- Inherit is right, whatever the other harts do.
 use Rattle.image_versions.specs.declared.version.Version.{Version}
-use Rattle.inode_machine.proofs.Vocabulary.{◌≡◌, ◌≢◌, ◌⊎◌, inl, inr, ℕ, zero, suc, ◌+◌, ◌-◌, ◌<◌, ◌≤◌, Bool, true, false, nat_lt, not, ◌==◌, List, [], ◌∷◌, Option, Some, None, refl, sym, ◌∙◌, ap, subst, arith, nat_tests, Do, Ran, unmarked, P, own, onto, Good, Safe, Wp, Begun, Ends, IsBeginning, Reply, Inherit, next_of, reply_of, had_room, hart_count, descriptor_count, put, Hold, holds_raised, either, same_or, put_same, put_other, one_yes, Step, IsWholeCall, OwnMove, Entry, World, LoanResult, Lent, Moved, Lend, LendDirectory, Release, is_nothing, next_used, with_lent, handed, moved_in, lend_last, lend_if, released, given_of, serving, with_mark, made_by, new_id, places, lends, lend_from, lent_directory, inherit_end, inherit_program, done, limit, rest_cost, Held, Own, Rests, own_names, own_of, Has, Inv, machine, nothing, covered_calls}
+use Rattle.inode_machine.proofs.Vocabulary.{◌≡◌, ◌≢◌, ◌⊎◌, inl, inr, ℕ, zero, suc, ◌+◌, ◌-◌, ◌<◌, ◌≤◌, Bool, true, false, nat_lt, not, ◌==◌, List, [], ◌∷◌, Option, Some, None, refl, sym, ◌∙◌, ap, subst, arith, nat_tests, Do, Ran, unmarked, P, own, onto, Good, Safe, Wp, Begun, Ends, Reply, Inherit, next_of, reply_of, had_room, hart_count, descriptor_count, put, Hold, holds_raised, either, same_or, put_same, put_other, one_yes, Step, IsWholeCall, OwnMove, Entry, World, LoanResult, Lent, Moved, Lend, LendDirectory, Release, is_nothing, next_used, with_lent, handed, moved_in, lend_last, lend_if, released, given_of, serving, with_mark, made_by, new_id, places, lends, lend_from, lent_directory, inherit_end, inherit_program, done, limit, rest_cost, Held, Own, Rests, own_names, own_of, Has, Inv, machine, nothing, covered_calls}
 use Rattle.plain_tree.specs.declared.call.Call.TheVariants as calls
 use Rattle.inode_machine.proofs.Basics.{moves_to, quiet_to, s-owned, quiet, one_most, less_is, s-join, s-leave, s-drop, idle_as, unlocks_nothing, names_plain, NextUsed, next_is, next_none, next_past}
 use Rattle.inode_machine.proofs.Turnings.{Server, kid, serving_child, serving_given, serving_none}
@@ -138,9 +138,6 @@ inherit_written : (c : ℕ) → IsWholeCall (calls.Inherit c) (inherited c ∷ [
 unfolding next_of reply_of had_room
 inherit_written c = (refl, record { through = refl; reply = refl; room = refl })
 
-pub inherit_begins_with : (version : Version) (c : ℕ) → IsBeginning (covered_calls version) (calls.Inherit c) []
-inherit_begins_with version c = (inherited c ∷ [], done (calls.Inherit c), inherit_written c)
-
 -- What the hart has when its call begins: as one that rests, but that it serves the child. O0: what it had.
 abbrev pub begun_own : ℕ → Own → Own
 begun_own c O0 = record O0 { desk = record (O0.desk) { lent = serving c None } }
@@ -156,7 +153,7 @@ module _ (version : Version) (h c : ℕ) (O0 : Own) (lt : h < hart_count) (free 
   told = inherited c ∷ []
 
   begun : B told
-  begun = ([], done (calls.Inherit c), inherit_written c)
+  begun = ((inherit_written c).0, tt)
 
   empty : (j : ℕ) → O0.inodes j ≡ None
   empty j = ap (λ (f : ℕ → Option Held). f j) rests.inodes

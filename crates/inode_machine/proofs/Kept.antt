@@ -1,6 +1,7 @@
 -- The list that is kept beside a run is the one that explains it.
 use Rattle.image_versions.specs.declared.version.Version.{Version}
-use Rattle.inode_machine.proofs.Vocabulary.{◌≡◌, ◌≢◌, ◌⊎◌, inl, inr, ℕ, suc, ◌<◌, ◌≤◌, Bool, true, false, List, [], ◌∷◌, ◌++◌, map, length, Option, Some, None, refl, sym, ◌∙◌, ap, subst, arith, append_assoc, Reply, Call, Act, Shown, Chain, Explains, trace_of, TreeData, Placed, Tree, put, tree_of, hart_count, eq_self, eq_not, put_same, put_other, Deed, Move, Stage, Step as MoveStep, IsNext, MayEnd, TakesMove, IsWholeCall, after, begins, told_by, History, starts, passes, Busy, Told, Turn, Happens, BeginsNext, PlaysAny, Goings, Calm, Lone, IsStartBy, climbing, finishes, moves_on, opened, shown_of, stepped, Starts, Steps, Nothing, Tells, runs_more, runs_none, grows, before, NeverClimbs, IsHart, apart_alone, apart_calm, opened_ok, run_explained, run_ok, starts_alone, starts_calm, AllMayStart, Apart, event_tells, played_end, played_next, told_more, Prog, Ret, Do, ExecResult, Waits, Ran, Stops, asks, OfNext, OpWithAnswer, Goes, Good, Grown, PlacesOne, Wp, onto, oldest_first, own, Theory, Began, Begins, Begun, EventOutcome, Refuses, busy_in, Ends, Event, Start, StepOf as Step, HonestStep, IsHonest, Run, Sound, State, AllHonest, all_told, fresh, moved, next, run, start_run, step_prog, step_run, step_unless, told, tried, unchanged, append_nil, oldest_first_more, Keeps, changed_tells, inv_of, sound_keeps, leads, sound_fresh, sound_run, MoveMachine, IsMoving, HasOneHistory, RunsFrom, Alone, NoneClimbs, StartsBy, climbs_at, machine_of, shown_by, shows, theory_of, IsTheHistory, history_of, kept, kept_by, kept_on, nothing_yet, placed, placed_prog, placed_run, placed_tried, placed_unless, told_of}
+use Rattle.inode_machine.proofs.Vocabulary.{◌≡◌, ◌≢◌, ◌⊎◌, inl, inr, ℕ, suc, ◌<◌, ◌≤◌, Bool, true, false, List, [], ◌∷◌, ◌++◌, map, length, Option, Some, None, refl, sym, ◌∙◌, ap, subst, arith, append_assoc, Reply, Call, Act, Shown, Chain, Explains, trace_of, TreeData, Placed, Tree, put, tree_of, hart_count, eq_self, eq_not, put_same, put_other, Deed, Move, Stage, Step as MoveStep, IsNext, MayEnd, TakesMove, IsPlayedSoFar, IsWholeCall, after, begins, told_by, History, starts, passes, Busy, Told, Turn, Happens, BeginsNext, PlaysAny, Goings, Calm, Lone, IsStartBy, climbing, finishes, moves_on, opened, shown_of, stepped, Starts, Steps, Nothing, Tells, runs_more, runs_none, grows, before, NeverClimbs, IsHart, apart_alone, apart_calm, opened_ok, run_explained, run_ok, starts_alone, starts_calm, AllMayStart, Apart, event_tells, played_end, told_more, Prog, Ret, Do, ExecResult, Waits, Ran, Stops, asks, OfNext, OpWithAnswer, Goes, Good, Grown, PlacesOne, Wp, onto, oldest_first, own, Theory, Began, Begins, Begun, EventOutcome, Refuses, busy_in, Ends, Event, Start, StepOf as Step, HonestStep, IsHonest, Run, Sound, State, AllHonest, all_told, fresh, moved, next, run, start_run, step_prog, step_run, step_unless, told, tried, unchanged, append_nil, oldest_first_more, Keeps, changed_tells, inv_of, sound_keeps, leads, sound_fresh, sound_run, MoveMachine, IsMoving, HasOneHistory, RunsFrom, Alone, NoneClimbs, StartsBy, climbs_at, machine_of, shown_by, shows, theory_of, IsTheHistory, history_of, kept, kept_by, kept_on, nothing_yet, placed, placed_prog, placed_run, placed_tried, placed_unless, told_of}
+use Rattle.inode_machine.proofs.SoFar.{next_so_far}
 use Rattle.inode_machine.specs.Making.{hart_of}
 use Rattle.tree_laws.specs.History.HartStanding.{Free}
 use Rattle.atomic_programs.specs.Calls.{begun, makes}
@@ -165,7 +166,7 @@ module _ (version : Version) (N : MoveMachine) (moving : IsMoving version N) whe
       begins_next : IsNext r.call (told_by [] (oldest_first r.done)) (begins e.move)
       begins_next = elim (subst (λ (z : List MoveStep). Grown (Begun L r.call) z r.done) mine grown) [
         | inl n ↦ absurd (let x : ◌≡◌ {A = List MoveStep} (e ∷ []) [] = n in cc (x))
-        | inr b ↦ played_next r.call [] (oldest_first r.done) b.0 e b.1 (subst (λ (z : List MoveStep). IsWholeCall r.call z b.1) (ap (λ (z : List MoveStep). z ++ b.0) (oldest_first_more e r.done) ∙ append_assoc (oldest_first r.done) (e ∷ []) b.0) b.2)
+        | inr b ↦ next_so_far r.call [] (oldest_first r.done) e (subst (λ (z : List MoveStep). IsPlayedSoFar r.call [] z) (oldest_first_more e r.done) b)
       ]
 
   -- where the program ends, the call's moves are written, and its hart walks no more

@@ -1,5 +1,6 @@
 pub mod Basics
 pub mod Vocabulary
+pub mod SoFar
 pub mod Frame
 pub mod Rules
 pub mod Rows

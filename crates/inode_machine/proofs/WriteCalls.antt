@@ -1,5 +1,6 @@
 -- Write is right, whatever the other harts do, in any number of pieces.
-use Rattle.inode_machine.proofs.Vocabulary.{◌≡◌, inl, inr, ℕ, zero, suc, ◌+◌, ◌-◌, ◌*◌, ◌/◌, ◌<◌, ◌≤◌, Bool, true, false, ◌==◌, nat_lt, List, [], ◌∷◌, ◌++◌, length, Option, Some, None, refl, sym, ◌∙◌, ap, subst, arith, length-append, if◌then◌else◌, nat_tests, length-take, P, onto, oldest_first, Safe, Begun, Ends, IsBeginning, append_nil, onto_is, Cause, BadDescriptor, Reply, WritePart, StepAnswer, Opened, Bytes, Status, NewFd, Done, Failed, NoRoom, hart_count, piece_len, put, Act, cause_of, last_cause, first_cause, had_room, counted, next_of, next_piece, reply_of, piece, piece_count, le-div_iff_mul-le, add-one, Hold, holds_raised, Do, unmarked, either, eq_isnt, same_or, put_same, Leave, Step, IsPlayed, IsWholeCall, World, Held, KeepsFiles, Own, Rests, own_of, nothing, Idle, machine, failed, write_reply, write_piece, write_from, write_program, piece_cost, descriptor_calls}
+use Rattle.inode_machine.proofs.Vocabulary.{◌≡◌, inl, inr, ℕ, zero, suc, ◌+◌, ◌-◌, ◌*◌, ◌/◌, ◌<◌, ◌≤◌, Bool, true, false, ◌==◌, nat_lt, List, [], ◌∷◌, ◌++◌, length, Option, Some, None, refl, sym, ◌∙◌, ap, subst, arith, length-append, if◌then◌else◌, nat_tests, length-take, P, onto, oldest_first, Safe, Begun, Ends, onto_is, Cause, BadDescriptor, Reply, WritePart, StepAnswer, Opened, Bytes, Status, NewFd, Done, Failed, NoRoom, hart_count, piece_len, put, Act, cause_of, last_cause, first_cause, had_room, counted, next_of, next_piece, reply_of, piece, piece_count, le-div_iff_mul-le, add-one, Hold, holds_raised, Do, unmarked, either, eq_isnt, same_or, put_same, Leave, Step, IsPlayed, IsWholeCall, World, Held, KeepsFiles, Own, Rests, own_of, nothing, Idle, machine, failed, write_reply, write_piece, write_from, write_program, piece_cost, descriptor_calls}
+use Rattle.inode_machine.proofs.SoFar.{played_so_far, whole_so_far}
 use Rattle.std.proofs.Common.{drop}
 use Rattle.image_versions.specs.declared.version.Version.{Version}
 use Rattle.plain_tree.specs.declared.call.Call.TheVariants as calls
@@ -124,7 +125,7 @@ failed_written fd bytes i c lt = played fd bytes i (fails (WritePart fd (piece b
 
 -- a whole list begins a call
 pub begun_whole : (version : Version) (fd : ℕ) (bytes : List ℕ) (es : List Step) (r : Reply) → IsWholeCall (calls.Write fd bytes) (oldest_first es) r → Begun (descriptor_calls version) (calls.Write fd bytes) es
-begun_whole version fd bytes es r w = ([], r, subst (λ (z : List Step). IsWholeCall (calls.Write fd bytes) z r) (sym (append_nil (oldest_first es))) w)
+begun_whole version fd bytes es r w = whole_so_far (calls.Write fd bytes) [] (oldest_first es) r w
 
 begun_failed : (version : Version) (fd : ℕ) (bytes : List ℕ) (i : ℕ) (c : Cause) → i < piece_count bytes → Begun (descriptor_calls version) (calls.Write fd bytes) (fails (WritePart fd (piece bytes i)) c ∷ wrote_steps fd bytes i)
 begun_failed version fd bytes i c lt = begun_whole version fd bytes (fails (WritePart fd (piece bytes i)) c ∷ wrote_steps fd bytes i) (failed (calls.Write fd bytes) c) (failed_written fd bytes i c lt)
@@ -136,7 +137,7 @@ begun_wrote version fd bytes i lt = elim (same_or (suc i) (piece_count bytes)) [
       let less : suc i < piece_count bytes = omega (arith, lt, ne) in
       let rest : List Step = fails (WritePart fd (piece bytes (suc i))) BadDescriptor ∷ [] in
       let p = played fd bytes (suc i) rest (failed (calls.Write fd bytes) BadDescriptor) (omega (arith, less)) (fails_played fd bytes (suc i) BadDescriptor less) in
-      (rest, failed (calls.Write fd bytes) BadDescriptor, subst (λ (z : List Step). IsWholeCall (calls.Write fd bytes) z (failed (calls.Write fd bytes) BadDescriptor)) (onto_is (wrote_steps fd bytes (suc i)) rest) p)
+      played_so_far (calls.Write fd bytes) [] (oldest_first (wrote_steps fd bytes (suc i))) rest (failed (calls.Write fd bytes) BadDescriptor) (subst (λ (z : List Step). IsWholeCall (calls.Write fd bytes) z (failed (calls.Write fd bytes) BadDescriptor)) (onto_is (wrote_steps fd bytes (suc i)) rest) p)
 ]
 
 -- What the hart has between two pieces.
@@ -218,9 +219,6 @@ some_pieces bytes = go (length bytes)
       | inl y ↦ rw y (omega arith)
       | inr y ↦ rw y (let ne = eq_isnt n 0 y in let a : 1 ≤ (n + (3072 - 1)) / 3072 = (le-div_iff_mul-le {k = 3072} {x = 1} {y = n + (3072 - 1)} (omega arith)).1 (omega (arith, ne)) in omega (arith, a))
     ]
-
-pub write_begins : (version : Version) (fd : ℕ) (bytes : List ℕ) → IsBeginning (descriptor_calls version) (calls.Write fd bytes) []
-write_begins version fd bytes = (fails (WritePart fd (piece bytes 0)) BadDescriptor ∷ [], failed (calls.Write fd bytes) BadDescriptor, failed_written fd bytes 0 BadDescriptor (some_pieces bytes))
 
 enough_left : (count l n : ℕ) → 0 < count → l + 1 ≡ n → n ≡ 200 * (count + 1) → 200 * (count - 1) + 200 ≤ l
 enough_left count l n pos q e = omega (arith, pos, q, e)

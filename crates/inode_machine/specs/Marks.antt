@@ -1,5 +1,5 @@
 -- What an operation's mark makes of the tree, and which steps are placed.
-use Rattle.std.specs.Prelude.{ℕ, ◌+◌, Bool, true, false, ◌&&◌, List, [], ◌∷◌, if◌then◌else◌, Option, Some, None}
+use Rattle.std.specs.Prelude.{ℕ, ◌+◌, Bool, true, false, List, [], ◌∷◌, if◌then◌else◌, Option, Some, None}
 use Rattle.image_versions.specs.declared.version.Version.{Version}
 use Rattle.inode_machine.specs.Vocabulary.{Cause, Action, OpenStep as Open, Truncate, ReadStep as Read, WritePart, Find, Bump, Enter, Unbump, UnlinkStep as Unlink, MkdirStep as Mkdir, ChdirStep as Chdir, DupStep as Dup, CloseStep as Close, FstatStep as Fstat, InheritStep as Inherit, StepAnswer, Opened, Bytes, Status, NewFd, Done, Failed, NoRoom, Hold, Name, Tree, put, elements, look, start_of, resolve, parent, path_of, refusal, refusal_with, effect_with, answer_with, makes_node, opens_one, lowest, closed, drop_hold, ExecResult, Waits, Ran, Stops, Walk, fail, Deed, Move, MoveStep as Step, Begin, Look, GiveUpWalk, Own}
 use Rattle.inode_machine.specs.Basics.{type_of, Desk, World, Op, Answer, Outside, Mark, is_nothing, first_from, or_zero, with_walk, exec}
@@ -154,7 +154,7 @@ abbrev pub clear : (ℕ → Bool) → Option ℕ → ℕ → Bool
 clear f None = f
 clear f (Some n) = put f n false
 
--- a step that answers that there is no room explains nothing
+-- whether a step's answer had room
 abbrev pub has_answer_room : StepAnswer → Bool
 has_answer_room (NoRoom f) = false
 has_answer_room (Opened fd id f) = true
@@ -185,7 +185,6 @@ with_left desks h (Some d) = put desks h (record (desks h) { left = Some d })
 
 abbrev pub with_made : ℕ → Made → World → World
 with_made h x w = record w {
-  clean = roomy x.told && w.clean;
   desks = with_left (with_noted w.all (with_opened w.desks h (lowest (w.all.fds h)) x.opened) h x.found) h x.left;
   all = x.all;
   alone = clear w.alone x.entered;

@@ -2,7 +2,8 @@
 -- them.
 use Rattle.std.specs.Prelude.{◌≡◌, ◌⊎◌, ℕ, zero, suc, ◌<◌, Bool, false, List, [], ◌∷◌, Option, None}
 use Rattle.image_versions.specs.declared.version.Version.{Version}
-use Rattle.inode_machine.specs.Vocabulary.{Reply, Call, Placed, TreeData, tree_of, call_climbs, Shown, Chain, Explains, trace_of, Begun, Replied, Other, hart_count, IsWellFormed, Prog, ExecResult, Machine, Theory, Began, Begins, Lawful, Event, Start, Step, Outcome, Started, Refused, WasIdle, DidWait, DidRun, DidEnd, DidStop, WasStopped, State, AllHonest, fresh, makes, next, run, settle, Stage, Move, MoveStep, PlaysStep, IsWholeCall, Begin, Look, Own, GiveUpWalk}
+use Rattle.plain_tree.specs.Calls.{Act}
+use Rattle.inode_machine.specs.Vocabulary.{Reply, Call, Placed, TreeData, tree_of, call_climbs, Shown, Chain, Explains, trace_of, Begun, Replied, Other, hart_count, IsWellFormed, Prog, ExecResult, Machine, Theory, Began, Begins, Lawful, Event, Start, Step, Outcome, Started, Refused, WasIdle, DidWait, DidRun, DidEnd, DidStop, WasStopped, State, AllHonest, fresh, makes, next, run, settle, Stage, Move, MoveStep, PlaysStep, IsNext, IsWholeCall, after, begins, Begin, Look, Own, GiveUpWalk}
 
 -- the number that a lookup has for a new node is none, or of the tree's range
 abbrev pub IsOfRange : Stage → Move → Type 0
@@ -66,6 +67,12 @@ machine_of version m =
       Clean = m.Clean;
     }
 
+-- These moves, after the acts that were told so far, are as the call makes them: each step that is begun is the next one of its written
+-- sequence. The last one may have found no room: such a call has no whole sequence, but it is in the list until it says so.
+abbrev pub IsPlayedSoFar : Call → List Act → List MoveStep → Type 0
+IsPlayedSoFar c acts [] = Unit {0}
+IsPlayedSoFar c acts (e ∷ es) = IsNext c acts (begins e.move) × IsPlayedSoFar c (after e.told acts) es
+
 abbrev pub theory_of : Version → MoveMachine → Theory
 theory_of version m =
     record {
@@ -77,6 +84,7 @@ theory_of version m =
       busy = m.busy;
       program = m.program;
       Written = IsWholeCall;
+      WrittenSoFar = λ call es. IsPlayedSoFar call [] es;
       limit = m.limit;
     }
 

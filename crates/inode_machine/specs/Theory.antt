@@ -2,7 +2,7 @@
 use Rattle.std.specs.Prelude.{◌≡◌, ◌≢◌, ◌⊎◌, ◌+◌, Option, Some, ℕ, Bool, true, false, ◌&&◌, ◌||◌, not, nat_lt, ◌==◌, List, [], ◌∷◌, length, if◌then◌else◌, None}
 use Rattle.image_versions.specs.declared.version.Version.{Version}
 use Rattle.inode_machine.specs.Vocabulary.{Reply, Call, Open, Read, Write, Link, Unlink, Mkdir, Chdir, Dup, Fstat, Close, Inherit, Tree, put, any_below, hart_count, descriptor_count, one_if, sum_below, IsWellFormed, Theory, Began, Refuses, Begins, Event, AllHonest, run, fresh, IsExplained, IsWholeCall, OpenFile, Node}
-use Rattle.inode_machine.specs.Basics.{Mine, Desk, World, Outside, stage_of, InodeType, OfDirectory, type_of_kind, is_nothing, serving}
+use Rattle.inode_machine.specs.Basics.{IsPlayedSoFar, Mine, Desk, World, Outside, stage_of, InodeType, OfDirectory, type_of_kind, is_nothing, serving}
 use Rattle.inode_machine.specs.Rules.{Inv, Idle, machine, asked_limit}
 use Rattle.inode_machine.specs.Programs.{program, limit}
 
@@ -123,6 +123,7 @@ calls_that version kind =
       busy = Busy;
       program = program version;
       Written = IsWholeCall;
+      WrittenSoFar = λ call es. IsPlayedSoFar call [] es;
       limit = limit version;
     }
 

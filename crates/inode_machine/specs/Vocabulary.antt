@@ -8,7 +8,7 @@ pub use Rattle.plain_tree.specs.declared.node.NodeKind.TheVariants.{Device, Dire
 pub use Rattle.tree_laws.specs.WellFormed.{IsWellFormed}
 unfoldable pub use Rattle.tree_laws.specs.WellFormed.{one_if, sum_below}
 pub use Rattle.plain_tree.specs.declared.answer.Full.TheVariants.{Blocks, Descriptors, Directory as DirectorySlots, DiskInodes, MemInodes, OpenFiles}
-pub use Rattle.tree_laws.specs.Moves.{Deed, IsWholeCall, Move, Stage, Step as MoveStep, PlaysStep, Walk, fail}
+pub use Rattle.tree_laws.specs.Moves.{Deed, IsNext, IsWholeCall, Move, Stage, Step as MoveStep, PlaysStep, Walk, after, begins, fail}
 pub use Rattle.tree_laws.specs.Moves.Move.{Begin, Look, Own, GiveUpWalk}
 pub use Rattle.plain_tree.specs.Tree.{hold_names, is_absolute, slots_of}
 unfoldable pub use Rattle.plain_tree.specs.Tree.{any_below, same_name, settle}
