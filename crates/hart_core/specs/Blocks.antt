@@ -41,6 +41,7 @@ blocks =
       busy = tt;
       program = λ call. call;
       Written = λ call steps reply. Unit {0};
+      WrittenSoFar = λ call steps. Unit {0};
       limit = λ call. 0;
     }
 
