@@ -1,10 +1,10 @@
 -- The walks that a move loses fail, and what is kept is what the theory keeps.
-use Rattle.tree_histories.proofs.Vocabulary.{◌≡◌, ℕ, ◌+◌, ◌⊎◌, inl, inr, ◌<◌, Bool, true, false, ◌&&◌, ◌||◌, not, List, length, get_or, Option, Some, None, Result, Ok, Err, IfOk, refl, sym, ◌∙◌, ap, subst, arith, add-one, if◌then◌else◌, option_map, length-set, cases_eq, Action, is_nothing, live_directory, hart_count, History, HartStanding, tells_any, writes_any, Free, Busy, Move, Stage, fail, all_fall, falls, lost, lost_of, unless, Makes, stage_by, told_by_move, mark_in, Mark, action_in, call_in, Walk, Deed, IsBook, StandsAs, KeptTree, Under, hart_in, is_lost, stage_of, walk_under, walking, written, HaveFallen, FindsRoom, IsMoved, MayMake, MovesBy, NoneFalls, OnlyMoves, StaysFor, Tells, TellsOf, WereLost, makes_none, told_in, walk_of, roomy, spoils, KeepsRest, SameCalls, written_by, written_unless}
+use Rattle.tree_histories.proofs.Vocabulary.{◌≡◌, ℕ, ◌+◌, ◌⊎◌, inl, inr, ◌<◌, Bool, true, false, ◌&&◌, ◌||◌, not, List, length, get_or, Option, Some, None, Result, Ok, Err, IfOk, refl, sym, ◌∙◌, ap, subst, arith, add-one, if◌then◌else◌, option_map, length-set, cases_eq, Action, is_nothing, live_directory, hart_count, History, HartStanding, tells_any, writes_any, Free, Busy, Move, Stage, fail, all_fall, falls, lost, lost_of, unless, Makes, stage_by, told_by_move, mark_in, Mark, action_in, call_in, Walk, Deed, IsBook, StandsAs, KeptTree, Under, hart_in, is_lost, stage_of, walk_under, walking, written, HaveFallen, IsMoved, MayMake, MovesBy, NoneFalls, OnlyMoves, StaysFor, Tells, TellsOf, WereLost, makes_none, told_in, walk_of, spoils, KeepsRest, SameCalls, written_by, written_unless}
 use Rattle.path_walk.specs.declared.asks.Mark.TheVariants as mark
 use Rattle.std.proofs.Common.{get_or-set_other, get_or-set_same}
 use Rattle.std.proofs.Math.ListN.{set}
 use Rattle.tree_histories.proofs.Booked.{book_tells, book_written}
-use Rattle.tree_histories.proofs.Harts.{is_hart, stage_written}
+use Rattle.tree_histories.proofs.Harts.{stage_written}
 
 -- ---- a lost walk
 
@@ -217,12 +217,6 @@ makes_room s (mark.Orphans n) v e = refl
 makes_room s mark.Mends v e = absurd cc
 makes_room s mark.Fills v e = absurd cc
 
-none_known : (a b c : Bool) → (a || (b || not c)) ≡ false → (a ≡ false) × (c ≡ true)
-none_known true b c h = absurd cc
-none_known false true c h = absurd cc
-none_known false false true h = (refl, refl)
-none_known false false false h = absurd cc
-
 or_false : (b : Bool) → (b || false) ≡ b
 or_false true = refl
 or_false false = refl
@@ -232,19 +226,19 @@ module _ (k0 k1 k2 k3 : KeptTree) (h : ℕ) (m : Mark) (d : Option Deed) (was : 
   makes_so : OnlyMoves k0 k1 → TellsOf k0 h m d k1 → was ≡ is_lost (stage_of k0) h → stage_of k3 ≡ stage_of k2 → HaveFallen before k2 k3 → KeepsRest k2 k3
       → (u : Under) (v : Move) → hart_in k0 h ≡ Some u → mark_in (action_in u.whole) m ≡ Makes v → MayMake (stage_of k0) h v → IsMoved k0 h v k3
   makes_so only tells is_was same fallen rest u v is made may =
-      let t : Tells k0 h v d k1 = (tells u v is made).tells may in
+      let t : Tells k0 h v d k1 = tells u v is made may in
       let stage2 : stage_of k2 ≡ stage_by (stage_of k0) h t.id v = ap stage_of kept ∙ (told_stage k1 h m d was ∙ t.stage) in
       record {
         id = t.id;
         least = t.least;
         stage = same ∙ stage2;
         full = rest.1 ∙ (ap (λ (x : KeptTree). x.full) kept
-            ∙ (λ i. t.full i || (makes_room (action_in u.whole) m v made i || not (roomy (t.told i)))));
+            ∙ ((λ i. t.full i || makes_room (action_in u.whole) m v made i) ∙ or_false k0.full));
         book = λ b B.
             let told : Option Deed = told_by_move (stage_of k0) h t.id v in
             let book2 : IsBook k2 (writes_any (unless (lost_of (stage_of k0) h) told) h b) =
             subst (λ (x : KeptTree). IsBook x (writes_any (unless (lost_of (stage_of k0) h) told) h b)) (sym kept)
-            (book_full (written_unless k1 h d was) _ (k1.full || (spoils m || not (roomy d))) (told_book k0 k1 h may.hart u is only b B told d was t.told is_was)) in
+            (book_full (written_unless k1 h d was) _ (k1.full || spoils m) (told_book k0 k1 h may.hart u is only b B told d was t.told is_was)) in
             subst (λ (n : Stage). IsBook k3 (all_fall (stage_of k0) n hart_count (tells_any told h (writes_any (unless (lost_of (stage_of k0) h) told) h b)))) stage2
             (fallen (stage_of k0) (tells_any told h (writes_any (unless (lost_of (stage_of k0) h) told) h b)) were
             (book_tells k2 (writes_any (unless (lost_of (stage_of k0) h) told) h b) h told may.hart book2));
@@ -254,8 +248,7 @@ module _ (k0 k1 k2 k3 : KeptTree) (h : ℕ) (m : Mark) (d : Option Deed) (was : 
   still_so stays none makes =
       let x = stays makes in
       let same : k2 ≡ record k0 { full = k0.full || spoils m } =
-      kept ∙ (ap (λ (o : Option Deed). told_in k1 h m o was) x.0
-      ∙ (ap (λ (k : KeptTree). told_in k h m None was) x.1 ∙ ap (λ (b : Bool). record k0 { full = k0.full || b }) (or_false (spoils m)))) in
+      kept ∙ (ap (λ (o : Option Deed). told_in k1 h m o was) x.0 ∙ ap (λ (k : KeptTree). told_in k h m None was) x.1) in
       none (λ g lt. were g lt ∙ ap (λ (k : KeptTree). is_lost (stage_of k) g) (sym same)) ∙ same
 
   calls_so : OnlyMoves k0 k1 → KeepsRest k2 k3 → SameCalls k0 k3
@@ -263,24 +256,16 @@ module _ (k0 k1 k2 k3 : KeptTree) (h : ℕ) (m : Mark) (d : Option Deed) (was : 
       ap (λ (x : List (Option Under)). option_map (walking None) (get_or x g None)) (rest.0 ∙ (ap (λ (x : KeptTree). x.harts) kept ∙ (unless_rest k1 h d was).0))
       ∙ only.harts g
 
-  full_is : KeepsRest k2 k3 → k3.full ≡ (k1.full || (spoils m || not (roomy d)))
+  full_is : KeepsRest k2 k3 → k3.full ≡ (k1.full || spoils m)
   full_is rest = rest.1 ∙ ap (λ (x : KeptTree). x.full) kept
 
-  room_so : length k1.harts ≡ hart_count → OnlyMoves k0 k1 → TellsOf k0 h m d k1 → KeepsRest k2 k3 → k3.full ≡ false
-      → (u : Under) (v : Move) → hart_in k0 h ≡ Some u → mark_in (action_in u.whole) m ≡ Makes v → FindsRoom (stage_of k0) h v
-  room_so count only tells rest free u v is made =
-      let both = none_known k1.full (spoils m) (roomy d) (sym (full_is rest) ∙ free) in
-      let lt : h < length k0.harts = is_hart k0 h u is in
-      (tells u v is made).room (let same = only.count in omega (arith, lt, same, count)) both.0 both.1
-
-  pub moved_so : length k1.harts ≡ hart_count → OnlyMoves k0 k1 → TellsOf k0 h m d k1 → StaysFor k0 m d k1 → was ≡ is_lost (stage_of k0) h → stage_of k3 ≡ stage_of k2
+  pub moved_so : OnlyMoves k0 k1 → TellsOf k0 h m d k1 → StaysFor k0 m d k1 → was ≡ is_lost (stage_of k0) h → stage_of k3 ≡ stage_of k2
       → HaveFallen before k2 k3 → NoneFalls before k2 k3 → KeepsRest k2 k3 → MovesBy k0 h m k3
-  moved_so count only tells stays is_was same fallen none rest = record {
+  moved_so only tells stays is_was same fallen none rest = record {
     makes = makes_so only tells is_was same fallen rest;
     still = still_so stays none;
     calls = calls_so only rest;
-    grows = λ known. full_is rest ∙ ap (λ (b : Bool). b || (spoils m || not (roomy d))) (only.grows known);
-    room = room_so count only tells rest;
+    grows = λ known. full_is rest ∙ ap (λ (b : Bool). b || spoils m) (only.grows known);
   }
 
 pub moves_on_so : {E : Type 0} (r : Result (Unit {0}) E) (k0 k1 k2 k3 : KeptTree) (h : ℕ) (m : Mark) (d : Option Deed) (was : Bool) (before : List Bool) → WereLost before (stage_of k0) → k2 ≡ told_in k1 h m d was
@@ -288,4 +273,4 @@ pub moves_on_so : {E : Type 0} (r : Result (Unit {0}) E) (k0 k1 k2 k3 : KeptTree
     → IfOk r (λ _. KeepsRest k2 k3) → IfOk r (λ _. MovesBy k0 h m k3)
 moves_on_so (Err e) k0 k1 k2 k3 h m d was before were kept count only tells stays is_was same fallen none rest = tt
 moves_on_so (Ok x) k0 k1 k2 k3 h m d was before were kept count only tells stays is_was same fallen none rest =
-    moved_so k0 k1 k2 k3 h m d was before were kept count only tells stays is_was same fallen none rest
+    moved_so k0 k1 k2 k3 h m d was before were kept only tells stays is_was same fallen none rest

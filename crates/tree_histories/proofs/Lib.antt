@@ -16,7 +16,6 @@ pub mod Falling
 pub mod Harts
 pub mod Hearing
 pub mod Hinting
-pub mod Rooms
 pub mod Seeing
 pub mod Steps
 pub mod Telling

@@ -1,10 +1,9 @@
 -- What is told where a call's mark is met: what the move tells.
-use Rattle.tree_histories.proofs.Vocabulary.{◌≡◌, ℕ, ◌<◌, ◌^◌, ◌||◌, Bool, List, [], ◌∷◌, Option, Some, None, Result, Ok, Err, IfOk, if◌then◌else◌, refl, sym, ◌∙◌, ap, subst, option_map, Action, path_of, refused, Name, Tree, elements, is_absolute, look, put, settle, start_of, tree_of, root, NoMemory, Move, Stage, Begin, Look, GiveUpWalk, Own, fail, Made, begun, looked, look_made, made_by, Makes, mark_in, Mark, action_in, call_in, Deed, Walk, KeptTree, Under, hart_in, stage_of, walk_under, with_walk, ActedOn, IsActed, MayBegin, MayLook, MayLookOn, MayMake, FindsRoom, Tells, TellsMove, TellsOf, OnlyMoves, TreeStep, true, walking, length, length-set, acts, hart_count, is_nothing, refusal, roomy, IsNextWalk, IsWalk, is_on_new, step_in, walk_of, walk_on, IsActedAlone, Lead, LeadsBy, live_directory, name_from, parent, resolve, false, with_name}
+use Rattle.tree_histories.proofs.Vocabulary.{◌≡◌, ℕ, ◌<◌, ◌^◌, ◌||◌, Bool, List, [], ◌∷◌, Option, Some, None, Result, Ok, Err, IfOk, if◌then◌else◌, refl, sym, ◌∙◌, ap, subst, option_map, Action, path_of, refused, Name, Tree, elements, is_absolute, look, put, settle, start_of, tree_of, root, NoMemory, Move, Stage, Begin, Look, GiveUpWalk, Own, fail, Made, begun, looked, look_made, made_by, Makes, mark_in, Mark, action_in, call_in, Deed, Walk, KeptTree, Under, hart_in, stage_of, walk_under, with_walk, ActedOn, IsActed, MayBegin, MayLook, MayLookOn, MayMake, Tells, TellsMove, TellsOf, OnlyMoves, TreeStep, true, walking, length, length-set, acts, is_nothing, IsNextWalk, IsWalk, is_on_new, step_in, walk_of, walk_on, IsActedAlone, Lead, LeadsBy, live_directory, name_from, parent, resolve, false, with_name}
 use Rattle.tree_laws.specs.Moves as moves
 use Rattle.path_walk.specs.declared.asks.Mark.TheVariants as mark
 use Rattle.tree_histories.proofs.Acting.{EndsAs, ends_own, ends_so, refused_same}
 use Rattle.tree_histories.proofs.Harts.{same_calls, stage_walk, walk_same}
-use Rattle.tree_histories.proofs.Rooms.{acts_room, own_room}
 use Rattle.tree_histories.proofs.Steps.{action_is}
 
 refused_action : (t : Tree) (h : ℕ) (u : Under) → refused t h (action_in u.whole) ≡ t
@@ -51,31 +50,18 @@ module _ (k : KeptTree) (h : ℕ) (u : Under) (is : hart_in k h ≡ Some u) wher
       record { id = e.id; least = e.least; tree = e.tree; told = e.told; walk = e.walk; acted = e.acted }
   begins_end s (e ∷ es) cut may settled same d t' x = absurd cc
 
-  begins_room : (s : Action) (es : List Name) → es ≡ [] → (d : Option Deed) (k' : KeptTree) → IsActed (record { hart = h; new = 0; action = s }) (Some (start_of (tree_of k.tree) h (path_of s))) None k d k'
-      → h < hart_count → k'.full ≡ false → roomy d ≡ true → (id : ℕ) → roomy (begun (tree_of k.tree) h s es 0 id).told ≡ true
-  begins_room s [] cut d k' x lt free room id = acts_room (record { hart = h; new = 0; action = s }) (Some (start_of (tree_of k.tree) h (path_of s))) None k d k' lt x free room id
-  begins_room s (e ∷ es) cut d k' x lt free room id = absurd cc
-
   pub tells_begun : (d : Option Deed) (k' : KeptTree) (start : ℕ) → IsWalk (call_in u.whole) None (action_in u.whole) start (elements (path_of (action_in u.whole)))
       → IsActed (record { hart = h; new = 0; action = action_in u.whole }) (Some (start_of (tree_of k.tree) h (path_of (action_in u.whole)))) None k d k'
       → TellsMove k h (Begin (action_in u.whole) 0) d k'
   tells_begun d k' start none x =
       let cut : elements (path_of (action_in u.whole)) ≡ [] = no_elements (elements (path_of (action_in u.whole))) none in
-      record {
-        tells = λ may. tells_end (Begin (action_in u.whole) 0) d k' x.kept
-            (begins_end (action_in u.whole) (elements (path_of (action_in u.whole))) cut may.move may.settled
-            (refused_action (tree_of k.tree) h u) d (tree_of k'.tree) x.acted);
-        room = λ lt free room. record { alive = tt; roomy = begins_room (action_in u.whole) (elements (path_of (action_in u.whole))) cut d k' x lt free room };
-      }
+      λ may. tells_end (Begin (action_in u.whole) 0) d k' x.kept
+      (begins_end (action_in u.whole) (elements (path_of (action_in u.whole))) cut may.move may.settled
+      (refused_action (tree_of k.tree) h u) d (tree_of k'.tree) x.acted)
     where
       no_elements : (es : List Name) → IsWalk (call_in u.whole) None (action_in u.whole) start es → es ≡ []
       no_elements [] q = refl
       no_elements (e ∷ es) q = absurd cc
-
-  start_room : (s : Action) (w : Walk) (start : ℕ) (es : List Name) → IsWalk (call_in u.whole) (Some w) s start es → (id : ℕ)
-      → roomy (begun (tree_of k.tree) h s es 0 id).told ≡ true
-  start_room s w start [] q id = absurd cc
-  start_room s w start (e ∷ es) q id = refl
 
   begins_on : (s : Action) (w : Walk) (start : ℕ) (es : List Name) → start ≡ start_of (tree_of k.tree) h (path_of s) → IsWalk (call_in u.whole) (Some w) s start es
       → ((begun (tree_of k.tree) h s es 0 0).all ≡ tree_of k.tree)
@@ -90,10 +76,7 @@ module _ (k : KeptTree) (h : ℕ) (u : Under) (is : hart_in k h ≡ Some u) wher
       → (k' : KeptTree) → k' ≡ with_walk k h (Some w) → TellsMove k h (Begin (action_in u.whole) 0) None k'
   tells_start w start at q k' kept =
       let b = begins_on (action_in u.whole) w start (elements (path_of (action_in u.whole))) at q in
-      record {
-        tells = λ may. tells_walk (Begin (action_in u.whole) 0) (Some w) (begun (tree_of k.tree) h (action_in u.whole) (elements (path_of (action_in u.whole))) 0 0) may.settled refl b.0 b.1 b.2 None b.3 k' kept;
-        room = λ lt free room. record { alive = tt; roomy = start_room (action_in u.whole) w start (elements (path_of (action_in u.whole))) q };
-      }
+      λ may. tells_walk (Begin (action_in u.whole) 0) (Some w) (begun (tree_of k.tree) h (action_in u.whole) (elements (path_of (action_in u.whole))) 0 0) may.settled refl b.0 b.1 b.2 None b.3 k' kept
 
   -- ---- an element is looked up
 
@@ -125,43 +108,13 @@ module _ (k : KeptTree) (h : ℕ) (u : Under) (is : hart_in k h ≡ Some u) wher
     made_there : (id : ℕ) → made_by (tree_of k.tree) h id ((stage_of k).walk h) (Look new) ≡ looked (tree_of k.tree) h W W.rest (look (tree_of k.tree).nodes W.at W.next) new id
     made_there id = ap (λ (o : Option moves.Walk). look_made (tree_of k.tree) h o new id) (sym walk_there)
 
-    -- it finds room, if its directory is live and what it tells says so
-    finds_there : live_directory ((tree_of k.tree).nodes w.directory) ≡ true
-        → ((id : ℕ) → roomy (looked (tree_of k.tree) h W W.rest (look (tree_of k.tree).nodes W.at W.next) new id).told ≡ true) → FindsRoom (stage_of k) h (Look new)
-    finds_there live room = record {
-      alive = λ v is. ap (λ (x : moves.Walk). live_directory ((tree_of k.tree).nodes x.at)) (same v is) ∙ live;
-      roomy = λ id. ap (λ (y : Made). roomy y.told) (made_there id) ∙ room id;
-    }
-      where
-        same : (v : moves.Walk) → (stage_of k).walk h ≡ Some v → v ≡ W
-        same v is = let q : Some v ≡ Some W = sym is ∙ sym walk_there in cc
-
-    looks_room : (es : List Name) (found : Option ℕ) → IsNextWalk (call_in u.whole) None (record W { rest = es }) found
-        → (given : ℕ) (d : Option Deed) (k' : KeptTree) (lead : Lead) → LeadsBy lead w es found
-        → IsActed (record { hart = h; new = given; action = W.step }) lead.node (with_name lead.parent (name_from lead.from (path_of W.step))) k d k'
-        → h < hart_count → k'.full ≡ false → roomy d ≡ true → (id : ℕ) → roomy (looked (tree_of k.tree) h W es found new id).told ≡ true
-    looks_room [] found next given d k' lead leads x lt free room id =
-        acts_room (record { hart = h; new = given; action = W.step }) found (Some (W.at, W.next)) k d k' lt
-        (subst (λ (r : Option ℕ). IsActed (record { hart = h; new = given; action = W.step }) r (Some (W.at, W.next)) k d k') leads.0
-        (subst (λ (q : Option (ℕ × Name)). IsActed (record { hart = h; new = given; action = W.step }) lead.node q k d k')
-        (λ i. with_name (leads.1 i) (name_from (leads.2 i) (path_of W.step))) x)) free room id
-    looks_room (e ∷ es) None next given d k' lead leads x lt free room id =
-        acts_room (record { hart = h; new = given; action = W.step }) None None k d k' lt
-        (subst (λ (r : Option ℕ). IsActed (record { hart = h; new = given; action = W.step }) r None k d k') leads.0
-        (subst (λ (q : Option (ℕ × Name)). IsActed (record { hart = h; new = given; action = W.step }) lead.node q k d k')
-        (λ i. with_name (leads.1 i) (name_from lead.from (path_of W.step))) x)) free room id
-    looks_room (e ∷ es) (Some n) next given d k' lead leads x lt free room id = absurd (let q : None ≡ Some (walk_on W.step n (e ∷ es)) = next in cc)
-
     -- given: the number that code takes for what is made
-    pub tells_looked : (given : ℕ) → (new < 2 ^ 16 → given ≡ new) → live_directory ((tree_of k.tree).nodes w.directory) ≡ true → (d : Option Deed) (k' : KeptTree)
+    pub tells_looked : (given : ℕ) → (new < 2 ^ 16 → given ≡ new) → (d : Option Deed) (k' : KeptTree)
         → IsNextWalk (call_in u.whole) None W (look (tree_of k.tree).nodes W.at W.next)
         → (lead : Lead) → LeadsBy lead w W.rest (look (tree_of k.tree).nodes W.at W.next)
         → IsActed (record { hart = h; new = given; action = W.step }) lead.node (with_name lead.parent (name_from lead.from (path_of W.step))) k d k'
         → TellsMove k h (Look new) d k'
-    tells_looked given fits live d k' next lead leads x = record {
-      tells = λ may. tells_here may (subst (λ (n : ℕ). IsActed (record { hart = h; new = n; action = W.step }) lead.node (with_name lead.parent (name_from lead.from (path_of W.step))) k d k') (fits may.move.1) x);
-      room = λ lt free room. finds_there live (looks_room W.rest (look (tree_of k.tree).nodes W.at W.next) next given d k' lead leads x lt free room);
-    }
+    tells_looked given fits d k' next lead leads x = λ may. tells_here may (subst (λ (n : ℕ). IsActed (record { hart = h; new = n; action = W.step }) lead.node (with_name lead.parent (name_from lead.from (path_of W.step))) k d k') (fits may.move.1) x)
       where
         may_look : (stage_of k).walk h ≡ Some W → MayLookOn (tree_of k.tree) h ((stage_of k).walk h) new → MayLookOn (tree_of k.tree) h (Some W) new
         may_look q z = subst (λ (o : Option moves.Walk). MayLookOn (tree_of k.tree) h o new) q z
@@ -183,22 +136,12 @@ module _ (k : KeptTree) (h : ℕ) (u : Under) (is : hart_in k h ≡ Some u) wher
     looks_on w2 (e ∷ es) None next = absurd cc
     looks_on w2 (e ∷ es) (Some n) next = (refl, sym next, refl, refl)
 
-    next_room : (w2 : Walk) (es : List Name) (found : Option ℕ) → IsNextWalk (call_in u.whole) (Some w2) (record W { rest = es }) found → (id : ℕ)
-        → roomy (looked (tree_of k.tree) h W es found new id).told ≡ true
-    next_room w2 [] None next id = absurd cc
-    next_room w2 [] (Some n) next id = absurd cc
-    next_room w2 (e ∷ es) None next id = absurd cc
-    next_room w2 (e ∷ es) (Some n) next id = refl
-
-    pub tells_next : live_directory ((tree_of k.tree).nodes w.directory) ≡ true → (w2 : Walk) → IsNextWalk (call_in u.whole) (Some w2) W (look (tree_of k.tree).nodes W.at W.next)
+    pub tells_next : (w2 : Walk) → IsNextWalk (call_in u.whole) (Some w2) W (look (tree_of k.tree).nodes W.at W.next)
         → (k' : KeptTree) → k' ≡ with_walk k h (Some w2) → TellsMove k h (Look new) None k'
-    tells_next live w2 next k' kept =
+    tells_next w2 next k' kept =
         let b = looks_on w2 W.rest (look (tree_of k.tree).nodes W.at W.next) next in
-        record {
-          tells = λ may. tells_walk (Look new) (Some w2) (looked (tree_of k.tree) h W W.rest (look (tree_of k.tree).nodes W.at W.next) new 0) may.settled
-              (made_there 0) b.0 b.1 b.2 None b.3 k' kept;
-          room = λ lt free room. finds_there live (next_room w2 W.rest (look (tree_of k.tree).nodes W.at W.next) next);
-        }
+        λ may. tells_walk (Look new) (Some w2) (looked (tree_of k.tree) h W W.rest (look (tree_of k.tree).nodes W.at W.next) new 0) may.settled
+        (made_there 0) b.0 b.1 b.2 None b.3 k' kept
 
     -- where it may look, its directory is live
     pub looks_live : MayMake (stage_of k) h (Look new) → live_directory ((tree_of k.tree).nodes w.directory) ≡ true
@@ -209,10 +152,7 @@ module _ (k : KeptTree) (h : ℕ) (u : Under) (is : hart_in k h ≡ Some u) wher
 
     -- and where that isn't, it is known that there was no room
     pub tells_lost : live_directory ((tree_of k.tree).nodes w.directory) ≡ false → (k' : KeptTree) → k' ≡ record k { full = true } → TellsMove k h (Look new) None k'
-    tells_lost dead k' kept = record {
-      tells = λ may. absurd (let live : live_directory ((tree_of k.tree).nodes w.directory) ≡ true = looks_live may in cc (live, dead));
-      room = λ lt free room. absurd (let q : true ≡ false = sym (ap (λ (x : KeptTree). x.full) kept) ∙ free in cc);
-    }
+    tells_lost dead k' kept = λ may. absurd (let live : live_directory ((tree_of k.tree).nodes w.directory) ≡ true = looks_live may in cc (live, dead))
 
   -- without a walk nothing is looked up
   module _ (none : u.walk ≡ None) (new : ℕ) where
@@ -235,34 +175,18 @@ module _ (k : KeptTree) (h : ℕ) (u : Under) (is : hart_in k h ≡ Some u) wher
     }
 
     pub tells_nowhere : (k' : KeptTree) → k' ≡ k → TellsMove k h (Look new) None k'
-    tells_nowhere k' kept = record {
-      tells = λ may. tells_none may.settled k' kept;
-      room = λ lt free room. record {
-        alive = λ v there. absurd (let q : None ≡ Some v = nowhere ∙ there in cc);
-        roomy = λ id. ap (λ (y : Made). roomy y.told) (made_nowhere id);
-      };
-    }
+    tells_nowhere k' kept = λ may. tells_none may.settled k' kept
 
   -- ---- a walk is given up; a step acts
 
   pub tells_quit : (s : Action) (d : Option Deed) → d ≡ Some (fail s) → (k' : KeptTree) → k' ≡ with_walk k h None → TellsMove k h (GiveUpWalk s) d k'
-  tells_quit s d told k' kept = record {
-    tells = λ may. tells_walk (GiveUpWalk s) None (made_by (tree_of k.tree) h 0 ((stage_of k).walk h) (GiveUpWalk s)) may.settled refl refl refl refl d told k' kept;
-    room = λ lt free room. record { alive = tt; roomy = λ id. refl };
-  }
+  tells_quit s d told k' kept = λ may. tells_walk (GiveUpWalk s) None (made_by (tree_of k.tree) h 0 ((stage_of k).walk h) (GiveUpWalk s)) may.settled refl refl refl refl d told k' kept
 
   pub tells_own : (s : Action) (d : Option Deed) (k' : KeptTree) → IsActedAlone k (record { hart = h; new = 0; action = s }) d k' → TellsMove k h (Own s 0) d k'
   tells_own s d k' x =
       let R : Option ℕ = resolve (tree_of k.tree) h (path_of s) in
       let Q : Option (ℕ × Name) = parent (tree_of k.tree) h (path_of s) in
-      record {
-        tells = λ may. tells_end (Own s 0) d k' x.kept (ends_own (tree_of k.tree) h s 0 (tree_of k'.tree) may.settled R Q d may.move x.acted);
-        room = λ lt free room. record {
-          alive = tt;
-          roomy = λ id. own_room (tree_of k.tree) h s (refusal (tree_of k.tree) h s) (acts (tree_of k.tree) h s R Q 0 id)
-              (acts_room (record { hart = h; new = 0; action = s }) R Q k d k' lt x free room id);
-        };
-      }
+      λ may. tells_end (Own s 0) d k' x.kept (ends_own (tree_of k.tree) h s 0 (tree_of k'.tree) may.settled R Q d may.move x.acted)
 
 -- ---- as the code meets it
 
@@ -320,7 +244,7 @@ pub told_next : (k k' : KeptTree) (h : ℕ) (s : Under) (w w2 : Walk) (new : ℕ
     → IsNextWalk (call_in s.whole) (Some w2) (walk_of (call_in s.whole) w) (look (tree_of k.tree).nodes w.directory (walk_of (call_in s.whole) w).next)
     → k' ≡ with_walk k h (Some w2) → TellsOf k h (mark.Look new) None k'
 told_next k k' h s w w2 new there has live next kept =
-    told_by k h s (mark.Look new) (Look new) None k' there refl (tells_next k h s there w has new live w2 next k' kept)
+    told_by k h s (mark.Look new) (Look new) None k' there refl (tells_next k h s there w has new w2 next k' kept)
 
 -- the number that code takes for what is made
 pub told_looked : (k k' : KeptTree) (h : ℕ) (s : Under) (w : Walk) (new given : ℕ) (a : Action) (r : Result (Option Deed) NoMemory) → hart_in k h ≡ Some s → s.walk ≡ Some w
@@ -332,7 +256,7 @@ pub told_looked : (k k' : KeptTree) (h : ℕ) (s : Under) (w : Walk) (new given 
 told_looked k k' h s w new given a r there has fits live is next lead leads acted =
     ok_map r (λ d. IsActed (record { hart = h; new = given; action = a }) lead.node (with_name lead.parent (name_from lead.from (path_of a))) k d k') (λ d. TellsOf k h (mark.Look new) d k')
     (λ d x. told_by k h s (mark.Look new) (Look new) d k' there refl
-    (tells_looked k h s there w has new given fits live d k' next lead leads
+    (tells_looked k h s there w has new given fits d k' next lead leads
     (subst (λ (y : Action). IsActed (record { hart = h; new = given; action = y }) lead.node (with_name lead.parent (name_from lead.from (path_of y))) k d k') is x))) acted
 
 -- a lost walk looks nothing up

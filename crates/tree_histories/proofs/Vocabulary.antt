@@ -13,11 +13,11 @@ unfoldable pub use Rattle.tree_histories.specs.Stands.{stand_from}
 pub use Rattle.std.proofs.lemmas.List.{append-nil, get_or-set_other, get_or-set_same, get_or_past, map_push}
 pub use Rattle.plain_tree.specs.Explains.{IsInTime, ends_at}
 pub use Rattle.std.proofs.Common.{IfOk, map, max, set, ◌/◌}
-pub use Rattle.tree_histories.specs.Moving.{ActedOn, FindsRoom, HaveFallen, IsActed, IsActedAlone, IsDeedOf, IsMoved, KeepsRest, MovesBy, NoneFalls, OnlyMoves, SameCalls, StaysFor, Tells, TellsMove, TellsOf, WereLost, makes_none, spoils, told_in, written_unless}
+pub use Rattle.tree_histories.specs.Moving.{ActedOn, HaveFallen, IsActed, IsActedAlone, IsDeedOf, IsMoved, KeepsRest, MovesBy, NoneFalls, OnlyMoves, SameCalls, StaysFor, Tells, TellsMove, TellsOf, WereLost, makes_none, spoils, told_in, written_unless}
 pub use Rattle.tree_histories.specs.Ordered.{IsDue, IsOrdered, StandsFrom}
 pub use Rattle.tree_histories.specs.declared.ends.Due.{Due}
 pub use Rattle.tree_histories.specs.declared.position.Position.{Position}
-pub use Rattle.inode_machine.specs.Marks.{Made, act_entered, own_made, roomy}
+pub use Rattle.inode_machine.specs.Marks.{Made, act_entered, own_made}
 pub use Rattle.inode_machine.specs.VersionOne.{act_all, act_answer, acts, begun, look_made, looked, made_by}
 pub use Rattle.std.proofs.Math.ListN.{get_or-append}
 pub use Rattle.std.proofs.lemmas.Bool.{cases_lt}

@@ -1,9 +1,8 @@
 -- What is kept where a call makes a move.
-use Rattle.std.specs.Prelude.{◌≡◌, ℕ, ◌<◌, Bool, true, false, not, ◌||◌, List, length, Option, Some, None, Result, Ok, Err, slice_index_or}
+use Rattle.std.specs.Prelude.{◌≡◌, ℕ, ◌<◌, Bool, true, false, ◌||◌, List, length, Option, Some, None, Result, Ok, Err, slice_index_or}
 use Rattle.plain_tree.specs.declared.refused.ApplyRefused.{ApplyRefused}
 use Rattle.plain_tree.specs.declared.refused.ApplyRefused.TheVariants.{BadChoice}
-use Rattle.tree_histories.specs.Vocabulary.{option_map, Action, StepAnswer, TreeStep, Deed, IsAppliedWith, IsBadChoiceWith, Name, Tree, tree_of, is_nothing, live_directory, parent, path_of, resolve, hart_count, History, Look, Move, Stage, all_fall, moves_on, Makes, MayMake, OpensLeast, roomy, stage_by, told_by_move, mark_in, Heard, Mark, action_in}
-use Rattle.tree_laws.specs.Moves as moves
+use Rattle.tree_histories.specs.Vocabulary.{option_map, Action, StepAnswer, TreeStep, Deed, IsAppliedWith, IsBadChoiceWith, Name, Tree, tree_of, is_nothing, parent, path_of, resolve, hart_count, History, Move, Stage, all_fall, moves_on, Makes, MayMake, OpensLeast, stage_by, told_by_move, mark_in, Heard, Mark, action_in}
 use Rattle.path_walk.specs.declared.asks.Mark.TheVariants as mark
 use Rattle.tree_histories.specs.Books.{IsBook}
 use Rattle.tree_histories.specs.Sights.{MarksBy}
@@ -71,20 +70,9 @@ pub record Tells (k : KeptTree) (h : ℕ) (v : Move) (d : Option Deed) (k' : Kep
   pub told : d ≡ told_by_move (stage_of k) h id v
   pub full : k'.full ≡ k.full
 
--- a lookup is made in a live directory
-abbrev pub LooksAlive : Stage → ℕ → Move → Type 0
-LooksAlive m h (Look new) = (w : moves.Walk) → m.walk h ≡ Some w → live_directory (m.tree.nodes w.at) ≡ true
-LooksAlive m h v = Unit {0}
-
--- There is room for the move: its directory is there, and no step of it is answered otherwise, whichever id a file takes.
-pub record FindsRoom (m : Stage) (h : ℕ) (v : Move) : Type 0 where
-  pub alive : LooksAlive m h v
-  pub roomy : (id : ℕ) → roomy (told_by_move m h id v) ≡ true
-
--- The move is told, if the hart may make it. Where no want of room is known then, and none is told, there was room for it.
-pub record TellsMove (k : KeptTree) (h : ℕ) (v : Move) (d : Option Deed) (k' : KeptTree) : Type 0 where
-  pub tells : MayMake (stage_of k) h v → Tells k h v d k'
-  pub room : h < hart_count → k'.full ≡ false → roomy d ≡ true → FindsRoom (stage_of k) h v
+-- the move is told, if the hart may make it
+abbrev pub TellsMove : KeptTree → ℕ → Move → Option Deed → KeptTree → Type 0
+TellsMove k h v d k' = MayMake (stage_of k) h v → Tells k h v d k'
 
 -- .. where the mark of the hart's call makes a move
 abbrev pub TellsOf : KeptTree → ℕ → Mark → Option Deed → KeptTree → Type 0
@@ -100,9 +88,9 @@ written_unless k h None was_lost = k
 written_unless k h (Some d) true = k
 written_unless k h (Some d) false = written k h d
 
--- .. and where the mark or what is told says that there was no room, that is kept
+-- .. and if the mark says that there was no room, that is kept
 abbrev pub told_in : KeptTree → ℕ → Mark → Option Deed → Bool → KeptTree
-told_in k h m told was_lost = record (written_unless k h told was_lost) { full = k.full || (spoils m || not (roomy told)) }
+told_in k h m told was_lost = record (written_unless k h told was_lost) { full = k.full || spoils m }
 
 -- these harts' walks are lost
 abbrev pub WereLost : List Bool → Stage → Type 0
@@ -126,7 +114,7 @@ pub record IsMoved (k : KeptTree) (h : ℕ) (v : Move) (k' : KeptTree) : Type 0 
   pub id : ℕ
   pub least : OpensLeast (stage_of k) h id v
   pub stage : stage_of k' ≡ stage_by (stage_of k) h id v
-  pub full : k'.full ≡ (k.full || not (roomy (told_by_move (stage_of k) h id v)))
+  pub full : k'.full ≡ k.full
   pub book : (b : History) → IsBook k b
       → IsBook k' (moves_on (stage_of k) (stage_by (stage_of k) h id v) h (told_by_move (stage_of k) h id v) b)
 
@@ -137,10 +125,8 @@ pub record MovesBy (k : KeptTree) (h : ℕ) (m : Mark) (k' : KeptTree) : Type 0 
   pub still : makes_none m ≡ true → k' ≡ record k { full = k.full || spoils m }
   -- no call under way has changed, but for its walk
   pub calls : SameCalls k k'
-  -- what is known of want of room stays known; and where none is known then, there was room for the move
+  -- what is known of want of room stays known
   pub grows : k.full ≡ true → k'.full ≡ true
-  pub room : k'.full ≡ false → (u : Under) (v : Move) → hart_in k h ≡ Some u → mark_in (action_in u.whole) m ≡ Makes v
-      → FindsRoom (stage_of k) h v
 
 -- without a mark nothing changes
 abbrev pub MovesByAny : KeptTree → ℕ → Option Mark → KeptTree → Type 0

@@ -30,7 +30,6 @@ pub use Rattle.inode_machine.specs.Inodes.{empty_in, found_in, is_empty_kind, ty
 pub use Rattle.inode_machine.specs.VersionOne.{face_of as face_seen, seen_in}
 pub use Rattle.inode_machine.specs.VersionOne.{stage_by, told_by_move}
 pub use Rattle.inode_machine.specs.VersionOne.{MayMake, OpensLeast}
-pub use Rattle.inode_machine.specs.Marks.{roomy}
 pub use Rattle.inode_machine.specs.VersionOne.{program}
 pub use Rattle.inode_machine.specs.World.{Op}
 pub use Rattle.inode_machine.specs.World.Mark.{Makes}

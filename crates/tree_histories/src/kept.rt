@@ -10,7 +10,6 @@ ghost use Rattle.tree_laws.specs.Moves as moves;
 ghost use Rattle.tree_laws.specs.Moves.{fail};
 ghost use Rattle.tree_laws.specs.Runs.{lost_of};
 ghost use Rattle.inode_machine.specs.Kept.{nothing_yet};
-ghost use Rattle.inode_machine.specs.Marks.{roomy};
 ghost use Rattle.path_walk.specs.Asks.{asks, op_in};
 ghost use Rattle.whole_calls.specs.Wholes.{IsCall, WholeFits, action_in, call_in, whole_of};
 ghost use Rattle.tree_histories.specs.Books.{IsBook};
@@ -63,7 +62,7 @@ pub struct Kept {
     events: u64,
     calls: usize,
     harts: [Option<Standing>; HARTS as usize],
-    /// A step of a call found no room, as it was answered, or as a move shows that can't be made.
+    /// A step of a call answered that there was no room, or a move shows it that can't be made.
     full: bool,
 }
 
@@ -118,16 +117,6 @@ fn spoils(mark: Mark) -> bool
     ensures { result ≡ spoils mark }
 {
     matches!(mark, Mark::PartOfPiece(_, _) | Mark::Mends | Mark::Fills)
-}
-
-// The step answered that there was no room.
-fn is_full(told: &Option<Deed>) -> bool
-    ensures { result ≡ not (roomy told.now) }
-{
-    match told {
-        Some(deed) => matches!(&deed.answer, StepAnswer::Full { .. }),
-        None => false,
-    }
 }
 
 // What a walk has found for its step: the node; and the directory that has the last element, with the place of that in the path.
@@ -228,8 +217,8 @@ impl Kept {
         self.full = self.full || lacks_place;
     }
 
-    /// Whether a step of a call found no room: an operation was answered so, or a step of the tree; or a call makes a move that can't be
-    /// made in the tree, as none does in a run in which each step found room. From then on no list of steps need explain the run.
+    /// Whether a step of a call found no room: an operation was answered so, or a call makes a move that can't be made in the tree, as
+    /// none does in a run in which each step found room. From then on no list of steps need explain the run.
     pub fn is_full(&self) -> bool
         ensures { result ≡ self.now.full }
     {
@@ -368,7 +357,7 @@ impl Kept {
         self.fall(&before)
     }
 
-    // What is told is written, unless the walk was lost before; and whether there was no room.
+    // What is told is written, unless the walk was lost before; and whether the mark says that there was no room.
     fn tell(
         &mut self,
         hart: u8,
@@ -379,7 +368,7 @@ impl Kept {
         ensures told { IfOk result (λ _. self.new ≡ told_in self.old hart mark told was_lost) }
         ensures harts { length self.old.harts ≡ hart_count }
     {
-        self.full = self.full || spoils(mark) || is_full(&told);
+        self.full = self.full || spoils(mark);
         match told {
             Some(deed) => {
                 if was_lost {
