@@ -1,5 +1,5 @@
 -- The calls of a layer below are right with what is noted of them, where each operation acts with the answer that its program ends with.
-use Rattle.run_laws.proofs.Vocabulary.{◌≡◌, ◌⊎◌, inl, inr, ◌+◌, ℕ, Bool, false, Option, Some, None, [], refl, sym, ◌∙◌, ap, subst, arith, Ret, bind, oldest_first, Wp, Theory, Began, Begins, Begun, Ends, Lawful, LowerLayer, Both, joined, LowerLaws, Handlers, Lasts, BeginsSome, IsStarted, Uses, Starts, StartsBoth, began_to, lowered_calls, Budget, Affords, AtomicWithin, whole_begins, ends_last, begun_both, Alone, Wp-weaker, Wp-more, Wp-bind, IsFaithful, Notes, stepwise}
+use Rattle.run_laws.proofs.Vocabulary.{◌≡◌, ◌⊎◌, inl, inr, ◌+◌, ℕ, Bool, false, Option, Some, None, [], refl, sym, ◌∙◌, ap, subst, arith, Ret, bind, oldest_first, Wp, Theory, Began, Begins, BeginsWhole, Begun, Ends, Lawful, LowerLayer, Both, joined, LowerLaws, Handlers, Lasts, BeginsSome, IsStarted, Uses, Starts, StartsBoth, began_to, lowered_calls, Budget, Affords, AtomicWithin, whole_begins, ends_last, begun_both, Alone, Wp-weaker, Wp-more, Wp-bind, IsFaithful, Notes, stepwise}
 use Rattle.run_laws.proofs.Faithful.{PlacesItself, handles, none_noted, stepwise_laws}
 
 -- The same calls, with their notes. Each ends with Some of its reply; so what explains a call by None is of one that is under way.
@@ -14,6 +14,7 @@ telling L AreOf =
       busy = L.busy;
       program = λ call. bind (L.program call) (λ a. Ret (Some a));
       Written = λ call es r. AreOf call r es;
+      WrittenSoFar = BeginsWhole (λ call es r. AreOf call r es);
       limit = L.limit;
     }
 
@@ -70,7 +71,7 @@ module _ (T : Theory) (R : LowerLayer T.M.World) (handler : Handlers T.M R) (beg
         ends_told n v g =
             Wp-more N.M h (N.program call) (Begun N call) (Ends N h call) (n + 0) n [] v (omega arith)
             (Wp-bind N.M h (L.program call) (λ a. Ret (Some a)) (Begun N call) (Ends N h call) n 0 [] v
-            (Wp-weaker N.M h (L.program call) So_far (Begun N call) Whole (λ a ys y. Ends N h call (Some a) ys y) n [] v (λ ys c. whole_begins N call (oldest_first ys) None c) (λ a ys y c. (λ z. c.0, c.1)) g))
+            (Wp-weaker N.M h (L.program call) So_far (Begun N call) Whole (λ a ys y. Ends N h call (Some a) ys y) n [] v (λ ys c. whole_begins N.Written call (oldest_first ys) None c) (λ a ys y c. (λ z. c.0, c.1)) g))
 
     pub faithful_lawful : Lawful faithful_calls
     faithful_lawful =

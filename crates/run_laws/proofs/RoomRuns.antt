@@ -1,15 +1,15 @@
 -- A run found room at each step just where none of its operations found none.
-use Rattle.run_laws.proofs.Vocabulary.{◌≡◌, inl, inr, ℕ, ◌+◌, Bool, true, false, ◌&&◌, ◌||◌, not, nat_eq, if◌then◌else◌, Option, Some, None, List, [], ◌∷◌, ◌++◌, refl, sym, ◌∙◌, ap, subst, eq-eqb, Super, sizes_of, Call, put, and_true, Theory, Began, Refuses, Begins, EventOf, FinishedCall, PlacedStep, Run, Start, Started, State, begun, busy_in, fresh, makes, next, run, start_run, Chain, In, IsOfCall, history, steps_of, Both, ran_to, PartOf as P, began_to, Ret, Do, ExecResult, Waits, Ran, Stops, EventReport, IsTraced, happened, begun_both, traced, Outside, exec, first_from, is_nothing, or_zero, made_by, marked, roomy, with_mark, program, machine, Refusal, Mark, Fills, Frees, Makes, Mends, Orphans, Spoils, first_world, first, World, shared_of, begins, block_calls, child_of, served_calls, serves, served_is, begun_here, WorldOf, IsRunFrom, RefinesWholeInodes, operations_made, operations_of, RoomIsToldByAnswers, finds_no_room, says_no_room, IsRunOf, IsStep, Operation, lowered_inode_calls, told_by, unreserved}
+use Rattle.run_laws.proofs.Vocabulary.{◌≡◌, inl, inr, ℕ, Bool, true, false, ◌&&◌, not, nat_eq, if◌then◌else◌, Option, Some, None, List, [], ◌∷◌, ◌++◌, refl, sym, ◌∙◌, ap, subst, eq-eqb, Super, sizes_of, Call, put, and_true, Theory, Began, Refuses, Begins, EventOf, FinishedCall, PlacedStep, Run, Start, Started, State, begun, busy_in, fresh, makes, next, run, start_run, Chain, In, IsOfCall, history, steps_of, Both, ran_to, PartOf as P, began_to, Ret, Do, ExecResult, Waits, Ran, Stops, EventReport, IsTraced, happened, begun_both, traced, Outside, exec, marked, with_mark, program, machine, Refusal, Mark, Fills, Frees, Makes, Mends, Orphans, Spoils, first_world, first, World, shared_of, begins, block_calls, child_of, served_calls, serves, served_is, begun_here, WorldOf, IsRunFrom, RefinesWholeInodes, operations_made, operations_of, RoomIsToldByAnswers, finds_no_room, says_no_room, IsRunOf, IsStep, Operation, lowered_inode_calls, unreserved}
 use Rattle.inode_machine.specs.World as above
 use Rattle.run_laws.proofs.CallFits.{call_fits, most_written}
 use Rattle.run_laws.proofs.Fits.{AllFitUpTo}
-use Rattle.run_laws.proofs.Running.{Goes, goes_on, kept_of}
+use Rattle.run_laws.proofs.Running.{Goes, goes_on}
 use Rattle.call_programs.specs.Asks.{spoils}
 use Rattle.run_laws.proofs.Worlds.{worlds_refine}
 
 -- ---- one step
 
-pub marked_clean : (h : ℕ) (k : Option Mark) (w : above.World) → (marked h k w).clean ≡ (not (spoils k) && (roomy (told_by h k w) && w.clean))
+pub marked_clean : (h : ℕ) (k : Option Mark) (w : above.World) → (marked h k w).clean ≡ (not (spoils k) && w.clean)
 marked_clean h None w = refl
 marked_clean h (Some (Makes v)) w = refl
 marked_clean h (Some (Frees n)) w = refl
@@ -18,33 +18,18 @@ marked_clean h (Some Fills) w = refl
 marked_clean h (Some Mends) w = refl
 marked_clean h (Some (Spoils s)) w = refl
 
-told_same : (h : ℕ) (k : Option Mark) (w u : above.World) → kept_of h u ≡ kept_of h w → told_by h k u ≡ told_by h k w
-told_same h None w u e = refl
-told_same h (Some (Makes v)) w u e = λ i. (made_by (e i).all h (or_zero (first_from ((e i).next + 1) 0 (λ j. is_nothing ((e i).all.files j)))) (e i).walk v).told
-told_same h (Some (Frees n)) w u e = refl
-told_same h (Some (Orphans n)) w u e = refl
-told_same h (Some Fills) w u e = refl
-told_same h (Some Mends) w u e = refl
-told_same h (Some (Spoils s)) w u e = refl
-
 pub after_clean : {A : Type 0} (h : ℕ) (k : Option Mark) (before after : above.World) (a : A) (d : ExecResult A above.World) → Goes h before d → with_mark h (λ _. k) d ≡ Ran a after
-    → after.clean ≡ (not (spoils k) && (roomy (told_by h k before) && before.clean))
+    → after.clean ≡ (not (spoils k) && before.clean)
 after_clean h k before after a Waits g e = cc
 after_clean h k before after a (Stops u) g e = absurd g
 after_clean h k before after a (Ran b w) g e =
-    ap (λ (z : above.World). z.clean) (sym (ap (ran_to before) e)) ∙ marked_clean h k w ∙ (λ i. not (spoils k) && (roomy (told_same h k before w g i) && (g i).clean))
-
-either_not : (a b c : Bool) → (not (a || not b) && c) ≡ (not a && (b && c))
-either_not true b c = refl
-either_not false true c = refl
-either_not false false c = refl
+    ap (λ (z : above.World). z.clean) (sym (ap (ran_to before) e)) ∙ marked_clean h k w ∙ (λ i. not (spoils k) && (g i).clean)
 
 step_clean : (t u : above.World) (h : ℕ) (e : Operation) → IsStep t h e u → spoils e.mark ≡ says_no_room e.op e.answer → u.clean ≡ (not (finds_no_room e) && t.clean)
 step_clean t u h e s same =
     ap (λ (z : above.World). z.clean) (sym s.to)
     ∙ after_clean h e.mark s.before s.after e.answer (exec h s.outside e.op s.before) (goes_on h s.outside e.op s.before) s.goes
-    ∙ (λ i. not (same i) && (roomy (sym s.tells i) && (s.from i).clean))
-    ∙ sym (either_not (says_no_room e.op e.answer) (roomy e.told) t.clean)
+    ∙ (λ i. not (same i) && (s.from i).clean)
 
 -- ---- marks tell what answers do
 

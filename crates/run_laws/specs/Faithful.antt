@@ -1,7 +1,7 @@
 -- Each operation on whole inodes acts once within its own program on the blocks, with the answer that this program ends with; by that
 -- answer the call goes on.
 use Rattle.std.specs.Prelude.{◌≡◌, ◌⊎◌, ℕ, true, List, [], ◌∷◌, Option, Some, None, is_some}
-use Rattle.run_laws.specs.Vocabulary.{Super, sizes_of, Reply, Call, Theory, EventOf, FinishedCall, PlacedStep, Run, State, fresh, outcomes, run, In, history, steps_of, Handlers, Handover, LowerLayer, joined, Machine, OpWithAnswer, P, own, Ret, Do, Outside, program, Answer, Mark, Op, nothing, handlers, Deed, first, layer, Came, Event, HartsOf, IsHistory, IsMounted, WorldOf}
+use Rattle.run_laws.specs.Vocabulary.{BeginsWhole, Super, sizes_of, Reply, Call, Theory, EventOf, FinishedCall, PlacedStep, Run, State, fresh, outcomes, run, In, history, steps_of, Handlers, Handover, LowerLayer, joined, Machine, OpWithAnswer, P, own, Ret, Do, Outside, program, Answer, Mark, Op, nothing, handlers, Deed, first, layer, Came, Event, HartsOf, IsHistory, IsMounted, WorldOf}
 use Rattle.run_laws.specs.WholeInodes.{Operation, lowered_inode_calls, whole_inodes}
 
 -- ---- what is noted
@@ -43,7 +43,7 @@ stepwise L =
 
 -- the same calls, each explained by all that is noted of it
 abbrev pub with_steps : (L : Theory) → (L.Call → Notes L.M → L.Reply → Type 0) → Theory
-with_steps L Written = record L { M = stepwise L.M; Written = Written }
+with_steps L Written = record L { M = stepwise L.M; Written = Written; WrittenSoFar = BeginsWhole Written }
 
 module _ (L : Theory) (Written : L.Call → Notes L.M → L.Reply → Type 0) where
   -- entries of one event, put one after the other onto a list that has the newest first

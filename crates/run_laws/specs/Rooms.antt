@@ -1,13 +1,12 @@
 -- Where a run found no room: what the answers of its operations say.
-use Rattle.std.specs.Prelude.{◌≡◌, ◌↔◌, ℕ, Bool, false, not, ◌||◌, List}
-use Rattle.run_laws.specs.Vocabulary.{sizes_of, Call, Theory, EventOf, PlacedStep, fresh, run, In, Outside, roomy, says_no_room, first, Came, Event, HartsOf, FoundRoom, IsHistory, IsMounted, WorldOf}
+use Rattle.std.specs.Prelude.{◌≡◌, ◌↔◌, ℕ, Bool, false, List}
+use Rattle.run_laws.specs.Vocabulary.{sizes_of, Call, Theory, EventOf, PlacedStep, fresh, run, In, Outside, says_no_room, first, Came, Event, HartsOf, FoundRoom, IsHistory, IsMounted, WorldOf}
 use Rattle.run_laws.specs.Laws.{operations_made}
 use Rattle.run_laws.specs.WholeInodes.{Operation, lowered_inode_calls}
 
--- The operation's answer says so, or the answer of its call's step on the tree, where that acts there: an open whose hart has no
--- descriptor left is answered so at its last lookup.
+-- the operation's answer says so
 abbrev pub finds_no_room : Operation → Bool
-finds_no_room e = says_no_room e.op e.answer || not (roomy e.told)
+finds_no_room e = says_no_room e.op e.answer
 
 module _ (disk : List (List ℕ)) (failures : ℕ) (events : List (EventOf Call Outside)) where
   abbrev inodes : Theory

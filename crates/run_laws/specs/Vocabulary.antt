@@ -15,7 +15,7 @@ pub use Rattle.hart_core.specs.declared.events.Came.{Came}
 pub use Rattle.hart_core.specs.declared.events.Event.{Event}
 pub use Rattle.atomic_programs.specs.Explained.{Chain, In, IsOfCall, IsRising, history, steps_of}
 pub use Rattle.inode_machine.specs.World.{Answer, Mark, Op}
-pub use Rattle.atomic_programs.specs.Calls.{PlacedStep, hart_of, changed, Made}
+pub use Rattle.atomic_programs.specs.Calls.{BeginsWhole, PlacedStep, hart_of, changed, Made}
 pub use Rattle.calls_on_blocks.specs.Layer.{layer}
 pub use Rattle.fs_machine.specs.Steps.{Get, Join, JoinResult, JoinToWrite, Joins, NoInode as HasNoInode, Read, RefusesJoin}
 pub use Rattle.inode_machine.specs.World.Mark.{Fills, Frees, Makes, Mends, Orphans, Spoils}
@@ -34,7 +34,7 @@ pub use Rattle.hart_core.specs.Stops.{after_first, marks_of}
 pub use Rattle.inode_machine.specs.Exec.{entry_moved, place_count, referenced, slot_limit, with_bytes}
 pub use Rattle.inode_machine.specs.VersionOne.{seen_in}
 pub use Rattle.inode_machine.specs.VersionOne.{history_of, placed}
-pub use Rattle.inode_machine.specs.Marks.{new_id, roomy}
+pub use Rattle.inode_machine.specs.Marks.{new_id}
 pub use Rattle.inode_machine.specs.VersionOne.{made_by, places}
 pub use Rattle.inode_machine.specs.Parts.{P as Above}
 pub use Rattle.inode_machine.specs.VersionOne.{limit}

@@ -1,6 +1,6 @@
 -- The calls on blocks as calls of the machine of whole inodes: what explains each is the operations on whole inodes that it ran.
 use Rattle.std.specs.Prelude.{◌≡◌, ℕ, nat_lt, if◌then◌else◌, List, [], ◌∷◌, Option, Some, None}
-use Rattle.run_laws.specs.Vocabulary.{Super, Full, Reply, Call, descriptor_count, Theory, In, Machine, lowered_calls, Ret, Do, Ran, go, made_by, new_id, Above as P, program, Honest, Inv, May, Answer, Desk, Mark, Op, World, Fills, Frees, Makes, Mends, Orphans, Spoils, Deed, Labels, labelled, handlers, layer, begins, served_calls}
+use Rattle.run_laws.specs.Vocabulary.{BeginsWhole, Super, Full, Reply, Call, descriptor_count, Theory, In, Machine, lowered_calls, Ret, Do, Ran, go, made_by, new_id, Above as P, program, Honest, Inv, May, Answer, Desk, Mark, Op, World, Fills, Frees, Makes, Mends, Orphans, Spoils, Deed, Labels, labelled, handlers, layer, begins, served_calls}
 use Rattle.plain_tree.specs.declared.answer.Answer.TheVariants as answers
 use Rattle.inode_machine.specs.Rules as rules
 use Rattle.inode_machine.specs.World.{Outside}
@@ -89,7 +89,7 @@ whole_inodes = labelled operations
 
 -- explained by the operations on whole inodes
 abbrev pub inode_calls : Theory
-inode_calls = record served_calls { M = whole_inodes; Written = IsRunOfCall }
+inode_calls = record served_calls { M = whole_inodes; Written = IsRunOfCall; WrittenSoFar = BeginsWhole IsRunOfCall }
 
 -- the same calls, run on the blocks
 abbrev pub lowered_inode_calls : Super → Theory
