@@ -24,7 +24,6 @@ use Rattle.hart_core.specs.declared.events.Event.TheVariants as event
 use Rattle.hart_core.specs.declared.outcome.Outcome.TheVariants as outcome
 use Rattle.hart_core.specs.declared.outcome.Stop.TheVariants as stop
 use Rattle.inode_machine.specs.Rooms.{says_no_room}
-use Rattle.inode_machine.specs.Rules.{Inv}
 use Rattle.inode_machine.specs.VersionOne.{machine}
 use Rattle.inode_machine.specs.Exec.{is_nothing}
 use Rattle.inode_machine.specs.Theory.{Busy, NoSuchHart, NotEmptyHart, Refusal, begin_call, call_wrong, has_descriptor, only_if, serving_world, why_not}
@@ -145,7 +144,6 @@ module _ (sizes : Super) where
     pub fits : (h : ℕ) → Fits sizes (s.running h) (was h)
     pub tells : (h : ℕ) (u : UnderWay) → was h ≡ Some u → (a : above.Answer u.op) → spoils (u.mark a) ≡ says_no_room u.op a
     pub sees : AllSee sizes s was now
-    pub inv : Inv s.world.seen
     pub shows : s.stopped ≡ false → Shows s.world.real.blocks s.world.seen
 
 some_passed : {D : Type 0} (w : HartsOf D) (k k' : KeptTree) → JustPasses k k' → SomeLacks w k → SomeLacks w k'
@@ -189,7 +187,7 @@ module _ {D : Type 0} (contents : D → List (List ℕ)) (failures : D → ℕ) 
   short_in h out came has_run r ran fine amid runs known short =
       first_short contents failures sizes h s (makes L (Step h Passes) s) was now r b old new k agree
       out came ran amid runs fine (known.sees h (makes L (Step h Passes) s) r (run_off sizes h Passes s (s.running h) has_run) (tree_of k.tree) (ap (λ (m : Stage). m.tree) agree.stage))
-      (leads_there sizes (s.running h) r.under (subst (Fits sizes (s.running h)) r.is (known.fits h))) (known.tells h r.under r.is) known.inv (known.shows (run_off sizes h Passes s (s.running h) has_run)) clean short
+      (leads_there sizes (s.running h) r.under (subst (Fits sizes (s.running h)) r.is (known.fits h))) (known.tells h r.under r.is) (known.shows (run_off sizes h Passes s (s.running h) has_run)) clean short
 
   ran_event : (h : ℕ) (kind : _) (n : NotesEvent contents failures (λ a d x z. KeepsEvent a (event.Step h) d x z) sizes (event.Step h) old k (came.Stepped (outcome.Ran kind)) new k')
       → KnownShort sizes (Step h Passes) s was now → Short (Step h Passes) → Result

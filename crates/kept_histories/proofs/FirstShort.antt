@@ -1,6 +1,6 @@
 -- The step that is the first to find no room: the kept tree knows of it then, or the hart's call stands right behind a claim of an inode for
 -- which no place in memory was left, of which it is told in its next step.
-use Rattle.std.specs.Prelude.{◌≡◌, ◌⊎◌, ◌<◌, ℕ, Bool, true, false, not, ◌&&◌, ◌||◌, List, [], Option, Some, None, get_or, is_some}
+use Rattle.std.specs.Prelude.{◌≡◌, ◌⊎◌, ℕ, Bool, true, false, not, ◌&&◌, ◌||◌, List, [], Option, Some, None, get_or, is_some}
 use Rattle.calls_on_blocks.proofs.Vocabulary.{refl, sym, ◌∙◌, ap, subst, inl, inr}
 use Rattle.atomic_programs.proofs.Explains.{Some-inj}
 use Rattle.atomic_programs.specs.Calls.{Made, State}
@@ -14,45 +14,35 @@ use Rattle.hart_core.specs.Harts.{HartsOf, shared_of}
 use Rattle.hart_core.specs.Telling.{RanAt, rest_of}
 use Rattle.inode_machine.specs.VersionOne.{exec}
 use Rattle.inode_machine.specs.Inodes.{InodeType}
-use Rattle.inode_machine.specs.Marks.{new_id, roomy}
-use Rattle.inode_machine.specs.VersionOne.{go, made_by, with_mark}
+use Rattle.inode_machine.specs.VersionOne.{go, with_mark}
 use Rattle.inode_machine.specs.Rooms.{says_no_room}
-use Rattle.inode_machine.specs.Rules.{Inv}
 use Rattle.inode_machine.specs.World as above
-use Rattle.inode_machine.specs.World.Mark.{Makes, Frees, Orphans, Fills, Mends, Spoils}
 use Rattle.inode_machine.specs.World.Op.{Claim, Leave, LockFile, LockOpen, StatFile, Take}
 use Rattle.inode_parts.specs.Telling.{GoesOrEnds, part_of}
 use Rattle.inodes_on_blocks.specs.Handlers.{P}
 use Rattle.inodes_on_blocks.specs.Lowering.{Carry}
 use Rattle.inodes_on_blocks.specs.Programs.{handlers}
 use Rattle.inodes_on_blocks.specs.Shown.{Shows}
-use Rattle.path_walk.specs.Asks.{answer_to, mark_at, mark_in, marked_as}
+use Rattle.path_walk.specs.Asks.{answer_to, mark_at, marked_as}
 use Rattle.path_walk.specs.declared.asks.Claimed.TheVariants as claimed
 use Rattle.path_walk.specs.declared.asks.Heard.{Heard}
 use Rattle.path_walk.specs.declared.asks.Heard.TheVariants as heard
 use Rattle.path_walk.specs.declared.asks.Mark.{Mark}
-use Rattle.plain_tree.proofs.Maps.{either}
 use Rattle.plain_tree.specs.Tree.{tree_of}
-use Rattle.plain_tree.specs.Widths.{hart_count}
 use Rattle.run_laws.proofs.RoomRuns.{after_clean}
 use Rattle.run_laws.proofs.Running.{Goes, goes_on}
 use Rattle.call_programs.specs.Asks.{spoils}
 use Rattle.run_laws.specs.UnderWay.{ActingTime, ActsThen, EndsAsActed, InFirst, InLast, InOne, IsMadeBy, LeadTo, RunsAStep, SeesTruly, UnderWay, is_at_end, none_ran, time_of}
 use Rattle.run_laws.specs.Vocabulary.{or_else}
-use Rattle.run_laws.specs.WholeInodes.{told_by}
 use Rattle.syscalls.specs.Machines.{Running, TellsOf}
-use Rattle.tree_histories.proofs.Harts.{is_hart}
-use Rattle.tree_histories.specs.Keeping.{KeptTree, Under, hart_in, stage_of}
-use Rattle.tree_histories.specs.Moving.{FindsRoom, HasRun, MovesByAny, spoils as kept_spoils}
+use Rattle.tree_histories.specs.Keeping.{KeptTree, Under, hart_in}
+use Rattle.tree_histories.specs.Moving.{HasRun, MovesByAny, spoils as kept_spoils}
 use Rattle.tree_histories.specs.Sights.{MarksAt, MarksBy, MarksIn, acts_first}
 use Rattle.tree_laws.specs.History.{History}
-use Rattle.tree_laws.specs.Moves.{Move, Stage}
 use Rattle.whole_calls.specs.Wholes.{WholeFits, action_in, whole_of}
 use Rattle.kept_histories.proofs.Claiming.{GivesBackOf, claim_short}
 use Rattle.kept_histories.proofs.Lacking.{gives_lacks}
 use Rattle.kept_histories.proofs.Lasting.{SomeLacks}
-use Rattle.kept_histories.proofs.MarksOfRoom.{no_open_alone}
-use Rattle.kept_histories.proofs.Roominess.{NoOpenAlone, room_in_both}
 use Rattle.kept_histories.proofs.Agreeing.{Agrees, Has, has}
 use Rattle.kept_histories.proofs.Amid.{AreAmid}
 use Rattle.kept_histories.proofs.Controls.{at_end}
@@ -63,34 +53,21 @@ use Rattle.kept_histories.proofs.ReadRooms.{is_read}
 use Rattle.kept_histories.proofs.StepMarks.{HeardAt, SeesAlike, fine_unless, same_marks, text_marks}
 use Rattle.kept_histories.proofs.Stepped.{Comes, comes_to}
 use Rattle.kept_histories.proofs.Together.{CallGoes, HartAt, StillCalled, Together, call_goes, heard_so, still_called}
-use Rattle.kept_histories.proofs.Basics.{none_some}
 
 -- ---- an operation that acts, and leaves the world unclean
 
 true_false : {X : Type 0} → true ≡ false → X
 true_false e = absurd cc
 
--- its mark says that there was no room, or the move that it makes tells so
-abbrev IsShort : ℕ → Option above.Mark → above.World → Type 0
-IsShort h m w = (spoils m ≡ true) ⊎ ((v : Move) × (m ≡ Some (Makes v)) × (roomy (made_by w.all h (new_id w) (w.harts h).walk v).told ≡ false))
+short_by : (a b : Bool) → b ≡ true → (not a && b) ≡ false → a ≡ true
+short_by true b clean short = refl
+short_by false b clean short = true_false (sym clean ∙ short)
 
-left_false : (a b : Bool) → b ≡ true → (a && b) ≡ false → a ≡ false
-left_false true b t f = true_false (sym t ∙ f)
-left_false false b t f = refl
-
-short_by : (h : ℕ) (m : Option above.Mark) (w : above.World) → w.clean ≡ true → (not (spoils m) && (roomy (told_by h m w) && w.clean)) ≡ false → IsShort h m w
-short_by h None w clean short = true_false (sym clean ∙ short)
-short_by h (Some (Makes v)) w clean short = inr (v, refl, left_false (roomy (made_by w.all h (new_id w) (w.harts h).walk v).told) w.clean clean short)
-short_by h (Some (Frees n)) w clean short = true_false (sym clean ∙ short)
-short_by h (Some (Orphans n)) w clean short = true_false (sym clean ∙ short)
-short_by h (Some Fills) w clean short = inl refl
-short_by h (Some Mends) w clean short = inl refl
-short_by h (Some (Spoils s)) w clean short = inl refl
-
+-- its mark says that there was no room
 acts_short : (h : ℕ) (x : above.Outside) (op : above.Op) (m : above.Answer op → Option above.Mark) (v w : above.World) (a : above.Answer op) → go h x op m v ≡ Ran a w
-    → v.clean ≡ true → w.clean ≡ false → IsShort h (m a) v
+    → v.clean ≡ true → w.clean ≡ false → spoils (m a) ≡ true
 acts_short h x op m v w a e clean short =
-    short_by h (m a) v clean (sym (after_clean h (m a) v w a (exec h x op v) (goes_on h x op v) (by (exec h x op v) (goes_on h x op v) e)) ∙ short)
+    short_by (spoils (m a)) v.clean clean (sym (after_clean h (m a) v w a (exec h x op v) (goes_on h x op v) (by (exec h x op v) (goes_on h x op v) e)) ∙ short)
   where
     by : (d : ExecResult (above.Answer op) above.World) → Goes h v d → with_mark h m d ≡ Ran a w → with_mark h (λ _. m a) d ≡ Ran a w
     by Waits g e = absurd cc
@@ -109,7 +86,7 @@ MakesNoMove op = (is_read op ≡ false) × ((m : above.Answer op → Option abov
 abbrev Sort : above.Op → Type 0
 Sort op =
     ((time_of op ≡ InFirst) × (acts_first op ≡ true)) ⊎ (((time_of op ≡ InLast) × (acts_first op ≡ false))
-    ⊎ (((time_of op ≡ InOne) × (acts_first op ≡ false) × MakesNoMove op) ⊎ (((a : above.Answer op) → says_no_room op a ≡ false) × MakesNoMove op)))
+    ⊎ (((time_of op ≡ InOne) × (acts_first op ≡ false) × MakesNoMove op) ⊎ ((a : above.Answer op) → says_no_room op a ≡ false)))
 
 sort : (op : above.Op) → Sort op
 sort (Take n looking) = inl (refl, refl)
@@ -117,7 +94,7 @@ sort (StatFile fd) = inl (refl, refl)
 sort (LockFile fd) = inl (refl, refl)
 sort (LockOpen fd n) = inl (refl, refl)
 sort (Claim inode_type) = inr (inr (inl (refl, refl, (refl, λ m fine a. fine a))))
-sort Leave = inr (inr (inr (λ a. refl, (refl, λ m fine a. fine a))))
+sort Leave = inr (inr (inr (λ a. refl)))
 sort op = inr (inl (refl, refl))
 
 -- a claim whose block is given back is one, and its mark says that there was no room where it is answered so
@@ -138,21 +115,12 @@ end_of (Do op m k) e = absurd cc
 -- ---- the step
 
 -- Where the kept tree's mark is that of an operation that found no room, that is known.
-module _ (k : KeptTree) (h : ℕ) (v : Under) (is : hart_in k h ≡ Some v) (w : above.World) (inv : Inv w) (lt : h < hart_count) (stage : stage_of k ≡ above.stage_of w)
-    (m : Option above.Mark) (alone : (mv : Move) → m ≡ Some (Makes mv) → NoOpenAlone mv) where
-  known_by : (o : Option Mark) (between : KeptTree) → MovesByAny k h o between → marked_as (action_in v.whole) o ≡ m → IsShort h m w → between.full ≡ true
-  known_by None between by same (inl e) = true_false (sym e ∙ ap spoils (sym same))
-  known_by None between by same (inr e) = none_some (Makes e.0) (same ∙ e.1)
-  known_by (Some mk) between by same (inl e) =
+module _ (k : KeptTree) (h : ℕ) (v : Under) (m : Option above.Mark) where
+  known_by : (o : Option Mark) (between : KeptTree) → MovesByAny k h o between → marked_as (action_in v.whole) o ≡ m → spoils m ≡ true → between.full ≡ true
+  known_by None between by same e = true_false (sym e ∙ ap spoils (sym same))
+  known_by (Some mk) between by same e =
       let so : kept_spoils mk ≡ true = sym (spoils_so (action_in v.whole) mk) ∙ ap spoils same ∙ e in
       ap (λ (z : KeptTree). z.full) (by.still (spoils_none mk so)) ∙ ap (λ (b : Bool). k.full || b) so ∙ or_true k.full
-  known_by (Some mk) between by same (inr e) = elim (either between.full) [
-    | inl known ↦ known
-    | inr unknown ↦
-        let makes : mark_in (action_in v.whole) mk ≡ Makes e.0 = Some-inj (mark_in (action_in v.whole) mk) (Makes e.0) (same ∙ e.1) in
-        let room : FindsRoom (above.stage_of w) h e.0 = subst (λ (z : Stage). FindsRoom z h e.0) stage (by.room unknown v e.0 is makes) in
-        true_false (sym (room_in_both w inv h lt e.0 (alone e.0 e.1) room) ∙ e.2)
-  ]
 
 module _ {D : Type 0} (contents : D → List (List ℕ)) (failures : D → ℕ) (sizes : Super) (h : ℕ) (s : State (block_calls sizes)) (made : Made (block_calls sizes))
     (was now : ℕ → Option UnderWay) (r : RunsAStep sizes h Passes s made was now) (b : History) (old new : HartsOf D) (k : KeptTree)
@@ -160,7 +128,7 @@ module _ {D : Type 0} (contents : D → List (List ℕ)) (failures : D → ℕ) 
     (ran : RanAt h (get_or old.calls h None) out came (get_or new.calls h None) (shared_of contents failures old) (shared_of contents failures new))
     (amid : KeptTree) (kept : HasRun k h came amid) (fine : AreAmid new) (sees : SeesAlike r.under (tree_of k.tree) s.world.seen (r.rest r.answer) (or_else r.acts r.under.acted))
     (leads : LeadTo (handlers sizes r.under.hand r.under.op r.under.mark) r.under.ran r.under.left)
-    (tells_so : (a : above.Answer r.under.op) → spoils (r.under.mark a) ≡ says_no_room r.under.op a) (inv : Inv s.world.seen) (shows : Shows s.world.real.blocks s.world.seen)
+    (tells_so : (a : above.Answer r.under.op) → spoils (r.under.mark a) ≡ says_no_room r.under.op a) (shows : Shows s.world.real.blocks s.world.seen)
     (clean : s.world.seen.clean ≡ true) (short : made.after.world.seen.clean ≡ false) where
   here : Has sizes r.under (get_or old.calls h None) (hart_in k h)
   here = has sizes r.under (get_or old.calls h None) (hart_in k h) (subst (λ (z : Option UnderWay). HartAt sizes z (get_or old.calls h None) (hart_in k h)) r.is (agree.harts h))
@@ -200,7 +168,7 @@ module _ {D : Type 0} (contents : D → List (List ℕ)) (failures : D → ℕ) 
   record ActsShort : Type 0 where
     a : above.Answer r.under.op
     is : r.acts ≡ Some a
-    finds_none : IsShort h (r.under.mark a) s.world.seen
+    finds_none : spoils (r.under.mark a) ≡ true
     truly : SeesTruly r.under.op a s.world.seen
 
   -- it acts in this step, and finds no room
@@ -240,8 +208,7 @@ module _ {D : Type 0} (contents : D → List (List ℕ)) (failures : D → ℕ) 
   full_by : (y : Heard) → mark_at (whole_of here.call.listed here.call.whole) y ≡ r.under.mark acts.a → MarksAt here.call y kept.marked → amid.full ≡ true
   full_by y same marks =
       ap (λ (z : KeptTree). z.full) kept.hears.kept
-      ∙ known_by k h here.call here.found s.world.seen inv (subst (λ (z : ℕ). h < z) agree.book.harts (is_hart k h here.call here.found)) agree.stage (r.under.mark acts.a)
-      (λ v makes. no_open_alone here.call.listed here.call.whole y v (same ∙ makes)) kept.marked kept.between kept.moves (sym (marks here.call.listed) ∙ same) acts.finds_none
+      ∙ known_by k h here.call (r.under.mark acts.a) kept.marked kept.between kept.moves (sym (marks here.call.listed) ∙ same) acts.finds_none
 
   abbrev Result : Type 0
   Result = (amid.full ≡ true) ⊎ ((out ≡ None) × SomeLacks new amid)
@@ -329,9 +296,8 @@ module _ {D : Type 0} (contents : D → List (List ℕ)) (failures : D → ℕ) 
   none_made : MakesNoMove r.under.op → (a : above.Answer r.under.op) → MakesNone (r.under.mark a)
   none_made f = f.1 r.under.mark (fine_unless (Do r.under.op r.under.mark r.under.rest) here.call program f.0)
 
-  never_short : (m : Option above.Mark) → MakesNone m → spoils m ≡ false → IsShort h m s.world.seen → Result
-  never_short m none room (inl e) = true_false (sym e ∙ room)
-  never_short m none room (inr e) = absurd (subst MakesNone e.1 none)
+  never_short : (m : Option above.Mark) → spoils m ≡ false → spoils m ≡ true → Result
+  never_short m room e = true_false (sym e ∙ room)
 
   -- Full is known then, or the call lacks a place that it isn't told of yet.
   pub first_short : Result
@@ -348,4 +314,4 @@ module _ {D : Type 0} (contents : D → List (List ℕ)) (failures : D → ℕ) 
         | inl end ↦ inl (full_at_end end.0 end.1 here.call.has_begun came heard_at (marks_then false here.call.has_begun f.1 refl))
         | inr gives ↦ lacks gives out refl left.control.ended comes
       ]
-      by (inr (inr (inr f))) = never_short (r.under.mark acts.a) (none_made f.1 acts.a) (tells_so acts.a ∙ f.0 acts.a) acts.finds_none
+      by (inr (inr (inr f))) = never_short (r.under.mark acts.a) (tells_so acts.a ∙ f acts.a) acts.finds_none

@@ -1,83 +1,50 @@
--- In a run that is clean at its end each operation that has acted found room: neither its mark says that there was none, nor what its call is
--- told.
-use Rattle.std.specs.Prelude.{◌≡◌, ◌≢◌, ◌⊎◌, ℕ, ◌+◌, true, false, [], ◌∷◌, Option, Some, None}
+-- In a run that is clean at its end each operation that has acted found room: its mark doesn't say that there was none.
+use Rattle.std.specs.Prelude.{◌≡◌, ◌≢◌, ◌⊎◌, ℕ, true, false, Option, Some, None}
 use Rattle.calls_on_blocks.proofs.Vocabulary.{refl, sym, ◌∙◌, ap, subst, inl, inr}
 use Rattle.atomic_programs.proofs.Explains.{Some-inj, changed_other, changed_same}
 use Rattle.atomic_programs.proofs.Maps.{same_or}
 use Rattle.atomic_programs.specs.Calls.{DidEnd, DidRun, Event, EventOutcome, Made, Start, Started, State, Step, changed}
 use Rattle.atomic_programs.specs.Joined.{Handover, ran_to}
 use Rattle.atomic_programs.specs.Prog.{ExecResult, Waits, Ran, Stops, Ret, Do}
-use Rattle.calls_on_blocks.specs.History.{block_moves}
 use Rattle.calls_on_blocks.specs.Theory.{block_calls}
 use Rattle.fs_layout.specs.declared.superblock.Super.{Super}
-use Rattle.inode_machine.specs.Exec.{first_from, is_nothing, or_zero}
 use Rattle.inode_machine.specs.VersionOne.{exec}
-use Rattle.inode_machine.specs.Kept.{told_of}
-use Rattle.inode_machine.specs.VersionOne.{placed}
-use Rattle.inode_machine.specs.Marks.{new_id, roomy}
-use Rattle.inode_machine.specs.VersionOne.{go, made_by, marked, places, with_mark}
+use Rattle.inode_machine.specs.VersionOne.{go, marked, with_mark}
 use Rattle.inode_machine.specs.Parts as programs
 use Rattle.inode_machine.specs.World as above
 use Rattle.inode_machine.specs.World.Mark.{Makes, Frees, Orphans, Fills, Mends, Spoils}
 use Rattle.inodes_on_blocks.specs.Handlers.{P}
 use Rattle.inodes_on_blocks.specs.Lowering.{Carry}
-use Rattle.plain_tree.proofs.Maps.{and_true}
 use Rattle.plain_tree.specs.declared.answer.Reply.{Reply}
 use Rattle.plain_tree.specs.declared.call.Call.{Call}
-use Rattle.run_laws.proofs.Running.{Goes, goes_on, kept_of}
+use Rattle.run_laws.proofs.Running.{Goes, goes_on}
 use Rattle.call_programs.specs.Asks.{spoils}
 use Rattle.run_laws.specs.Searches.{AnsweredStep}
-use Rattle.run_laws.specs.UnderWay.{EventDoes, IsMadeBy, RunsAStep, StartDoes, StepDoes, UnderWay, at_beginning, gone_on, placed_by}
+use Rattle.run_laws.specs.UnderWay.{EventDoes, IsMadeBy, RunsAStep, StartDoes, StepDoes, UnderWay, at_beginning, gone_on}
 use Rattle.run_laws.specs.Vocabulary.{Outside, or_else}
-use Rattle.run_laws.specs.WholeInodes.{told_by}
-use Rattle.tree_laws.specs.Moves.{Deed, Move}
 use Rattle.kept_histories.proofs.Basics.{none_some}
 
 -- ---- an operation that acts
 
 -- a mark that leaves the world clean
-marked_room : (h : ℕ) (k : Option above.Mark) (w : above.World) → (marked h k w).clean ≡ true → (spoils k ≡ false) × (roomy (told_by h k w) ≡ true)
-marked_room h None w e = (refl, refl)
-marked_room h (Some (Makes v)) w e = (refl, (and_true (roomy (made_by w.all h (new_id w) (w.harts h).walk v).told) w.clean e).0)
-marked_room h (Some (Frees n)) w e = (refl, refl)
-marked_room h (Some (Orphans n)) w e = (refl, refl)
+marked_room : (h : ℕ) (k : Option above.Mark) (w : above.World) → (marked h k w).clean ≡ true → spoils k ≡ false
+marked_room h None w e = refl
+marked_room h (Some (Makes v)) w e = refl
+marked_room h (Some (Frees n)) w e = refl
+marked_room h (Some (Orphans n)) w e = refl
 marked_room h (Some Fills) w e = absurd cc
 marked_room h (Some Mends) w e = absurd cc
 marked_room h (Some (Spoils s)) w e = absurd cc
 
--- the operation leaves to its mark what is told
-told_same : (h : ℕ) (k : Option above.Mark) (w u : above.World) → kept_of h u ≡ kept_of h w → told_by h k u ≡ told_by h k w
-told_same h None w u e = refl
-told_same h (Some (Makes v)) w u e = λ i. (made_by (e i).all h (or_zero (first_from ((e i).next + 1) 0 (λ j. is_nothing ((e i).all.files j)))) (e i).walk v).told
-told_same h (Some (Frees n)) w u e = refl
-told_same h (Some (Orphans n)) w u e = refl
-told_same h (Some Fills) w u e = refl
-told_same h (Some Mends) w u e = refl
-told_same h (Some (Spoils s)) w u e = refl
-
-ran_room : {A : Type 0} (h : ℕ) (m : A → Option above.Mark) (v w : above.World) (a : A) (d : ExecResult A above.World) → Goes h v d → with_mark h m d ≡ Ran a w → w.clean ≡ true
-    → (spoils (m a) ≡ false) × (roomy (told_by h (m a) v) ≡ true)
+ran_room : {A : Type 0} (h : ℕ) (m : A → Option above.Mark) (v w : above.World) (a : A) (d : ExecResult A above.World) → Goes h v d → with_mark h m d ≡ Ran a w → w.clean ≡ true → spoils (m a) ≡ false
 ran_room h m v w a Waits g e clean = absurd cc
 ran_room h m v w a (Stops u) g e clean = absurd g
 ran_room h m v w a (Ran b u) g e clean =
     let same : b ≡ a = cc in
-    let room = marked_room h (m b) u (ap (λ (z : above.World). z.clean) (ap (ran_to w) e) ∙ clean) in
-    (ap (λ (z : _). spoils (m z)) (sym same) ∙ room.0, ap (λ (z : _). roomy (told_by h (m z) v)) (sym same) ∙ ap roomy (sym (told_same h (m b) v u g)) ∙ room.1)
+    ap (λ (z : _). spoils (m z)) (sym same) ∙ marked_room h (m b) u (ap (λ (z : above.World). z.clean) (ap (ran_to w) e) ∙ clean)
 
-pub acts_room : (h : ℕ) (x : above.Outside) (op : above.Op) (m : above.Answer op → Option above.Mark) (v w : above.World) (a : above.Answer op) → go h x op m v ≡ Ran a w → w.clean ≡ true
-    → (spoils (m a) ≡ false) × (roomy (told_by h (m a) v) ≡ true)
+pub acts_room : (h : ℕ) (x : above.Outside) (op : above.Op) (m : above.Answer op → Option above.Mark) (v w : above.World) (a : above.Answer op) → go h x op m v ≡ Ran a w → w.clean ≡ true → spoils (m a) ≡ false
 acts_room h x op m v w a e clean = ran_room h m v w a (exec h x op v) (goes_on h x op v) e clean
-
--- what it places tells that there was room
-places_room : (sizes : Super) (h : ℕ) (op : above.Op) (a : above.Answer op) (k : Option above.Mark) (w : above.World) → roomy (told_by h k w) ≡ true
-    → (v : Move) (d : Option Deed) → places h op a k w ≡ (h, record { move = v; told = d }) ∷ [] → roomy d ≡ true
-places_room sizes h op a None w room v d e = absurd cc
-places_room sizes h op a (Some (Makes u)) w room v d e = ap roomy (sym (ap (told_of (block_moves sizes)) e)) ∙ room
-places_room sizes h op a (Some (Frees n)) w room v d e = absurd cc
-places_room sizes h op a (Some (Orphans n)) w room v d e = absurd cc
-places_room sizes h op a (Some Fills) w room v d e = absurd cc
-places_room sizes h op a (Some Mends) w room v d e = absurd cc
-places_room sizes h op a (Some (Spoils s)) w room v d e = absurd cc
 
 -- ---- the operations under way
 
@@ -119,17 +86,7 @@ module _ (sizes : Super) (h : ℕ) (x : Outside) (s : State (block_calls sizes))
       by None does e = all h r.under r.is a e
       by (Some b) does e =
           ap (λ (z : above.Answer r.under.op). spoils (r.under.mark z)) (sym (Some-inj b a e))
-          ∙ (acts_room h does.0.0 r.under.op r.under.mark s.world.seen made.after.world.seen b does.0.1 clean).0
-
-  -- .. and what it places tells so
-  pub placed_room : (v : Move) (d : Option Deed) → placed (block_moves sizes) (Step h x) s ≡ (h, record { move = v; told = d }) ∷ [] → roomy d ≡ true
-  placed_room v d e = by r.acts r.does (sym r.places ∙ e)
-    where
-      by : (acts : Option (above.Answer r.under.op)) → IsMadeBy h r.under acts s.world.seen made.after.world.seen → placed_by h r.under acts s.world.seen ≡ (h, record { move = v; told = d }) ∷ [] → roomy d ≡ true
-      by None does e = absurd cc
-      by (Some b) does e =
-          places_room sizes h r.under.op b (r.under.mark b) s.world.seen
-          (acts_room h does.0.0 r.under.op r.under.mark s.world.seen made.after.world.seen b does.0.1 clean).1 v d e
+          ∙ acts_room h does.0.0 r.under.op r.under.mark s.world.seen made.after.world.seen b does.0.1 clean
 
   step_found : AllFound was → AllFound now
   step_found all =

@@ -35,8 +35,6 @@ pub mod ShownFirst
 pub mod Claiming
 pub mod Lacking
 pub mod Lasting
-pub mod Roominess
-pub mod MarksOfRoom
 pub mod FirstShort
 pub mod EventShort
 pub mod HartsAtEnd

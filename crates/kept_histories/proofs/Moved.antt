@@ -1,22 +1,21 @@
--- The kept tree's stage and book go on by a step's move as the theory's stage and history do, and no step finds no room.
-use Rattle.std.specs.Prelude.{◌≡◌, ℕ, zero, suc, Bool, true, not, ◌||◌, List, [], ◌∷◌, Option, Some, None}
+-- The kept tree's stage and book go on by a step's move as the theory's stage and history do, and what is known of room stays as it was.
+use Rattle.std.specs.Prelude.{◌≡◌, ℕ, zero, suc, List, Option, Some, None}
 use Rattle.calls_on_blocks.proofs.Vocabulary.{refl, sym, ◌∙◌, ap, subst, inl, inr}
 use Rattle.inode_machine.specs.Kept.{told_of}
 use Rattle.inode_machine.specs.VersionOne.{stage_by, told_by_move}
 use Rattle.inode_machine.specs.VersionOne.{IsMade, MakesPlaced, MayMake, OpensLeast}
 use Rattle.inode_machine.specs.MoveCalls.{MoveMachine}
-use Rattle.inode_machine.specs.Marks.{roomy}
 use Rattle.inode_machine.specs.Vocabulary.{MoveStep}
 use Rattle.path_walk.specs.declared.asks.Mark.{Mark}
 use Rattle.tree_histories.specs.Books.{IsBook}
 use Rattle.tree_histories.specs.Keeping.{KeptTree, Under, hart_in, stage_of}
 use Rattle.tree_histories.specs.Moving.{IsMoved, MovesByAny}
 use Rattle.tree_laws.specs.History.{History}
-use Rattle.tree_laws.specs.Moves.{Deed, Move, Stage}
+use Rattle.tree_laws.specs.Moves.{Deed, Stage}
 use Rattle.tree_laws.specs.Runs.{all_fall, lost_of, moves_on, unless}
 use Rattle.tree_laws.specs.Vocabulary.{hart_count}
 use Rattle.whole_calls.specs.Wholes.{action_in}
-use Rattle.kept_histories.proofs.Marks.{PlacesAlike, moves, or_false, stays}
+use Rattle.kept_histories.proofs.Marks.{PlacesAlike, moves, stays}
 
 -- ---- an event without a move
 
@@ -39,8 +38,7 @@ nothing_moves n h b = rw (unless_none (lost_of n h)) (all_stand n hart_count b)
 -- ---- a step
 
 module _ (N : MoveMachine) (h : ℕ) (k : KeptTree) (n n' : Stage) (ps : List (ℕ × MoveStep)) (stands : stage_of k ≡ n) (makes : MakesPlaced h n ps n')
-    (v : Under) (is : hart_in k h ≡ Some v) (o : Option Mark) (between : KeptTree) (by : MovesByAny k h o between)
-    (roomy_told : (v : Move) (d : Option Deed) → ps ≡ (h, record { move = v; told = d }) ∷ [] → roomy d ≡ true) where
+    (v : Under) (is : hart_in k h ≡ Some v) (o : Option Mark) (between : KeptTree) (by : MovesByAny k h o between) where
   pub record MovedOn : Type 0 where
     pub stage : stage_of between ≡ n'
     pub book : (b : History) → IsBook k b → IsBook between (moves_on n n' h (told_of N ps) b)
@@ -72,6 +70,5 @@ module _ (N : MoveMachine) (h : ℕ) (k : KeptTree) (n n' : Stage) (ps : List (�
             (subst (λ (d : Option Deed). IsBook between (moves_on n n' h d b)) (sym told)
             (subst (λ (z : Stage). IsBook between (moves_on n z h (told_by_move n h went.id one.0) b)) (sym to)
             (subst (λ (z : Stage). IsBook between (moves_on z (stage_by z h went.id one.0) h (told_by_move z h went.id one.0) b)) stands (went.book b book))));
-        full = went.full ∙ ap (λ (z : Stage). k.full || not (roomy (told_by_move z h went.id one.0))) stands
-            ∙ ap (λ (d : Option Deed). k.full || not (roomy d)) (sym told) ∙ ap (λ (b : Bool). k.full || not b) (roomy_told one.0 one.1 one.2) ∙ or_false k.full;
+        full = went.full;
       }

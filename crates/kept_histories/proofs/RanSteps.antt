@@ -1,5 +1,5 @@
 -- A step that ran: the theory's state, code's harts and the kept tree agree after it as before it.
-use Rattle.std.specs.Prelude.{◌≡◌, ◌≢◌, ◌⊎◌, ◌<◌, ℕ, Bool, true, false, List, [], ◌∷◌, Option, Some, None, get_or}
+use Rattle.std.specs.Prelude.{◌≡◌, ◌≢◌, ◌⊎◌, ◌<◌, ℕ, Bool, true, false, List, Option, Some, None, get_or}
 use Rattle.std.specs.Option.{option_map}
 use Rattle.calls_on_blocks.proofs.Vocabulary.{refl, sym, ◌∙◌, ap, subst, inl, inr}
 use Rattle.atomic_programs.proofs.Explains.{changed_other}
@@ -17,7 +17,6 @@ use Rattle.hart_core.specs.Worlds.{calls_of}
 use Rattle.inode_machine.specs.Kept.{told_of}
 use Rattle.inode_machine.specs.VersionOne.{placed}
 use Rattle.inode_machine.specs.VersionOne.{MakesPlaced}
-use Rattle.inode_machine.specs.Marks.{roomy}
 use Rattle.inode_machine.specs.MoveCalls.{MoveMachine}
 use Rattle.inode_parts.specs.Telling.{GoesOrEnds, part_of}
 use Rattle.path_walk.specs.declared.asks.Heard.{Heard}
@@ -32,14 +31,14 @@ use Rattle.tree_histories.specs.Keeping.{HeardBy, KeptTree, Under, hart_in, pass
 use Rattle.tree_histories.specs.Moving.{HasRun, SameCalls}
 use Rattle.tree_histories.specs.Sights.{MarksBy}
 use Rattle.tree_laws.specs.History.{History, passes, replies}
-use Rattle.tree_laws.specs.Moves.{Deed, Move, Stage}
+use Rattle.tree_laws.specs.Moves.{Stage}
 use Rattle.tree_laws.specs.Runs.{moves_on}
 use Rattle.whole_calls.specs.Wholes.{WholeFits, action_in}
 use Rattle.kept_histories.specs.Keeps.{Passes as JustPasses, Replies}
 use Rattle.kept_histories.proofs.Agreeing.{Agrees, Has, book_put, has, hart_still, other_call, stands_still}
 use Rattle.kept_histories.proofs.Amid.{AreAmid}
 use Rattle.kept_histories.proofs.Controls.{at_end}
-use Rattle.kept_histories.proofs.Found.{AllFound, acted_room, placed_room}
+use Rattle.kept_histories.proofs.Found.{AllFound, acted_room}
 use Rattle.kept_histories.proofs.KeptCalls.{KeptAs}
 use Rattle.kept_histories.proofs.Marks.{PlacesAlike, calls_stay}
 use Rattle.kept_histories.proofs.Moved.{MovedOn, moved_on}
@@ -97,13 +96,10 @@ module _ {D : Type 0} (contents : D → List (List ℕ)) (failures : D → ℕ) 
       (subst (λ (z : Option Under). MarksBy (tree_of k.tree) z heard kept.marked) here.found kept.marks)
       sees
 
-  told_room : (v : Move) (d : Option Deed) → placed N (Step h Passes) s ≡ (h, record { move = v; told = d }) ∷ [] → roomy d ≡ true
-  told_room = placed_room sizes h Passes s made was now r clean
-
-  moved : MovedOn N h k (N.tree s.world) (N.tree made.after.world) (placed N (Step h Passes) s) agree.stage placed_so here.call here.found kept.marked kept.between kept.moves told_room
+  moved : MovedOn N h k (N.tree s.world) (N.tree made.after.world) (placed N (Step h Passes) s) agree.stage placed_so here.call here.found kept.marked kept.between kept.moves
   moved =
       moved_on N h k (N.tree s.world) (N.tree made.after.world) (placed N (Step h Passes) s) agree.stage placed_so here.call here.found kept.marked kept.between
-      kept.moves told_room alike
+      kept.moves alike
 
   same_calls : SameCalls k kept.between
   same_calls = calls_stay k h kept.marked kept.between kept.moves

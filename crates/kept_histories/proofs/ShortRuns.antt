@@ -1,12 +1,10 @@
 -- A run in which some step found no room: at its end the keeper knows, or a call lacks a place that it isn't told of yet. And no call does in
 -- a run in which each step found room.
 use Rattle.std.specs.Prelude.{◌≡◌, ◌⊎◌, ◌<◌, ◌+◌, ◌^◌, ℕ, suc, Bool, true, false, List, [], ◌∷◌, ◌++◌, Option, Some, None, length}
-use Rattle.calls_on_blocks.proofs.Vocabulary.{refl, sym, ◌∙◌, ap, subst, inl, inr, append_assoc, append-nil, arith, AllHonest, IsMoving, RunsFrom}
-use Rattle.calls_on_blocks.proofs.History.{moving, runs_from}
-use Rattle.atomic_programs.proofs.Explains.{Keeps, sound_keeps}
+use Rattle.calls_on_blocks.proofs.Vocabulary.{refl, sym, ◌∙◌, ap, subst, inl, inr, append_assoc, append-nil, arith, AllHonest, RunsFrom}
+use Rattle.calls_on_blocks.proofs.History.{runs_from}
 use Rattle.atomic_programs.proofs.Reached.{run-append}
-use Rattle.atomic_programs.specs.Calls.{Event, Sound, State, Theory, fresh, makes, next, with_answer}
-use Rattle.atomic_programs.specs.Explained.{Holds}
+use Rattle.atomic_programs.specs.Calls.{Event, State, Theory, fresh, makes, next, with_answer}
 use Rattle.calls_on_blocks.specs.History.{RunsOn, block_moves, first}
 use Rattle.calls_on_blocks.specs.Theory.{block_calls}
 use Rattle.fs_layout.specs.declared.superblock.Super.{Super}
@@ -18,7 +16,6 @@ use Rattle.hart_core.specs.declared.events.Event.{Event as HartEvent}
 use Rattle.image_tree.specs.VersionOne.{tree_in}
 use Rattle.inode_machine.specs.VersionOne.{kept_on}
 use Rattle.inode_machine.specs.MoveCalls.{MoveMachine}
-use Rattle.inode_machine.specs.Rules.{Inv}
 use Rattle.inode_parts.specs.Calls.{LoweredReady}
 use Rattle.inode_parts.specs.Telling.{lacks_place}
 use Rattle.plain_tree.specs.declared.call.Call.{Call}
@@ -39,7 +36,7 @@ use Rattle.kept_histories.proofs.KeptHistory.{history_in}
 use Rattle.kept_histories.proofs.KeptLists.{known}
 use Rattle.kept_histories.proofs.Lacking.{lacks_gives}
 use Rattle.kept_histories.proofs.Lasting.{run_lasts, who_lacks}
-use Rattle.kept_histories.proofs.Prefixes.{clean_at, honest_parts, so_far, sound_at}
+use Rattle.kept_histories.proofs.Prefixes.{clean_at, honest_parts, so_far}
 use Rattle.kept_histories.proofs.ShownFirst.{sees_rightly}
 use Rattle.kept_histories.proofs.Together.{HartAt}
 use Rattle.kept_histories.proofs.Basics.{longer, not_both}
@@ -78,26 +75,17 @@ module _ (disk : List (List ℕ)) (count : ℕ) (whole : List (Event Call Outsid
   then_at : (es : List (Event Call Outside)) (f : Event Call Outside) → at (es ++ f ∷ []) ≡ next L f (at es)
   then_at es f = run-append L es (f ∷ []) (fresh L (first disk count))
 
-  -- what always holds of whole inodes does, also of a world that has stopped
-  inv_above : (b : Bool) (w : L.M.World) → Holds L b w → Inv w.seen
-  inv_above true w holds = holds.1
-  inv_above false w holds = holds.1
-
   module _ (past : List (Event Call Outside)) (f : Event Call Outside) (rest : List (Event Call Outside)) (is : past ++ f ∷ rest ≡ whole) (runs : RunsOn disk count past) where
     -- what is known of an event that is the first to find no room
     known_short : KnownShort (sizes_of disk) f (at past) (goes.under (length past)) (goes.under (suc (length past)))
     known_short =
         let begins : RunsFrom N (tree_in disk) (first disk count) past = runs_from disk count past runs in
-        let m : IsMoving N = moving sizes in
-        let sound : Sound L (at past) = sound_at disk count past runs past [] (append-nil past) in
-        let keeps : Keeps L (L.M.tree sound.first) (at past) = sound_keeps L m.lawful (at past) sound in
         record {
           does = goes.leads_on past f rest is;
           fits = goes.fits past (f ∷ rest) is;
           tells = λ h u under. says_so u (all_spoil sizes (first disk count) whole goes past (f ∷ rest) is h u under);
           sees = λ h made r off t same.
               sees_rightly sizes (first disk count) whole goes begins.holds begins.idle honest past (f ∷ rest) is off t same h _ made (goes.under (suc (length past))) r;
-          inv = inv_above (at past).stopped (at past).world keeps.holds;
           shows = shows_there sizes (first disk count) whole goes begins.holds begins.idle honest past (f ∷ rest) is;
         }
 
