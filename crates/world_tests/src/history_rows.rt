@@ -68,12 +68,12 @@ const FULL: &str =
 const FULL_AND_CLIMBS: &str =
     "do 0 open /.. 0\ndo 0 open / 0\ndo 0 open / 0\ndo 0 open / 0\ndo 0 open / 0\ndo 0 open / 0\ndo 0 open / 0\ndo 0 open / 0\ndo 0 open / 0\ndo 0 open / 0\ndo 0 open / 0\ndo 0 open / 0\ndo 0 open / 0\ndo 0 open / 0\ndo 0 open / 0\ndo 0 open / 0\ndo 0 open / 0";
 
-/// A seventeenth descriptor is asked for, and the call hasn't been told yet that there is none.
+/// A seventeenth descriptor is asked for, and its step has answered that there is none; the call hasn't replied yet.
 const FULL_UNDER_WAY: &str =
-    "do 0 open / 0\ndo 0 open / 0\ndo 0 open / 0\ndo 0 open / 0\ndo 0 open / 0\ndo 0 open / 0\ndo 0 open / 0\ndo 0 open / 0\ndo 0 open / 0\ndo 0 open / 0\ndo 0 open / 0\ndo 0 open / 0\ndo 0 open / 0\ndo 0 open / 0\ndo 0 open / 0\ndo 0 open / 0\n0 open / 0\nupto 0 up 1";
+    "do 0 open / 0\ndo 0 open / 0\ndo 0 open / 0\ndo 0 open / 0\ndo 0 open / 0\ndo 0 open / 0\ndo 0 open / 0\ndo 0 open / 0\ndo 0 open / 0\ndo 0 open / 0\ndo 0 open / 0\ndo 0 open / 0\ndo 0 open / 0\ndo 0 open / 0\ndo 0 open / 0\ndo 0 open / 0\n0 open / 0\nupto 0 slot 2";
 
 const FULL_UNDER_WAY_AND_CLIMBS: &str =
-    "do 0 open /.. 0\ndo 0 open / 0\ndo 0 open / 0\ndo 0 open / 0\ndo 0 open / 0\ndo 0 open / 0\ndo 0 open / 0\ndo 0 open / 0\ndo 0 open / 0\ndo 0 open / 0\ndo 0 open / 0\ndo 0 open / 0\ndo 0 open / 0\ndo 0 open / 0\ndo 0 open / 0\ndo 0 open / 0\n0 open / 0\nupto 0 up 1";
+    "do 0 open /.. 0\ndo 0 open / 0\ndo 0 open / 0\ndo 0 open / 0\ndo 0 open / 0\ndo 0 open / 0\ndo 0 open / 0\ndo 0 open / 0\ndo 0 open / 0\ndo 0 open / 0\ndo 0 open / 0\ndo 0 open / 0\ndo 0 open / 0\ndo 0 open / 0\ndo 0 open / 0\ndo 0 open / 0\n0 open / 0\nupto 0 slot 2";
 
 /// A file is claimed for which there is no place in memory, and its call isn't told so yet.
 const PLACE_UNDER_WAY: &str =
