@@ -1,4 +1,4 @@
-// Slots in a row.
+//! Slots in a row.
 ghost use Rattle.std.specs.Prelude.{◌≡◌, ◌<◌, ◌≤◌, ◌^◌, Some, IfOk, IfSome, length, slice_get};
 ghost use Rattle.std.specs.Borrow.{sem};
 ghost use Rattle.sleep_lock.specs.Row.{lock_of, unlocked, IsOut, IsNumbered, LeavesOthers, row_of};

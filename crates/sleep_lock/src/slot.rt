@@ -1,4 +1,4 @@
-// A slot and its guard.
+//! A slot and its guard.
 ghost use Rattle.std.specs.Prelude.{◌≡◌, ◌<◌, ◌↔◌, IsNone};
 ghost use Rattle.std.specs.Borrow.{sem};
 ghost use Rattle.sleep_lock.specs.SleepLock.{guard_of, taken, filled, emptied};
