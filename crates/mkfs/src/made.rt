@@ -171,8 +171,8 @@ pub fn make(
     make_as(alloc, Version::One, size, ninodes, files)
 }
 
-/// What an image that can be made holds in front: as many blocks as asked for, the superblock, and
-/// an empty log, so that recovery leaves each block as it stands.
+/// What an image that can be made holds in front: as many blocks as asked for, the superblock, and an empty log, so
+/// that recovery leaves each block as it is.
 pub fn made_front()
     ensures size { (v : Version) (size ninodes : ℕ) (names contents : List (List ℕ)) → length names ≡ length contents
         → CanBeMade v size ninodes names contents
@@ -188,7 +188,7 @@ pub fn made_front()
         → recovered (blocks_of (image_of v size ninodes names contents)) b ≡ block_at (blocks_of (image_of v size ninodes names contents)) b }
 {}
 
-/// The inodes of an image that can be made, where they stand: the first is inode 1, the root.
+/// The inodes of an image that can be made, at their places: the first is inode 1, the root.
 pub fn made_inodes()
     ensures { (v : Version) (size ninodes i : ℕ) (names contents : List (List ℕ)) (d : Dinode) → length names ≡ length contents
         → CanBeMade v size ninodes names contents

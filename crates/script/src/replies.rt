@@ -56,7 +56,7 @@ fn write_state<W: Write>(out: &mut W, kind: u8, nlink: u16, size: u64) -> io::Re
     writeln!(out, " {kind} {nlink} {size}")
 }
 
-/// What became of a call, with its number and name.
+/// The result of a call, with its number and name.
 pub fn write_numbered<W: Write>(
     out: &mut W,
     hart: u8,
@@ -84,7 +84,7 @@ fn write_given<W: Write>(out: &mut W, call: &Call, count: u32) -> io::Result<()>
     }
 }
 
-/// A space and the bytes, where there are any.
+/// A space and the bytes, if there are any.
 pub(crate) fn write_bytes<W: Write>(out: &mut W, bytes: &[u8]) -> io::Result<()>
     ensures { OnOk result (Appends (W.contents out.old) (W.contents out.new) (bytes_text bytes.now)) }
 {

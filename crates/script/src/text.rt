@@ -22,8 +22,8 @@ pub fn parse(alloc: Global, text: &[u8]) -> Result<Vec<ScriptLine>, ScriptFault>
     }
 }
 
-/// The commands of a script up to its first line that says nothing, and that line: one before it may be bad where it is to be run. Only
-/// want of memory is an error.
+/// The commands of a script up to its first line that says nothing, and that line: a line before it may be bad when
+/// it is run. Only want of memory is an error.
 pub fn parse_front(alloc: Global, text: &[u8]) -> Result<Front, AllocError>
     ensures { IfOk result (λ front. GivesFront front text.now) }
 {
@@ -68,7 +68,7 @@ fn has_empty_word(line: &[u8]) -> bool {
     line.split(|b| *b == b' ').any(|word| word.is_empty())
 }
 
-// Whether a word begins with a quotation mark, and isn't the one that stands for no bytes.
+// Whether a word begins with a quotation mark, and isn't the one for no bytes.
 fn has_quoted_word(line: &[u8]) -> bool {
     line.split(|b| *b == b' ').any(|word| word.starts_with(b"\"") && word != b"\"\"".as_slice())
 }
