@@ -80,7 +80,7 @@ inode_for first node = record {
   addrs = padded addresses (range_with_len first (min (blocks_of_node node) addresses));
 }
 
--- each node's blocks begin where those of the node before it end
+-- each node's blocks begin after those of the node before it
 abbrev pub inodes_from : ℕ → List Node → List Dinode
 inodes_from first [] = []
 inodes_from first (node ∷ nodes) = inode_for first node ∷ inodes_from (first + blocks_of_node node) nodes

@@ -171,8 +171,8 @@ pub fn make(
     make_as(alloc, Version::One, size, ninodes, files)
 }
 
-/// What an image that can be made holds in front: as many blocks as asked for, the superblock, and an empty log, so
-/// that recovery leaves each block as it is.
+/// What an image that can be made holds in front: as many blocks as asked for, the superblock, and an empty log. So
+/// recovery leaves each block as it is.
 pub fn made_front()
     ensures size { (v : Version) (size ninodes : ℕ) (names contents : List (List ℕ)) → length names ≡ length contents
         → CanBeMade v size ninodes names contents
@@ -197,8 +197,8 @@ pub fn made_inodes()
         ≡ slice_index_or (inodes_from (data_start ninodes) (nodes_with (root_content v names) contents)) i d }
 {}
 
-/// The bitmap of an image that can be made, and each node's blocks: they begin where those of the
-/// nodes before it end. Node 0 of the list is the root.
+/// The bitmap of an image that can be made, and each node's blocks: they begin after those of the nodes before it.
+/// Node 0 of the list is the root.
 pub fn made_blocks()
     ensures bitmap { (v : Version) (size ninodes : ℕ) (names contents : List (List ℕ)) → length names ≡ length contents
         → CanBeMade v size ninodes names contents
