@@ -17,7 +17,7 @@ use std::mem;
 use std::process::Abort;
 use std::test::Fail;
 
-// A file's record, with so many names.
+// A file's record, with this count of names.
 fn file(nlink: i16) -> Dinode {
     Dinode {
         kind: 2,
