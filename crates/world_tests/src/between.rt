@@ -68,7 +68,8 @@ const MEETINGS: &[Meeting] = &[
     (Unlink(b"/d/x"), CLEARS_AND_MAKES, (4, 1, 6)),
 ];
 
-// One list of tree steps explains all replies, and the image is in order, where so many calls of hart 1 come first.
+// One list of tree steps explains all replies, and the image is in order, if the first `first` calls of hart 1 come
+// before.
 fn meets(rt: &impl Abort, alloc: Global, meeting: &Meeting, first: usize) {
     let (call, calls, left) = meeting;
     let lines = [
