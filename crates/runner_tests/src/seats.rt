@@ -1,4 +1,4 @@
-//! What the calls of two seats come to: at a shared offset, and where the device fails.
+//! The results of the calls of two seats: at a shared offset, and if the device fails.
 ghost use Rattle.std.specs.Prelude.{◌≡◌};
 
 use crate::kernels::{
@@ -77,7 +77,7 @@ fn seats_share_an_offset(rt: HostRuntime) {
     assert!(rt; (one == dot && two == dot_dot) || (one == dot_dot && two == dot));
 }
 
-// Whether a world is mounted on a disk of this image that passes so many calls.
+// Whether a world is mounted on a disk of this image that passes `fuse` calls.
 fn is_mounted(rt: &impl Abort, alloc: Global, image: &[u8], fuse: u64) -> bool {
     let disk = MemoryDisk::new(copied(rt, alloc, image));
     match World::mount(alloc, Fused::new(disk, fuse)) {
@@ -137,7 +137,7 @@ fn stops_of<L: Ledger, R: Wait + Abort>(
     }
 }
 
-// That, on a disk of this image that passes so many calls. None where the device fails before.
+// The same on a disk of this image that passes `fuse` calls. None if the device fails before.
 fn stops<L: Ledger, R: Wait + Abort>(
     rt: &R,
     alloc: Global,
