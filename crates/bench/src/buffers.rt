@@ -67,7 +67,7 @@ fn full(alloc: Global) -> Result<Cache<MemoryDisk>, WorkloadError>
     }
 }
 
-// Gets a block and gives it back: a byte of it, or 0 if it was not had.
+// Gets a block and gives it back: a byte of it, or 0 if the get gave no buffer.
 fn touch<D: Device>(cache: &mut Cache<D>, b: u32) -> u64
     requires { HasNone cache.old.seats }
     ensures { HasNone cache.new.seats }

@@ -11,7 +11,7 @@ use std::mem;
 
 const DISK_BLOCKS: u32 = 2000;
 
-// No calls that are measured take as many turns.
+// More turns than the measured calls take.
 const MOST_TURNS: u32 = 100_000;
 
 // The number of the image's first file.

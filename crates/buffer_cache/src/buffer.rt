@@ -7,8 +7,8 @@ use block_device::{BLOCK_LEN, Device, Fault};
 use std::alloc::{AllocError, Global};
 use std::marker::Model;
 
-/// A place for the bytes of one block. A contract sees the bytes only if they are valid: filled from the device, or
-/// recorded.
+/// A place for the bytes of one block (xv6: `struct buf`). A contract sees the bytes only if they are valid: filled
+/// from the device, or recorded.
 #[derive(Drop)]
 pub struct Buffer {
     block: u32,

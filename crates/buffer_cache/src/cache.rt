@@ -15,8 +15,8 @@ use block_device::{BLOCK_LEN, Device, Fault};
 use sleep_lock::{Guard, RetiredSlots};
 use std::marker::Model;
 
-/// Forty-six buffers over a device. A contract sees the device, and what is kept of each buffer, in order of giving
-/// back. No call takes memory.
+/// Forty-six buffers over a device (xv6: `bcache`). A contract sees the device, and what is kept of each buffer, in
+/// order of giving back. No call takes memory.
 pub struct Cache<D: Device> {
     device: D,
     buffers: Buffers,

@@ -249,7 +249,7 @@ const SHORT_ANSWERS: &str =
 const SHORT_HISTORY: &str =
     "event 3: 0 fstat 0: failed 6 BadDescriptor\nevent 4: 1 dup 0: failed 6 BadDescriptor\n";
 
-// What is written, and how much of it was handed on at last.
+// What is written, and how many of its bytes were written at the last flush.
 #[derive(Drop)]
 struct Handed {
     bytes: Vec<u8>,

@@ -11,7 +11,7 @@ use crate::name::Name;
 use crate::widths::{Block, DIRENT_NAME_AT};
 use image_versions::Version;
 
-/// A slot of a directory: free, or the number of an inode and its name.
+/// A slot of a directory: free, or the number of an inode and its name (xv6: `struct dirent`).
 #[derive(Drop)]
 pub enum Dirent {
     Free,

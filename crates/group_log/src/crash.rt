@@ -6,9 +6,9 @@ ghost use Rattle.group_log.specs.Whole.{CallsKeepWhole};
 
 use block_device::Device;
 
-/// After any events of any machine whose events obey the clauses of the log's calls, recovery makes the disk as it
-/// was seen at the leave that began the last commit whose head was written. So a committed group is there whole, and
-/// of a later one nothing is.
+/// Take any events of any machine whose events obey the clauses of the log's calls. After them, recovery makes the
+/// disk as it was seen at the leave that began the last commit whose head was written. So a committed group is there
+/// whole, and nothing of a later one is.
 pub fn stops_at_a_cut()
     ensures { StopsAtACut }
 {}

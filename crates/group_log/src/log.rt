@@ -31,8 +31,8 @@ pub enum AfterLeave {
     Commits,
 }
 
-/// The log over a cache. A contract sees the cache, the recorded blocks in the order of first recording, what each
-/// hart's transaction has added to them, and how far the commit is.
+/// The log over a cache (xv6: `struct log`). A contract sees the cache, the recorded blocks in the order of first
+/// recording, what each hart's transaction has added to them, and how far the commit is.
 ///
 /// After it was made it takes no memory.
 pub struct Log<D: Device> {

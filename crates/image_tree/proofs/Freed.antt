@@ -10,7 +10,7 @@ never_and : (a b : Bool) → (a && (false && b)) ≡ false
 never_and true b = refl
 never_and false b = refl
 
--- what is demanded of an inode in range alone
+-- what must hold of an inode in range alone
 guarded : (a t x y : Bool) → (t ≡ true → x ≡ y) → ((a && t) && x) ≡ ((a && t) && y)
 guarded true true x y h = h refl
 guarded true false x y h = refl

@@ -76,7 +76,8 @@ fn examine_slots<D: Device>(
     Ok(layout)
 }
 
-/// All checks, in their order. If none fails the answer is the places of the image's parts.
+/// All checks, in their order. If none fails the answer is the places of the image's parts. Else it is the first
+/// damage; or that memory was refused, or the device failed.
 pub fn examine_layout<D: Device>(
     alloc: Global,
     device: &mut D,

@@ -104,8 +104,8 @@ fn find_log<D: Device>(device: &mut D, version: Version, sizes: Super) -> Result
     })
 }
 
-/// Finds the parts of an image of this version: its superblock, and the blocks that its log holds. It takes no memory
-/// (xv6: `readsb`, `read_head`).
+/// Finds the parts of an image of this version: its superblock, and the blocks that its log holds. An error is the
+/// first damage of these two, or the device's. It takes no memory (xv6: `readsb`, `read_head`).
 pub fn find_layout<D: Device>(device: &mut D, version: Version) -> Result<Layout, MountFault>
     ensures judges { JudgesWith version (λ layout. IsLayout (D.contents device.old) layout × (layout.version ≡ version))
         (D.contents device.old) result }

@@ -13,7 +13,7 @@ use std::alloc::{AllocError, Global};
 /// The number of the root.
 const ROOT: u16 = limits::ROOT as u16;
 
-/// As many doublings of one step as reach farther than there are inodes.
+/// The number of doublings of one step that reach farther than there are inodes.
 const DOUBLINGS: u32 = 16;
 
 /// Whether one slot past the first two names each live directory except the root, and that slot is in the directory's

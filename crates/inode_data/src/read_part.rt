@@ -15,7 +15,7 @@ use fs_layout::Dinode;
 use fs_layout::widths::{BLOCK_LEN, Block};
 use fs_machine::{Answer, Hand, Op, Part, Place};
 
-/// What a read has to do yet.
+/// What a read must still do.
 #[derive(Clone, Copy, Drop)]
 pub struct Reading {
     /// The number of bytes that were read.

@@ -16,7 +16,7 @@ use fs_layout::{Dinode, Super};
 use fs_machine::{Answer, Control, Fetch, Hand, Op, Part, Place};
 use inode_table::StoreInode;
 
-/// What a writing has to do yet.
+/// What a writing must still do.
 #[derive(Clone, Copy, Drop)]
 pub struct Writing {
     /// The inode's number.

@@ -63,7 +63,7 @@ fn of_examine(rt: HostRuntime) -> Result<(), Fail> {
     Ok(())
 }
 
-/// So it is of an image whose tree wasn't made.
+/// An image whose tree wasn't made for want of memory is unchanged, and its tree is made the next time.
 #[test]
 fn of_tree_of(rt: HostRuntime) -> Result<(), Fail> {
     let alloc = rt.alloc();

@@ -36,7 +36,7 @@ fn migrate_from<D: Device>(
 /// Makes an image of this version and `size` blocks. It has the tree of an older image as recovery would leave that;
 /// the older one is only read. Each live node keeps its number, its type, its count and its device numbers. A
 /// directory keeps its slots in their places, even free ones, and any other node its bytes. Nodes without a name are
-/// left out.
+/// left out. A refusal is the first that holds, in the order of `MigrateRefused`.
 pub fn migrate<D: Device>(
     alloc: Global,
     old: &mut D,

@@ -55,7 +55,7 @@ module _ (v : Version) (disk : List (List ℕ)) (ninodes : ℕ) (names contents 
       other)
       (which_inode i is.low is.bound)
 
-  -- only the root is a directory
+  -- the root is the only directory
   pub one_directory : (i : ℕ) → is_live_directory disk i ≡ true → i ≡ 1
   one_directory i live =
       let is = directory_is disk i live in

@@ -122,7 +122,8 @@ fn image_bytes(
 }
 
 /// Makes an image of this version, of `size` blocks with `ninodes` inodes, the first unused, whose root has these
-/// files in this order: their names and contents. No check of an image of the version fails on it.
+/// files in this order: their names and contents. No check of an image of the version fails on it. A refusal is the
+/// first that holds, in the order of `MakeRefused`.
 pub fn make_as(
     alloc: Global,
     version: Version,
@@ -157,7 +158,7 @@ pub fn make_as(
     }
 }
 
-/// Makes an image of version 1.
+/// Makes an image of version 1, as `make_as` does.
 pub fn make(
     alloc: Global,
     size: u32,

@@ -67,7 +67,8 @@ fn odd_word(rt: &HostRuntime) -> Result<Option<OddWord>, AllocError> {
     Ok(None)
 }
 
-/// The command line's words, the program's name first. One that is no text is named.
+/// The command line's words, the program's name first. If a word is no text, the error names the first such word that
+/// is short enough to show.
 pub fn read_words(rt: &HostRuntime) -> Result<Vec<String>, WordsRefused> {
     match env::args(rt) {
         Ok(words) => Ok(words.collect(rt.alloc())?),

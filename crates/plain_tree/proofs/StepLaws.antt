@@ -1,4 +1,4 @@
--- A step with its answer, against what is applied.
+-- A step with its answer, compared with what is applied.
 use Rattle.plain_tree.proofs.Vocabulary.{◌≡◌, Version, ℕ, ◌<◌, ◌≤◌, Bool, true, false, ◌&&◌, nat_lt, List, [], ◌∷◌, ◌⊎◌, inl, inr, refl, sym, ◌∙◌, ap, subst, arith, Option, Some, None, if◌then◌else◌, cases_Bool, nat_tests, Cause, Node, OpenFile, Action, Open, Fstat, TreeStep, StepAnswer, Opened, Bytes, Status, NewFd, Done, Failed, NoRoom, Placed, Name, Tree, resolve, parent, settle, look, and_then, Step, StepWith, MayChoose, IsInPlace, IsLeastUnused, IsNewNode, answer_with, effect_with, refusal, refused, path_of, place_of, opens_one, opens_file, stat_answer, file_at, has_room, lowest, opened, creates, with_file, opened_new, opened_in, opened_at, Outcome, applied, in_place, IsApplied, IsAppliedAt, IsBadChoice, Chain, hart_count}
 
 -- one id is the least unused

@@ -14,7 +14,7 @@ const TABLES: u32 = 32;
 /// How many calls a plan has: each table has 17.
 pub const CALLS: u32 = 544;
 
-// No plan takes as many draws.
+// More draws than a plan takes.
 const MOST_DRAWS: u32 = 1_000_000;
 
 // Numbers that look as if drawn.

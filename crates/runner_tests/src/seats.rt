@@ -22,7 +22,7 @@ const DOT: [u8; 16] = *b"\x01\0.\0\0\0\0\0\0\0\0\0\0\0\0\0";
 
 const DOT_DOT: [u8; 16] = *b"\x01\0..\0\0\0\0\0\0\0\0\0\0\0\0";
 
-// No mount of the fresh image makes as many calls of the disk.
+// More calls of the disk than a mount of the fresh image makes.
 const MOST_CALLS: u64 = 100_000;
 
 // Hart 0 makes the first call, hart 1 inherits its files, and then both read at once. The reads as they are handed back.
@@ -165,8 +165,9 @@ fn stops_with<R: Wait + Abort>(rt: &R, alloc: Global, image: &[u8], fuse: u64) -
     stops::<Brand, R>(rt, alloc, Blank::new(8), image, fuse)
 }
 
-/// A kernel opens with the least fuse at which a world is mounted, and with no smaller one. Then the first call that needs a block is stopped by
-/// the device's failure, and another hart's call by the halt; given up, both seats are as the list has them. The closed kernel has image and fuse.
+/// A kernel opens with the least fuse at which a world is mounted, and with no smaller one. Then the device's failure
+/// stops the first call that needs a block, and the halt stops another hart's call. Given up, both seats are as the
+/// list has them. The closed kernel has the image and the fuse.
 #[test]
 fn a_fuse_stops_calls(rt: HostRuntime) {
     let alloc = rt.alloc();

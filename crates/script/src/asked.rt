@@ -25,7 +25,7 @@ pub enum Asked {
 }
 
 /// What a line asks that is typed as the one of this number, counted from 1. If it says nothing as it is, spaces at
-/// its ends and beside others are passed over.
+/// its ends and beside others are passed over. The error is that the line asks nothing, with why, or want of memory.
 pub fn asked_in(alloc: Global, number: u64, line: &[u8]) -> Result<Asked, ScriptFault>
     ensures { GivesAsked number result (asked_in line.now) }
 {

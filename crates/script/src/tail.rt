@@ -29,7 +29,7 @@ impl<T> Model for Tail<T> {
 }
 
 impl<T: Drop> Tail<T> {
-    /// With no event yet, for the last `most`.
+    /// With no event yet, for the last `most`. An error is want of memory.
     pub fn new(alloc: Global, most: u32) -> Result<Tail<T>, AllocError>
         ensures { IfOk result (λ t. t ≡ tail most []) }
     {
@@ -39,7 +39,8 @@ impl<T: Drop> Tail<T> {
         })
     }
 
-    /// Notes an event; if there are more than n, the oldest is dropped.
+    /// Notes an event; if there are more than n, the oldest is dropped. An error is want of memory, and then nothing
+    /// changes.
     pub fn note(&mut self, event: T) -> Result<(), AllocError>
         ensures noted { OnOk result (self.new ≡ with_event self.old event) }
         ensures same { OnErr result (self.new ≡ self.old) }

@@ -9,7 +9,8 @@ use crate::line::command;
 use crate::reason::Reason;
 use std::alloc::{AllocError, Global};
 
-/// The commands of a script, in order, each with the number of its line.
+/// The commands of a script, in order, each with the number of its line. The error is the first line that says
+/// nothing, with why, or want of memory.
 pub fn parse(alloc: Global, text: &[u8]) -> Result<Vec<ScriptLine>, ScriptFault>
     ensures { GivesScript result (script_in text.now) }
 {
@@ -52,7 +53,8 @@ pub fn parse_front(alloc: Global, text: &[u8]) -> Result<Front, AllocError>
     Ok(Front { lines, bad: None })
 }
 
-/// What is wrong with a bad line, seen from without: how it ends, its spaces, its quotation marks, or else the reason that was found.
+/// What is wrong with a bad line, as its writer sees it first: how the line ends, its spaces, its quotation marks, or
+/// else the reason that was found.
 pub fn plainest(line: &[u8], reason: Reason) -> Reason {
     match reason {
         Reason::CarriageReturn => reason,

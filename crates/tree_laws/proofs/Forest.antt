@@ -114,7 +114,8 @@ shape_rest d up ss rest h = ap (λ (z : Slots). drop 2 z) h
 pub shape_dots : (d up : ℕ) (ss rest : Slots) → ss ≡ Dots d up rest → ss ≡ Dots d (up_in ss) (drop 2 ss)
 shape_dots d up ss rest h = subst (λ (z : Slots). z ≡ Dots d (up_in z) (drop 2 z)) (sym h) refl
 
--- One folder's slots past the first two change; links and raised holds of what is no directory change with the names.
+-- One folder's slots past the first two change. The links and raised holds of nodes that are no directories change
+-- with the names.
 pub one_folder : (F : Folders) (C C' R R' : ℕ → ℕ) (N : ℕ) (D : ℕ → ℕ) (d : ℕ) (ss ss' : Slots) → IsForest F C R N D → F d ≡ Some ss
     → ss' ≡ Dots d (up_in ss) (drop 2 ss') → NamesOnce ss'
     → ((k : ℕ) (ks : Slots) → F k ≡ Some ks → (C' k ≡ C k) × (R' k ≡ R k) × (count_in (drop 2 ss') k ≡ count_in (drop 2 ss) k))

@@ -102,7 +102,7 @@ mid_tells version base t late n b h id c x d k is one = record {
   ok = subst (λ (s : HartStanding). BookOk version base t (put late h []) (n + 1) (tells s b h d)) (sym is) (tell_ok version base t late (n + 1) b h id c x d k.ok is one);
 }
 
--- what is lost in the event is the next step of its call, and fails there
+-- the step that is lost in the event is the next step of its call, and fails there
 pub record MayFall (version : Version) (m m' : Stage) (late : ℕ → List Act) (b : History) (g : ℕ) : Type 0 where
   pub none : falls m m' g ≡ None → late g ≡ lately (lost_of m' g)
   pub some : (d : Deed) → falls m m' g ≡ Some d → (late g ≡ []) × (lost_of m' g ≡ Some d) × (id : ℕ) × (c : Call) × (x : List Act) × (b.calls g ≡ Busy id c x) × (next_of c x ≡ Some d.act.step) × StepBy version m'.tree g d m'.tree

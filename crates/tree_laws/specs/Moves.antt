@@ -23,7 +23,7 @@ pub record Stage : Type 0 where
 
 -- new: the number for a new node, if the step makes one
 pub data Move : Type 0 where
-  Begin : Action → (new : ℕ) → Move  -- a path's walk stands at its start
+  Begin : Action → (new : ℕ) → Move  -- a path's walk begins at its start
   Look : (new : ℕ) → Move  -- the next element is looked up
   GiveUpWalk : Action → Move  -- the walk for this step, which is lost, is given up
   Own : Action → (new : ℕ) → Move  -- a step without a path

@@ -9,7 +9,7 @@ use plain_tree::{Call, Trace};
 use std::alloc::Global;
 use std::process::Abort;
 
-// No call here takes as many steps.
+// More steps than a call here takes.
 const MOST_STEPS: u32 = 100_000;
 
 /// What lines have made of a world: its events, in their order, and the outcome of each.
