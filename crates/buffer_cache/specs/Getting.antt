@@ -22,8 +22,8 @@ get_by hart b seats None = get_new hart b seats (find is_free seats)
 get_by hart b seats (Some s) =
     if is_out s then (seats, Waits) else (with_seat b (with_holder hart) seats, Held (guard_of hart b s s.content))
 
--- the block's buffer if one has it, and a wait if that is out; else, of those that are neither out nor pinned, the
--- least recently given back one
+-- The block's buffer if one has it, and a wait if that is out. Else, of those that are neither out nor pinned, the
+-- least recently given back one.
 unfoldable pub get_of : ℕ → ℕ → List SeatState → List SeatState × Got
 get_of hart b seats = get_by hart b seats (seat_of b seats)
 

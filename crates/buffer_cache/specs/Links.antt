@@ -26,8 +26,8 @@ pub record IsRing (last : ℕ) (next previous : List ℕ) : Type 0 where
   pub path : IsPath next previous (last ∷ follow next last last) last
   pub each : (p : ℕ → Bool) → count_of p (follow next last last) ≡ count_of p (range_with_len 0 last)
 
--- there are thirteen chains of buffers that have a block, and one of those that have none; each begins after a number
--- of its own, its head
+-- There are thirteen chains of buffers that have a block, and one of those that have none. Each begins after a number
+-- of its own, its head.
 abbrev pub no_block : ℕ
 no_block = 59
 

@@ -74,8 +74,8 @@ impl<D: Device> Cache<D> {
     }
 
     /// A block's buffer for a hart that has one other at most. It is the one that has the block, else the least
-    /// recently given back one that is neither out nor pinned (one that was never used before any other). It waits
-    /// exactly if the block's buffer is out, and then nothing changes (xv6: `bget`).
+    /// recently given back one that is neither out nor pinned. One that was never used comes before any other. It
+    /// waits exactly if the block's buffer is out, and then nothing changes (xv6: `bget`).
     pub fn get(&mut self, hart: u8, b: u32) -> Got
         requires hart { hart < hart_count }
         requires few { count_of (is_held_by hart) self.old.seats ≤ 1 }

@@ -16,8 +16,8 @@ pub record Sighting : Type 0 where
 pub data Change : Type 0 where
   -- a free inode has a type, but no links and no content
   Claimed : ℕ → Change
-  -- an inode's count is this; a link raises it, and takes that back, from the count of the inode that was locked just
-  -- before, as it was seen
+  -- An inode's count is this. A link raises it, and takes that back, from the count of the inode that was locked just
+  -- before, as it was seen.
   Counted : ℕ → ℕ → Change
   Raised : Option Sighting → ℕ → ℕ → Change
   Lowered : Option Sighting → ℕ → ℕ → Change

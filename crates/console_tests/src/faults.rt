@@ -233,8 +233,8 @@ const EXPLAIN: Mode = Mode {
 // The first two calls ask nothing of the device, the third is stopped at its first block.
 const STOPPED: &str = "do 0 fstat 0\ndo 1 dup 3\ndo 0 open / 0\ndo 1 fstat 0\n";
 
-// The third call has acted at the start of its walk, as a call does whose path has no element: at its second step,
-// after start and join.
+// The third call has acted at the start of its walk, as a call does whose path has no element. It acts at its second
+// step, after start and join.
 const STOPPED_ANSWERS: &str =
     "0 fstat failed 6 BadDescriptor\n1 dup failed 6 BadDescriptor\n0 open stopped 31 DeviceFault\n\
      event 1: 0 fstat 0: failed 6 BadDescriptor\nevent 3: 1 dup 3: failed 6 BadDescriptor\nevent 6: 0 open / 0: fd 0\n";

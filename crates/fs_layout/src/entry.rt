@@ -60,7 +60,8 @@ fn used_in(version: Version, number: u16, field: &[u8]) -> Option<Dirent>
 }
 
 /// The slot at a place of a directory's block, counted in slots. `None` if its bytes are no entry. They are none if a
-/// number 0 has bytes that aren't 0, the name is empty or has a '/', or a byte other than 0 comes after a 0.
+/// number 0 has bytes that aren't 0, or if the name is empty or has a '/'. They are none too if a byte other than 0
+/// comes after a 0.
 pub fn read_dirent(version: Version, block: &Block, place: usize) -> Option<Dirent>
     requires { place < dirents_per_block_of version }
     ensures { result ≡ dirent_at version place block.now }

@@ -321,7 +321,7 @@ module _ {D E : Type 0} (contents : D → List (List ℕ)) (number : E → ℕ) 
       (omega (arith, before.0, step.0), omega (arith, before.1, step.1))
 
   -- Event i is a leave that began a commit. When that commit has reached a settled phase, the cut has that leave or a
-  -- later one, and keeps it: so it is when its hart replies.
+  -- later one, and keeps it. So it is when its hart replies.
   pub stored_at_reply : (i later more : ℕ) → (marks (i + 1)).begun ≡ i + 1 → i + 1 + later + more ≤ n → is_settled (logs (i + 1 + later)).phase ≡ true → i < (marks (i + 1 + later + more)).cut
   stored_at_reply i later more begun le settled =
       let to = risen (i + 1) later (omega (arith, le)) in

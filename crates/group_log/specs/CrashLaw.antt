@@ -1,5 +1,5 @@
--- A stop at any event, for any machine: what it has seen, and what recovery would make of its disk, after the first i
--- events of a run.
+-- A stop at any event, for any machine. After the first i events of a run there is what it has seen, and what
+-- recovery would make of its disk.
 use Rattle.std.specs.Prelude.{◌≡◌, ℕ, zero, suc, ◌+◌, ◌<◌, List, Bool, true, false, if◌then◌else◌}
 use Rattle.group_log.specs.Vocabulary.{Super, IsOutsideLog}
 

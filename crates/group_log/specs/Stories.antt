@@ -140,7 +140,7 @@ MarksTellStops {D} contents = (n : ℕ) (logs : ℕ → LogState D) (marks : ℕ
     → (i : ℕ) → i ≤ n → IsMarkedStop contents logs i (marks i)
 
 -- Event i is a leave that began a commit. If the log has reached a settled phase after it, the cut has that leave,
--- then and later: so it is when its hart replies.
+-- then and later. So it is when its hart replies.
 abbrev pub CutsHaveReplies : {D : Type 0} → (D → List (List ℕ)) → Type 0
 CutsHaveReplies {D} contents = (n : ℕ) (logs : ℕ → LogState D) (marks : ℕ → Marks) → IsMarkedRun contents n logs marks
     → (i later more : ℕ) → (marks (i + 1)).begun ≡ i + 1 → i + 1 + later + more ≤ n → is_settled (logs (i + 1 + later)).phase ≡ true

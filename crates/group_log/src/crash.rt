@@ -13,7 +13,7 @@ pub fn stops_at_a_cut()
     ensures { StopsAtACut }
 {}
 
-/// The same of the states of a log over any device from `Log::new` on, if each call led from one to the next: they
+/// The same of the states of a log over any device from `Log::new` on. If each call led from one to the next, they
 /// are such a run.
 pub fn logs_stop_at_a_cut<D: Device>()
     ensures runs { LogsAreLoggedRuns D.contents }
@@ -25,9 +25,9 @@ pub fn moves_compose<D: Device>()
     ensures { MovesCompose D.contents }
 {}
 
-/// After any events of a machine over a log that keeps marks, recovery makes what was seen after the first k events,
-/// and k is one of the marks. What a hart committed is below the cut when the hart replies. No transaction is there
-/// in part.
+/// Take any events of a machine over a log that keeps marks. After them, recovery makes what was seen after the first
+/// k events, and k is one of the marks. What a hart committed is below the cut when the hart replies. No transaction
+/// is there in part.
 pub fn marks_tell_stops<D: Device>()
     ensures stops { MarksTellStops D.contents }
     ensures replies { CutsHaveReplies D.contents }

@@ -31,8 +31,8 @@ pub enum AfterLeave {
     Commits,
 }
 
-/// The log over a cache (xv6: `struct log`). A contract sees the cache, the recorded blocks in the order of first
-/// recording, what each hart's transaction has added to them, and how far the commit is.
+/// The log over a cache (xv6: `struct log`). A contract sees the cache, and the recorded blocks in the order of first
+/// recording. It sees what each hart's transaction has added to them, and how far the commit is.
 ///
 /// After it was made it takes no memory.
 pub struct Log<D: Device> {
@@ -168,7 +168,7 @@ impl<D: Device> Log<D> {
     }
 
     /// Joins a transaction. It waits exactly while a commit runs, if the group might outgrow the log, and for good
-    /// after the log is halted; then nothing changes (xv6: `begin_op`).
+    /// after the log is halted. Then nothing changes (xv6: `begin_op`).
     pub fn join(&mut self, hart: u8) -> Option<Txn>
         requires hart { hart < HARTS }
         requires idle { slice_get self.old.members hart ≡ Some None }

@@ -5,9 +5,10 @@ ghost use Rattle.group_log.specs.Stories.{after_leave, after_write};
 use crate::commit::Progress;
 use crate::log::AfterLeave;
 
-/// Counts of the events of a machine over a log. `begun` counts up to the last leave that began a commit, `cut` up to
-/// the leave that began the commit of the last group whose head was written. If the write of a group's head failed,
-/// `doubt` counts up to the leave that began that group's commit. `begun` and `cut` are 0 if there was none.
+/// Counts of the events of a machine over a log. `begun` counts up to the last leave that began a commit. `cut`
+/// counts up to the leave that began the commit of the last group whose head was written. If the write of a group's
+/// head failed, `doubt` counts up to the leave that began that group's commit. `begun` and `cut` are 0 if there was
+/// none.
 ///
 /// Recovery makes what was seen after the first `cut` events. If there is a `doubt`, it may instead be after the
 /// first `doubt`.

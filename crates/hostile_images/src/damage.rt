@@ -192,7 +192,7 @@ fn in_log(image: &mut Vec<u8>) {
     }
 }
 
-/// The images that are damaged. They have the same tree, with an orphan: in one a log hides the inodes, in one it is
+/// The images that are damaged. They have the same tree, with an orphan. In one a log hides the inodes, in one it is
 /// empty, and in one it hides three blocks.
 pub fn whole(alloc: Global) -> Result<[Vec<u8>; 3], AllocError> {
     let first = with(alloc, BLOCKS, &RICH)?;

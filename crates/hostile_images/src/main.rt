@@ -1,8 +1,8 @@
-//! `hostile_images COUNT [SEED]` examines COUNT damaged images, and compares each answer with that of a second, slow
-//! program, which makes the checks of docs/FORMATS.md one after the other. It prints how often each answer came. On
-//! standard error it prints the longest time of an examination, and the most memory that the program has had. The
-//! image of number k, from 0, is drawn from SEED + k, and SEED is 1 unless it is given: so one image can be seen
-//! alone.
+//! `hostile_images COUNT [SEED]` examines COUNT damaged images, and compares each answer with that of a second
+//! program. That one is slow: it makes the checks of docs/FORMATS.md one after the other. It prints how often each
+//! answer came. On standard error it prints the longest time of an examination, and the most memory that the program
+//! has had. The image of number k, from 0, is drawn from SEED + k, and SEED is 1 unless it is given. So one image can
+//! be seen alone.
 #![tactic(auto)]
 
 mod damage;

@@ -58,7 +58,7 @@ pub record IsFreedDisk (v : Version) (old new : List (List ℕ)) : Type 0 where
   pub bytes : HasBytes new
   pub freed : AreFreed old new
 
--- There is one such disk, except for its log: if two disks are such, recovery leaves the same bytes on both, in each
+-- There is one such disk, except for its log. If two disks are such, recovery leaves the same bytes on both, in each
 -- block outside the log.
 abbrev pub FreedDisksAgree : Type 0
 FreedDisksAgree = (v : Version) (old one other : List (List ℕ)) → IsFreedDisk v old one → IsFreedDisk v old other

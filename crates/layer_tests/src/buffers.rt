@@ -87,7 +87,7 @@ fn the_least_recent_is_taken(rt: HostRuntime) -> Result<(), Fail> {
     Ok(())
 }
 
-// The device fails at each call in turn: the guard isn't valid then, the rest is as it was, and the cache ends with
+// The device fails at each call in turn. The guard isn't valid then, the rest is as it was, and the cache ends with
 // the guard out.
 #[test]
 fn a_fault_leaves_the_guard(rt: HostRuntime) -> Result<(), Fail> {

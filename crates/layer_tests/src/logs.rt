@@ -169,8 +169,8 @@ fn commit<D: Device>(rt: &impl Abort, log: &mut Log<D>, hart: u8) -> (u64, Progr
 }
 
 /// On a fresh image a transaction records block 48, block 46 and block 48 once more. The commit writes their two
-/// copies, the head, which names two blocks, both at home in the order in which they were first recorded, and the
-/// empty head.
+/// copies, and the head, which names two blocks. Then it writes both at home in the order in which they were first
+/// recorded, and the empty head.
 #[test]
 fn a_commit_writes_in_order(rt: HostRuntime) -> Result<(), Fail> {
     let disk = Watched {
@@ -291,9 +291,9 @@ fn a_group_is_there_whole_or_not_at_all(rt: HostRuntime) -> Result<(), Fail> {
     Ok(())
 }
 
-// The first commit begins with event 9, of ten, and ends. The second begins with event 19, and the device fails at each
-// of its four writes in turn: a copy, the head, the copy home, the empty head. Before that there were nine calls: four read
-// the superblock and the head, one block 48, and four are the first commit's writes.
+// The first commit begins with event 9, of ten, and ends. The second begins with event 19, and the device fails at
+// each of its four writes in turn. These are a copy, the head, the copy home, the empty head. Before that there were
+// nine calls: four read the superblock and the head, one block 48, and four are the first commit's writes.
 #[test]
 fn marks_say_which_commit_stands(rt: HostRuntime) -> Result<(), Fail> {
     for (writes, cut, doubt) in [

@@ -30,8 +30,8 @@ const ORPHAN: [Change; 2] = [
     (47110, b"\x01"),
 ];
 
-// 64 blocks, 16 inodes, and a log of 11 blocks. Without a name are inode 2, a file of 13 blocks with an indirect one, inode
-// 3, a directory of one block, and inode 5, a device. Inode 4 is the file "/f" of one block.
+// 64 blocks, 16 inodes, and a log of 11 blocks. Three inodes have no name: 2 is a file of 13 blocks with an indirect
+// one, 3 a directory of one block, and 5 a device. Inode 4 is the file "/f" of one block.
 const THREE: [Change; 10] = [
     (
         1024,

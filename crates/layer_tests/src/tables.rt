@@ -100,7 +100,8 @@ fn a_lock_waits_while_it_is_out(rt: HostRuntime) -> Result<(), Fail> {
     Ok(())
 }
 
-/// In a directory without a link a search for a name, "." too, finds nothing and begins with no block; its size is that of "." and "..".
+/// In a directory without a link a search for a name, even for ".", finds nothing and begins with no block. Its size
+/// is that of "." and "..".
 #[test]
 fn a_removed_directory_has_no_names(rt: HostRuntime) -> Result<(), Fail> {
     let removed = Dinode {

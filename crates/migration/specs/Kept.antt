@@ -4,8 +4,8 @@ use Rattle.migration.specs.Vocabulary.{Version, Dinode, inode_of, is_node, is_li
 use Rattle.migration.specs.Nodes.{Node, free_node, spell_slots}
 use Rattle.migration.specs.Image.{image_with}
 
--- the new content of a node: that of a directory is spelled anew; that of any other node, even of a device, has the
--- same bytes
+-- The new content of a node. That of a directory is spelled anew; that of any other node, even of a device, has the
+-- same bytes.
 abbrev pub content_as : Version → Version → List (List ℕ) → Dinode → List ℕ
 content_as w v disk d = if is_directory d then spell_slots v (slots_of w disk d) else content_of disk d
 

@@ -53,7 +53,7 @@ pub fn migrate<D: Device>(
     migrate_from(alloc, old, from, version, size)
 }
 
-/// How many blocks an image of this version needs, for the tree of an older one as recovery would leave that; the
+/// How many blocks an image of this version needs, for the tree of an older one as recovery would leave that. The
 /// older one is only read. `migrate` finds that the blocks suffice exactly if its size isn't below this. It may be
 /// more than an image can have.
 pub fn least_size<D: Device>(

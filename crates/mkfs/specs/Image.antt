@@ -107,8 +107,8 @@ bitmap used = padded block_len (replicate (used / bits_per_byte) (low_bits bits_
 abbrev pub indirect_block : ℕ → ℕ → List ℕ
 indirect_block first size = spell_numbers (padded numbers_per_block (range_with_len (first + addresses) (blocks_for size - direct)))
 
--- the blocks of a node with this content, the first of them block `first`: if the direct ones don't suffice, the
--- indirect block comes after them
+-- The blocks of a node with this content, the first of them block `first`. If the direct ones don't suffice, the
+-- indirect block comes after them.
 unfoldable pub node_bytes : ℕ → List ℕ → List ℕ
 node_bytes first content =
     if nat_lt direct_len (length content)

@@ -88,8 +88,8 @@ fn begin_image(bytes: Vec<u8>) -> bool {
     disk.read(SUPER_BLOCK, &mut block).is_ok() && read_version(&block).is_some()
 }
 
-/// Whether a regular file of this name is there that isn't empty, and is no image, not even a damaged one; or one
-/// that can't be read.
+/// Whether a regular file of this name is there that isn't empty, and is no image, not even a damaged one. A file
+/// that can't be read counts as one.
 pub fn is_other_file(rt: &HostRuntime, path: &str) -> bool {
     match fs::metadata(rt, path) {
         Ok(metadata) if metadata.is_file() && metadata.len() > 0 => {}

@@ -121,9 +121,9 @@ fn image_bytes(
     Ok(image)
 }
 
-/// Makes an image of this version, of `size` blocks with `ninodes` inodes, the first unused, whose root has these
-/// files in this order: their names and contents. No check of an image of the version fails on it. A refusal is the
-/// first that holds, in the order of `MakeRefused`.
+/// Makes an image of this version, of `size` blocks with `ninodes` inodes, the first unused. Its root has these files
+/// in this order: their names and contents. No check of an image of the version fails on it. A refusal is the first
+/// that holds, in the order of `MakeRefused`.
 pub fn make_as(
     alloc: Global,
     version: Version,

@@ -180,7 +180,7 @@ fn replace(rt: &HostRuntime, place: &Place, content: Content) -> Result<(), Save
     })
 }
 
-/// Says beforehand why a file of this name can't be written, as far as that is known then: it makes a new file beside
+/// Says beforehand why a file of this name can't be written, as far as that is known then. It makes a new file beside
 /// it, and removes that. The file that is there isn't touched.
 pub fn try_to_save(rt: &HostRuntime, name: &str) -> Result<(), SaveRefused> {
     let place = Place::of(rt, name)?;

@@ -47,7 +47,7 @@ pub record IsBadChoiceWith (v : Version) (t : Tree) (s : TreeStep) (res : Option
   pub makes : makes_node t s.action par ≡ true
   pub bad : IsNewNode t s.new → ⊥
 
--- What the code promises: with id for a new open file the step answers a and goes on to t', and the number of a new
+-- What the code promises. With id for a new open file the step answers a and goes on to t', and the number of a new
 -- node is right.
 pub record IsAppliedAtWith (v : Version) (t : Tree) (s : TreeStep) (res : Option ℕ) (par : Option (ℕ × Name)) (id : ℕ) (a : StepAnswer)
     (t' : Tree) : Type 0 where

@@ -42,8 +42,8 @@ RowsStay = (v : Version) (t : Tree) (s : TreeStep) (a : StepAnswer) (t' : Tree) 
 abbrev pub Stays : Tree → ℕ → Type 0
 Stays t n = (settle t).nodes n ≡ t.nodes n
 
--- Three nodes stay: the one that a step's path leads to, the directory before the last element, and the one that has
--- that name in it.
+-- Three nodes stay: the one that a step's path leads to, the directory before the last element, and the directory's
+-- node of that name.
 pub record AsksForWhatStays (t : Tree) (res : Option ℕ) (par : Option (ℕ × Name)) : Type 0 where
   pub node : (n : ℕ) → res ≡ Some n → Stays t n
   pub directory : (q : ℕ × Name) → par ≡ Some q → Stays t q.0

@@ -407,8 +407,8 @@ has_fd t id = any_below hart_count (λ h. any_below descriptor_count (λ i. elim
 abbrev pub closed : Tree → Tree
 closed t = record t { files = λ id. if has_fd t id then t.files id else None }
 
--- The tree after the step, before the nodes that nothing keeps are removed. new: the number of a new node; id: of a
--- new open file.
+-- The tree after the step, before the nodes that nothing keeps are removed. The number of a new node is new, the id
+-- of a new open file is id.
 unfoldable pub effect_with : Version → Tree → ℕ → Action → Option ℕ → Option (ℕ × Name) → ℕ → ℕ → Tree
 effect_with v t h (Open path flags) res par new id =
     if creates flags then opened_new t h id flags par new else opened_at t h id flags res new

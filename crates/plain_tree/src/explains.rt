@@ -48,9 +48,9 @@ fn all_written(calls: &[TracedCall], list: &[Placed]) -> bool
     true
 }
 
-/// The list of tree steps explains the trace from this tree. The event numbers never fall, each step leads on from
-/// the one before, each call has its steps and its reply, and no entry belongs to anything else. The steps are made
-/// on a copy of the tree. The error is that memory is short for the copy or for a step.
+/// The list of tree steps explains the trace from this tree. The event numbers never fall, and each step leads on
+/// from the one before. Each call has its steps and its reply, and no entry belongs to anything else. The steps are
+/// made on a copy of the tree. The error is that memory is short for the copy or for a step.
 pub fn check(
     alloc: Global,
     version: Version,

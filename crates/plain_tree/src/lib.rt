@@ -1,6 +1,6 @@
-//! The plain tree. It says what the files and directories are to a caller, and what each call does to them in steps
-//! that each happen at one moment. It also says when a list of such steps explains the replies that several harts
-//! got.
+//! The plain tree. It says what the files and directories are to a caller. It says what each call does to them in
+//! steps, each of which happens at one moment. It also says when a list of such steps explains the replies that
+//! several harts got.
 #![tactic(auto)]
 
 mod act;

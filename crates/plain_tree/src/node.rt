@@ -5,8 +5,8 @@ use crate::bytes::Bytes;
 use std::alloc::AllocError;
 use std::marker::Model;
 
-/// A used slot of a directory: a name of at most 14 bytes in version 1 and 30 in version 2, and the number of the
-/// node that it names.
+/// A used slot of a directory: a name, and the number of the node that it names. A name has at most 14 bytes in
+/// version 1, and 30 in version 2.
 #[derive(Clone, Drop)]
 pub struct Slot {
     pub name: Bytes,

@@ -231,7 +231,7 @@ fn look_into<L: Ledger, R: Wait + Abort>(
 }
 
 /// A closed kernel has the image and the fuse that it was opened with, and its events show the calls with their
-/// replies. It finds the first place at which other replies are not a hart's: one is missing there, is too many, is
+/// replies. It finds the first place at which other replies are not a hart's. There one is missing, is too many, is
 /// another's, or has another answer or call.
 #[test]
 fn replies_differ(rt: HostRuntime) {

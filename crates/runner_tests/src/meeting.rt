@@ -114,8 +114,8 @@ fn call_meeting<L: Ledger, G: Gate + Drop, R: Wait + Clock>(
     made
 }
 
-// The answers of two calls that met, if they have any, and how many of the first one's steps come before the start of
-// the second.
+// The answers of two calls that met, if they have any. The number says how many of the first one's steps come before
+// the start of the second.
 type Met = (Option<Answer>, Option<Answer>, usize);
 
 fn answer_of(came: &CallResult) -> Option<Answer> {
@@ -179,9 +179,9 @@ fn meet<'a, L: Ledger + Send + Sync, R: Threads + Wait + Clock + Abort + Sync>(
     }
 }
 
-/// Hart 0 has made `/a` and `/b`. It is held before try 9 of its open of `/a/x`, when it has locked `/a`, until hart
-/// 1's mkdir of `/b/x`, begun then, has returned. In the list exactly nine steps of that open come before the start
-/// of the mkdir.
+/// Hart 0 has made `/a` and `/b`. It is held before try 9 of its open of `/a/x`, when it has locked `/a`. Then hart
+/// 1's mkdir of `/b/x` begins, and hart 0 is held until that has returned. In the list exactly nine steps of that
+/// open come before the start of the mkdir.
 #[test]
 fn two_harts_meet(rt: HostRuntime) {
     let alloc = rt.alloc();

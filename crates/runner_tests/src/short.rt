@@ -219,7 +219,7 @@ fn resume_once<R: Wait + Print + Abort>(rt: &R, alloc: Global) -> HartEnd {
     resume_on::<Brand, R>(rt, alloc, Blank::new(8), image, call)
 }
 
-/// A call that is stopped for want of memory, and stopped again as it goes on, has changed nothing: it gets the reply
+/// A call that is stopped for want of memory, and stopped again as it goes on, has changed nothing. It gets the reply
 /// that it would have had. Of its requests two in a row are refused.
 #[test]
 fn of_resume(rt: HostRuntime) {

@@ -219,7 +219,7 @@ fn round<L: Ledger + Send + Sync, R: Threads + Wait + Abort + Sync>(
 }
 
 /// Eight harts make, write, link, read and unlink files in one directory at once, over names of their own and four
-/// shared ones. Each call is answered as it may be, the close finds each seat's replies in the list, and nothing but
+/// shared ones. Each call is answered as it may be, and the close finds each seat's replies in the list. Nothing but
 /// the root is left on the disk.
 #[test]
 fn eight_harts(rt: HostRuntime) {

@@ -266,7 +266,7 @@ pub fn has_prompt(matches: &ArgMatches) -> bool
     flag_in(matches, PROMPT)
 }
 
-/// Reads a command line, the program's name first. After an `Ok` the values are those that the words give; an error
+/// Reads a command line, the program's name first. After an `Ok` the values are those that the words give. An error
 /// has one of the kinds that the words call for, or memory was refused.
 pub fn options<'a>(alloc: Global, words: &'a [String]) -> Result<ArgMatches<'a>, Error>
     ensures values { IfOk result (λ matches. rows_of (found_of matches) ≡ matches_of console_line (map string_bytes words.entry.now)) }

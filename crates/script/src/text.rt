@@ -23,7 +23,7 @@ pub fn parse(alloc: Global, text: &[u8]) -> Result<Vec<ScriptLine>, ScriptFault>
     }
 }
 
-/// The commands of a script up to its first line that says nothing, and that line: a line before it may be bad when
+/// The commands of a script up to its first line that says nothing, and that line. A line before it may be bad when
 /// it is run. Only want of memory is an error.
 pub fn parse_front(alloc: Global, text: &[u8]) -> Result<Front, AllocError>
     ensures { IfOk result (λ front. GivesFront front text.now) }
@@ -53,8 +53,8 @@ pub fn parse_front(alloc: Global, text: &[u8]) -> Result<Front, AllocError>
     Ok(Front { lines, bad: None })
 }
 
-/// What is wrong with a bad line, as its writer sees it first: how the line ends, its spaces, its quotation marks, or
-/// else the reason that was found.
+/// What is wrong with a bad line, as its writer sees it first. It is how the line ends, its spaces, its quotation
+/// marks, or else the reason that was found.
 pub fn plainest(line: &[u8], reason: Reason) -> Reason {
     match reason {
         Reason::CarriageReturn => reason,

@@ -1,5 +1,5 @@
--- How the forest of live directories and the counts of links change: when a name is entered or cleared, a file
--- becomes a directory, or an empty directory a file.
+-- How the forest of live directories and the counts of links change. A name is entered or cleared, a file becomes a
+-- directory, or an empty directory a file.
 use Rattle.tree_laws.proofs.Vocabulary.{◌≡◌, ◌≢◌, ℕ, suc, ◌+◌, ◌<◌, ◌≤◌, Bool, true, false, ◌&&◌, not, ◌==◌, ◌⊎◌, inl, inr, refl, sym, ◌∙◌, ap, subst, arith, [], drop, Option, Some, None, Slot, Name, put, same_name, dot, dotdot, first_slot, first_free, cleared, Slots, Folders, up_in, past, has_up, one_if, count_in, mentions, children, NamesOnce, IsInOrder, IsForest}
 use Rattle.tree_laws.proofs.Maps.{same_or, eq_not, put_same, put_other, put_is}
 use Rattle.tree_laws.proofs.Sums.{sum_same, sum_changed, sum_part, sum_two, sum_none, one_no, count_nil, count_entered, count_cleared}

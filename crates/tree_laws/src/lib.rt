@@ -1,7 +1,7 @@
 //! Laws of the plain tree: when a tree is well formed, and that each tree step keeps it so. Laws of what a step
 //! leaves of directories and of the paths that other harts follow.
 //!
-//! Laws of the moves of calls on a tree too (walks, lookups, acts), as a single hart sees them: one list of tree
+//! Laws of the moves of calls on a tree too (walks, lookups, acts), as a single hart sees them. One list of tree
 //! steps explains each run of them. A walk that another hart's step kills fails at that very step; its call learns it
 //! when it gives the walk up. The functions do nothing: each carries a law.
 #![tactic(auto)]
@@ -125,7 +125,7 @@ pub fn each_call_finishes()
     ensures inherit { InheritFinishes }
 {}
 
-/// A hart walks to a directory that another hart removes under it: its open fails at that very unlink, even if the
+/// A hart walks to a directory that another hart removes under it. Its open fails at that very unlink, even if the
 /// names are made again before it looks. An open through a file fails when its walk reaches the file.
 pub fn walkers_fail_with_their_directory()
     ensures removed { WalkerFails }

@@ -16,8 +16,8 @@ use plain_tree::{Cause, NodeType};
 // The most calls that are recorded.
 const MOST_CALLS: usize = 4096;
 
-// A disk that records its calls, in their order: the number of the block that was read, or the negative one of the
-// block that was written.
+// A disk that records its calls, in their order. A read is the number of its block, and a write the negative number
+// of its block.
 #[derive(Drop)]
 struct RecordingDisk {
     disk: MemoryDisk,

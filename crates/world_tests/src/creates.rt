@@ -9,7 +9,8 @@ use plain_tree::{Cause, Full, NodeType};
 use std::ops::Range;
 
 const ROWS: &[Row] = &[
-    // An open makes a file, and mkdir a directory, which has "." and ".." and gives its parent a link; another hart finds both at once.
+    // An open makes a file, and mkdir a directory, which has "." and ".." and gives its parent a link. Another hart
+    // finds both at once.
     (
         Image::Tree,
         &[

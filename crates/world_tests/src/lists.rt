@@ -53,8 +53,8 @@ fn make(rt: &impl Abort, world: &mut World<MemoryDisk>, made: &mut Made, event: 
     push(rt, &mut made.outcomes, came);
 }
 
-// At most `most` steps of a hart, until `count` of a kind have run, or to one that doesn't run and leave the call
-// under way.
+// At most `most` steps of a hart. They end when `count` of a kind have run, or with one that doesn't run or ends the
+// call.
 fn go_on(
     rt: &impl Abort,
     world: &mut World<MemoryDisk>,

@@ -10,8 +10,8 @@ use hart_core::StartRefused;
 use plain_tree::{Cause, NodeType};
 
 const ROWS: &[Row] = &[
-    // On a fresh image the root opens, by its name and by an empty path, gives its state, and is read; and it has no
-    // parent.
+    // On a fresh image the root opens, by its name and by an empty path. It gives its state and is read, and it has
+    // no parent.
     (
         SMALL,
         &[
@@ -150,7 +150,7 @@ const ROWS: &[Row] = &[
         ],
         (1, 0, 1),
     ),
-    // A read waits for an inode's lock, and goes on after the other one; two opens of one file, step by step in turn,
+    // A read waits for an inode's lock, and goes on after the other one. Two opens of one file, step by step in turn,
     // both succeed.
     (
         Image::WithFile(400, b"hello"),

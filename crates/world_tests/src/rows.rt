@@ -76,7 +76,7 @@ pub enum Line<'a> {
     End(u8, Says<'a>),
     /// Steps of the harts from 0 on in turn, until the call of each has ended.
     All(&'a [Says<'a>]),
-    /// A call of hart 0. Before each of its steps hart 1 makes one of these calls, in turn; the number says how many
+    /// A call of hart 0. Before each of its steps hart 1 makes one of these calls, in turn. The number says how many
     /// of them come before the call starts. At the end hart 1 makes all of them once more.
     Between(&'a Ask<'a>, &'a [Ask<'a>], usize),
 }

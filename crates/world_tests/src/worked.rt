@@ -290,8 +290,8 @@ fn count_stops(rt: &impl Abort, alloc: Global, image: Image, made: &Made) -> u64
     panic!(rt; "the device is called more than a thousand times")
 }
 
-/// Each row has the results that it names; and over its list each call of the device fails in turn, until there is
-/// none that fails.
+/// Each row has the results that it names. Over its list each call of the device fails in turn, until there is none
+/// that fails.
 #[test]
 fn each_call_of_the_device_fails(rt: HostRuntime) {
     for (number, (image, row, left)) in ROWS.iter().enumerate() {
