@@ -64,8 +64,8 @@ abbrev pub begins_at : AfterLeave → Bool
 begins_at Free = false
 begins_at Commits = true
 
--- Of a commit's step: whether the head names the group after it. If the step's write is the one that makes it do so,
--- it does; after a fault it may.
+-- Of a commit's step: whether the head begins to name the group with it. It does exactly if the step's write is the
+-- one that makes it do so; after a fault it may.
 abbrev pub Stands : Progress → Bool → Bool → Type 0
 Stands Waits point stands = stands ≡ false
 Stands Wrote point stands = stands ≡ point
