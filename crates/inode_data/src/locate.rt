@@ -192,7 +192,7 @@ fn direct_named(inode: Dinode, place: usize, number: Option<u32>) -> Located
     Located::new(inode, number)
 }
 
-// A search that is so far.
+// A search at this stage.
 #[inline(always)]
 fn runs(inode: &Dinode, sizes: &Super, stage: Stage) -> Begun<Locate, Located>
     ensures { result ≡ begun.Runs (record { inode = inode.now; sizes = sizes.now; stage = stage }) }

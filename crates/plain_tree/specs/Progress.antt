@@ -62,7 +62,7 @@ link_next old new p =
 abbrev pub only_next : Action → Progress → Option Action
 only_next s p = next_where (p.count == 0) s
 
--- the next step of a call that is so far
+-- the next step of a call with this progress
 abbrev pub next_at : Call → Progress → Option Action
 next_at (Open path flags) p = open_next path flags p
 next_at (Read fd buffer) p = only_next (ReadStep fd (length buffer)) p

@@ -4,7 +4,7 @@ ghost use Rattle.plain_tree.specs.Numbers.{cause_name, cause_number, full_name, 
 
 use crate::call::Call;
 
-/// Why a call is refused. A refused call changes nothing, except by the pieces of a write before the refused one.
+/// Why a call is refused. A refused call changes nothing, except for the pieces of a write before the refused one.
 #[derive(Clone, Copy, PartialEq, Eq, Debug)]
 pub enum Cause {
     NoEntry = 1,

@@ -1,7 +1,7 @@
 //! Why the tree gives no answer.
 use std::alloc::{AllocError, AllocFailed};
 
-/// Memory is short. What was asked for changes nothing.
+/// Memory is short. The request changed nothing.
 #[derive(Clone, Copy, PartialEq, Eq, Debug)]
 pub struct NoMemory;
 
