@@ -34,7 +34,7 @@ impl StoreRecord {
         StoreRecord::Fetching(seat, Fetch::Get(place, block))
     }
 
-    /// The same after the inode got this record in hand.
+    /// The same, and from then on the inode has this record in hand.
     pub fn with(
         inodestart: u32,
         hand: &mut Hand,
@@ -55,7 +55,7 @@ impl StoreRecord {
         StoreRecord::new(inodestart, hand, seat, place)
     }
 
-    /// The same after the inode got this count of links in hand.
+    /// The same, and from then on the inode has this count of links in hand.
     pub fn with_count(
         inodestart: u32,
         hand: &mut Hand,
