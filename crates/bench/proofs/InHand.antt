@@ -7,7 +7,7 @@ unfolding unused_from
 none_unused n zero = refl
 none_unused n (suc count) = let none = none_unused (n + 1) count in omega (arith, none)
 
--- after a get it has the buffer alone, or none where it waits
+-- after a get it has the buffer alone, or none if it waits
 abbrev HasGot : List SeatState × Got → Type 0
 HasGot (seats, got.Held guard) = count_of (is_held_by this_hart) seats ≡ 1
 HasGot (seats, got.Waits) = HasNone seats

@@ -67,7 +67,7 @@ fn full(alloc: Global) -> Result<Cache<MemoryDisk>, WorkloadError>
     }
 }
 
-// Gets a block and gives it back: a byte of it, or 0 where it was not had.
+// Gets a block and gives it back: a byte of it, or 0 if the get gave no buffer.
 fn touch<D: Device>(cache: &mut Cache<D>, b: u32) -> u64
     requires { HasNone cache.old.seats }
     ensures { HasNone cache.new.seats }
@@ -94,7 +94,7 @@ fn read_and_release<D: Device>(cache: &mut Cache<D>, mut guard: Guard<Buffer>) -
     byte
 }
 
-// Reads the block into its buffer, where that isn't valid. After a fault it isn't valid either.
+// Reads the block into its buffer, if that isn't valid. After a fault it isn't valid either.
 fn read<D: Device>(cache: &mut Cache<D>, guard: &mut Guard<Buffer>)
     requires one { HasOne cache.old.seats guard.old }
     requires held { IsHeld cache.old.seats guard.old }

@@ -62,7 +62,7 @@ fn action(alloc: Global, number: u64) -> Result<Action, AllocError> {
     }
 }
 
-/// What it is answered; the read stands at the end of the file.
+/// What the call is answered; the read is at the end of the file.
 fn answer(number: u64) -> Answer {
     match number % 4 {
         0 => Answer::Fd(0),

@@ -19,7 +19,8 @@ const DISK_BLOCKS: u32 = 2000;
 // More than harts make at once.
 const NEW_INODES: u32 = 100;
 
-// Which part of a hart's number stands behind the paths of a call: all of it, or none, so that all harts share the name.
+// Which part of a hart's number comes after the paths of a call: all of it, or none, so that all harts share the
+// name.
 const OWN: u8 = 7;
 
 const SHARED: u8 = 0;
@@ -55,7 +56,7 @@ struct Worker {
     is_busy: bool,
 }
 
-// Each begins two calls behind the one before.
+// Each begins two calls after the one before.
 fn workers(alloc: Global) -> Result<Vec<Worker>, WorkloadError> {
     let mut workers = Vec::new(alloc);
     for hart in 0..HARTS {

@@ -13,7 +13,7 @@ const FRESH_INODES: u32 = 200;
 
 const LARGEST_INODES: u32 = 1200;
 
-/// Files `f0`, `f1` .. of so many bytes.
+/// `count` files `f0`, `f1` .. of `size` bytes.
 pub fn files(alloc: Global, count: u32, size: usize) -> Result<Vec<NewFile>, AllocError> {
     let mut files = Vec::new(alloc);
     for number in 0..count {
@@ -27,7 +27,7 @@ pub fn files(alloc: Global, count: u32, size: usize) -> Result<Vec<NewFile>, All
     Ok(files)
 }
 
-/// An image of so many blocks and inodes with these files.
+/// An image of this number of blocks and inodes with these files.
 pub fn image(
     alloc: Global,
     size: u32,

@@ -36,7 +36,7 @@ pub fn lock_and_unlock(alloc: Global) -> Result<u64, WorkloadError> {
     }
 }
 
-// Locks a slot and unlocks it: its value, or 0 where it was not had.
+// Locks a slot and unlocks it: its value, or 0 if the lock gave no guard.
 fn touch(slots: &mut Slots<Box<u64>>, number: u32) -> u64
     requires { IsNumbered slots.old }
     ensures { IsNumbered slots.new }

@@ -53,7 +53,7 @@ pub fn record_cached(alloc: Global) -> Result<u64, WorkloadError> {
     ended(disk, RECORDED)
 }
 
-// So many operations, where the disk then has what the last transaction wrote.
+// The number of operations, if the disk then has what the last transaction wrote.
 fn ended(disk: MemoryDisk, operations: u32) -> Result<u64, WorkloadError> {
     let mut disk = disk;
     recover(&mut disk, Version::One).map_err(|_| WorkloadError::Wrong)?;
@@ -64,7 +64,7 @@ fn ended(disk: MemoryDisk, operations: u32) -> Result<u64, WorkloadError> {
     }
 }
 
-// A disk whose log is empty, and where its parts lie.
+// A disk whose log is empty, and the places of its parts.
 fn recovered(disk: MemoryDisk) -> Result<(Super, MemoryDisk), WorkloadError>
     ensures place { IfOk result (λ (sizes, disk). IsPlaced (blocks_of disk) sizes) }
     ensures empty { IfOk result (λ (_, disk). logged (blocks_of disk) ≡ []) }
@@ -91,7 +91,7 @@ fn byte_of(number: u32) -> u8 {
     (number % 251) as u8
 }
 
-// One transaction, which changes each block so many times, with its commit. After an error the log has ended.
+// One transaction, which changes each block `times` times, with its commit. After an error the log has ended.
 fn transact(log: Log<MemoryDisk>, byte: u8, times: u32) -> Result<Log<MemoryDisk>, WorkloadError> {
     let mut log = log;
     let joined = if log.is_idle(HART) {
@@ -116,7 +116,7 @@ fn transact(log: Log<MemoryDisk>, byte: u8, times: u32) -> Result<Log<MemoryDisk
     Err(WorkloadError::Wrong)
 }
 
-// Changes each block so many times. It says whether it could.
+// Changes each block `times` times. It says whether it could.
 fn change_all<D: Device>(log: &mut Log<D>, txn: &mut Txn, byte: u8, times: u32) -> bool {
     let mut changed = true;
     for _ in 0..times {

@@ -1,4 +1,5 @@
-//! What harts call, and what they are answered. To call it again takes no memory, since each reply hands its call back.
+//! What harts call, and what they are answered. To call it again takes no memory, because each reply hands its call
+//! back.
 use crate::workload::WorkloadError;
 use plain_tree::{Answer, Bytes, Call, Cause, NodeType, Stat};
 use std::alloc::{AllocError, Global};
@@ -9,21 +10,21 @@ const FIRST: u32 = 0;
 /// An open's flag: to write.
 pub const WRITE: u32 = 1;
 
-/// An open's flag: a file is made where there is none.
+/// An open's flag: the file is made if there is none.
 pub const CREATE: u32 = 0x200;
 
 /// An open's flag: the file is emptied.
 pub const TRUNCATE: u32 = 0x400;
 
-/// A call of a hart, whose number stands behind each path.
+/// A call of a hart, whose number comes after each path.
 #[derive(Clone, Copy)]
 pub enum Ask {
     Open(&'static [u8], u32),
-    /// An open of what isn't there.
+    /// An open of a name that isn't there.
     Miss(&'static [u8]),
     /// The state of an empty file, which has this number for hart 0, and the next ones for the others.
     Fstat(u16),
-    /// The state of what isn't open.
+    /// The state of a descriptor that isn't open.
     Stray,
     Read(u32),
     Write(u32),
@@ -43,7 +44,7 @@ pub struct Row {
     pub wanted: Answer,
 }
 
-/// Calls of several harts, so many times one after the other.
+/// Calls of several harts, `times` times one after the other.
 #[derive(Drop)]
 pub struct Wave {
     pub rows: Vec<Row>,
@@ -60,7 +61,7 @@ fn bytes(alloc: Global, count: u32) -> Result<Bytes, AllocError> {
     Ok(Bytes::new(vec![in alloc; b'y'; count as usize]?))
 }
 
-/// The call, with this hart's number behind each path.
+/// The call, with this hart's number after each path.
 pub fn call(alloc: Global, ask: Ask, hart: u8) -> Result<Call, AllocError> {
     match ask {
         Ask::Open(stem, flags) => {
@@ -145,7 +146,8 @@ pub fn plan(alloc: Global, hart: u8, asks: &[Ask]) -> Result<Vec<Row>, WorkloadE
     Ok(rows)
 }
 
-/// The calls of the first so many harts: each of them makes the first call so many times, then the second one, and so on.
+/// The calls of the first `harts` harts. Each of them makes the first call as often as its count says, then the
+/// second one, and so on.
 pub fn waves(alloc: Global, harts: u8, asks: &[(u32, Ask)]) -> Result<Vec<Wave>, WorkloadError> {
     let mut waves = Vec::new(alloc);
     for (times, ask) in asks.iter().copied() {

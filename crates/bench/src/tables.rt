@@ -78,7 +78,7 @@ fn told(done: u64) -> Result<u64, WorkloadError> {
     }
 }
 
-// The tables, and a reference to each of fifty inodes, but for the root, to which the harts' directories are.
+// The tables, and a reference to each of fifty inodes except the root, which the harts' directories refer to.
 fn referred_to(alloc: Global) -> Result<(Tables, Listed), WorkloadError> {
     let none = Listed::new(alloc)?;
     match Tables::new(alloc) {
@@ -111,7 +111,7 @@ fn all_referred_to(tables: &mut Tables, none: Listed) -> Listed
     held
 }
 
-// Drops a reference, and gives it back where it is the last one.
+// Drops a reference, and gives it back if it is the last one.
 fn down(tables: &mut Tables, reference: Reference) -> Option<Reference> {
     if tables.references(reference.number()) <= 1 {
         return Some(reference);

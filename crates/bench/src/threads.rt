@@ -31,7 +31,7 @@ impl Crew {
     }
 }
 
-// How often each hart makes its calls: so often that the kernel's opening counts for little.
+// How often each hart makes its calls: so often that the opening of the kernel hardly counts.
 const ROUNDS: u32 = 5000;
 
 const FILES: u32 = 8;
@@ -79,7 +79,7 @@ fn plans(alloc: Global) -> Result<[Plan; 4], WorkloadError> {
     ])
 }
 
-// The seat of a call that came to nothing.
+// The seat of a call that failed.
 fn seat_of<L: Ledger>(fault: CallFault<L>) -> Seat<L> {
     match fault {
         CallFault::Start(seat, _, _) => seat,

@@ -11,7 +11,7 @@ use std::mem;
 
 const DISK_BLOCKS: u32 = 2000;
 
-// No calls that are measured take as many turns.
+// More turns than the measured calls take.
 const MOST_TURNS: u32 = 100_000;
 
 // The number of the image's first file.
@@ -63,7 +63,7 @@ const ROOT: Line = Line {
     operations: 1,
 };
 
-/// An `fstat` of what isn't open: its start and its reply, in one step.
+/// An `fstat` of a descriptor that isn't open: its start and its reply, in one step.
 pub const EVENT: Line = Line {
     round: &[(1, Ask::Stray)],
     rounds: 1_000_000,
@@ -235,7 +235,7 @@ fn start(world: &mut World<MemoryDisk>, rows: &mut [Row]) -> Result<(), Workload
     Ok(())
 }
 
-// The same of one hart, which nobody else's turns come between.
+// The same of one hart, with no turns of others between.
 fn make_call(world: &mut World<MemoryDisk>, row: &mut Row) -> Result<(), WorkloadError> {
     let hart = row.hart;
     for _ in 0..MOST_TURNS {

@@ -10,7 +10,7 @@ with_bit b bitmap = slice_set bitmap (b / 8) (bit_or (slice_index bitmap (b / 8)
 unfoldable pub without_bit : ℕ → List ℕ → List ℕ
 without_bit b bitmap = slice_set bitmap (b / 8) (bit_and (slice_index bitmap (b / 8)) (255 - 2 ^ (b % 8)))
 
--- the bitmap with this block's bit set, to be recorded; nothing where there is no block
+-- the bitmap with this block's bit set, to be recorded; nothing if there is no block
 abbrev pub marked_by : List ℕ → Option ℕ → Option (List ℕ)
 marked_by bitmap None = None
 marked_by bitmap (Some b) = Some (with_bit b bitmap)

@@ -2,7 +2,7 @@
 use Rattle.std.specs.Prelude.{ℕ, zero, suc, List, Bool, not, Option, Some, None, if◌then◌else◌}
 use Rattle.bitmap_alloc.specs.Vocabulary.{bit_of}
 
--- what stands, else this number where it passes the test
+-- the number that was found, else this number if it passes the test
 abbrev pub else_this : (ℕ → Bool) → ℕ → Option ℕ → Option ℕ
 else_this p n (Some k) = Some k
 else_this p n None = if p n then Some n else None

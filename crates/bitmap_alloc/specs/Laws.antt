@@ -4,7 +4,7 @@ use Rattle.bitmap_alloc.specs.Vocabulary.{unwrap_or, bit_of, Ret, Do, Op, Answer
 use Rattle.bitmap_alloc.specs.Bytes.{with_bit, without_bit, zeros}
 use Rattle.bitmap_alloc.specs.Programs.{take_block, free_block}
 
--- what an operation answers, after so many others
+-- what the operation after n others answers
 abbrev pub Oracle : Type 0
 Oracle = ℕ → (op : Op) → Answer op
 
@@ -23,18 +23,18 @@ abbrev pub recorded : {A : Type 0} → Oracle → ℕ → P A → List (ℕ × L
 recorded answer n (Ret a) = []
 recorded answer n (Do op m k) = recording op ++ recorded answer (n + 1) (k (answer n op))
 
--- the bytes that are fetched after so many operations
+-- the bytes of block b that are fetched after n operations
 abbrev pub fetched : Oracle → ℕ → ℕ → List ℕ
 fetched answer n b = unwrap_or (answer n (Get b)) (answer (n + 1) (Read b))
 
--- No bit below the size is clear and nothing is recorded; or the first clear bit is found, and recorded are the bitmap with it set, and
--- the block with zeros.
+-- No bit below the size is clear and nothing is recorded. Or the first clear bit is found, and the bitmap with it set
+-- and the block with zeros are recorded.
 abbrev pub TakesFirstClear : (at size : ℕ) → List ℕ → List (ℕ × List ℕ) → Option ℕ → Type 0
 TakesFirstClear at size bitmap changes None = ((k : ℕ) → k < size → bit_of bitmap k ≡ true) × (changes ≡ [])
 TakesFirstClear at size bitmap changes (Some b) = (b < size) × (bit_of bitmap b ≡ false) × ((k : ℕ) → k < b → bit_of bitmap k ≡ true)
     × (changes ≡ (at, with_bit b bitmap) ∷ (b, zeros) ∷ [])
 
--- so a block is taken
+-- a block is taken so
 abbrev pub TakesTheFirst : Type 0
 TakesTheFirst = (answer : Oracle) (at size : ℕ)
     → TakesFirstClear at size (fetched answer 0 at) (recorded answer 0 (take_block at size)) (outcome answer 0 (take_block at size))
@@ -43,7 +43,7 @@ TakesTheFirst = (answer : Oracle) (at size : ℕ)
 abbrev pub FreesByTheBitmap : Type 0
 FreesByTheBitmap = (answer : Oracle) (at b : ℕ) → recorded answer 0 (free_block at b) ≡ (at, without_bit b (fetched answer 0 at)) ∷ []
 
--- of the bits, that one is set and no other changed
+-- one bit is set, and every other stays
 abbrev pub SetsOneBit : Type 0
 SetsOneBit = (bitmap : List ℕ) (b c : ℕ) → b < 8 * length bitmap → bit_of (with_bit b bitmap) c ≡ (if c == b then true else bit_of bitmap c)
 

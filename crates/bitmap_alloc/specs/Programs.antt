@@ -12,19 +12,19 @@ give_zeros b old = Do (Put b (Some zeros)) unmarked (λ _. Ret (Some b))
 abbrev pub zero_block : {M : Type 0} → ℕ → Prog Op Answer M (Option ℕ)
 zero_block b = bind (fetch b) (give_zeros b)
 
--- the block that was found is filled with zeros, where one was
+-- the block that was found is filled with zeros, if one was
 abbrev pub zero_found : {M : Type 0} → Option ℕ → Prog Op Answer M (Option ℕ)
 zero_found None = Ret None
 zero_found (Some b) = zero_block b
 
--- the bitmap is given back with its first clear bit set, or as it was where none is clear
+-- the bitmap is given back with its first clear bit set, or as it was if none is clear
 abbrev pub take_first : {M : Type 0} → (at size : ℕ) → List ℕ → Prog Op Answer M (Option ℕ)
 take_first at size bitmap =
     let found = first_clear_below size bitmap in
     Do (Put at (marked_by bitmap found)) unmarked (λ _. zero_found found)
 
--- The first clear bit below the disk's size is found and set, where the bitmap's buffer is given back; then the block is filled with zeros.
--- None where no bit is clear there.
+-- The first clear bit below the disk's size is found, and set when the bitmap's buffer is given back. Then the block
+-- is filled with zeros. None if no bit is clear there.
 abbrev pub take_block : {M : Type 0} → (at size : ℕ) → Prog Op Answer M (Option ℕ)
 take_block at size = bind (fetch at) (take_first at size)
 

@@ -7,7 +7,7 @@ ghost use Rattle.bitmap_alloc.specs.FreeingBlocks.{free_left, free_asked, free_p
 use crate::bits::clear;
 use fs_machine::{Answer, Fetch, Hand, Op, Part, Place};
 
-/// Clears a block's bit, so that it may be taken.
+/// Clears a block's bit, so that it may be taken (xv6: `bfree`).
 #[derive(Clone, Copy, Drop)]
 pub enum FreeBlock {
     /// The bitmap is fetched, for this block.

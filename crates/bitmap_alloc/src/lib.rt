@@ -1,8 +1,8 @@
 //! Blocks taken and given back, by the bits of the bitmap block (xv6's `balloc` and `bfree` of fs.c).
 //!
 //! `specs/Programs` says what is done, operation by operation; `TakeBlock` and `FreeBlock` are parts that do it.
-//! The block that is taken is the first one below the disk's size whose bit is clear, in the step that sets it; none only where no such
-//! bit is clear, and then nothing is recorded.
+//! The block that is taken is the first one below the disk's size whose bit is clear, in the step that sets it. The
+//! answer is none only if no such bit is clear, and then nothing is recorded.
 #![tactic(auto)]
 
 mod bits;

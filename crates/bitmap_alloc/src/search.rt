@@ -8,7 +8,7 @@ use fs_layout::widths::{BITS_PER_BLOCK, BLOCK_LEN, Block};
 // A byte whose bits are all set.
 const FULL: u8 = 0xff;
 
-// The first byte with a clear bit, or the block's length where none has one.
+// The first byte with a clear bit, or the block's length if none has one.
 fn first_open(bitmap: &Block) -> usize
     ensures within { result ≤ BLOCK_LEN }
     ensures before { (k : ℕ) → k < result → slice_index bitmap.now k ≡ FULL }
@@ -32,7 +32,7 @@ fn lowest_clear(byte: u8) -> usize
     byte.trailing_ones() as usize
 }
 
-/// The first clear bit below a limit. Bytes without a clear bit are passed over whole.
+/// The first clear bit below a limit. Bytes without a clear bit are passed over as a whole.
 pub fn first_clear(bitmap: &Block, limit: usize) -> Option<u32>
     requires { limit ≤ BITS_PER_BLOCK }
     ensures first { result ≡ first_clear_below limit bitmap.now }

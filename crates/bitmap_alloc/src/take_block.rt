@@ -8,7 +8,7 @@ use crate::bits::{set, zero};
 use crate::search::first_clear;
 use fs_machine::{Answer, Fetch, Hand, Op, Part, Place};
 
-/// Takes a free block and fills it with zeros. None where no block is free.
+/// Takes a free block and fills it with zeros (xv6: `balloc`). None if no block is free.
 #[derive(Clone, Copy, Drop)]
 pub enum TakeBlock {
     /// The bitmap is fetched, of a disk of this size.

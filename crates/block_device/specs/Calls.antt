@@ -1,4 +1,4 @@
--- Where calls lead a device.
+-- The states that calls lead a device to.
 
 module _ {D : Type 0} (Called : D → D → Type 0) where
   -- The second state comes from the first by calls: by none, or by one more after some.

@@ -7,7 +7,7 @@ pub record OneFault : Type 0 where
   pub bytes : List ℕ
   -- how many calls pass before the one that fails; None: it has failed, and all pass
   pub left : Option ℕ
-  -- where the call that fails is a write, it leaves the new block
+  -- if the call that fails is a write, whether it leaves the new block
   pub done : Bool
   -- how many have failed
   pub faults : ℕ
@@ -18,7 +18,7 @@ left_after None = None
 left_after (Some zero) = None
 left_after (Some (suc n)) = Some n
 
--- the bytes that a write leaves: where it fails the old block stands, or the new one
+-- the bytes that a write leaves: if it fails, the old block or the new one is there
 abbrev pub bytes_after : {E : Type 0} → Result (Unit {0}) E → OneFault → ℕ → List ℕ → List ℕ
 bytes_after result d b block =
     if is_err result then (if d.done then with_block d.bytes b block else d.bytes) else with_block d.bytes b block

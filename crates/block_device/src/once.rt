@@ -7,8 +7,8 @@ use crate::device::{BLOCK_LEN, Device, Fault};
 use crate::memory::MemoryDisk;
 use std::marker::Model;
 
-/// A disk that passes some calls, fails the next one, and passes all that come after it: as a disk does that meets one bad
-/// sector, or a cable pulled for a moment. A contract sees it as a `OneFault`.
+/// A disk that passes some calls, fails the next one, and passes all later calls. A disk with one bad sector does so,
+/// or one whose cable was pulled for a moment. A contract sees it as a `OneFault`.
 #[derive(Drop)]
 pub struct Once {
     disk: MemoryDisk,
@@ -26,8 +26,8 @@ impl Model for Once {
 }
 
 impl Once {
-    /// A disk that passes `k` calls, and fails the next one. Only reads and writes count. Where that one is a write it leaves the
-    /// new block where `done`, else the old one.
+    /// A disk that passes `k` calls, and fails the next one. Only reads and writes count. If the call that fails is a
+    /// write, it leaves the new block if `done`, else the old one.
     pub fn new(disk: MemoryDisk, k: u64, done: bool) -> Once
         ensures { result ≡ record { bytes = disk; left = Some k; done = done; faults = 0 } }
     {
@@ -52,7 +52,7 @@ impl Once {
         disk
     }
 
-    // Counts a call, and fails the one that is to fail.
+    // Counts a call, and fails the one that must fail.
     fn pass(&mut self) -> Result<(), Fault>
         ensures fails { IsErr result ↔ (self.old.left ≡ Some 0) }
         ensures after { self.new ≡ record self.old { left = left_after self.old.left; faults = faults_after result self.old.faults } }

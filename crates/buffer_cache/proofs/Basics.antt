@@ -1,4 +1,4 @@
--- The lemmas that most of this crate's other lemmas stand on.
+-- The lemmas on which most other lemmas of this crate build.
 pub use Rattle.buffer_cache.proofs.Blocks.{equal, equals, is_block, kept_back, kept_with, new_seen, seat_back_here, seat_back_other, seat_has, seat_new_here, seat_new_other, seat_with_here, seat_with_other}
 pub use Rattle.buffer_cache.proofs.Enough.{some_free}
 pub use Rattle.buffer_cache.proofs.Firsts.{count_more, count_push, count_same, count_to_end, first_counted, first_passes, length-change_first, length-change_to_end, no_place, none_counted, pick, place_change, position_some}

@@ -155,7 +155,7 @@ new_seen disk k hart b (s ∷ ss) none once clean =
     none)
     refl
 
--- what the cache keeps of each block stays, where the seats' contents do
+-- what the cache keeps of each block stays, if the seats' contents do
 pub kept_with : (b k : ℕ) (f : SeatState → SeatState) (ss : List SeatState) → ((s : SeatState) → (f s).block ≡ s.block) → ((s : SeatState) → (f s).content ≡ s.content) → kept k (with_seat b f ss) ≡ kept k ss
 kept_with b k f ss same content = elim (cases_eq b k) [
   | inl is ↦ subst (λ (j : ℕ). kept j (with_seat b f ss) ≡ kept j ss) is (ap (λ (o : Option SeatState). option_and_then (λ (s : SeatState). s.content) o) (seat_with_here b f ss same) ∙ mapped (seat_of b ss))

@@ -51,7 +51,7 @@ grouped_in blocks a [] h n back ge lt is all =
     )
 grouped_in blocks a (m ∷ ms) h n back ge lt is all = (all.0, grouped_in blocks (head_behind a m) ms h n back ge lt is all.1)
 
--- the head of a buffer stands before it
+-- the head of a buffer's chain is before it
 head_before : (blocks : List (Option ℕ)) (a k : ℕ) (ns : List ℕ) → k < 46 → 1 ≤ count_of (is_same k) ns → AreGrouped blocks a ns → 1 ≤ count_of (is_same (head_of (block_in blocks k))) (a ∷ ns)
 head_before blocks a k [] lt some all = absurd (omega (arith, some))
 head_before blocks a k (m ∷ ms) lt some all =
@@ -72,7 +72,7 @@ head_before blocks a k (m ∷ ms) lt some all =
         let rest = before m le (subst (λ (j : ℕ). AreGrouped blocks j ms) (behind_head a m (head_is m e)) all.1) in
         omega (arith, rest)
 
--- what is walked along from a number on, so many steps
+-- the buffers that a walk comes by from a number on: as many as steps are left, up to the next head
 pub walk : List ℕ → ℕ → ℕ → List ℕ
 walk next at zero = []
 walk next at (suc left) = if nat_lt (get_or next at 0) 46 then get_or next at 0 ∷ walk next (get_or next at 0) left else []
@@ -92,7 +92,7 @@ walk_none next at = refl
 abbrev count_slots : List ℕ → ℕ
 count_slots ns = count_of (λ n. nat_lt n 46) ns
 
--- a buffer of the chain is come by
+-- a walk along the chain comes by each of its buffers
 chain_has : (x y : List ℕ) (blocks : List (Option ℕ)) (at h : ℕ) (ns : List ℕ) (k left : ℕ) → IsPath x y (at ∷ ns) 59 → AreGrouped blocks h ns → count_of (is_same h) ns ≡ 0 → 1 ≤ count_of (is_same k) ns → k < 46
     → head_of (block_in blocks k) ≡ h → count_slots ns ≤ left → 1 ≤ count_of (is_same k) (walk x at left)
 chain_has x y blocks at h [] k left path all none some lt is few = absurd (omega (arith, some))
@@ -304,7 +304,7 @@ chained_new chains is = record {
       (grouped_from (map (λ (s : SeatState). s.block) (unused_from 0 46)) 0 59 59 (none_from 0 46) (λ _. refl));
 }
 
--- where each buffer keeps its block
+-- if each buffer keeps its block, the chains stay right
 pub chained_same : (seats new : List SeatState) (chains : List ℕ) → length new ≡ length seats → map (λ (s : SeatState). s.block) new ≡ map (λ (s : SeatState). s.block) seats → IsChained seats chains → IsChained new chains
 chained_same seats new chains long same chained = record {
   count = long ∙ chained.count;

@@ -1,7 +1,7 @@
 -- Forty-six buffers are enough.
 use Rattle.buffer_cache.proofs.Vocabulary.{◌≡◌, inl, inr, ℕ, zero, suc, ◌+◌, ◌*◌, ◌<◌, ◌≤◌, List, [], ◌∷◌, length, Bool, true, false, cond, not, ◌&&◌, ◌==◌, refl, sym, ◌∙◌, ap, subst, arith, Option, Some, None, IsSome, is_some, is_none, if◌then◌else◌, cases_eq, nat_tests, none-some, find, count_of, SeatState, is_number, is_held_by, is_out, is_pinned, is_free, IsBelow, HoldersBelow}
 
--- where none is free each is pinned or out
+-- if none is free, each is pinned or out
 none_free : (ss : List SeatState) → find is_free ss ≡ None → length ss ≤ count_of is_pinned ss + count_of is_out ss
 none_free [] e = omega arith
 none_free (s ∷ ss) e = seat s.pinned s.holder e (none_free ss)
@@ -54,7 +54,8 @@ held_less ss two hart one (suc n) lt = elim (cases_eq n hart) [
   | inr ne ↦ let a = held_less ss two hart one n (omega (arith, lt, ne)) in let b = two n in omega (arith, a, b)
 ]
 
--- eight harts with two buffers at most, of which one asks with one at most, and thirty that are pinned, leave a free one of 46
+-- eight harts have two buffers at most, one of them asks with one at most, and thirty buffers are pinned: then one of
+-- 46 is free
 pub some_free : (ss : List SeatState) (hart : ℕ) → hart < 8 → length ss ≡ 46 → count_of is_pinned ss ≤ 30 → ((h : ℕ) → count_of (is_held_by h) ss ≤ 2) → HoldersBelow 8 ss → count_of (is_held_by hart) ss ≤ 1
     → IsSome (find is_free ss)
 some_free ss hart lt long pinned two below one = by_first (find is_free ss) refl

@@ -1,11 +1,11 @@
--- The first of a list that passes a test: where it stands, and what changing it does to counts.
+-- The first of a list that passes a test: its place, and what changing it does to counts.
 use Rattle.buffer_cache.proofs.Vocabulary.{◌≡◌, ℕ, zero, suc, ◌+◌, ◌<◌, ◌≤◌, List, [], ◌∷◌, ◌++◌, length, get_or, set, Bool, true, false, cond, not, refl, sym, ◌∙◌, ap, subst, arith, Option, Some, None, IsSome, is_some, if◌then◌else◌, nat_lt, nat_tests, position, position_or_len, count_by, find, is_count_by, change_first, change_to_end, count_of}
 
 pub pick : (t : Bool) (P : Bool → Type 0) → (t ≡ true → P true) → (t ≡ false → P false) → P t
 pick true P yes_ no_ = yes_ refl
 pick false P yes_ no_ = no_ refl
 
--- where the first is
+-- the place of the first
 pub position_some : {X : Type 0} (p : X → Bool) (xs : List X) (i : ℕ) → position p xs ≡ Some i → (i ≡ position_or_len p xs) × (i < length xs)
 position_some p xs i e = tests (position_or_len p xs) (length xs) e
   where
@@ -91,7 +91,7 @@ count_more q p f (x ∷ xs) =
     let b = count_more q p f xs in
     pick (p x) (λ t. count_of q (if t then f x ∷ xs else x ∷ change_first p f xs) ≤ cond (q x) 1 0 + count_of q xs + 1) (λ _. omega (arith, a)) (λ _. omega (arith, b))
 
--- none more, where the change passes no test anew
+-- none more, if the change makes none pass that didn't
 pub count_same : {X : Type 0} (q p : X → Bool) (f : X → X) (xs : List X) → ((x : X) → find p xs ≡ Some x → q (f x) ≡ true → q x ≡ true) → count_of q (change_first p f xs) ≤ count_of q xs
 count_same q p f [] keeps = omega arith
 count_same {X} q p f (x ∷ xs) keeps =
@@ -160,7 +160,7 @@ first_exists {X} p (x ∷ xs) lt = found (p x) lt (λ l. first_exists p xs l)
     found true lt more = refl
     found false lt more = more (omega (arith, lt))
 
--- where there is a place there is a first
+-- there is a first exactly if it has a place
 pub placed : {X : Type 0} (p : X → Bool) (xs : List X) (b : Bool) → b ≡ is_some (position p xs) → (b ≡ true → IsSome (find p xs)) × (IsSome (find p xs) → b ≡ true)
 placed {X} p xs b e = by_place (position p xs) refl e
   where

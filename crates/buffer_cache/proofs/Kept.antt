@@ -1,4 +1,4 @@
--- What is kept of the buffers, as it is seen.
+-- What the cache keeps of the buffers, as it is seen.
 use Rattle.buffer_cache.proofs.Vocabulary.{◌≡◌, ℕ, ◌<◌, ◌≤◌, List, length, set, Bool, refl, sym, ◌∙◌, ap, subst, arith, Option, Some, None, IsSome, MatchOption, option_map, option_and_then, position, find, same_Some, none-some, GuardState, unlocked, BufferState, change_to_end, count_of, SeatState, unused, has_block, is_free, seat_of, slot_of, kept, with_holder, without_holder, with_content, with_pin, as_new, with_seat, given_back, unused_from, IsHeld, IsGuardOf, has_number, IsSeated, numbered, in_order, numbers, is_same, IsOrdered, IsKept, get_of, guard_of, Got, Held}
 use Rattle.buffer_cache.proofs.Basics.{position_some, place_change, no_place, first_counted, first_passes, none_counted, is_block, Row, same_number, seated_at, slot_within, get_out, get_in, get_free, held_seat, held_cached, seated_filled, seated_pinned, seated_given_back, ordered_new, is_equal, counted, once_of, first_of, same_first, placed_first, first_in, changed_in, moved_in, ordered_set, ordered_first, ordered_moved, number_is, none_in}
 

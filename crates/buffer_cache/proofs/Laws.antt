@@ -378,7 +378,7 @@ written_err (Ok t) new old old_too x y err f e = err
 written_err (Err t) new old old_too x y (inl is) f e = inl (is ∙ f)
 written_err (Err t) new old old_too x y (inr is) f e = inr (is ∙ e)
 
--- after a write of what is kept the block stands as it is seen
+-- after a write of the kept bytes the block on the disk is as it is seen
 pub home_then : {T E : Type 0} (r : Result T E) (disk new : List (List ℕ)) (ss : List SeatState) (b : ℕ) (bytes : List ℕ) → b < length disk → kept b ss ≡ Some bytes → OnOk r (new ≡ slice_set disk b bytes)
     → OnOk r (block_at new b ≡ seen_in new ss b)
 home_then (Ok t) disk new ss b bytes within keeps is = ap (λ (d : List (List ℕ)). block_at d b) is ∙ block_at-set_same disk b bytes within ∙ sym (seen_as new ss b (Some bytes) keeps)

@@ -10,7 +10,7 @@ there_counted n [] back =
     omega (arith, here)
 there_counted n (m ∷ ms) back = let more = there_counted n ms back in omega (arith, more)
 
--- a number that stands there once is moved to the end
+-- a number that is there once is moved to the end
 moved_here : (n : ℕ) (front back : List ℕ) → count_of (is_same n) (front ++ n ∷ back) ≤ 1 → change_to_end (is_same n) (λ k. k) (front ++ n ∷ back) ≡ front ++ (back ++ n ∷ [])
 moved_here n [] back once = ap (λ (t : Bool). if t then back ++ n ∷ [] else n ∷ change_to_end (is_same n) (λ k. k) back) (same_number n)
 moved_here n (m ∷ ms) back once =
@@ -79,7 +79,7 @@ last_of : (last n : ℕ) (ms front : List ℕ) → last ∷ ms ≡ front ++ n �
 last_of last n ms [] is lt = let same : last ≡ n = ap (λ (l : List ℕ). first_or l 0) is in absurd (omega (arith, same, lt))
 last_of last n ms (f ∷ fs) is lt = (fs, ap behind_first is)
 
--- the youngest stands where it would be moved to
+-- a move of the youngest to the end changes nothing
 pub youngest_stays : (last : ℕ) (x y : List ℕ) (n : ℕ) → IsRing last x y → n < last → get_or y last 0 ≡ n → follow x last last ≡ change_to_end (is_same n) (λ k. k) (follow x last last)
 youngest_stays last x y n ring lt is =
     at.1 ∙ sym (moved_here n at.0 [] once) ∙ ap (λ (l : List ℕ). change_to_end (is_same n) (λ k. k) l) (sym at.1)

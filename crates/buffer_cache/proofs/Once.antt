@@ -1,4 +1,4 @@
--- A list of which at most one passes a test: where that stands.
+-- A list of which at most one passes a test, and the place of that one.
 use Rattle.buffer_cache.proofs.Vocabulary.{◌≡◌, ℕ, zero, suc, ◌+◌, ◌<◌, ◌≤◌, List, [], ◌∷◌, length, Bool, true, false, cond, not, ◌∙◌, ap, arith, Some, None, nat_lt, position, position_or_len, nat_tests, slice_get_within, same_Some, none-some, count_of}
 use Rattle.std.specs.List.{slice_get}
 use Rattle.buffer_cache.proofs.Firsts.{pick}

@@ -27,7 +27,7 @@ find_map {X} {Y} p g (x ∷ xs) = by_test (p (g x)) (find_map p g xs)
     by_test true more = refl
     by_test false more = more
 
--- the number that is counted stands for what passes
+-- if a number is counted and its element passes, that element is counted
 count_there : {X : Type 0} (p : X → Bool) (g : ℕ → X) (n : ℕ) (ns : List ℕ) → 1 ≤ count_of (is_same n) ns → p (g n) ≡ true → 1 ≤ count_of p (map g ns)
 count_there p g n [] some is = absurd (omega (arith, some))
 count_there {X} p g n (m ∷ ms) some is =
@@ -52,7 +52,7 @@ found_there {X} p g n (m ∷ ms) some once is =
     once)
     refl some
 
--- what stands at no counted number is not read anew
+-- if a number isn't counted, a change of its element isn't read
 map_others : {X : Type 0} (g h : ℕ → X) (n : ℕ) → ((k : ℕ) → k ≢ n → h k ≡ g k) → (ns : List ℕ) → count_of (is_same n) ns ≡ 0 → map h ns ≡ map g ns
 map_others g h n others [] none = refl
 map_others {X} g h n others (m ∷ ms) none =

@@ -1,4 +1,4 @@
--- Rings of linked numbers: one is taken out, and put in behind another.
+-- Rings of linked numbers: one is taken out, and put in after another.
 use Rattle.buffer_cache.proofs.Vocabulary.{◌≡◌, ◌≢◌, ℕ, zero, suc, ◌+◌, ◌<◌, ◌≤◌, List, [], ◌∷◌, ◌++◌, length, length-set, get_or, set, Bool, true, cond, refl, sym, ◌∙◌, ap, subst, arith, ◌==◌, inl, inr, Some, range_with_len, cases_lt, nat_tests, get_or-set_same, get_or-set_other, length-range_with_len, count_of, is_same, first_or, IsPath, follow, IsRing}
 use Rattle.buffer_cache.proofs.Basics.{pick, counted_at, same_number, range_at, range_within, range_apart}
 
@@ -22,7 +22,7 @@ absent_first k n ns none e =
 pub absent_rest : (k n : ℕ) (ns : List ℕ) → count_of (is_same k) (n ∷ ns) ≡ 0 → count_of (is_same k) ns ≡ 0
 absent_rest k n ns none = omega (arith, none)
 
--- where a number that is counted stands
+-- the parts of a list before and after a counted number
 pub record Stands (n : ℕ) (ns : List ℕ) : Type 0 where
   pub front : List ℕ
   pub back : List ℕ
@@ -113,7 +113,7 @@ previous_first x y (n ∷ ns) b v apart none path =
     let few = apart n in
     previous_else x y n ns b n v (omega (arith, here, few)) (λ e. absent_first b n ns none (sym e)) path
 
--- what stands behind a number doesn't stand before it
+-- the number that comes after another one isn't before it
 first_absent : (front back : List ℕ) (n b : ℕ) → AreApart (front ++ n ∷ back) → count_of (is_same b) front ≡ 0 → count_of (is_same (first_or back b)) front ≡ 0
 first_absent front [] n b apart none = none
 first_absent front (m ∷ ms) n b apart none =
@@ -174,7 +174,7 @@ abbrev pub behind_first : List ℕ → List ℕ
 behind_first [] = []
 behind_first (n ∷ ns) = ns
 
--- one is put in behind another
+-- one is put in after another
 pub put_in : (x y front : List ℕ) (h n : ℕ) (back : List ℕ) (b : ℕ) → AreApart (front ++ h ∷ back) → count_of (is_same n) (front ++ h ∷ back) ≡ 0
     → count_of (is_same b) (behind_first (front ++ h ∷ back)) ≡ 0 → b ≢ n → n < length x → n < length y → h < length x → get_or x h 0 < length y → IsPath x y (front ++ h ∷ back) b
     → IsPath (set (set x h n) n (get_or x h 0)) (set (set y n h) (get_or x h 0) n) (front ++ h ∷ n ∷ back) b
@@ -378,7 +378,7 @@ unlinked last x y n x1 y1 ring long_x long_y lt x_is y_is = record {
     behind_lt : get_or x n 0 < suc last
     behind_lt = subst (λ (k : ℕ). k < suc last) (sym split.1.0) (first_within last back (λ k some. within k (let a = count_join (is_same k) (last ∷ front) (n ∷ back) in omega (arith, some, a))))
 
--- and into which it is put behind another
+-- and into which it is put after another
 pub record Linked (last : ℕ) (x1 y1 : List ℕ) (n h : ℕ) (front back : List ℕ) (x2 y2 : List ℕ) : Type 0 where
   pub before : h < suc last
   pub behind : get_or x1 h 0 < suc last

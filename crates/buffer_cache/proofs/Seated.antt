@@ -236,7 +236,7 @@ held_out slots ss g seated held =
     let out = slot_out s (slice_get slots s.number) g.hart fits at.2.holder in
     subst (λ (n : ℕ). slice_get slots n ≡ Some (record { number = n; inside = None; holder = Some g.hart })) at.2.number out
 
--- what a held buffer's seat is changed to, but for its number and holder, is nothing to its slot
+-- a change of a held buffer's seat, except of its number and holder, is nothing to its slot
 held_fits : (s : SeatState) (content : Option (List ℕ)) (pinned : Bool) (hart : ℕ) (o : Option (SlotState BufferState)) → s.holder ≡ Some hart → SlotFits s o → SlotFits (record s { content = content; pinned = pinned }) o
 held_fits s content pinned hart None out fits = absurd fits
 held_fits s content pinned hart (Some x) out fits = (fits.0, fits.1, subst (λ (h : Option ℕ). InsideFits content h x.inside) (sym out) (by_inside x.inside (subst (λ (h : Option ℕ). InsideFits s.content h x.inside) out fits.2)))

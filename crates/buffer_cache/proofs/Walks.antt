@@ -2,7 +2,7 @@
 use Rattle.buffer_cache.proofs.Vocabulary.{◌≡◌, ℕ, zero, suc, ◌+◌, ◌-◌, ◌<◌, ◌≤◌, List, get_or, Bool, true, false, cond, sym, ◌∙◌, ap, subst, arith, Option, Some, None, find, count_of, is_same, follow, IsRing}
 use Rattle.buffer_cache.proofs.Rings.{count_here, ring_within}
 
--- the first that passes is among so many that are left
+-- the first that passes is among the numbers that are left
 pub record IsGoing (q : ℕ → Bool) (next : List ℕ) (at left : ℕ) (o : Option ℕ) : Type 0 where
   pub here : at ≤ 46
   pub within : (k : ℕ) → 1 ≤ count_of (is_same k) (follow next at left) → k < 46

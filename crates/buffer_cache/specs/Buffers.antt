@@ -1,12 +1,12 @@
 -- A buffer, as its holder has it.
 use Rattle.std.specs.Prelude.{ℕ, List, Bool, true, false, Option, Some, None}
 
--- the block that it is for, and the bytes where it is valid
+-- the block that it is for, and the bytes if they are valid
 pub record BufferState : Type 0 where
   pub block : ℕ
   pub content : Option (List ℕ)
 
--- the bytes, where they are valid
+-- the bytes, if they are valid
 abbrev pub content_of : Bool → List ℕ → Option (List ℕ)
 content_of true bytes = Some bytes
 content_of false bytes = None

@@ -11,7 +11,7 @@ use Rattle.buffer_cache.specs.declared.got.Got.TheVariants.{Held, Waits}
 abbrev pub guard_of : ℕ → ℕ → SeatState → Option (List ℕ) → GuardState BufferState
 guard_of hart b s content = record { number = s.number; hart = hart; value = record { block = b; content = content } }
 
--- where no buffer has the block: the first free one is taken for it (there always is one)
+-- if no buffer has the block: the first free one is taken for it (there always is one)
 abbrev pub get_new : ℕ → ℕ → List SeatState → Option SeatState → List SeatState × Got
 get_new hart b seats None = (seats, Waits)
 get_new hart b seats (Some s) = (change_first is_free (as_new hart b) seats, Held (guard_of hart b s None))
@@ -22,8 +22,8 @@ get_by hart b seats None = get_new hart b seats (find is_free seats)
 get_by hart b seats (Some s) =
     if is_out s then (seats, Waits) else (with_seat b (with_holder hart) seats, Held (guard_of hart b s s.content))
 
--- the block's buffer where one has it, and it waits where that is out; else the least recently given back one of those
--- that are neither out nor pinned
+-- The block's buffer if one has it, and a wait if that is out. Else, of those that are neither out nor pinned, the
+-- least recently given back one.
 unfoldable pub get_of : ℕ → ℕ → List SeatState → List SeatState × Got
 get_of hart b seats = get_by hart b seats (seat_of b seats)
 

@@ -1,4 +1,4 @@
--- Numbers that are linked: each has the number behind it, and the one before it.
+-- Numbers that are linked: each has the number after it, and the one before it.
 use Rattle.std.specs.Prelude.{◌≡◌, ℕ, zero, suc, ◌+◌, ◌%◌, ◌<◌, List, [], ◌∷◌, length, map, Bool, if◌then◌else◌, nat_lt, slice_index, slice_index_or, Option, Some, None}
 use Rattle.buffer_cache.specs.Vocabulary.{range_with_len}
 use Rattle.buffer_cache.specs.Limits.{buffer_count}
@@ -16,17 +16,18 @@ IsPath next previous [] b = Unit {0}
 IsPath next previous (n ∷ ns) b =
     (slice_index next n ≡ first_or ns b) × (slice_index previous (first_or ns b) ≡ n) × IsPath next previous ns b
 
--- so many numbers, as they stand behind one
+-- the next `count` numbers after one, in their order
 unfoldable pub follow : List ℕ → ℕ → ℕ → List ℕ
 follow next a zero = []
 follow next a (suc count) = slice_index next a ∷ follow next (slice_index next a) count
 
--- the numbers up to the last one stand in one ring
+-- the numbers up to the last one are in one ring
 pub record IsRing (last : ℕ) (next previous : List ℕ) : Type 0 where
   pub path : IsPath next previous (last ∷ follow next last last) last
   pub each : (p : ℕ → Bool) → count_of p (follow next last last) ≡ count_of p (range_with_len 0 last)
 
--- there are thirteen chains of buffers that have a block, and one of those that have none; each begins behind a number of its own
+-- There are thirteen chains of buffers that have a block, and one of those that have none. Each begins after a number
+-- of its own, its head.
 abbrev pub no_block : ℕ
 no_block = 59
 
@@ -41,7 +42,7 @@ block_in blocks n = slice_index_or blocks n None
 abbrev pub head_behind : ℕ → ℕ → ℕ
 head_behind head n = if nat_lt n buffer_count then head else n
 
--- behind a head each buffer is of its chain, up to the next head
+-- after a head each buffer is of its chain, up to the next head
 abbrev pub AreGrouped : List (Option ℕ) → ℕ → List ℕ → Type 0
 AreGrouped blocks head [] = Unit {0}
 AreGrouped blocks head (n ∷ ns) = (n < buffer_count → head_of (block_in blocks n) ≡ head) × AreGrouped blocks (head_behind head n) ns

@@ -5,8 +5,9 @@ use Rattle.buffer_cache.specs.Buffers.{BufferState}
 use Rattle.buffer_cache.specs.Limits.{buffer_count, most_pinned, hart_count, buffers_of_a_hart}
 use Rattle.buffer_cache.specs.Lists.{change_first, change_to_end, count_of}
 
--- what the cache keeps of a buffer: its number, which is its slot's; the block that it is for, if any; that block's bytes
--- as they were last filled or recorded, if it is valid; whether it is pinned; and the hart that has it where it is out
+-- What the cache keeps of a buffer: its number, which is its slot's, and the block that it is for, if any. If it is
+-- valid, that block's bytes as they were last filled or recorded. Whether it is pinned, and the hart that has it, if
+-- it is out.
 pub record SeatState : Type 0 where
   pub number : ℕ
   pub block : Option ℕ
@@ -59,7 +60,7 @@ as_new hart b s = record s { block = Some b; content = None; holder = Some hart 
 abbrev pub unused : ℕ → SeatState
 unused n = record { number = n; block = None; content = None; pinned = false; holder = None }
 
--- so many of these, numbered from n on
+-- `count` of these, numbered from n on
 unfoldable pub unused_from : ℕ → ℕ → List SeatState
 unused_from n zero = []
 unused_from n (suc count) = unused n ∷ unused_from (n + 1) count
@@ -101,7 +102,7 @@ holder_of b seats = option_and_then (λ (s : SeatState). s.holder) (seat_of b se
 abbrev pub kept : ℕ → List SeatState → Option (List ℕ)
 kept b seats = option_and_then (λ (s : SeatState). s.content) (seat_of b seats)
 
--- a block as it is seen: as its buffer keeps it, else as it stands on the disk
+-- a block as it is seen: as its buffer keeps it, else as it is on the disk
 abbrev pub seen_in : List (List ℕ) → List SeatState → ℕ → List ℕ
 seen_in disk seats b = unwrap_or (kept b seats) (block_at disk b)
 
@@ -157,13 +158,13 @@ is_unused s = is_none s.block
 abbrev pub is_settled : SeatState → Bool
 is_settled s = is_some s.block && is_none s.holder
 
--- buffers that were never used are free, and stand before those that hold a block and are in
+-- buffers that were never used are free, and come before those that hold a block and are in
 abbrev pub UnusedFirst : List SeatState → Type 0
 UnusedFirst [] = Unit {0}
 UnusedFirst (s ∷ ss) = (is_settled s ≡ true → count_of is_unused ss ≡ 0) × (is_unused s ≡ true → is_free s ≡ true) × UnusedFirst ss
 
--- what holds of every cache: 46 buffers, at most 30 of them pinned, and at most two in the hands of each of eight harts;
--- a block has at most one; and what isn't pinned is as on the disk
+-- What holds of each cache: 46 buffers, at most 30 of them pinned, and at most two in the hands of each of eight
+-- harts. A block has one buffer at most, and a buffer that isn't pinned is as its block on the disk.
 pub record IsSound (disk : List (List ℕ)) (seats : List SeatState) : Type 0 where
   pub count : length seats ≡ buffer_count
   pub few_pinned : count_of is_pinned seats ≤ most_pinned

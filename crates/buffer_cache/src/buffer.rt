@@ -1,4 +1,4 @@
-// A buffer, as its holder has it.
+//! A buffer, as its holder has it.
 ghost use Rattle.std.specs.Prelude.{◌≡◌, ◌↔◌, ◌<◌, length, Some, None, IsSome, IsTrue, IfOk, OnOk, OnErr};
 ghost use Rattle.std.specs.Borrow.{sem};
 ghost use Rattle.block_device.specs.Blocks.{block_at, faults_after};
@@ -7,8 +7,8 @@ use block_device::{BLOCK_LEN, Device, Fault};
 use std::alloc::{AllocError, Global};
 use std::marker::Model;
 
-/// A place for the bytes of one block. A contract sees the bytes only where they are valid: filled from the device, or
-/// recorded.
+/// A place for the bytes of one block (xv6: `struct buf`). A contract sees the bytes only if they are valid: filled
+/// from the device, or recorded.
 #[derive(Drop)]
 pub struct Buffer {
     block: u32,
@@ -37,14 +37,14 @@ impl Buffer {
         })
     }
 
-    // From now on it is for this block.
+    // Makes it the buffer of this block, and leaves the bytes.
     pub(crate) fn name(&mut self, block: u32)
         ensures { self.new ≡ record self.old { block = block } }
     {
         self.block = block;
     }
 
-    // From now on it is for this block, and not valid.
+    // Makes it the buffer of this block, and not valid.
     pub(crate) fn renew(&mut self, block: u32)
         ensures { self.new ≡ record { block = block; content = None } }
     {
@@ -89,7 +89,7 @@ impl Buffer {
         &*self.bytes
     }
 
-    /// The bytes, to be changed. What is changed has to be recorded when the buffer is given back.
+    /// The bytes, to be changed. A holder that changes them must record them when it gives the buffer back.
     pub fn bytes_mut(&mut self) -> &mut [u8; BLOCK_LEN]
         requires { IsSome self.old.content }
         ensures* writes_back { sem 𝓛 (LendsBytes self.entry result) }

@@ -1,4 +1,4 @@
-// The buffers, their slots, and the order of giving back.
+//! The buffers, their slots, and the order of giving back.
 ghost use Rattle.std.specs.Prelude.{count_by, ℕ, ◌≡◌, ◌↔◌, ◌<◌, ◌≤◌, length, position, slice_set, Some, None, IsSome, IsTrue, IfOk, IfSome, OnOk, OnErr};
 ghost use Rattle.std.specs.List.{find};
 ghost use Rattle.sleep_lock.specs.SleepLock.{GuardState};
@@ -27,7 +27,7 @@ use std::marker::Model;
 /// each, in order of giving back.
 #[derive(Drop)]
 pub struct Buffers {
-    // Each in the place of its number, where it stays.
+    // Each in the place of its number, for good.
     seats: Vec<BufferSeat>,
     // Their numbers, in order of giving back.
     order: Order,
@@ -108,7 +108,7 @@ impl Buffers {
         lend(&mut self.seats, &mut self.slots, slot as usize, hart, b)
     }
 
-    // The device's block into a buffer that isn't valid.
+    // Reads the device's block into a buffer that isn't valid.
     pub(crate) fn fill<D: Device>(
         &mut self,
         device: &mut D,

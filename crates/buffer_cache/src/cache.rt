@@ -1,4 +1,4 @@
-// The cache.
+//! The cache.
 ghost use Rattle.std.specs.Prelude.{◌≡◌, ◌≢◌, ◌+◌, ◌<◌, ◌≤◌, ◌⊎◌, ◌↔◌, ◌==◌, if◌then◌else◌, ℕ, [], true, false, length, slice_set, Some, None, IsSome, IfSome, IsTrue, OnOk, OnErr};
 ghost use Rattle.std.specs.Option.{unwrap_or, option_map};
 ghost use Rattle.sleep_lock.specs.SleepLock.{GuardState};
@@ -15,8 +15,8 @@ use block_device::{BLOCK_LEN, Device, Fault};
 use sleep_lock::{Guard, RetiredSlots};
 use std::marker::Model;
 
-/// Forty-six buffers over a device. A contract sees the device, and what is kept of each buffer, in order of giving
-/// back. No call takes memory.
+/// Forty-six buffers over a device (xv6: `bcache`). A contract sees the device, and what is kept of each buffer, in
+/// order of giving back. No call takes memory.
 pub struct Cache<D: Device> {
     device: D,
     buffers: Buffers,
@@ -73,9 +73,9 @@ impl<D: Device> Cache<D> {
         self.buffers.is_cached(b)
     }
 
-    /// A block's buffer for a hart that has one other at most: the one that has the block, else a buffer that is
-    /// neither out nor pinned, the least recently given back (one that was never used before any other). It waits
-    /// exactly where the block's buffer is out, and then nothing changes (xv6: `bget`).
+    /// A block's buffer for a hart that has one other at most. It is the one that has the block, else the least
+    /// recently given back one that is neither out nor pinned. One that was never used comes before any other. It
+    /// waits exactly if the block's buffer is out, and then nothing changes (xv6: `bget`).
     pub fn get(&mut self, hart: u8, b: u32) -> Got
         requires hart { hart < hart_count }
         requires few { count_of (is_held_by hart) self.old.seats ≤ 1 }
@@ -99,7 +99,8 @@ impl<D: Device> Cache<D> {
         self.buffers.get(hart, b)
     }
 
-    /// The buffer in a pinned slot, the one that a guard of it had as its number: what a get of its block answers, without a search.
+    /// The buffer in a pinned slot. `slot` is the number that a guard of it had. The answer is that of a get of its
+    /// block, without a search.
     pub fn get_at(&mut self, hart: u8, slot: u32) -> Got
         requires hart { hart < hart_count }
         requires few { count_of (is_held_by hart) self.old.seats ≤ 1 }
@@ -166,8 +167,8 @@ impl<D: Device> Cache<D> {
         self.buffers.release(guard);
     }
 
-    /// Gives a pinned buffer back with the bytes that the guard has: they are what its block is seen as from now on.
-    /// No other call changes what a block is seen as, but `write_uncached` for the block that it writes.
+    /// Gives a pinned buffer back with the bytes that the guard has: from then on its block is seen with these. No
+    /// other call changes what a block is seen as, except `write_uncached` for the block that it writes.
     pub fn release_changed(&mut self, guard: Guard<Buffer>)
         requires held { IsHeld self.old.seats guard }
         requires valid { IsSome guard.value.content }
@@ -201,7 +202,7 @@ impl<D: Device> Cache<D> {
         self.buffers.set_pinned(guard, true);
     }
 
-    /// Gives the pin of a guard's buffer back. Its block has to stand on the device as it is seen (xv6: `bunpin`).
+    /// Gives the pin of a guard's buffer back. Its block on the device must be as it is seen (xv6: `bunpin`).
     pub fn unpin(&mut self, guard: &Guard<Buffer>)
         requires held { IsHeld self.old.seats guard.now }
         requires home { block_at (D.contents self.old.device) guard.now.value.block ≡ seen D.contents self.old guard.now.value.block }

@@ -1,4 +1,4 @@
-// Which buffer has a block.
+//! Which buffer has a block.
 ghost use Rattle.std.specs.Prelude.{◌≡◌, ◌≤◌, ◌<◌, ℕ, List, length, slice_set, Option, Some};
 ghost use Rattle.std.specs.List.{position};
 ghost use Rattle.buffer_cache.specs.Limits.{buffer_count};
@@ -22,8 +22,8 @@ const UNUSED: usize = HEADS + CHAINS;
 
 const LINKS: usize = UNUSED + 1;
 
-/// The numbers of the buffers, linked in chains by their blocks. All chains are one ring, in which behind the head of a
-/// chain stand the buffers of that chain. A contract sees what stands behind the head of those that have no block.
+/// The numbers of the buffers, linked in chains by their blocks. All chains are one ring: after the head of a chain
+/// come the buffers of that chain. A contract sees what comes after the head of those that have no block.
 #[derive(Drop)]
 pub(crate) struct Chains {
     next: [u8; LINKS],
@@ -73,7 +73,7 @@ impl Chains {
         None
     }
 
-    /// Moves a buffer to the chain of the block that it has from now on.
+    /// Moves a buffer to the chain of the block `b`, which it gets.
     pub fn move_to(&mut self, number: u8, b: u32)
         requires { number < buffer_count }
         ensures { (blocks : List (Option ℕ)) → number < length blocks → IsGrouped blocks self.old

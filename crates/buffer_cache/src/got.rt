@@ -1,4 +1,4 @@
-// The answer of a get.
+//! The answer of a get.
 use crate::buffer::Buffer;
 use sleep_lock::Guard;
 

@@ -1,11 +1,12 @@
 //! A cache of forty-six buffers over a device (the xv6 book, chapter "File system", "Buffer cache layer").
 //!
-//! A hart gets a block's buffer, fills it where it isn't valid, and gives it back. While the buffer is out, no other
+//! A hart gets a block's buffer, fills it if it isn't valid, and gives it back. While the buffer is out, no other
 //! hart gets it. A buffer that is neither out nor pinned may be taken for another block, the least recently given
 //! back first.
 //!
 //! The cache keeps the bytes of a buffer as they were last filled or recorded, beside the buffer itself, which its
-//! holder may change. So what a block is *seen* as doesn't depend on what a holder has written and not recorded.
+//! holder may change. So what a block is *seen* as doesn't depend on bytes that a holder has written and not
+//! recorded.
 #![tactic(auto)]
 
 mod buffer;

@@ -1,4 +1,4 @@
-// The cache's numbers.
+//! The cache's numbers.
 
 /// How many buffers there are.
 pub const BUFFERS: usize = 46;

@@ -1,4 +1,4 @@
-// Rings of numbers: two arrays have the number behind each number, and the one before it.
+//! Rings of numbers: two arrays have the number after each number, and the one before it.
 ghost use Rattle.std.specs.Prelude.{◌≡◌, ◌+◌, ◌≤◌, ◌<◌, ℕ, length, slice_index, slice_set};
 
 /// Takes a number out of its ring: its neighbours are linked to each other.
@@ -15,7 +15,7 @@ pub(crate) fn unlink(next: &mut [u8], previous: &mut [u8], number: u8)
     previous[behind as usize] = before;
 }
 
-/// Puts a number into a ring, right behind another one.
+/// Puts a number into a ring, right after another one.
 pub(crate) fn link_behind(next: &mut [u8], previous: &mut [u8], before: u8, number: u8)
     requires within { (number < length next.old) × (number < length previous.old) }
     requires before { before < length next.old }

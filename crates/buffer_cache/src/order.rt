@@ -1,4 +1,4 @@
-// The order of giving back.
+//! The order of giving back.
 ghost use Rattle.std.specs.Prelude.{◌≡◌, ◌<◌};
 ghost use Rattle.std.specs.List.{find};
 ghost use Rattle.buffer_cache.specs.Limits.{buffer_count};
@@ -10,7 +10,7 @@ use crate::links::{link_all, link_behind, unlink};
 use crate::seat::BufferSeat;
 use std::marker::Model;
 
-// One more stands for the ends of the order: behind it is the oldest, and before it the youngest.
+// One more number is for the ends of the order: after it comes the oldest, and before it the youngest.
 const LINKS: usize = BUFFERS + 1;
 
 /// The numbers of the buffers in order of giving back, each linked to its older and to its younger neighbour. A contract
@@ -66,7 +66,7 @@ impl Order {
         requires { number < buffer_count }
         ensures { self.new ≡ change_to_end (is_same number) (λ n. n) self.old }
     {
-        // what was in use last is often given back again: it stands where it has to
+        // the buffer that was in use last is often given back again: then it is in its place
         if self.older[BUFFERS] == number {
             return;
         }

@@ -1,4 +1,4 @@
-// What the cache keeps of a buffer, and the list of these in order of giving back.
+//! What the cache keeps of a buffer, and the list of these in order of giving back.
 ghost use Rattle.std.specs.Prelude.{◌≡◌, IfSome};
 ghost use Rattle.buffer_cache.specs.Seats.{has_block, is_free, is_held_by, is_pinned, unused, with_holder, without_holder, with_content, with_pin, as_new};
 
@@ -6,12 +6,12 @@ use block_device::BLOCK_LEN;
 use std::marker::Model;
 use std::snapshot::Snapshot;
 
-/// What the cache keeps of a buffer. The bytes are those of the last fill or record, as clauses see them: they take no memory, since
-/// the buffer in the slot has them, and while it is out no code reads what it had.
+/// What the cache keeps of a buffer. The bytes are those of the last fill or record, as clauses see them. They take
+/// no memory, because the buffer in the slot has them; while it is out, no code reads them.
 #[derive(Drop)]
 pub(crate) struct BufferSeat {
     number: u32,
-    // Of no meaning before the first use. Who looks for a block reads one number of most seats.
+    // It means nothing before the first use. A search for a block reads one number of most seats.
     block: u32,
     used: bool,
     valid: bool,

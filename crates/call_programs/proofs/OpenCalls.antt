@@ -20,7 +20,7 @@ abbrev pub own : (n d : ℕ) (last p : P Reply) (b : Bool) → (n == d) ≡ b �
 own n d last p true e = inl (record { rest = λ _. give_up d last; forgets = refl; last = last; gives = ap (λ (z : ℕ). give_up z last) (sym (eq_is n d e)) })
 own n d last p false e = inr tt
 
--- after a claim, with nothing recorded but the new record's block
+-- after a claim, with only the new record's block recorded
 abbrev pub claimed : Spending
 claimed = record { named = []; bound = 2 }
 

@@ -1,4 +1,5 @@
--- What calls are made of asks so: what drops an inode, what ends a call, and a walk along a path, which comes to an inode in hand.
+-- The parts of calls ask so: what drops an inode, what ends a call, and a walk along a path. After the walk an inode
+-- is in hand.
 use Rattle.call_programs.proofs.Vocabulary.{◌≡◌, inl, inr, ℕ, Bool, true, false, if◌then◌else◌, List, [], ◌∷◌, Option, Some, None, refl, Call, Action, Reply, MemInodes, Name, elements, is_directory_face, failed, free_all, give_up, leave_directory, say, see_parent, start, start_on, stopped, tail, walk, walk_parent, walk_step, with_last, NoEntry, WalkStop, NotThere, NoMemory, Version, P, in_parent, AsksSo, Because, Before, HandsBack, Held, IsIn, IsShort, Lacks, MayRecord, Nothing, Spending, Wants, fresh, holding, loose, naming, or_still, saw, sighting, started, upped, without, Change, Sighting, Stands, wanted_without}
 use Rattle.inode_machine.proofs.Vocabulary.{drop}
 use Rattle.plain_tree.specs.declared.call.Call.TheVariants as calls
@@ -18,7 +19,7 @@ pub stopped_call : (call : Call) (why : WalkStop) → (stopped call why).call �
 stopped_call call NotThere = refl
 stopped_call call NoMemory = refl
 
--- what is wanting when a walk stops
+-- what is missing when a walk stops
 abbrev pub stop_wants : WalkStop → Wants
 stop_wants NotThere = Nothing
 stop_wants NoMemory = Lacks MemInodes

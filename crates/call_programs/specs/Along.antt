@@ -3,8 +3,9 @@ use Rattle.std.specs.Prelude.{Option}
 use Rattle.inode_machine.specs.Vocabulary.{Ret, Do}
 use Rattle.inode_machine.specs.Basics.{P, Op, Answer, Mark}
 
--- From state s on each operation, with its mark and how the program goes on by its answer, is so; the program goes on from the state
--- after it, by its answer; and what it ends with is so in the last state. The state after an operation may depend on how it is so.
+-- From state s on each operation is so, with its mark and with how the program goes on after its answer. The program
+-- goes on from the state after the operation. What it ends with is so in the last state. The state after an operation
+-- may depend on how the operation is so.
 abbrev pub Along : {State A : Type 0} (Is : State → (op : Op) → (Answer op → Option Mark) → (Answer op → P A) → Type 0)
     → ((s : State) (op : Op) (m : Answer op → Option Mark) (k : Answer op → P A) → Is s op m k → Answer op → State)
     → (State → A → Type 0) → State → P A → Type 0

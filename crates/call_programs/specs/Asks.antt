@@ -18,7 +18,7 @@ use Rattle.call_programs.specs.Along.{Along}
 
 -- ---- what it did before
 
--- the inodes that it has counted up and not down again, and the one that it counted up just now
+-- the inodes that it has counted up and not down again, and the one that it counted up last, in the operation before
 pub record Held : Type 0 where
   pub has : List ℕ
   pub last : Option ℕ
@@ -28,25 +28,25 @@ pub record Spending : Type 0 where
   pub named : List ℕ
   pub bound : ℕ
 
--- the room that an operation wanted last and didn't find; or a claim gave it an inode whose lock it had
+-- the room that an operation wanted last and didn't find; or that a claim gave it an inode whose lock it had
 pub data Wants : Type 0 where
   Nothing : Wants
   Lacks : Full → Wants
   Excused : Wants
 
--- None: what it holds isn't followed any more, as it has done more than count, look and store
+-- None: what it holds isn't followed further, because it has done more than count, look and store
 pub record Before : Type 0 where
   pub held : Option Held
   pub spending : Spending
   pub wants : Wants
-  -- the inode whose lock it took just now, as it was seen; and what its operations have changed
+  -- the inode whose lock the operation before took, as it was seen; and what its operations have changed
   pub seen : Option Sighting
   pub changed : List Change
 
 abbrev pub fresh : Spending
 fresh = record { named = []; bound = 1 }
 
--- it holds these, of which none was counted up just now; or what it holds isn't followed
+-- it holds these, of which none was counted up in the operation before; or what it holds isn't followed
 abbrev pub sighting : List ℕ → Spending → Option Sighting → List Change → Before
 sighting has b seen cs = record { held = Some (record { has = has; last = None }); spending = b; wants = Nothing; seen = seen; changed = cs }
 
@@ -85,7 +85,7 @@ without (k ∷ ks) n (inr at) = k ∷ without ks n at
 abbrev pub HasRoomFor : ℕ → Type 0
 HasRoomFor k = nat_lt k 11 ≡ true
 
--- an inode whose record may be recorded, or has room still
+-- an inode whose record may be recorded, or for which there is still room
 abbrev pub MayRecord : Spending → ℕ → Type 0
 MayRecord b n = IsIn n b.named ⊎ HasRoomFor (b.bound + 1)
 
@@ -164,20 +164,20 @@ down n (Some x) at = Some (record { has = without x.has n at; last = None })
 
 -- ---- at the end
 
--- the reply hands the call back, but for what was read
+-- the reply hands the call back, except for what was read
 abbrev pub HandsBack : Call → Call → Type 0
 HandsBack (Read fd buffer) given = Unit {0}
 HandsBack asked given = given ≡ asked
 
--- a reply that there was no room is for want of that, and then the changes are as they may be
+-- if a reply says that there was no room, an operation wanted that room, and the changes are as they may be
 abbrev pub Because : Call → Wants → List Change → ReplyAnswer → Type 0
 Because call Nothing cs (answers.Full room) = ⊥
 Because call (Lacks kind) cs (answers.Full room) = (kind ≡ room) × Stands room call cs
 Because call Excused cs (answers.Full room) = room ≡ MemInodes
 Because call w cs answer = Unit {0}
 
--- The program forgets the inode, and then gives up the inode's lock: a claim that gave it an inode whose lock it had. That doesn't come
--- about, and the reply is then that there was no place in memory.
+-- The program forgets the inode, and then gives up the inode's lock: a claim gave it an inode whose lock it had. That
+-- never happens; the reply would be that there was no place in memory.
 pub record GivesBack (n : ℕ) (p : P Reply) : Type 0 where
   pub rest : Unit {0} → P Reply
   pub forgets : p ≡ Do (Forget n) unmarked rest
@@ -197,7 +197,7 @@ abbrev pub claim_wants : {A : ℕ → Type 0} → ((n : ℕ) → A n ⊎ Unit {0
 claim_wants back w (New n) = wants_back w (back n)
 claim_wants back w a = or_still (wanted_to_claim a) w
 
--- an inode that is freed goes from the tree, which is no change
+-- an inode that is freed is removed from the tree, which is no change
 abbrev pub MayFree : Spending → (n : ℕ) → (Unit {0} → Option Mark) → Type 0
 MayFree b n m = MayRecord b n × (m ≡ (λ _. Some (Frees n)))
 
@@ -234,8 +234,8 @@ module _ (version : Version) (call : Call) where
   held_after s Join m k is a = still s.held
   held_after s op m k is a = None
 
-  -- a transaction begins with nothing recorded; a new inode's number isn't known before; a name may want a block and the table of such,
-  -- a piece's bytes four and the table
+  -- A transaction begins with nothing recorded. A new inode's number isn't known before. A name may want a block and
+  -- the table of such blocks, a piece's bytes four and the table.
   abbrev pub spending_after : (s : Before) (op : Op) (m : Answer op → Option Mark) (k : Answer op → P Reply) → Asks s op m k → Spending
   spending_after s Join m k is = fresh
   spending_after s (JoinFile fd) m k is = fresh

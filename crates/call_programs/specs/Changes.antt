@@ -1,4 +1,5 @@
--- What an operation on whole inodes changes that outlasts its call, and what is left of that after a call that found no room.
+-- What an operation on whole inodes changes that outlasts its call, and what remains of that after a call that found
+-- no room.
 use Rattle.std.specs.Prelude.{◌≡◌, ◌⊎◌, ◌==◌, ◌+◌, ◌-◌, if◌then◌else◌, ℕ, Bool, true, false, List, [], ◌∷◌, ◌++◌, take, Option, Some, None}
 use Rattle.inode_machine.specs.Vocabulary.{Full, Blocks, Descriptors, DirectorySlots as Directory, DiskInodes, MemInodes, OpenFiles, Call, Chdir, Dup, Link, Mkdir, Open, Unlink, Write, Name, creates, Bump, Unbump, Own}
 use Rattle.inode_machine.specs.Basics.{face_or, Answer, ClaimResult, EntryResult, InPlace, Mark, New, NoBlock, NoInode, NoPlace, NoSlot, Op, Refused, Short, Whole, Wrote as WriteResult}
@@ -10,24 +11,26 @@ pub record Sighting : Type 0 where
   pub number : ℕ
   pub count : ℕ
 
--- Locks, references and transactions are none. Nor is it one that an inode is freed which goes from the tree with that: it has no name.
+-- Locks, references and transactions are no changes. Nor is it one if an inode is freed and so removed from the tree:
+-- it has no name.
 pub data Change : Type 0 where
   -- a free inode has a type, but no links and no content
   Claimed : ℕ → Change
-  -- an inode's count is this; a link raises it, and takes that back: with the inode that was locked just before, as it was seen
+  -- An inode's count is this. A link raises it, and takes that back, from the count of the inode that was locked just
+  -- before, as it was seen.
   Counted : ℕ → ℕ → Change
   Raised : Option Sighting → ℕ → ℕ → Change
   Lowered : Option Sighting → ℕ → ℕ → Change
   -- a new directory has its two entries
   Filled : ℕ → Change
-  -- a directory has this name for this inode; or has the name no more
+  -- a directory has this name for this inode; or it hasn't the name any more
   Entered : ℕ → Name → ℕ → Change
   Cleared : ℕ → Name → Change
   -- a file has no bytes
   Emptied : ℕ → Change
   -- an inode has no type, and stays in the tree
   Freed : ℕ → Change
-  -- these bytes are written by this descriptor, where its file stands, and the offset is after them
+  -- these bytes are written by this descriptor, at its file's offset, and the offset is after them then
   Wrote : ℕ → List ℕ → Change
   -- a place is taken for an open file; it is given back
   TookPlace : Change
@@ -45,7 +48,7 @@ abbrev pub by_free : ℕ → Option Mark → List Change
 by_free n (Some (Frees m)) = if m == n then [] else Freed n ∷ []
 by_free n mark = Freed n ∷ []
 
--- the mark tells a link's raise and its end from other counts
+-- the mark distinguishes a link's raise and its end from other counts
 abbrev pub by_count : Option Sighting → ℕ → ℕ → Option Mark → Change
 by_count seen n count (Some (Makes (Own Bump new))) = Raised seen n count
 by_count seen n count (Some (Makes (Own Unbump new))) = Lowered seen n count
@@ -103,7 +106,7 @@ abbrev pub seen_by : (op : Op) → Answer op → Option Sighting
 seen_by (Take n looking) sight = Some (record { number = n; count = (face_or sight.face).count })
 seen_by op answer = None
 
--- ---- what changes may come to
+-- ---- what the changes of a call may be
 
 abbrev pub ChangedNothing : List Change → Type 0
 ChangedNothing cs = cs ≡ []

@@ -1,4 +1,4 @@
--- What an answer says is wanting.
+-- The room that an answer says is missing.
 use Rattle.std.specs.Prelude.{ℕ, Bool, true, false, Option, Some, None}
 use Rattle.inode_machine.specs.Vocabulary.{Full, Blocks, Descriptors, DirectorySlots as Directory, DiskInodes, MemInodes, OpenFiles}
 use Rattle.inode_machine.specs.Basics.{Answer, ClaimResult, EntryResult, InPlace, New, NoBlock, NoInode, NoPlace, NoSlot, Op, Refused, Short, Whole, Wrote}

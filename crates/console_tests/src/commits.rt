@@ -1,13 +1,13 @@
-//! The bytes of the image, where a script is left in the middle of a commit, or has emptied a file.
+//! The bytes of the image, if a script ends in the middle of a commit, or has emptied a file.
 use crate::scripts::{disk, disk_with_f, image_after, prints};
 use block_device::BLOCK_LEN;
 use std::alloc::Global;
 use std::process::Abort;
 use std::test::Fail;
 
-// A call whose commit is stopped, where the file `/f` is empty or holds the letter A.
+// A call whose commit is stopped. The file `/f` is empty, or has the letter A.
 struct Commit {
-    // Lines that are run first, behind the one that opens the file.
+    // Lines that are run first, after the one that opens the file.
     before: &'static str,
     hart: u8,
     call: &'static str,
@@ -49,7 +49,7 @@ const COMMITS: [Commit; 2] = [
     },
 ];
 
-// Whether two images differ in this block and in no other one, or where none is named, nowhere.
+// Whether two images differ in this block and in no other; if none is named, whether they are the same.
 fn differ_in(block: Option<&usize>, old: &[u8], new: &[u8]) -> bool {
     let blocks = old.chunks(BLOCK_LEN).zip(new.chunks(BLOCK_LEN));
     old.len() == new.len()
@@ -58,7 +58,7 @@ fn differ_in(block: Option<&usize>, old: &[u8], new: &[u8]) -> bool {
             .all(|(b, (x, y))| (x != y) == (block == Some(&b)))
 }
 
-// Where the log's header begins.
+// The place of the log's header.
 const HEADER: usize = 2 * BLOCK_LEN;
 
 // Leaves a call's commit after each of its writes in turn, and looks at the image.
@@ -104,8 +104,9 @@ fn commits(
     Ok(())
 }
 
-/// A commit writes the log's copies, the header, the blocks at home, and the header again. An image that is left before the first
-/// header has the old file, and from then on the new one; so it is for a file that was made, and for one that was there.
+/// A commit writes the log's copies, the header, the blocks at home, and the header again. An image that is left
+/// before the first header has the old file, and from then on the new one. This holds for a file that was made, and
+/// for one that was there.
 #[test]
 fn commits_are_left_at_each_write(rt: HostRuntime) -> Result<(), Fail> {
     let fresh = disk(rt.alloc(), 2000, 200)?.into_bytes();
@@ -125,8 +126,8 @@ fn commits_are_left_at_each_write(rt: HostRuntime) -> Result<(), Fail> {
 // The bit of block 48 in the bitmap, which is the lowest one of its byte.
 const BIT_48: usize = 46 * BLOCK_LEN + 48 / 8;
 
-/// The first block that is written to a file of the image is the first one behind the root's, and free again where another hart empties
-/// the file.
+/// The first block that is written to a file of the image is the first one after the root's. It is free again if
+/// another hart empties the file.
 #[test]
 fn an_emptied_file_gives_its_block_back(rt: HostRuntime) -> Result<(), Fail> {
     let image = disk_with_f(rt.alloc(), 2000, 200, b"")?.into_bytes();

@@ -76,7 +76,7 @@ fn tree_at_first(alloc: Global) -> Result<Tree, Fail> {
     }
 }
 
-/// Where a call is stopped, the history up to there is printed behind the answers.
+/// If a call is stopped, the history up to there is printed after the answers.
 #[test]
 fn tells_the_history_before_a_stop(rt: HostRuntime) -> Result<(), Fail> {
     let base = tree_at_first(rt.alloc())?;
@@ -140,7 +140,7 @@ impl io::Read for Torn {
     }
 }
 
-// Takes so many bytes, and then none.
+// Takes this number of bytes, and then none.
 #[derive(Drop)]
 struct Narrow(Vec<u8>, usize);
 
@@ -159,7 +159,7 @@ impl io::Write for Narrow {
     }
 }
 
-// Why a run ended, where it has to.
+// The fault of a run that must fail.
 fn fault_of(ran: Result<MemoryDisk, ConsoleFault>) -> Result<ConsoleFault, Fail> {
     match ran {
         Ok(_disk) => Err(Fail::new("it comes to its end")),
@@ -233,7 +233,8 @@ const EXPLAIN: Mode = Mode {
 // The first two calls ask nothing of the device, the third is stopped at its first block.
 const STOPPED: &str = "do 0 fstat 0\ndo 1 dup 3\ndo 0 open / 0\ndo 1 fstat 0\n";
 
-// The third call has acted where its walk began, as one does whose path has no element: at its second step, behind start and join.
+// The third call has acted at the start of its walk, as a call does whose path has no element. It acts at its second
+// step, after start and join.
 const STOPPED_ANSWERS: &str =
     "0 fstat failed 6 BadDescriptor\n1 dup failed 6 BadDescriptor\n0 open stopped 31 DeviceFault\n\
      event 1: 0 fstat 0: failed 6 BadDescriptor\nevent 3: 1 dup 3: failed 6 BadDescriptor\nevent 6: 0 open / 0: fd 0\n";
@@ -244,11 +245,11 @@ const SHORT: &str = "0 fstat 0\n1 dup 0\n0 dup 1\nall\n9 dup 0\n";
 const SHORT_ANSWERS: &str =
     "0 dup refused 41 Busy\n0 fstat failed 6 BadDescriptor\n1 dup failed 6 BadDescriptor\n9 dup refused 45 NoSuchHart\n";
 
-// Each step stands at the event at which it was made: here at its call's second.
+// Each step has the number of the event at which it was made: here its call's second.
 const SHORT_HISTORY: &str =
     "event 3: 0 fstat 0: failed 6 BadDescriptor\nevent 4: 1 dup 0: failed 6 BadDescriptor\n";
 
-// What is written, and how much of it was handed on at last.
+// What is written, and how many of its bytes were written at the last flush.
 #[derive(Drop)]
 struct Handed {
     bytes: Vec<u8>,

@@ -1,5 +1,6 @@
-//! Tests of the console that no stored script can be: a device, a script or answers that fail, the bytes of an image, and
-//! short memory. What scripts print is shown by examples/rows/. They stand here, above the crate that they run.
+//! Tests of the console that no stored script can be. They are of a device, a script or answers that fail, of the
+//! bytes of an image, and of short memory. What scripts print is in examples/rows/. The tests are here, above the
+//! crate that they run.
 #![tactic(auto)]
 
 #[cfg(test)]
@@ -15,5 +16,5 @@ mod scripts;
 #[cfg(test)]
 mod short;
 
-// `rt test` runs the tests, and nothing else is here to be run.
+// `rt test` runs the tests; there is nothing else to run here.
 fn main() {}

@@ -17,7 +17,7 @@ fn answer_once(
     Ok((out, fault))
 }
 
-// Answers these lines, once more where memory was refused.
+// Answers these lines, once more if memory was refused.
 fn answer(
     alloc: Global,
     mode: Mode,

@@ -12,7 +12,7 @@ pub fn disk(alloc: Global, size: u32, ninodes: u32) -> Result<MemoryDisk, Fail> 
     made(alloc, size, ninodes, &[])
 }
 
-// An image of these sizes with the file `/f`, which holds these bytes.
+// An image of these sizes with the file `/f`, which has these bytes.
 pub fn disk_with_f(
     alloc: Global,
     size: u32,
@@ -58,7 +58,7 @@ pub fn is_refused_memory(fault: &ConsoleFault) -> bool {
     }
 }
 
-// Runs a script, once more where memory was refused.
+// Runs a script, once more if memory was refused.
 pub fn run(
     alloc: Global,
     image: Option<&[u8]>,

@@ -1,6 +1,6 @@
-//! Where memory is short: `bin/short-memory` refuses each request for memory in turn that a call makes, which is made between the lines
-//! "call" and "done". Then it answers want of memory, what is printed is a beginning of what is printed else, and run once more the script
-//! prints all of it.
+//! What a script does if memory is short. `bin/short-memory` refuses, in turn, each request for memory that a run
+//! makes between the lines "call" and "done". Then the run answers want of memory, and what it printed is a beginning
+//! of what the script usually prints. Run once more, the script prints all of it.
 use crate::scripts::disk;
 use console::{ConsoleFault, run_script, status};
 use script::{Mode, Schedule};

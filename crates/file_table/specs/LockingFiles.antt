@@ -11,18 +11,18 @@ use Rattle.file_table.specs.declared.lock_file.LockFile.TheVariants as file
 use Rattle.file_table.specs.declared.lock_open.LockOpen.{LockOpen}
 use Rattle.file_table.specs.declared.lock_open.LockOpen.TheVariants as opened
 
--- each inode's block has a number
+-- each inode's block has a number that is a u32
 abbrev pub HasInodeBlocks : ℕ → Type 0
 HasInodeBlocks inodestart = inode_block inodestart (2 ^ 16 - 1) < 2 ^ 32
 
--- the lock of a file's inode is in hand, and that is loaded; it has a block
+-- the lock of the file's inode is in hand, and the inode is loaded; its number is a u16
 abbrev pub HasFile : HeldFile → Hand → Type 0
 HasFile f h = IsLoadedAt f.seat h × (number_in f.seat h ≡ f.file.number) × (h.first ≡ None) × (f.file.number < 2 ^ 16)
 
 abbrev pub IsLoadingFile : HeldFile → Hand → Type 0
 IsLoadingFile f h = (number_in f.seat h ≡ f.file.number) × (f.file.number < 2 ^ 16)
 
--- ---- where it may be had
+-- ---- if it may be had
 
 abbrev pub locks : OpenFile → Loaded → P LockedState
 locks f l = Ret (Locks f (Some l))
@@ -31,7 +31,8 @@ abbrev pub load_locked : ℕ → LockedState → P LockedState
 load_locked inodestart (Refuses why) = Ret (Refuses why)
 load_locked inodestart (Locks f content) = bind (load_unless inodestart f.number content) (locks f)
 
--- the lock of what a descriptor names is taken, where it may be had for this, and the inode is loaded where it isn't
+-- takes the lock of the inode that a descriptor names, if this use may have it, and loads the inode if it isn't
+-- loaded
 abbrev pub lock_file_loaded : (inodestart : ℕ) → Want → (fd : ℕ) → P LockedState
 lock_file_loaded inodestart w fd = Do (steps.LockFile w fd) unmarked (load_locked inodestart)
 
@@ -59,7 +60,7 @@ abbrev pub FileEnds : LockFile → FileLocked → Hand → Type 0
 FileEnds m (result.Refused why) h = (inode_at (file_seat m) h ≡ None) × (h.first ≡ None)
 FileEnds m (result.Locked f) h = (f.seat ≡ file_seat m) × HasFile f h
 
--- ---- where it is known to be open
+-- ---- if it is known to be open
 
 abbrev pub opens : OpenFile → Loaded → P (OpenFile × Loaded)
 opens f l = Ret (f, l)

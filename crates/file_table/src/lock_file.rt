@@ -1,4 +1,4 @@
-//! A descriptor's inode locked, and loaded, where it may be had.
+//! A descriptor's inode locked and loaded, if it may be had.
 ghost use Rattle.std.specs.Prelude.{◌≡◌, None, IfSome, IfNone};
 ghost use Rattle.file_table.specs.Vocabulary.{LockedState, inode_at, IsAfter, answer_in, Goes, left_after, bare, HandState, InodePlace, beside_lock};
 ghost use Rattle.file_table.specs.LockingFiles.{lock_file_loaded, file_left, file_value, file_asked, file_seat, FileEnds, FileReady, HasInodeBlocks};
@@ -6,21 +6,22 @@ ghost use Rattle.file_table.specs.LockingFiles.{lock_file_loaded, file_left, fil
 use fs_machine::{Answer, Hand, InodePlace, Op, OpenFile, Part, Refused, Routine, Want};
 use inode_table::{LoadInode, load_held};
 
-/// An open file, and where its inode's lock is.
+/// An open file, and the place of its inode's lock.
 #[derive(Clone, Copy, Drop)]
 pub struct HeldFile {
     pub seat: InodePlace,
     pub file: OpenFile,
 }
 
-/// What the locking of a descriptor's inode came to.
+/// The result of locking a descriptor's inode.
 #[derive(Clone, Copy, Drop)]
 pub enum FileLocked {
     Refused(Refused),
     Locked(HeldFile),
 }
 
-/// Takes the lock of what a descriptor names, where it may be had for this, and loads the inode where it isn't.
+/// Takes the lock of the inode that a descriptor names, if this use may have it, and loads the inode if it isn't
+/// loaded.
 #[derive(Clone, Copy, Drop)]
 pub enum LockFile {
     /// The lock is taken, on a disk whose inode blocks begin there.

@@ -7,7 +7,7 @@ use crate::lock_file::HeldFile;
 use fs_machine::{Answer, Hand, InodePlace, Op, Part, Routine};
 use inode_table::{LoadInode, load_held};
 
-/// Takes the lock of what a descriptor names that is known to be open, and loads the inode where it isn't.
+/// Takes the lock of the inode of a descriptor that is known to be open, and loads the inode if it isn't loaded.
 #[derive(Clone, Copy, Drop)]
 pub enum LockOpen {
     /// The lock is taken, on a disk whose inode blocks begin there.

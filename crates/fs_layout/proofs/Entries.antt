@@ -64,7 +64,7 @@ length-spell_dirent v (Used number name) h =
     let n = name_parts v name (h.2) in
     simp (length-append, length-u16_bytes, length-replicate) (omega (arith, n.high))
 
--- so many zeros are a free slot
+-- two or more zeros are a free slot
 free_of-zeros : (v : Version) (n : ℕ) → dirent_of v (replicate (suc (suc n)) 0) ≡ Some Free
 unfolding u16_at
 free_of-zeros v n = rw (all-zeros n) refl

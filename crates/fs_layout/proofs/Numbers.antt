@@ -13,7 +13,7 @@ pub length-u32s_bytes : (ns : List ℕ) → length (flat_map u32_bytes ns) ≡ 4
 length-u32s_bytes [] = refl
 length-u32s_bytes (n ∷ ns) = omega (arith, length-append (u32_bytes n) (flat_map u32_bytes ns), length-u32_bytes n, length-u32s_bytes ns)
 
--- a number at a place of a part stands at the place of the whole
+-- a number at a place of a part is at the matching place of the whole
 pub u16_at-part : (bytes : List ℕ) (at n k : ℕ) → k + 2 ≤ n → u16_at (take n (drop at bytes)) k ≡ u16_at bytes (at + k)
 unfolding u16_at
 u16_at-part bytes at n k h =
@@ -66,7 +66,7 @@ pub u32_at-bytes : (n : ℕ) (rest : List ℕ) → n < 2 ^ 32 → u32_at (u32_by
 unfolding u32_at u32_bytes
 u32_at-bytes n rest h = little_number-reads_back 4 n rest h
 
--- behind other bytes
+-- after other bytes
 pub u16_at-behind : (front rest : List ℕ) (n k : ℕ) → length front ≡ n → u16_at (front ++ rest) (n + k) ≡ u16_at rest k
 unfolding u16_at
 u16_at-behind front rest n k h = ap (little_number 2) (sym (drop-drop k n (front ++ rest)) ∙ ap (drop k) (drop_at front rest n h))

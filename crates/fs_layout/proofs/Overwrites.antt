@@ -34,20 +34,20 @@ pub length-overwrite : (block bytes : List ℕ) (at : ℕ) → at + length bytes
 length-overwrite block bytes at h =
     simp (length-append, length-drop) (omega (arith, length-take-le at block (omega arith)))
 
--- a write just behind what was written
+-- a write right after what was written
 pub then_overwrite : (b0 b1 b2 xs ys : List ℕ) (at k : ℕ)
     → b1 ≡ overwrite b0 at xs → b2 ≡ overwrite b1 k ys → k ≡ at + length xs → at ≤ length b0
     → b2 ≡ overwrite b0 at (xs ++ ys)
 then_overwrite b0 b1 b2 xs ys at k e f g h =
     f ∙ ap (λ (i : ℕ). overwrite b1 i ys) g ∙ ap (λ (b : List ℕ). overwrite b (at + length xs) ys) e ∙ overwrite-overwrite b0 xs ys at h
 
--- what was written stands there
+-- what was written is there
 pub part-overwrite : (block bytes : List ℕ) (at n : ℕ) → at ≤ length block → length bytes ≡ n → take n (drop at (overwrite block at bytes)) ≡ bytes
 part-overwrite block bytes at n h l =
     ap (take n) (drop_at (take at block) (bytes ++ drop (at + length bytes) block) at (length-take-le at block h))
     ∙ take_at bytes (drop (at + length bytes) block) n l
 
--- below and above it nothing changed
+-- before and after it nothing changed
 pub part-overwrite_below : (block bytes : List ℕ) (at k n : ℕ) → at ≤ length block → k + n ≤ at → take n (drop k (overwrite block at bytes)) ≡ take n (drop k block)
 part-overwrite_below block bytes at k n h l =
     let rest : List ℕ = bytes ++ drop (at + length bytes) block in

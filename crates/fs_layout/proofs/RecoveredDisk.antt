@@ -3,7 +3,7 @@ use Rattle.fs_layout.proofs.Vocabulary.{◌≡◌, ◌≢◌, ◌⊎◌, ⊎_eli
 use Rattle.fs_layout.proofs.Numbers.{length-u32s_at}
 use Rattle.fs_layout.proofs.Words.{front-overwrite, head_numbers-spell}
 
--- ---- where the recovered bytes of a block stand
+-- ---- the places of a block's recovered bytes
 
 pub place_of-none : (start : ℕ) (blocks : List ℕ) (b : ℕ) → ((k : ℕ) → k < length blocks → get_or blocks k 0 ≢ b) → place_of start blocks b ≡ b
 place_of-none start blocks b others =
@@ -39,7 +39,7 @@ first_copy blocks b =
     (λ (h : length blocks ≤ i). inr (λ k l. differs k (omega arith)))
     (cases_lt i (length blocks))
 
--- a block stands at its own place or at that of a copy
+-- a block's bytes are at its own place or at that of a copy
 pub place_of_cases : (start : ℕ) (blocks : List ℕ) (b : ℕ)
     → (place_of start blocks b ≡ b) ⊎ ((i : ℕ) × (i < length blocks) × (get_or blocks i 0 ≡ b) × (place_of start blocks b ≡ start + 1 + i))
 place_of_cases start blocks b =
@@ -76,7 +76,7 @@ overlay-other disk start b k blocks ne =
     place_of-none start (k ∷ blocks) b (first_before k b blocks (length blocks) ne n) ∙ sym (place_of-none (start + 1) blocks b n))
     (first_copy blocks b))
 
--- ---- what a disk's recovered blocks hang on
+-- ---- what a disk's recovered blocks depend on
 
 pub sizes_of-same : (old new : List (List ℕ)) → block_at new 1 ≡ block_at old 1 → sizes_of new ≡ sizes_of old
 unfolding sizes_of
@@ -86,7 +86,7 @@ pub logged-same : (old new : List (List ℕ)) → log_head_at new ≡ log_head_a
 unfolding logged
 logged-same old new e = ap head_numbers e
 
--- a disk's superblock and head stay where neither is written
+-- a disk's superblock and head stay if neither is written
 pub sizes_of-set : (disk : List (List ℕ)) (c : ℕ) (bytes : List ℕ) → c ≢ 1 → sizes_of (set disk c bytes) ≡ sizes_of disk
 sizes_of-set disk c bytes h = sizes_of-same disk (set disk c bytes) (block_at-set_other disk c 1 bytes (λ e. h (sym e)))
 
@@ -96,7 +96,7 @@ logged-set disk c bytes h l =
     logged-same disk (set disk c bytes)
     (ap (λ (s : Super). block_at (set disk c bytes) s.logstart) sizes ∙ block_at-set_other disk c (sizes_of disk).logstart bytes (λ e. l (sym e)))
 
--- a write to another block than the superblock, the head and the block's own place
+-- a write to a block other than the superblock, the head and the block's own place
 pub recovered-set : (disk : List (List ℕ)) (c b : ℕ) (bytes : List ℕ)
     → c ≢ 1 → c ≢ (sizes_of disk).logstart → c ≢ place_of (sizes_of disk).logstart (logged disk) b
     → recovered (set disk c bytes) b ≡ recovered disk b

@@ -5,7 +5,7 @@ use Rattle.fs_layout.proofs.Branches.{which_branch}
 use Rattle.fs_layout.proofs.Overwrites.{part-overwrite, record_at-overwrite}
 use Rattle.fs_layout.proofs.Numbers.{length-u32_bytes, length-u32s_bytes, u32_at-part, u32_at-bytes, u32s_at-bytes, u32s_bytes-at, length-u32s_at}
 
--- what stands at the head of a block that was written there
+-- what is at the head of a block after a write there
 pub front-overwrite : (block bytes : List ℕ) → overwrite block 0 bytes ≡ bytes ++ drop (length bytes) block
 front-overwrite block bytes = let e : 0 + length bytes ≡ length bytes = omega arith in ap (λ (n : ℕ). bytes ++ drop n block) e
 
@@ -41,12 +41,12 @@ spell-super_of v bytes s l fits h =
     (λ (f : (eqb (u32_at bytes 0) (magic_of v) ≡ false) × (None ≡ Some s)). let e = f.1 in cc)
     (which_branch (eqb (u32_at bytes 0) (magic_of v)) (Some (super_fields bytes)) None (Some s) h)
 
--- there is a choice just where the test holds
+-- there is a choice exactly if the test holds
 some_if : {T : Type 0} (b : Bool) (x : T) → IsSome (cond b (Some x) None) → b ≡ true
 some_if true x h = refl
 some_if false x h = cc
 
--- the magic number tells whose superblock it is
+-- the magic number says whose superblock it is
 pub super_of-version : (v : Version) (block : List ℕ) → IsSome (super_of v block) ↔ (version_of_magic (u32_at block 0) ≡ Some v)
 super_of-version v block =
     let m : ℕ = u32_at block 0 in (

@@ -17,7 +17,7 @@ u32_bytes n = little_bytes 4 n
 abbrev pub i16_bytes : ℤ → List ℕ
 i16_bytes z = u16_bytes (cast_unsigned w16 z)
 
--- the number that stands at a place
+-- the number at a place
 unfoldable pub u16_at : List ℕ → ℕ → ℕ
 u16_at bytes at = little_number 2 (drop at bytes)
 
@@ -27,12 +27,12 @@ u32_at bytes at = little_number 4 (drop at bytes)
 abbrev pub i16_at : List ℕ → ℕ → ℤ
 i16_at bytes at = cast_signed w16 (u16_at bytes at)
 
--- the n numbers that stand from a place on
+-- the n numbers from a place on
 unfoldable pub u32s_at : ℕ → List ℕ → ℕ → List ℕ
 u32s_at zero bytes at = []
 u32s_at (suc n) bytes at = u32_at bytes at ∷ u32s_at n bytes (at + number_len)
 
--- the bytes of the record at a place, where each record has this size
+-- the bytes of the record at a place, if each record has this size
 abbrev pub record_at : ℕ → ℕ → List ℕ → List ℕ
 record_at size place block = take size (drop (size * place) block)
 

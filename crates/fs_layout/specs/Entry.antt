@@ -12,7 +12,7 @@ abbrev pub spell_dirent : Version → Dirent → List ℕ
 spell_dirent v Free = replicate (dirent_len_of v) 0
 spell_dirent v (Used number name) = u16_bytes number ++ (name ++ replicate (name_len_of v - length name) 0)
 
--- the name in a field: what stands before the first zero
+-- the name in a field: what comes before the first zero
 abbrev pub name_of : List ℕ → List ℕ
 name_of field = take (position_or_len is_zero field) field
 

@@ -17,7 +17,7 @@ head_numbers block = u32s_at (u32_at block log_head_count_at) block log_head_num
 abbrev pub log_head : List ℕ → LogHead
 log_head numbers = record { blocks = record { items = numbers } }
 
--- the head that a block is, where it has room for as many blocks as it says
+-- the head that a block is, if it has room for as many blocks as it says
 abbrev pub log_head_of : List ℕ → Option LogHead
 log_head_of block =
     if nat_le (u32_at block log_head_count_at) log_head_len then Some (log_head (head_numbers block)) else None

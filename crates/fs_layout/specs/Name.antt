@@ -10,7 +10,7 @@ is_zero b = b == 0
 abbrev pub is_name_byte : ℕ → Bool
 is_name_byte b = not (b == 0) && not (b == slash)
 
--- such bytes, at least one and at most so many
+-- such bytes: at least one, and `most` at most
 abbrev pub is_name_within : ℕ → List ℕ → Bool
 is_name_within most name = (nat_lt 0 (length name) && nat_le (length name) most) && list_all is_name_byte name
 

@@ -7,7 +7,7 @@ use Rattle.fs_layout.specs.Super.{super_fields}
 use Rattle.fs_layout.specs.LogHead.{head_numbers}
 use Rattle.fs_layout.specs.Widths.{super_block, log_head_count_at}
 
--- where the parts of the disk lie, as its superblock has it
+-- the places of the disk's parts, as its superblock has them
 unfoldable pub sizes_of : List (List ℕ) → Super
 sizes_of disk = super_fields (block_at disk super_block)
 
@@ -23,8 +23,8 @@ log_count disk = u32_at (log_head_at disk) log_head_count_at
 unfoldable pub logged : List (List ℕ) → List ℕ
 logged disk = head_numbers (log_head_at disk)
 
--- which block has the recovered bytes of block b, where the log begins at logstart and has copies of these blocks in order: the first
--- copy, and where there is none, b itself
+-- The block that has the recovered bytes of block b: the log's first copy of b, and if there is none, b itself. The
+-- log begins at logstart and has copies of these blocks in order.
 abbrev pub place_of : ℕ → List ℕ → ℕ → ℕ
 place_of logstart blocks b = option_map_or (λ i. logstart + 1 + i) (position (λ x. x == b) blocks) b
 

@@ -1,4 +1,4 @@
--- The superblock: the magic number, then where the parts of a disk lie.
+-- The superblock: the magic number, then the places of the disk's parts.
 use Rattle.std.specs.Prelude.{ℕ, ◌==◌, ◌^◌, ◌<◌, if◌then◌else◌, List, [], ◌∷◌, Option, Some, None}
 use Rattle.fs_layout.specs.Vocabulary.{flat_map, AllByRecursion, magic_of, Version}
 use Rattle.fs_layout.specs.declared.superblock.Super.{Super}
@@ -24,7 +24,7 @@ super_fields block = record {
   bmapstart = u32_at block super_bmapstart_at;
 }
 
--- the superblock that a block is, where its magic number is right
+-- the superblock that a block is, if its magic number is right
 abbrev pub super_of : Version → List ℕ → Option Super
 super_of v block = if u32_at block super_magic_at == magic_of v then Some (super_fields block) else None
 

@@ -1,4 +1,4 @@
--- How wide the parts of a block are and where they stand, in bytes where nothing else is said.
+-- The widths and the places of the parts of a block, in bytes if nothing else is said.
 use Rattle.std.specs.Prelude.{ℕ}
 use Rattle.image_versions.specs.Shared as shared
 
@@ -51,7 +51,7 @@ inode_len = 64
 abbrev pub inodes_per_block : ℕ
 inodes_per_block = 16
 
--- how many block numbers stand in an inode
+-- how many block numbers an inode has
 abbrev pub addresses : ℕ
 addresses = shared.addresses
 

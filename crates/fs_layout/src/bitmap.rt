@@ -1,4 +1,4 @@
-//! The bits of the bitmap block: set for a block in use. docs/FORMATS.md says where each stands.
+//! The bits of the bitmap block: set for a block in use. docs/FORMATS.md has the place of each.
 ghost use Rattle.std.specs.Prelude.{◌≡◌, ◌<◌, ◌==◌, ℕ, if◌then◌else◌, true, false};
 ghost use Rattle.fs_layout.specs.Bits.{bit_of};
 ghost use Rattle.fs_layout.specs.Widths.{bits_per_block};

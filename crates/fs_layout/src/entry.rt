@@ -11,7 +11,7 @@ use crate::name::Name;
 use crate::widths::{Block, DIRENT_NAME_AT};
 use image_versions::Version;
 
-/// A slot of a directory: free, or the number of an inode and its name.
+/// A slot of a directory: free, or the number of an inode and its name (xv6: `struct dirent`).
 #[derive(Drop)]
 pub enum Dirent {
     Free,
@@ -59,8 +59,9 @@ fn used_in(version: Version, number: u16, field: &[u8]) -> Option<Dirent>
     }
 }
 
-/// The slot at a place of a directory's block, counted in slots. `None` where its bytes are no entry:
-/// a number 0 with bytes that aren't 0, an empty name, a '/' in it, or a byte other than 0 behind a 0.
+/// The slot at a place of a directory's block, counted in slots. `None` if its bytes are no entry. They are none if a
+/// number 0 has bytes that aren't 0, or if the name is empty or has a '/'. They are none too if a byte other than 0
+/// comes after a 0.
 pub fn read_dirent(version: Version, block: &Block, place: usize) -> Option<Dirent>
     requires { place < dirents_per_block_of version }
     ensures { result ≡ dirent_at version place block.now }
@@ -76,8 +77,8 @@ pub fn read_dirent(version: Version, block: &Block, place: usize) -> Option<Dire
     }
 }
 
-/// Writes a slot at a place of a directory's block, counted in slots. A name is padded with zeros;
-/// one as long as its field has none behind it.
+/// Writes a slot at a place of a directory's block, counted in slots. A name is padded with zeros; one as long as its
+/// field has none after it.
 pub fn write_dirent(version: Version, block: &mut Block, place: usize, entry: &Dirent)
     requires place { place < dirents_per_block_of version }
     requires entry { IsDirent version entry.now }

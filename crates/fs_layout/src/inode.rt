@@ -11,8 +11,8 @@ use crate::widths::{
     INODE_NLINK_AT, INODE_SIZE_AT,
 };
 
-/// An inode as it stands on the disk. Any 64 bytes are one: whether its fields are right, as a well-formed image has
-/// them, is for the examination of an image to say.
+/// An inode as it is on the disk. Any 64 bytes are one: the examination of an image says whether its fields are
+/// right, as a well-formed image has them (xv6: `struct dinode`).
 #[derive(Clone, Copy, PartialEq, Eq, Debug)]
 pub struct Dinode {
     /// Its type: 0 free, 1 directory, 2 file, 3 device.

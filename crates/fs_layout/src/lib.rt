@@ -1,8 +1,8 @@
-//! The records of a disk, in blocks of 1024 bytes: superblock, inode, directory entry, the head of
-//! the log, the numbers of an indirect block and the bits of a bitmap. Nothing here allocates.
+//! The records of a disk, in blocks of 1024 bytes. They are the superblock, the inode, the directory entry, the head
+//! of the log, the numbers of an indirect block and the bits of a bitmap. Nothing here allocates.
 //!
-//! What is read of a block is exactly the record that its bytes are, or that they are none; what is written reads back, and changes
-//! nothing else.
+//! What is read of a block is exactly the record that its bytes are, or that they are none. What is written reads
+//! back, and changes nothing else.
 #![tactic(auto)]
 
 mod bitmap;

@@ -10,15 +10,14 @@ use crate::bytes::{put_u32, put_u32s, u32_in};
 use crate::widths::{Block, LOG_HEAD_COUNT_AT, LOG_HEAD_LEN, LOG_HEAD_NUMBERS_AT, NUMBER_LEN};
 use arrayvec::ArrayVec;
 
-/// The home blocks of the logged blocks, in order: the copy of the first stands just behind the
-/// head, and so on.
+/// The home blocks of the logged blocks, in order: the copy of the first is the block right after the head, and so on
+/// (xv6: `struct logheader`).
 #[derive(Drop)]
 pub struct LogHead {
     pub blocks: ArrayVec<u32, LOG_HEAD_LEN>,
 }
 
-/// The log's head that a block is; `None` where it says that it names more blocks than it has room
-/// for.
+/// The log's head that a block is; `None` if it says that it names more blocks than it has room for.
 pub fn read_log_head(block: &Block) -> Option<LogHead>
     ensures { result ≡ log_head_of block.now }
 {
@@ -31,8 +30,7 @@ pub fn read_log_head(block: &Block) -> Option<LogHead>
     })
 }
 
-/// Writes the log's head with these home blocks; with none of them the log is empty. What stands
-/// behind the head stays.
+/// Writes the log's head with these home blocks; with none of them the log is empty. The bytes after the head stay.
 pub fn write_log_head(block: &mut Block, blocks: &[u32])
     requires { length blocks.now ≤ log_head_len }
     ensures bytes { block.new ≡ overwrite block.old log_head_count_at (spell_log_head blocks.now) }

@@ -3,8 +3,8 @@ ghost use Rattle.std.specs.Prelude.{◌≡◌, ◌≢◌, ◌+◌, ◌<◌, ℕ,
 ghost use Rattle.fs_layout.specs.Vocabulary.{block_at};
 ghost use Rattle.fs_layout.specs.Recovered.{logged, recovered, sizes_of};
 
-/// What the words for the recovered disk mean, block by block: a logged block has the bytes of its
-/// first copy behind the log's head, and any other its own.
+/// What the words for the recovered disk mean, block by block. A logged block has the bytes of its first copy after
+/// the log's head, and any other block its own.
 pub fn recovered_blocks()
     ensures copied { (disk : List (List ℕ)) (i : ℕ) → i < length (logged disk)
         → ((k : ℕ) → k < i → slice_index (logged disk) k ≢ slice_index (logged disk) i)

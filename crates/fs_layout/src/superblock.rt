@@ -13,8 +13,8 @@ use crate::widths::{
 };
 use image_versions::Version;
 
-/// Where the parts of a disk lie, by block numbers, and how many inodes it has. Any values are one: whether they fit
-/// together, as a well-formed image has them, is for the examination of an image to say.
+/// The places of a disk's parts, by block numbers, and how many inodes it has (xv6: `struct superblock`). Any values
+/// are one: the examination of an image says whether they fit together, as a well-formed image has them.
 #[derive(Clone, Copy, PartialEq, Eq, Debug)]
 pub struct Super {
     /// How many blocks the disk has: at most 8191 in a well-formed image.
@@ -33,14 +33,14 @@ pub struct Super {
     pub bmapstart: u32,
 }
 
-/// The version whose magic number a superblock begins with; `None` where it is of none.
+/// The version whose magic number a superblock begins with; `None` if there is no such version.
 pub fn read_version(block: &Block) -> Option<Version>
     ensures { result ≡ version_of_magic (u32_at block.now super_magic_at) }
 {
     Version::of_magic(u32_in(block, SUPER_MAGIC_AT))
 }
 
-/// The superblock of this version that a block is; `None` where its magic number is another.
+/// The superblock of this version that a block is; `None` if its magic number is another.
 pub fn read_super(version: Version, block: &Block) -> Option<Super>
     ensures { result ≡ super_of version block.now }
 {
@@ -58,8 +58,8 @@ pub fn read_super(version: Version, block: &Block) -> Option<Super>
     })
 }
 
-/// Writes the version's magic number and the fields. What stands behind them stays: begin with a block of
-/// zeros where it is to be zero.
+/// Writes the version's magic number and the fields. The bytes after them stay: begin with a block of zeros if they
+/// must be zero.
 pub fn write_super(version: Version, block: &mut Block, superblock: &Super)
     ensures bytes { block.new ≡ overwrite block.old super_magic_at (spell_super version superblock.now) }
     ensures reads_back { super_of version block.new ≡ Some superblock.now }
@@ -77,7 +77,8 @@ pub fn write_super(version: Version, block: &mut Block, superblock: &Super)
     put_u32s(block, SUPER_MAGIC_AT, &numbers);
 }
 
-/// A superblock and its bytes determine each other, and other bytes are none. Its magic number tells which version's it is.
+/// A superblock and its bytes determine each other, and other bytes are none. Its magic number says which version's
+/// it is.
 pub fn super_spelling()
     ensures reads_back { (v : Version) (s : Super) → IsSuper s → super_of v (spell_super v s) ≡ Some s }
     ensures only { (v : Version) (bytes : List ℕ) (s : Super) → length bytes ≡ super_len → IsBytes bytes

@@ -1,4 +1,4 @@
--- The lemmas that most of this crate's other lemmas stand on.
+-- The lemmas on which most other lemmas of this crate build.
 pub use Rattle.group_log.proofs.Cuts.{stops_at_a_cut}
 pub use Rattle.group_log.proofs.Getting.{held_cached}
 pub use Rattle.group_log.proofs.Kept.{first_stays, kept_back, kept_change, kept_get, not_free, pins_kept, recorded_of, some_recorded, sound_kept}

@@ -1,4 +1,4 @@
--- What a get gives, where the block was recorded, and what it leaves.
+-- What a get gives, if the block was recorded, and what it leaves.
 use Rattle.group_log.proofs.Vocabulary.{◌≡◌, ◌≢◌, inl, inr, ℕ, List, [], true, false, refl, sym, ◌∙◌, ap, subst, Option, Some, None, IsSome, is_some, if◌then◌else◌, cases_eq, MatchOption, IfSome, option_map, option_and_then, unwrap_or, find, GuardState, BufferState, Got, Held, Waits, get_of, get_by, get_new, guard_of, SeatState, CacheState, has_block, is_free, is_pinned, seat_of, holder_of, with_seat, with_holder, without_holder, with_pin, given_back, IsPinned, IsHeld, IsGuardOf, KeepsHeld, KeepsOthers, KeepsRecorded, HasRecorded}
 use Rattle.group_log.proofs.Seats.{pick, changed_twice, changed_and_ended}
 

@@ -34,7 +34,7 @@ pinned_at b old new f here keeps others k is = elim (cases_eq k b) [
   | inr ne ↦ recorded_of (seat_of k old) (seat_of k new) (others k ne) is
 ]
 
--- a change in its place of what isn't a recorded buffer's block or pin
+-- a change in its place that leaves each buffer's block and pin, and leaves a valid buffer valid
 pub kept_change : (b : ℕ) (f : SeatState → SeatState) (ss : List SeatState) → ((s : SeatState) → (f s).block ≡ s.block) → ((s : SeatState) → (f s).pinned ≡ s.pinned)
     → ((s : SeatState) → IsSome s.content → IsSome (f s).content) → Kept b ss (with_seat b f ss)
 kept_change b f ss block pin valid = record {

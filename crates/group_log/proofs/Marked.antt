@@ -1,4 +1,4 @@
--- What the marks of a machine over a log tell of a stop: the history kept beside it is that of the events' numbers.
+-- What the marks of a machine over a log say of a stop: the history kept beside it is that of the events' numbers.
 use Rattle.group_log.proofs.Vocabulary.{◌≡◌, inl, inr, ℕ, zero, suc, ◌+◌, ◌≤◌, ◌<◌, true, List, [], ◌∷◌, ◌++◌, length, Option, Some, refl, sym, ◌∙◌, ap, subst, arith, add-one, length-append, AllByRecursion, cases_eq, Super, Marks, Blocks, AgreeOutside, LogState, recovered_of, seen_of, is_settled, before, IsMarked, IsStory, Span, IsApart, IsSpanned, IsMarkedRun, IsMarkedStop, MarksTellStops, CutsHaveReplies, NoneIsMarkedInPart}
 use Rattle.group_log.proofs.Stories.{all_map, all_join, all_before, before_stays, all, stored_at_reply, none_in_part}
 

@@ -17,7 +17,7 @@ running_of (Staging i) begun = refl
 running_of (Installing i) begun = refl
 running_of Halted begun = absurd (begun.1 refl)
 
--- a write that leads to a settled phase was the one of the head, or came behind it
+-- a write that leads to a settled phase was that of the head, or came after it
 next_settled : (n : ℕ) (p : Phase) → (p ≢ Open) × (p ≢ Halted) → is_settled (next_phase n p) ≡ true → (is_point n p ≡ true) ⊎ (is_settled p ≡ true)
 next_settled n Open begun now = absurd (begun.0 refl)
 next_settled n Halted begun now = absurd (begun.1 refl)

@@ -6,7 +6,7 @@ pub length-push : (ks : List ℕ) (b : ℕ) → length (ks ++ b ∷ []) ≡ leng
 length-push [] b = omega arith
 length-push (k ∷ ks) b = let a = length-push ks b in omega (arith, a)
 
--- where a number stands in the group
+-- the place of a number in the group
 pub where_is : (ks : List ℕ) (b : ℕ) → has ks b ≡ true → (k : ℕ) × (k < length ks) × (get_or ks k 0 ≡ b)
 where_is [] b is = absurd (cc is)
 where_is (x ∷ ks) b is =
@@ -55,7 +55,7 @@ distinct_with ks b distinct =
     pick (has ks b) (λ t. has ks b ≡ t → (j k : ℕ) → j < k → k < length (if t then ks else ks ++ b ∷ []) → get_or (if t then ks else ks ++ b ∷ []) j 0 ≢ get_or (if t then ks else ks ++ b ∷ []) k 0)
     (λ _ _. distinct) (λ _ none. pushed_distinct ks b none distinct) refl
 
--- who isn't in the group with this block is another block, and wasn't in it
+-- a block that isn't in the group with b is another block than b, and wasn't in the group
 pub none_with : (ks : List ℕ) (b x : ℕ) → ((k : ℕ) → 0 ≤ k → k < length (with_block ks b) → get_or (with_block ks b) k 0 ≢ x) → (x ≢ b) × ((k : ℕ) → 0 ≤ k → k < length ks → get_or ks k 0 ≢ x)
 none_with ks b x =
     pick (has ks b) (λ t. has ks b ≡ t → ((k : ℕ) → 0 ≤ k → k < length (if t then ks else ks ++ b ∷ []) → get_or (if t then ks else ks ++ b ∷ []) k 0 ≢ x) → (x ≢ b) × ((k : ℕ) → 0 ≤ k → k < length ks → get_or ks k 0 ≢ x))

@@ -93,7 +93,7 @@ member_leaves (Some k ∷ ms) zero is = let a = joined-cons (Some k) ms in let b
 member_leaves (None ∷ ms) (suc i) is = let a = member_leaves ms i is in let b = joined-cons None ms in let d = joined-cons None (slice_set ms i None) in omega (arith, a, b, d)
 member_leaves (Some k ∷ ms) (suc i) is = let a = member_leaves ms i is in let b = joined-cons (Some k) ms in let d = joined-cons (Some k) (slice_set ms i None) in omega (arith, a, b, d)
 
--- one more joins; and what one adds changes not how many have
+-- one more joins; a block that one adds doesn't change how many have joined
 pub joins_more : (ms : List (Option ℕ)) (i : ℕ) → slice_get ms i ≡ Some None → joined (slice_set ms i (Some 0)) ≡ joined ms + 1
 joins_more [] i e = absurd (cc e)
 joins_more (None ∷ ms) zero e = let a = joined-cons (Some 0) ms in let b = joined-cons None ms in omega (arith, a, b)
@@ -108,7 +108,7 @@ joined_one_more (Some k ∷ ms) zero = let a = joined-cons (Some (k + 1)) ms in 
 joined_one_more (None ∷ ms) (suc i) = let a = joined_one_more ms i in let b = joined-cons None ms in let d = joined-cons None (one_more ms i) in omega (arith, a, b, d)
 joined_one_more (Some k ∷ ms) (suc i) = let a = joined_one_more ms i in let b = joined-cons (Some k) ms in let d = joined-cons (Some k) (one_more ms i) in omega (arith, a, b, d)
 
--- a hart with a count is in a transaction, and has room where the count is low
+-- a hart with a count is in a transaction, and has room if the count is low
 pub member_at : (ms : List (Option ℕ)) (i k : ℕ) → get_or ms i None ≡ Some k → IsMember ms i
 member_at [] i k e = absurd (cc e)
 member_at (None ∷ ms) zero k e = absurd (cc e)

@@ -71,7 +71,7 @@ module _ (d e : List (List ℕ)) (ss zs : List SeatState) (sizes : Super) (ks : 
     blocks = fits;
   }
 
-  -- the log's first block, and the one behind it of a copy
+  -- the log's first block, and the block after it for a copy
   head_on_disk : IsPlaced d sizes → sizes.logstart < length d
   head_on_disk place = omega (arith, place.some, place.within)
 
@@ -139,7 +139,7 @@ module _ (d e : List (List ℕ)) (ss zs : List SeatState) (sizes : Super) (ks : 
       (went_home sizes d e (seen_in d ss) (seen_in e zs) ks sound.place same room sound.homes i lt is sound.blocks))
       refl is seats
 
-  -- the recovered disk changes where the head comes to name the group
+  -- the recovered disk changes when the head begins to name the group
   pub write_recovered : (p : Phase) (b : ℕ) → IsSoundLog d ss sizes ks ms p → IsUnderWay (length ks) p → e ≡ set d (write_to sizes ks p) (write_of (seen_in d ss) ks p) → IsOutsideLog sizes b
       → recovered e b ≡ (if is_point (length ks) p then seen_in d ss b else recovered d b)
   write_recovered Open b sound runs is out = absurd runs

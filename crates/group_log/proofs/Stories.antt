@@ -20,14 +20,14 @@ module _ {E : Type 0} (number : E → ℕ) where
   none_before k [] h = refl
   none_before k (e ∷ es) h = ap (λ (t : Bool). cond t (e ∷ before number k es) (before number k es)) (le-ltb (number e) k h.0) ∙ none_before k es h.1
 
-  -- an event adds nothing to the entries of those before it
+  -- an event adds nothing to the entries of earlier events
   pub before_stays : (k n : ℕ) (list news : List E) → k ≤ n → AllByRecursion (λ e. number e ≡ n) news → before number k (list ++ news) ≡ before number k list
   before_stays k n list news le now =
       filter-append (λ e. nat_lt (number e) k) list news
       ∙ ap (λ (l : List E). before number k list ++ l) (none_before k news (all_map (λ e. number e ≡ n) (λ e. k ≤ number e) news (λ e is. omega (arith, is, le)) now))
       ∙ append-nil (before number k list)
 
-  -- where the numbers never fall, the entries of the first events are a beginning of the list
+  -- if the numbers never fall, the entries of the first events are a beginning of the list
   late : (k lo : ℕ) (list : List E) → k ≤ lo → RisesBy number lo list → AllByRecursion (λ e. k ≤ number e) list
   unfolding RisesBy
   late k lo [] le up = tt
@@ -121,7 +121,7 @@ module _ {D E : Type 0} (contents : D → List (List ℕ)) (number : E → ℕ) 
       certain = λ is. none;
     }
 
-    -- a leave, where the entries so far make what is seen once it begins a commit
+    -- a leave, if the entries so far make what is seen when it begins a commit
     pub kept_leave : (r : AfterLeave) → IsMove contents (begins_at r) false l l' → m.doubt ≡ None → (begins_at r ≡ true → Image (list ++ news) (seen_of contents l'))
         → IsKept contents number sizes Image (n + 1) (list ++ news) l' (after_leave n r m)
     kept_leave Free move none image = kept_plain move
@@ -208,7 +208,7 @@ module _ (n : ℕ) (m : Marks) (since : ℕ → Option ℕ) (ended : List Span) 
     at_doubt = whole.at_doubt;
   }
 
-  -- so no mark stands within a transaction
+  -- so no mark is within a transaction
   pub apart_at : (k : ℕ) → IsMarked m k → AllByRecursion (IsApart k) ended
   apart_at k marked = elim marked [
     | inl e ↦ subst (λ (j : ℕ). AllByRecursion (IsApart j) ended) (sym e) whole.at_cut
@@ -320,8 +320,8 @@ module _ {D E : Type 0} (contents : D → List (List ℕ)) (number : E → ℕ) 
       subst (λ (j : ℕ). ((marks i).begun ≤ (marks j).begun) × ((marks i).cut ≤ (marks j).cut)) (let e : i + more + 1 ≡ i + suc more = omega arith in e)
       (omega (arith, before.0, step.0), omega (arith, before.1, step.1))
 
-  -- Once the commit that a leave began, event i, has come to a settled phase, the cut is that leave or a later one, and stays so: so it is
-  -- when its hart replies.
+  -- Event i is a leave that began a commit. When that commit has reached a settled phase, the cut has that leave or a
+  -- later one, and keeps it. So it is when its hart replies.
   pub stored_at_reply : (i later more : ℕ) → (marks (i + 1)).begun ≡ i + 1 → i + 1 + later + more ≤ n → is_settled (logs (i + 1 + later)).phase ≡ true → i < (marks (i + 1 + later + more)).cut
   stored_at_reply i later more begun le settled =
       let to = risen (i + 1) later (omega (arith, le)) in
@@ -386,7 +386,7 @@ module _ {D E : Type 0} (contents : D → List (List ℕ)) (number : E → ℕ) 
   all_whole zero le = first_whole
   all_whole (suc i) le = subst (λ (j : ℕ). AreWhole j (marks j) (since j) (ended j)) (add-one i) (next_whole i (omega (arith, le)) (all_whole i (omega (arith, le))))
 
-  -- a mark stands within no transaction that has ended, and those that run began behind it
+  -- a mark is within no transaction that has ended, and those that run began after it
   pub none_in_part : (i : ℕ) → i ≤ n → (k : ℕ) → IsMarked (marks i) k → AllByRecursion (IsApart k) (ended i) × ((h from : ℕ) → since i h ≡ Some from → k ≤ from)
   none_in_part i le k marked =
       let whole = all_whole i le in

@@ -27,7 +27,7 @@ is_under_way (Staging i) = true
 is_under_way (Installing i) = true
 is_under_way Halted = false
 
--- no head is yet to name the group of a commit that was begun
+-- no commit waits for its head to name the group
 abbrev pub is_settled : Phase → Bool
 is_settled Open = true
 is_settled (Staging i) = false
@@ -41,20 +41,20 @@ is_running (Staging i) = true
 is_running (Installing i) = true
 is_running Halted = false
 
--- A call's change: it begins a commit or doesn't, and the head comes to name the group with it (also where that write failed and left the
--- new head) or doesn't.
+-- A call's change: it begins a commit or doesn't, and the head begins to name the group or doesn't. The head begins
+-- to name it even if that write failed and left the new head.
 pub record IsMove {D : Type 0} (contents : D → List (List ℕ)) (begins stands : Bool) (old new : LogState D) : Type 0 where
   pub sizes : new.sizes ≡ old.sizes
-  -- the recovered disk becomes what is seen where the head comes to name the group, and else it stays
+  -- the recovered disk becomes what is seen when the head begins to name the group, and else it stays
   pub becomes : AgreeOutside old.sizes (λ b. if stands then seen_of contents old b else recovered_of contents old b)
       (recovered_of contents new)
   -- the leave that begins a commit changes nothing that is seen, nor does any call while one runs
   pub still : is_under_way new.phase ≡ true → AgreeOutside old.sizes (seen_of contents old) (seen_of contents new)
   pub in_commit : stands ≡ true → is_under_way old.phase ≡ true
   pub begun_before : is_under_way new.phase ≡ true → begins ≡ false → is_under_way old.phase ≡ true
-  -- a commit goes on until its head was written
+  -- a commit goes on until its head is written
   pub settles : is_settled new.phase ≡ true → (begins ≡ false) × ((stands ≡ true) ⊎ (is_settled old.phase ≡ true))
-  -- it begins where nobody is in a transaction
+  -- it begins when nobody is in a transaction
   pub alone : begins ≡ true → joined new.members ≡ 0
   -- what is halted stays so
   pub runs : is_running new.phase ≡ true → is_running old.phase ≡ true
@@ -64,7 +64,8 @@ abbrev pub begins_at : AfterLeave → Bool
 begins_at Free = false
 begins_at Commits = true
 
--- Of a commit's step: whether the head names the group with it, where the write was the one that makes it do so. After a fault it may.
+-- Of a commit's step: whether the head begins to name the group with it. It does exactly if the step's write is the
+-- one that makes it do so; after a fault it may.
 abbrev pub Stands : Progress → Bool → Bool → Type 0
 Stands Waits point stands = stands ≡ false
 Stands Wrote point stands = stands ≡ point
@@ -90,7 +91,7 @@ LogsAreLoggedRuns {D} contents = (n : ℕ) (states : ℕ → LogState D) (begins
     → IsLoggedRun (states 0).sizes n (λ i. seen_of contents (states i)) (λ i. recovered_of contents (states i))
     (λ i. is_under_way (states i).phase) begins stands
 
--- after any calls recovery makes what was seen at the leave that began the last commit whose head has stood
+-- after any calls recovery makes what was seen at the leave that began the last commit whose head was written
 abbrev pub LogsStopAtACut : {D : Type 0} → (D → List (List ℕ)) → Type 0
 LogsStopAtACut {D} contents = (n : ℕ) (states : ℕ → LogState D) (begins stands : ℕ → Bool) → IsRunOfLog contents n states begins stands
     → AgreeOutside (states 0).sizes (seen_of contents (states (commit_cut begins stands n))) (recovered_of contents (states n))

@@ -35,7 +35,7 @@ write_to sizes group (Staging i) = if i == length group then sizes.logstart else
 write_to sizes group (Installing i) = if i == length group then sizes.logstart else slice_index group i
 write_to sizes group Halted = 0
 
--- and its bytes, where the blocks are seen so
+-- and its bytes, if the blocks are seen so
 abbrev pub write_of : (ℕ → List ℕ) → List ℕ → Phase → List ℕ
 write_of seen group Open = []
 write_of seen group (Staging i) = if i == length group then head_block group else seen (slice_index group i)

@@ -21,7 +21,7 @@ pub record HasSlots (seats : List SeatState) (group slots : List ℕ) (phase : P
   pub count : length slots ≡ length group
   pub fit : SlotsFit seats group slots phase
 
--- the slots with that of this block, where the group hasn't the block yet
+-- the slots with that of this block, if the group doesn't have the block yet
 abbrev pub slots_with : List ℕ → ℕ → List ℕ → ℕ → List ℕ
 slots_with group b slots slot = if has group b then slots else slots ++ slot ∷ []
 

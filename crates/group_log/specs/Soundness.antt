@@ -7,8 +7,8 @@ use Rattle.group_log.specs.declared.phase.Phase.TheVariants.{Open, Staging, Inst
 use Rattle.group_log.specs.Group.{joined, rooms}
 use Rattle.group_log.specs.Pins.{HasRecorded}
 
--- a log, to its callers: the cache, where the parts of its disk lie, the recorded blocks in the order of first recording, for each
--- hart what its transaction has added to them, and where the commit is
+-- A log, to its callers: the cache, the places of the parts of its disk, and the recorded blocks in the order of
+-- first recording. For each hart what its transaction has added to them, and how far the commit is.
 pub record LogState (D : Type 0) : Type 0 where
   pub cache : CacheState D
   pub sizes : Super
@@ -20,7 +20,7 @@ pub record LogState (D : Type 0) : Type 0 where
 abbrev pub limit_of : Super → ℕ
 limit_of sizes = min MOST_LOGGED (sizes.nlog - 1)
 
--- the log lies on the disk, behind the superblock
+-- the log is on the disk, after the superblock
 pub record IsPlaced (disk : List (List ℕ)) (sizes : Super) : Type 0 where
   pub sizes_are : sizes_of disk ≡ sizes
   pub behind : super_block < sizes.logstart
@@ -40,7 +40,8 @@ pub record IsHome (disk : List (List ℕ)) (sizes : Super) (b : ℕ) : Type 0 wh
   pub front : sizes.inodestart ≤ b
   pub sized : b < sizes.size
 
--- where the blocks are seen so: outside the log, those that the group hasn't from its n-th block on stand on the disk as they are seen
+-- if the blocks are seen so: each block outside the log that isn't among the group's from its n-th on is on the disk
+-- as it is seen
 abbrev pub CleanFrom : Super → List (List ℕ) → (ℕ → List ℕ) → List ℕ → ℕ → Type 0
 CleanFrom sizes disk see group n =
     (b : ℕ) → IsOutsideLog sizes b → ((k : ℕ) → n ≤ k → k < length group → slice_index group k ≢ b) → block_at disk b ≡ see b

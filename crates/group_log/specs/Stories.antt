@@ -63,12 +63,12 @@ pub record Span : Type 0 where
   pub from : ℕ
   pub to : ℕ
 
--- it has ended in the first k events, or begins behind them
+-- it has ended in the first k events, or begins after them
 abbrev pub IsApart : ℕ → Span → Type 0
 IsApart k s = (s.to < k) ⊎ (k ≤ s.from)
 
--- For each hart there is the event in which its transaction began, if it is in one; and there are those that have ended. No mark stands
--- within one.
+-- For each hart there is the event in which its transaction began, if it is in one. And there are the transactions
+-- that have ended. No mark is within one.
 pub record AreWhole (n : ℕ) (m : Marks) (since : ℕ → Option ℕ) (ended : List Span) : Type 0 where
   pub running : (hart from : ℕ) → since hart ≡ Some from → m.begun ≤ from
   pub past : AllByRecursion (λ s. s.to < n) ended
@@ -78,7 +78,8 @@ pub record AreWhole (n : ℕ) (m : Marks) (since : ℕ → Option ℕ) (ended : 
 
 -- ---- runs
 
--- What event n does to the log and to the marks. It calls neither leave nor a commit's step; or it is a leave; or a step of a commit.
+-- What event n does to the log and to the marks. It calls neither leave nor a commit's step; or it is a leave; or it
+-- is a step of a commit.
 abbrev pub Does : {D : Type 0} → (D → List (List ℕ)) → ℕ → LogState D → LogState D → Marks → Marks → Type 0
 Does contents n l l' m m' =
     (IsMove contents false false l l' × (m' ≡ m))
@@ -97,10 +98,11 @@ pub record IsStory {D E : Type 0} (contents : D → List (List ℕ)) (number : E
   pub fresh : Image [] (recovered_of contents (logs 0))
   pub does : (i : ℕ) → i < n → Does contents i (logs i) (logs (i + 1)) (marks i) (marks (i + 1))
   pub grows : (i : ℕ) → i < n → (news : List E) × (lists (i + 1) ≡ lists i ++ news) × AllByRecursion (λ e. number e ≡ i) news
-  -- what the machine has to show of itself: with nobody in a transaction the seen blocks are what the entries so far make
+  -- what the machine must show of itself: when nobody is in a transaction, the seen blocks are what the entries so
+  -- far make
   pub quiet : (i : ℕ) → i ≤ n → joined (logs i).members ≡ 0 → is_running (logs i).phase ≡ true → Image (lists i) (seen_of contents (logs i))
 
--- What event n does to the transactions: it ends none, and one may begin; or one ends with it, and none begins.
+-- What event n does to the transactions: it ends none, and one may begin; or it ends one, and none begins.
 abbrev pub Turns : ℕ → (ℕ → Option ℕ) → (ℕ → Option ℕ) → List Span → List Span → Type 0
 Turns n since since' ended ended' =
     ((ended' ≡ ended) × ((h from : ℕ) → since' h ≡ Some from → (from ≡ n) ⊎ (since h ≡ Some from)))
@@ -112,10 +114,10 @@ pub record IsSpanned {D : Type 0} (n : ℕ) (logs : ℕ → LogState D) (since :
   pub first : (h : ℕ) → since 0 h ≡ None
   pub none : ended 0 ≡ []
   pub turns : (i : ℕ) → i < n → Turns i (since i) (since (i + 1)) (ended i) (ended (i + 1))
-  -- where one runs, a hart is in a transaction of the log
+  -- if one runs, a hart is in a transaction of the log
   pub joins : (i : ℕ) → i ≤ n → (h from : ℕ) → since i h ≡ Some from → 0 < joined (logs i).members
 
--- ---- what marks tell
+-- ---- what marks say
 
 -- The states of a machine over a log, after 0 events and on, up to n, and the marks that it keeps.
 pub record IsMarkedRun {D : Type 0} (contents : D → List (List ℕ)) (n : ℕ) (logs : ℕ → LogState D) (marks : ℕ → Marks) : Type 0 where
@@ -124,8 +126,8 @@ pub record IsMarkedRun {D : Type 0} (contents : D → List (List ℕ)) (n : ℕ)
   pub unmarked : marks 0 ≡ no_marks
   pub does : (i : ℕ) → i < n → Does contents i (logs i) (logs (i + 1)) (marks i) (marks (i + 1))
 
--- After any event recovery makes what was seen after the first k of them, where a mark says k; and as long as the log isn't halted it is
--- the cut.
+-- After any event recovery makes what was seen after the first k events, and a mark says k. As long as the log isn't
+-- halted, that mark is the cut.
 pub record IsMarkedStop {D : Type 0} (contents : D → List (List ℕ)) (logs : ℕ → LogState D) (i : ℕ) (m : Marks) : Type 0 where
   pub k : ℕ
   pub marked : IsMarked m k
@@ -137,15 +139,14 @@ abbrev pub MarksTellStops : {D : Type 0} → (D → List (List ℕ)) → Type 0
 MarksTellStops {D} contents = (n : ℕ) (logs : ℕ → LogState D) (marks : ℕ → Marks) → IsMarkedRun contents n logs marks
     → (i : ℕ) → i ≤ n → IsMarkedStop contents logs i (marks i)
 
--- Event i is a leave that began a commit. Once the log has come to a settled phase behind it, the cut has that leave, then and later: so
--- it is
--- when its hart replies.
+-- Event i is a leave that began a commit. If the log has reached a settled phase after it, the cut has that leave,
+-- then and later. So it is when its hart replies.
 abbrev pub CutsHaveReplies : {D : Type 0} → (D → List (List ℕ)) → Type 0
 CutsHaveReplies {D} contents = (n : ℕ) (logs : ℕ → LogState D) (marks : ℕ → Marks) → IsMarkedRun contents n logs marks
     → (i later more : ℕ) → (marks (i + 1)).begun ≡ i + 1 → i + 1 + later + more ≤ n → is_settled (logs (i + 1 + later)).phase ≡ true
     → i < (marks (i + 1 + later + more)).cut
 
--- a mark stands within no transaction that has ended, and those that run began behind it
+-- a mark is within no transaction that has ended, and those that run began after it
 abbrev pub NoneIsMarkedInPart : {D : Type 0} → (D → List (List ℕ)) → Type 0
 NoneIsMarkedInPart {D} contents = (n : ℕ) (logs : ℕ → LogState D) (marks : ℕ → Marks) (since : ℕ → ℕ → Option ℕ) (ended : ℕ → List Span)
     → IsMarkedRun contents n logs marks → IsSpanned n logs since ended → (i : ℕ) → i ≤ n → (k : ℕ) → IsMarked (marks i) k

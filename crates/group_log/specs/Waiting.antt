@@ -9,14 +9,14 @@ use Rattle.group_log.specs.declared.commit.Progress.TheVariants.{Waits, Wrote, E
 use Rattle.group_log.specs.declared.log.AfterLeave.{AfterLeave}
 use Rattle.group_log.specs.declared.log.AfterLeave.TheVariants.{Free, Commits}
 
--- a join waits while a commit runs, where the group might outgrow the log, and for good after a fault
+-- a join waits while a commit runs, if the group might outgrow the log, and for good after a fault
 abbrev pub join_waits : Phase → ℕ → ℕ → ℕ → Bool
 join_waits Open recorded outstanding limit = nat_lt limit (recorded + (outstanding + 1) * BLOCKS_OF_A_TRANSACTION)
 join_waits (Staging i) recorded outstanding limit = true
 join_waits (Installing i) recorded outstanding limit = true
 join_waits Halted recorded outstanding limit = true
 
--- a leave that leaves so many in a transaction commits the group, if there is one
+-- a leave with `outstanding` others in a transaction: with none it commits the group, if there is one
 abbrev pub left_at : ℕ → List ℕ → AfterLeave
 left_at outstanding [] = Free
 left_at outstanding (b ∷ group) = if outstanding == 0 then Commits else Free

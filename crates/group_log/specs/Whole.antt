@@ -1,4 +1,4 @@
--- What every call of the log keeps, where it may be made.
+-- What each call of the log keeps, if it may be made.
 use Rattle.std.specs.Prelude.{◌≡◌, ◌≢◌, ◌⊎◌, ℕ, ◌<◌, ◌≤◌, List, length, true, false, Option, Some, None, IsSome, slice_get, slice_set}
 use Rattle.group_log.specs.Vocabulary.{Super, IsOutsideLog, block_at, count_of, get_of, SeatState, is_held_by, holder_of, kept, seen_in, with_seat, with_content, with_pin, given_back, IsSound, HARTS}
 use Rattle.group_log.specs.declared.phase.Phase.{Phase}
@@ -28,7 +28,7 @@ pub record LeadsToWhole (disk : List (List ℕ)) (seats : List SeatState) (sizes
       → IsWhole disk seats sizes group (slice_set members hart None) (phase_at_leave (joined (slice_set members hart None)) group)
   pub get : (hart b : ℕ) → hart < HARTS → count_of (is_held_by hart) seats ≤ 1 → IsOutsideLog sizes b
       → IsWhole disk (get_of hart b seats).0 sizes group members phase
-  -- also where the read fails: nothing changes then
+  -- even if the read fails: nothing changes then
   pub fill : (holder b : ℕ) → holder_of b seats ≡ Some holder → kept b seats ≡ None → IsOutsideLog sizes b
       → IsWhole disk (with_seat b (with_content (block_at disk b)) seats) sizes group members phase
   pub release : (b : ℕ) → IsOutsideLog sizes b → IsWhole disk (given_back b seats) sizes group members phase
@@ -40,7 +40,7 @@ pub record LeadsToWhole (disk : List (List ℕ)) (seats : List SeatState) (sizes
   pub commit : phase ≢ Open → phase ≢ Halted
       → IsWhole (written disk seats sizes group phase) (seats_after group phase seats) sizes
       (group_in (next_phase (length group) phase) group) members (next_phase (length group) phase)
-  -- where the write failed, and left the new block or didn't
+  -- if the write failed, and left the new block or didn't
   pub fault : phase ≢ Open → phase ≢ Halted → (new : List (List ℕ)) → (new ≡ disk) ⊎ (new ≡ written disk seats sizes group phase)
       → IsWhole new (seats_at_fault group phase seats) sizes group members Halted
 

@@ -1,10 +1,10 @@
--- What comes of one write.
+-- The results of one write.
 use Rattle.std.specs.Prelude.{◌≡◌, ◌⊎◌, ◌+◌, ℕ, List, min, slice_set, Result, Ok, Err}
 use Rattle.group_log.specs.Vocabulary.{most_faults}
 use Rattle.group_log.specs.declared.copies.Written.{Written}
 use Rattle.group_log.specs.declared.copies.Written.TheVariants.{Waits, Done, Failed}
 
--- a block of the disk gets these bytes; where the device fails, it may keep the old ones
+-- a block of the disk gets these bytes; if the device fails, it may keep the old ones
 abbrev pub Writes : List (List ℕ) → ℕ → List ℕ → Written → List (List ℕ) → Type 0
 Writes old b bytes Waits new = new ≡ old
 Writes old b bytes Done new = new ≡ slice_set old b bytes

@@ -1,4 +1,4 @@
-// The steps of a commit.
+//! The steps of a commit.
 ghost use Rattle.std.specs.Prelude.{◌≡◌, ◌≢◌, ◌↔◌, ◌<◌, ◌≤◌, ℕ, length, slice_index, IsTrue};
 ghost use Rattle.group_log.specs.Vocabulary.{count_of, is_held_by, has_block, seen, KeepsHeld, IsOutsideLog};
 ghost use Rattle.group_log.specs.Phases.{write_to, write_of, IsUnderWay};
@@ -13,7 +13,7 @@ use block_device::Device;
 use buffer_cache::{Cache, HARTS};
 use fs_layout::Super;
 
-/// What came of a commit's step.
+/// The result of a commit's step.
 #[derive(Debug, Clone, Copy, PartialEq, Eq)]
 pub enum Progress {
     /// The buffer of the block that is copied next is out. Nothing changed.
@@ -89,6 +89,6 @@ fn recorded_at(group: &[u32], slots: &[u32], i: usize) -> Recorded
 pub(crate) fn show_each_once<D: Device>(cache: &Cache<D>)
     ensures { (b : ℕ) → count_of (has_block b) cache.now.seats ≤ 1 }
 {
-    // With the device comes that the cache is sound.
+    // The device's contract gives that the cache is sound.
     let _ = cache.device();
 }

@@ -1,4 +1,4 @@
-// One write of a commit, over the cache.
+//! One write of a commit, over the cache.
 ghost use Rattle.std.specs.Prelude.{◌≡◌, ◌≢◌, ◌↔◌, ◌⊎◌, ◌<◌, ◌≤◌, ℕ, List, [], false, length, slice_set, replicate, None, Some, IsSome, OnOk, OnErr};
 ghost use Rattle.group_log.specs.Vocabulary.{unwrap_or, faults_after, count_of, is_held_by, seat_of, holder_of, with_seat, with_pin, given_back, slot_of, seen, KeepsHeld};
 ghost use Rattle.group_log.specs.Pins.{HasRecorded};
@@ -18,7 +18,7 @@ pub(crate) struct Recorded {
     pub slot: u32,
 }
 
-/// What came of a write.
+/// The result of a write.
 pub(crate) enum Written {
     /// The block's buffer is out, and nothing changed.
     Waits,

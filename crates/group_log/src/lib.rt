@@ -1,9 +1,9 @@
 //! The log: transactions that are committed as a group (the xv6 book, chapter "File system", "Logging layer").
 //!
 //! A call that changes the disk joins a transaction, records the buffers that it changed, and leaves. The last to
-//! leave commits what all of them recorded: the blocks are copied into the log, the log's head is written with their
-//! numbers, the blocks are copied home, and the head is cleared. Wherever that stops, recovery finds the whole group
-//! on the disk or none of it.
+//! leave commits what all of them recorded. It copies the blocks into the log, writes the log's head with their
+//! numbers, copies the blocks home, and clears the head. Wherever that stops, recovery finds the whole group on the
+//! disk or none of it.
 #![tactic(auto)]
 
 mod commit;

@@ -1,6 +1,6 @@
-// The log's numbers.
+//! The log's numbers.
 
-/// How many blocks a group may have, where the log has room for them.
+/// How many blocks a group may have, if the log has room for them.
 pub const MOST_LOGGED: usize = 30;
 
 /// How many blocks a transaction may add to the group.

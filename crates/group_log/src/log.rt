@@ -1,4 +1,4 @@
-// The log.
+//! The log.
 ghost use Rattle.std.specs.Prelude.{◌≡◌, ◌≢◌, ◌↔◌, ◌⊎◌, ◌+◌, ◌*◌, ◌<◌, ◌≤◌, ◌==◌, if◌then◌else◌, ℕ, [], length, replicate, slice_get, slice_set, Some, None, true, false, IsSome, IsNone, IfSome, IfNone, IsTrue, OnOk, OnErr};
 ghost use Rattle.std.specs.Option.{unwrap_or};
 ghost use Rattle.sleep_lock.specs.SleepLock.{GuardState};
@@ -27,12 +27,12 @@ use std::marker::Model;
 pub enum AfterLeave {
     /// The hart goes on.
     Free,
-    /// The hart has to make the commit's steps.
+    /// The hart must make the commit's steps.
     Commits,
 }
 
-/// The log over a cache. A contract sees the cache, the recorded blocks in the order of first recording, what each
-/// hart's transaction has added to them, and where the commit is.
+/// The log over a cache (xv6: `struct log`). A contract sees the cache, and the recorded blocks in the order of first
+/// recording. It sees what each hart's transaction has added to them, and how far the commit is.
 ///
 /// After it was made it takes no memory.
 pub struct Log<D: Device> {
@@ -98,7 +98,7 @@ impl<D: Device> Log<D> {
         self.cache.device()
     }
 
-    /// Where the commit is.
+    /// How far the commit is.
     pub fn phase(&self) -> Phase
         ensures { result ≡ self.now.phase }
     {
@@ -132,14 +132,14 @@ impl<D: Device> Log<D> {
         self.members.is_idle(hart as usize)
     }
 
-    /// Whether the hart of a transaction is in a transaction of this log.
+    /// Whether the transaction's hart is in a transaction of this log.
     pub fn is_member(&self, txn: &Txn) -> bool
         ensures { IsTrue result ↔ IsMember self.now.members txn.now }
     {
         self.members.is_member(txn.hart() as usize)
     }
 
-    /// Whether the hart of a transaction is in one of this log that may add another block to the group.
+    /// Whether the transaction's hart is in one of this log that may add another block to the group.
     pub fn has_room(&self, txn: &Txn) -> bool
         ensures { IsTrue result ↔ HasRoom self.now.members txn.now }
     {
@@ -167,8 +167,8 @@ impl<D: Device> Log<D> {
         self.sizes.inodestart <= b && b < self.sizes.size
     }
 
-    /// Joins a transaction. It waits exactly while a commit runs, where the group might outgrow the log, and for good
-    /// once the log is halted; then nothing changes (xv6: `begin_op`).
+    /// Joins a transaction. It waits exactly while a commit runs, if the group might outgrow the log, and for good
+    /// after the log is halted. Then nothing changes (xv6: `begin_op`).
     pub fn join(&mut self, hart: u8) -> Option<Txn>
         requires hart { hart < HARTS }
         requires idle { slice_get self.old.members hart ≡ Some None }
@@ -191,9 +191,9 @@ impl<D: Device> Log<D> {
         Some(Txn::new(hart))
     }
 
-    /// Records a valid buffer and gives it back: its block is seen with these bytes from now on, and its buffer stays
-    /// pinned until a commit has copied it home. A block that is recorded again takes no further place in the group.
-    /// A transaction adds at most ten blocks (xv6: `log_write` and `brelse`).
+    /// Records a valid buffer and gives it back. From then on its block is seen with these bytes, and its buffer
+    /// stays pinned until a commit has copied it home. A block that is recorded again takes no further place in the
+    /// group. A transaction adds at most ten blocks (xv6: `log_write` and `brelse`).
     #[inline(always)]
     pub fn record(&mut self, txn: &mut Txn, guard: Guard<Buffer>)
         requires member { IsMember self.old.members txn.old }
@@ -231,7 +231,7 @@ impl<D: Device> Log<D> {
         self.cache.release_changed(guard);
     }
 
-    /// Leaves a transaction. The last one to leave begins the commit, where something was recorded (xv6: `end_op`).
+    /// Leaves a transaction. The last one to leave begins the commit, if something was recorded (xv6: `end_op`).
     pub fn leave(&mut self, txn: Txn) -> AfterLeave
         requires member { IsMember self.old.members txn }
         requires running { self.old.phase ≢ Halted }
@@ -256,9 +256,10 @@ impl<D: Device> Log<D> {
     }
 
     /// Makes the next step of the commit: one write to the device. First each block of the group is copied into the
-    /// log, then the head is written with their numbers, then each is copied home and its pin given back, and then the
-    /// head is written with none. It waits exactly where the buffer of the block to be copied is out, and then nothing
-    /// changes. After a fault the log is halted for good (xv6: `commit`; a write of `write_log`, `write_head` or `install_trans`).
+    /// log, then the head is written with their numbers. Then each block is copied home and its pin given back, and
+    /// then the head is written with none. It waits exactly if the buffer of the block to be copied is out, and then
+    /// nothing changes. After a fault the log is halted for good (xv6: `commit`; a write of `write_log`, `write_head`
+    /// or `install_trans`).
     #[inline(always)]
     pub fn commit_step(&mut self, hart: u8) -> Progress
         requires hart { hart < HARTS }
@@ -277,7 +278,7 @@ impl<D: Device> Log<D> {
         ensures progress { IfMade result (result ≡ progress_at self.new.phase) }
         ensures seats { IfMade result (self.new.cache.seats ≡ seats_after self.old.group self.old.phase self.old.cache.seats) }
 
-        // The recovered disk becomes what is seen where the head comes to name the group, and else it stays.
+        // The recovered disk becomes what is seen when the head begins to name the group, and else it stays.
         ensures recovered { IfMade result ((b : ℕ) → IsOutsideLog self.old.sizes b
             → recovered (D.contents self.new.cache.device) b
             ≡ (if is_point (length self.old.group) self.old.phase then seen D.contents self.old.cache b
@@ -416,7 +417,7 @@ fn is_outside(sizes: &Super, b: u32) -> bool
     b < sizes.logstart || u64::from(sizes.logstart) + u64::from(sizes.nlog) <= u64::from(b)
 }
 
-// What follows a leave that leaves so many in a transaction.
+// What follows a leave with `outstanding` others in a transaction.
 fn what_follows(outstanding: usize, group: &[u32]) -> AfterLeave
     ensures { result ≡ left_at outstanding group.now }
 {

@@ -1,15 +1,17 @@
-// How much of a history a stop leaves.
+//! How much of a history a stop leaves.
 ghost use Rattle.std.specs.Prelude.{◌≡◌, ◌+◌, ◌<◌, ◌^◌, if◌then◌else◌};
 ghost use Rattle.group_log.specs.Stories.{after_leave, after_write};
 
 use crate::commit::Progress;
 use crate::log::AfterLeave;
 
-/// Counts of the events of a machine over a log: with the last leave that began a commit; with the leave that began the
-/// commit of the last group whose head was written; and, where the write of a group's head failed, with the leave that
-/// began that group's commit. 0 where there was none.
+/// Counts of the events of a machine over a log. `begun` counts up to the last leave that began a commit. `cut`
+/// counts up to the leave that began the commit of the last group whose head was written. If the write of a group's
+/// head failed, `doubt` counts up to the leave that began that group's commit. `begun` and `cut` are 0 if there was
+/// none.
 ///
-/// Recovery makes what was seen after the first `cut` events, or where there is a `doubt` after that many.
+/// Recovery makes what was seen after the first `cut` events. If there is a `doubt`, it may instead be after the
+/// first `doubt`.
 #[derive(Debug, Clone, Copy, PartialEq, Eq)]
 pub struct Marks {
     pub begun: u64,
@@ -18,7 +20,7 @@ pub struct Marks {
 }
 
 impl Marks {
-    /// After a leave that had so many events before it.
+    /// After a leave that had `events` events before it.
     pub fn after_leave(self, events: u64, left: AfterLeave) -> Marks
         requires { events + 1 < 2 ^ 64 }
         ensures { result ≡ after_leave events left self }
@@ -33,7 +35,8 @@ impl Marks {
         }
     }
 
-    /// After a commit's step. Whether its write was to be that of the group's head is asked of the log before the step.
+    /// After a commit's step. `at_point`: the step's write was that of the group's head, as the log said before the
+    /// step.
     pub fn after_write(self, at_point: bool, progress: Progress) -> Marks
         ensures { result ≡ after_write at_point progress self }
     {

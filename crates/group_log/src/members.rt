@@ -1,4 +1,4 @@
-// Which harts are in a transaction, and how many blocks each added to the group.
+//! Which harts are in a transaction, and how many blocks each added to the group.
 ghost use Rattle.std.specs.Prelude.{◌≡◌, ◌↔◌, ◌<◌, ◌+◌, ◌*◌, ℕ, List, length, replicate, slice_get, slice_set, false, Some, None, IsTrue};
 ghost use Rattle.group_log.specs.Group.{joined, HasRoom, IsMember, one_more, members_with, has, with_block};
 ghost use Rattle.group_log.specs.Slots.{slots_with};
@@ -7,7 +7,7 @@ use crate::limits::{BLOCKS_OF_A_TRANSACTION, MOST_LOGGED, PLACES};
 use arrayvec::ArrayVec;
 use std::marker::Model;
 
-/// What each hart's transaction has added to the group, where it is in one. A contract sees this alone.
+/// What each hart's transaction has added to the group, if it is in one. A contract sees this alone.
 #[derive(Drop)]
 pub(crate) struct Members {
     added: [Option<u8>; PLACES],
@@ -44,7 +44,7 @@ impl Members {
         self.outstanding as usize
     }
 
-    /// A hart comes to be in one, which has added nothing.
+    /// A hart joins, with nothing added.
     pub fn join(&mut self, hart: usize)
         requires within { hart < PLACES }
         requires idle { slice_get self.old hart ≡ Some None }

@@ -1,18 +1,18 @@
-// Where a commit is.
+//! How far a commit is.
 ghost use Rattle.std.specs.Prelude.{◌≡◌, ◌≤◌, length};
 ghost use Rattle.group_log.specs.Phases.{IsUnderWay, next_phase, group_in};
 
 use crate::limits::MOST_LOGGED;
 use arrayvec::ArrayVec;
 
-/// Where a commit is. While one is under way nobody joins.
+/// How far a commit is. While one is under way nobody joins.
 #[derive(Debug, Clone, Copy, PartialEq, Eq)]
 pub enum Phase {
     /// None is under way: transactions join, record and leave.
     Open,
-    /// So many blocks of the group were copied into the log. After the last comes the head.
+    /// The number of the group's blocks that were copied into the log. After the last comes the head.
     Staging(u32),
-    /// The head names the group, and so many blocks were copied home. After the last comes the empty head.
+    /// The head names the group, and this number of its blocks was copied home. After the last comes the empty head.
     Installing(u32),
     /// A write failed.
     Halted,

@@ -1,12 +1,12 @@
-// Transactions.
+//! Transactions.
 ghost use Rattle.std.specs.Prelude.{◌≡◌};
 
 use std::marker::Model;
 
 /// A hart's transaction. A contract sees the hart.
 ///
-/// A transaction leaves a log, or is ended after a log has ended: code that lets one go doesn't compile. That the log is
-/// the one it joined isn't told.
+/// A transaction leaves a log, or is ended after a log has ended: code that lets one go doesn't compile. Nothing says
+/// that the log is the one that it joined.
 pub struct Txn {
     hart: u8,
 }
@@ -46,7 +46,7 @@ impl Txn {
         hart
     }
 
-    /// Ends a transaction once a log has ended.
+    /// Ends a transaction after a log has ended.
     pub fn retire(self, _log: &RetiredLog) {
         let Txn { hart: _ } = self;
     }

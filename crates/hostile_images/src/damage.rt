@@ -4,12 +4,11 @@ use std::alloc::{AllocError, Global};
 
 const BLOCK_LEN: usize = 1024;
 
-// Each image has so many blocks.
+// The number of blocks of each image.
 const BLOCKS: usize = 64;
 
-// Where what is looked at most stands, and how many bytes it has: the superblock, the log's head, inodes, the bitmap and a directory at
-// home
-// and in the log, the root and the indirect block.
+// The places that the checks look at most, and how many bytes each has. They are the superblock, the log's head,
+// inodes, the bitmap and a directory at home and in the log, the root and the indirect block.
 const LOOKED_AT: [(usize, usize); 10] = [
     (1024, 32),
     (2048, 20),
@@ -47,7 +46,7 @@ const CORNERS: [u32; 20] = [
     u32::MAX,
 ];
 
-// One image in so many is cut short.
+// One image in this number is cut short.
 const CUTS: usize = 64;
 
 /// Numbers that look as if drawn.
@@ -119,7 +118,7 @@ fn set_word(image: &mut Vec<u8>, at: usize, word: u32, len: usize) {
     }
 }
 
-// Where the root's slots stand, and those of the other directory at home and in the log.
+// The places of the root's slots, and of those of the other directory at home and in the log.
 const SLOTS: [usize; 3] = [34_816, 35_840, 5120];
 
 // A byte, two or four of them, the number in a slot, or two blocks.
@@ -156,7 +155,7 @@ fn hurt(image: &mut Vec<u8>, draw: &mut Draw) {
     }
 }
 
-// Where blocks of these images stand: the log's head, the inodes, the bitmap, and a directory.
+// The places of blocks of these images: the log's head, the inodes, the bitmap, and a directory.
 const HEAD: usize = 2 * BLOCK_LEN;
 
 const INODES: usize = 32 * BLOCK_LEN;
@@ -193,8 +192,8 @@ fn in_log(image: &mut Vec<u8>) {
     }
 }
 
-/// The images that are damaged: the same tree, with an orphan, where a log hides the inodes, where it is empty, and where it hides three
-/// blocks.
+/// The images that are damaged. They have the same tree, with an orphan. In one a log hides the inodes, in one it is
+/// empty, and in one it hides three blocks.
 pub fn whole(alloc: Global) -> Result<[Vec<u8>; 3], AllocError> {
     let first = with(alloc, BLOCKS, &RICH)?;
     let mut second = first.clone()?;

@@ -1,7 +1,8 @@
-//! `hostile_images COUNT [SEED]`: so many damaged images are examined, and each answer is compared with that of a second, slow program,
-//! which makes the checks of docs/FORMATS.md one after the other. It prints how often each answer came; and on standard error the longest
-//! time that an examination took, and the most memory that the program has had. The image of number k, from 0, is drawn from SEED + k,
-//! where SEED is 1 unless it is given: so an image is seen alone.
+//! `hostile_images COUNT [SEED]` examines COUNT damaged images, and compares each answer with that of a second
+//! program. That one is slow: it makes the checks of docs/FORMATS.md one after the other. It prints how often each
+//! answer came. On standard error it prints the longest time of an examination, and the most memory that the program
+//! has had. The image of number k, from 0, is drawn from SEED + k, and SEED is 1 unless it is given. So one image can
+//! be seen alone.
 #![tactic(auto)]
 
 mod damage;
@@ -53,7 +54,7 @@ fn as_found(answer: &Result<Shape, MountFault>) -> Found {
     }
 }
 
-// What came of all images.
+// The results of all images.
 #[derive(Drop)]
 struct Tally {
     // how often each answer came
@@ -102,12 +103,12 @@ fn try_images(rt: &HostRuntime, alloc: Global, count: u64, seed: u64) -> anyhow:
     Ok(tally)
 }
 
-// Where the system tells what memory a program has had, and how the line begins that does.
+// The file in which the system reports what memory a program has had, and how the line with it begins.
 const STATUS: &str = "/proc/self/status";
 
 const MOST_MEMORY: &str = "VmHWM:";
 
-// The most memory that the program has had, where that is told.
+// The most memory that the program has had, if the system reports it.
 fn most_memory(rt: &HostRuntime) -> Option<String> {
     let text = fs::read_to_string(rt, STATUS).ok()?;
     let line = text

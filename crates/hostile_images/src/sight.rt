@@ -1,5 +1,5 @@
-//! What an image shows, read plainly by docs/FORMATS.md: the superblock, the blocks of the recovered disk, inodes and slots. Where there is
-//! no byte a zero is read.
+//! What an image shows, read plainly by docs/FORMATS.md: the superblock, the blocks of the recovered disk, inodes and
+//! slots. If there is no byte, a zero is read.
 use std::alloc::{AllocError, Global};
 
 const BLOCK_LEN: usize = 1024;
@@ -34,7 +34,7 @@ fn long(bytes: &[u8], at: usize) -> u32 {
     ])
 }
 
-// The place of the item of this number behind a place, of items of so many bytes.
+// The place of item `number` after `from`, if each item has `len` bytes.
 fn place(from: usize, number: usize, len: usize) -> usize {
     from.saturating_add(number.saturating_mul(len))
 }
@@ -51,7 +51,7 @@ pub struct Sizes {
     pub bmapstart: u32,
 }
 
-/// An inode, and where its numbers begin.
+/// An inode, and the place of its numbers.
 #[derive(Clone, Copy)]
 pub struct Inode {
     pub kind: u16,
@@ -94,7 +94,7 @@ pub struct Sight<'a> {
 }
 
 impl<'a> Sight<'a> {
-    /// The image as it stands, before anything is known of it.
+    /// The image, before anything is known of it.
     pub fn new(alloc: Global, bytes: &'a [u8]) -> Sight<'a> {
         Sight {
             bytes,
@@ -138,7 +138,7 @@ impl<'a> Sight<'a> {
         self.logged.as_slice()
     }
 
-    // Where a block of the recovered disk begins: its last copy in the log, or itself.
+    // The place of a block of the recovered disk: its last copy in the log, or the block itself.
     fn start(&self, block: u32) -> usize {
         let copies = place(BLOCK_LEN, self.sizes.logstart as usize, BLOCK_LEN);
         match self.logged.iter().position(|logged| *logged == block) {
@@ -170,7 +170,7 @@ impl<'a> Sight<'a> {
         bits >> (block % 8) & 1 == 1
     }
 
-    // Adds the numbers other than 0 of so many that stand at a place.
+    // Adds those of the `count` numbers at a place that aren't 0.
     fn add_numbers(&self, to: &mut Vec<u32>, at: usize, count: usize) -> Result<(), AllocError> {
         for k in 0..count {
             let number = long(self.bytes, place(at, k, 4));
@@ -181,7 +181,8 @@ impl<'a> Sight<'a> {
         Ok(())
     }
 
-    /// The numbers other than 0 that a node names: its own, and those in its indirect block where that one's number is in range.
+    /// The numbers other than 0 that a node names: its own, and those in its indirect block if that one's number is
+    /// in range.
     pub fn named_by(&self, inode: &Inode, to: &mut Vec<u32>) -> Result<(), AllocError> {
         self.add_numbers(to, inode.numbers, DIRECT + 1)?;
         let indirect = long(self.bytes, place(inode.numbers, DIRECT, 4));
@@ -217,7 +218,7 @@ impl<'a> Sight<'a> {
         }
     }
 
-    /// The 14 bytes of a slot's name, with the zeros behind it.
+    /// The 14 bytes of a slot's name, with the zeros after it.
     pub fn name(&self, slot: &Slot) -> &[u8] {
         let Some(rest) = self.bytes.get(slot.at.saturating_add(2)..) else {
             return &[];

@@ -1,9 +1,9 @@
-//! The twelve checks of docs/FORMATS.md, one after the other, each over the whole image as its line there says it. This is slow, and
-//! stands apart from the examination that it judges.
+//! The twelve checks of docs/FORMATS.md, one after the other, each over the whole image as its line there says it.
+//! This is slow, and shares nothing with the examination that it judges.
 use crate::sight::{Inode, Sight, Slot};
 use std::alloc::{AllocError, Global};
 
-/// What is found of an image: the number of its first damage, or 0; and where that is 0, what stands on it.
+/// What is found of an image: the number of its first damage, or 0; and if that is 0, what is on it.
 #[derive(Clone, Copy, PartialEq, Eq, Debug)]
 pub struct Found {
     pub damage: u8,
@@ -102,7 +102,7 @@ fn has_sizes(sight: &Sight) -> bool {
     })
 }
 
-// Whether these 14 bytes are a name: not empty, without '/', and with nothing but zeros behind the first zero.
+// Whether these 14 bytes are a name: not empty, without '/', and with nothing but zeros after the first zero.
 fn is_name(bytes: &[u8]) -> bool {
     let len = bytes
         .iter()
@@ -167,7 +167,7 @@ struct Used {
 }
 
 impl Used {
-    // Whether it stands past "." and "..".
+    // Whether it is past "." and "..".
     fn is_further(&self) -> bool {
         2 <= self.place
     }
@@ -204,7 +204,7 @@ fn up(sight: &Sight, directory: u32) -> u32 {
     sight.slot(&sight.inode(directory), 1).number
 }
 
-// Whether going up by ".." comes to the root.
+// Whether going up by ".." leads to the root.
 fn reaches_root(sight: &Sight, directory: u32) -> bool {
     let mut at = directory;
     for _ in 0..sight.sizes.ninodes {
@@ -297,7 +297,7 @@ fn damage_of_nodes(alloc: Global, sight: &Sight, named: &[u32]) -> Result<u8, Al
     Ok(0)
 }
 
-// The first damage of all, with the numbers that nodes name where it isn't among the first ones.
+// The first damage of all, with the numbers that nodes name unless it is among the first ones.
 fn damage_of(alloc: Global, sight: &mut Sight) -> Result<(u8, Vec<u32>), AllocError> {
     let none = Vec::new(alloc);
     if sight.blocks() < 2 {

@@ -1,4 +1,4 @@
--- Lists that are gathered from inodes, where no number is named twice.
+-- Lists that are gathered from inodes, of which no number is named twice.
 use Rattle.image_tree.proofs.Vocabulary.{◌≡◌, ◌≢◌, inl, inr, ℕ, zero, suc, ◌+◌, ◌<◌, ◌≤◌, List, [], ◌∷◌, ◌++◌, length, length-append, append_assoc, sym, ◌∙◌, ap, subst, arith, Contains, All, cases_eq, append-nil, get_or_append_left, get_or-append-add, Contains-append_left, Contains-append_right, All-append, AllPairs-cons, IsOnce, gathered}
 use Rattle.image_tree.proofs.MarkLemmas.{front_once}
 use Rattle.image_tree.proofs.NumberLists.{All-front}
@@ -13,7 +13,7 @@ gathered_has f (suc n) i b low high has = elim (cases_eq i (suc n)) [
   | inr ne ↦ Contains-append_left (gathered f n) (f (suc n)) b (gathered_has f n i b low (omega (arith, high, ne)) has)
 ]
 
--- no number stands on both sides
+-- no number is on both sides
 clash : (xs ys : List ℕ) (b : ℕ) → IsOnce (xs ++ ys) → Contains xs b → Contains ys b → ⊥
 clash xs ys b once (p, l, is) (q, m, there) =
     once.apart p (length xs + q) b (omega (arith, l)) (omega (arith, m, length-append xs ys))

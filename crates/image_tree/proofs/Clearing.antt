@@ -1,7 +1,7 @@
 -- Bits that are cleared, one after the other.
 use Rattle.image_tree.proofs.Vocabulary.{◌≡◌, ◌≢◌, ◌==◌, inl, inr, ℕ, ◌+◌, ◌<◌, Bool, false, if◌then◌else◌, List, length, get_or, refl, sym, ◌∙◌, ap, subst, arith, All, cases_eq, eq-eqb, ne_eqb, get_or_default, bit_of}
 
--- of the first i of these numbers the bits are clear, but for 0's; no other bit is changed
+-- the bits of the first i of these numbers are clear, except for 0's; no other bit is changed
 pub record ClearedTo (first now numbers : List ℕ) (i : ℕ) : Type 0 where
   pub cleared : (k : ℕ) → k < i → get_or numbers k 0 ≢ 0 → bit_of now (get_or numbers k 0) ≡ false
   pub kept : (b : ℕ) → All (λ c. c ≢ 0 → c ≢ b) numbers → bit_of now b ≡ bit_of first b

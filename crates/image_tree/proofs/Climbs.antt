@@ -22,7 +22,7 @@ unfolding climb
 climb-same f g zero d h = refl
 climb-same f g (suc n) d h = climb-same f g n (f d) h ∙ ap (climb g n) (h d)
 
--- where the root's ".." is the root, it is not left again
+-- if the root's ".." is the root, a climb never leaves it
 climb-root : (f : ℕ → ℕ) (n : ℕ) → f 1 ≡ 1 → climb f n 1 ≡ 1
 unfolding climb
 climb-root f zero h = refl
@@ -92,7 +92,7 @@ path_apart f d m first =
     let end : climb f (m - j) (climb f j d) ≡ 1 = sym (climb-add f j (m - j) d) ∙ ap (λ (k : ℕ). climb f k d) (sym back) ∙ first.there in
     first.before (i + (m - j)) (omega arith) (climb-add f i (m - j) d ∙ ap (climb f (m - j)) ij ∙ end)
 
--- a way to the root is no longer than there are numbers
+-- a way to the root has at most as many steps as there are numbers
 reach_bound : (f : ℕ → ℕ) (d top : ℕ) → ((i : ℕ) → f i < top) → d < top → f 1 ≡ 1 → Reaches f d → climb f top d ≡ 1
 reach_bound f d top small low root r =
     let first = first_reach f r.steps.0 d r.steps.1 in
@@ -102,7 +102,7 @@ reach_bound f d top small low root r =
 
 -- ---- jumps
 
--- by inode number: where so many steps lead
+-- by inode number: the inode that this number of steps leads to
 pub record IsJumpTable (ups : List ℕ) (steps : ℕ) (jumps : List ℕ) : Type 0 where
   pub says : (i : ℕ) → get_or jumps i 0 ≡ climb (λ n. get_or ups n 0) steps i
   pub length : length jumps ≡ length ups
@@ -144,7 +144,7 @@ jumps_more ups jumps shown twice r none t same e =
       length = ap length is ∙ length-map jumps (λ n. get_or jumps n 0) ∙ t.length;
     }
 
--- what the jumps tell
+-- what the jumps say
 pub reach_told : (ups jumps shown : List ℕ) (told : Bool) → get_or ups 1 0 ≡ 1 → ((i : ℕ) → get_or ups i 0 < 65536) → length ups ≤ 65536 → shown ≡ jumps
     → IsJumpTable ups 65536 jumps
     → (IsTrue told ↔ ((i : ℕ) → i < length ups → get_or ups i 0 ≢ 0 → get_or shown i 0 ≡ 1))

@@ -27,7 +27,7 @@ module _ (d : List (List ℕ)) (good_numbers : HasGoodNumbers d) where
       let r = ranged (sizes_of d) i (is_directory (inode_of d i) && is_live (inode_of d i)) is in
       used_good i r.0 (kind_used (inode_of d i).kind (and_parts (is_directory (inode_of d i)) (is_live (inode_of d i)) r.1).0)
 
--- another disk with the same data, and the same in block 0, where a hole is read
+-- another disk with the same data, and the same in block 0, which a read of a hole reads
 module _ (d e : List (List ℕ)) (same : (b : ℕ) → (b ≡ 0) ⊎ IsData (sizes_of d) b → recovered e b ≡ recovered d b) (x : Dinode) (good : Good d x) where
   place_same : (k : ℕ) → recovered e (slice_index (numbers_of d x) k) ≡ recovered d (slice_index (numbers_of d x) k)
   unfolding Good

@@ -1,4 +1,4 @@
--- An image stays well formed where a node without a name is freed.
+-- An image stays well formed when a node without a name is freed.
 use Rattle.image_tree.proofs.Vocabulary.{Version, ◌≡◌, ◌≢◌, inl, inr, ℕ, zero, suc, ◌-◌, ◌/◌, ◌<◌, ◌≤◌, ◌==◌, nat_lt, ◌&&◌, not, ℤ, pos, ◌≤ℤ◌, ◌<ℤ◌, Bool, true, false, if◌then◌else◌, List, [], ◌∷◌, ◌++◌, length, get_or, slice_index_or, drop, filter, Option, Some, None, refl, sym, ◌∙◌, ap, subst, arith, Contains, All, cases_eq, cases_lt, and_parts, ltb-true, false≢true, ne_eqb, get_or_default, Super, Dinode, Dirent, dirent_len_of, sizes_of, IsOnce, gathered, times, inode_of, is_number, is_free, is_directory, is_live, is_node, is_live_directory, numbers_of, block_number, numbers_by, named_by, is_block, slots_of, last, slots_in, slot_numbers, number_in, up, names_of, further_names_of, proper_names_of, children_of, Reaches, IsGoodType, IsData, is_marked, IsGoodSize, AreGoodSlots, IsOneTree, IsGoodCount, HasMarks, HasGoodTypes, HasRoot, HasGoodNumbers, NamesOnce, HasGoodSizes, HasGoodSlots, HasGoodCounts, IsWellFormed, is_orphan, IsFreed, FreedNodesLeaveImages, NodeKind, Node, at_rest, kind_of, count_of, node_of, first_nodes, tree_in}
 use Rattle.image_tree.proofs.Nodes.{node_is, directory_is}
 use Rattle.image_tree.proofs.NumberLists.{All-nil, numbers_by_free}
@@ -10,7 +10,7 @@ never_and : (a b : Bool) → (a && (false && b)) ≡ false
 never_and true b = refl
 never_and false b = refl
 
--- what is asked of an inode in range alone
+-- what must hold of an inode in range alone
 guarded : (a t x y : Bool) → (t ≡ true → x ≡ y) → ((a && t) && x) ≡ ((a && t) && y)
 guarded true true x y h = h refl
 guarded true false x y h = refl
@@ -32,7 +32,7 @@ filter_keeps p x xs h = rw h refl
 pub filter_drops : (p : ℕ → Bool) (x : ℕ) (xs : List ℕ) → p x ≡ false → filter p (x ∷ xs) ≡ filter p xs
 filter_drops p x xs h = rw h refl
 
--- what stands in a list, and is no 0, stands among its blocks
+-- a number of a list that isn't 0 is among its blocks
 kept_at : (b : ℕ) (xs : List ℕ) → b ≢ 0 → (k : ℕ) → k < length xs → get_or xs k b ≡ b → Contains (filter is_block xs) b
 kept_at b [] ne k l e = absurd (omega (arith, l))
 kept_at b (x ∷ xs) ne zero l e =
@@ -113,7 +113,7 @@ module _ (v : Version) (d e : List (List ℕ)) (i : ℕ) (orphan : is_orphan d i
       ∙ guarded (nat_lt 0 j) (nat_lt j (sizes_of d).ninodes) (not (is_free (inode_of e j))) (not (is_free (inode_of d j)))
       (λ t. ap (λ (x : Dinode). not (is_free x)) (f.inodes j ne (ltb-true j (sizes_of d).ninodes t)))
 
-  -- a node that is left is another one, and was one
+  -- a remaining node is another one than the freed one, and was a node before
   left : (j : ℕ) → is_node e j ≡ true → (j ≢ i) × (is_node d j ≡ true)
   left j is =
       let ne : j ≢ i = (λ q. false≢true (sym gone ∙ ap (is_node e) (sym q) ∙ is)) in

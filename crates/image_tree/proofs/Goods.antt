@@ -23,7 +23,7 @@ module _ (v : Version) (d : List (List ℕ)) (good : UpToLog v d) where
   within_disk : (sizes_of d).size ≤ length d
   within_disk = good.0.1
 
-  -- after a write to another block than the superblock's
+  -- after a write to a block other than the superblock's
   rest_of : (c : ℕ) (block : List ℕ) → c ≢ 1 → HasGoodLog (set d c block) → UpToLog v (set d c block)
   rest_of c block ne head =
       let a = good.0 in let b = a.0 in

@@ -2,7 +2,7 @@
 use Rattle.image_tree.proofs.Vocabulary.{◌≡◌, ◌≢◌, ◌⊎◌, inl, inr, ℕ, ◌+◌, ◌<◌, ◌≤◌, ◌^◌, List, [], length, get_or, set, replicate, refl, sym, ◌∙◌, ap, subst, arith, cases_eq, length-set, Super, block_at, sizes_of, log_count, log_head_at, logged, recovered, IsOutsideLog, u32_at, block_at-set_same, block_at-set_other, sizes_of-set, logged-set, logged-empty, recovered-empty, recovered-copy, recovered-own, first_copy, IsFirstCopy, Layout, IsLayout, block_len}
 use Rattle.image_tree.proofs.Layouts.{length-logged}
 
--- the log lies on the disk and has room for the blocks that it names: blocks of the disk behind it, each once
+-- the log is on the disk and has room for the blocks that it names: blocks of the disk after it, each once
 pub record IsReady (d : List (List ℕ)) (sizes : Super) (ks : List ℕ) : Type 0 where
   pub sizes_are : sizes_of d ≡ sizes
   pub named : logged d ≡ ks

@@ -3,7 +3,7 @@ use Rattle.image_tree.proofs.Vocabulary.{Version, ◌≡◌, ◌≢◌, ℕ, ◌
 use Rattle.image_tree.proofs.Layouts.{length-logged}
 
 module _ (v : Version) (d : List (List ℕ)) (good : UpToLog v d) where
-  -- after a write to another block than the superblock's
+  -- after a write to a block other than the superblock's
   rest_of : (c : ℕ) (block : List ℕ) → c ≢ 1 → HasGoodLog (set d c block) → UpToLog v (set d c block)
   rest_of c block ne head =
       let a = good.0 in let b = a.0 in
@@ -18,7 +18,7 @@ module _ (v : Version) (d : List (List ℕ)) (good : UpToLog v d) where
         head,
       )
 
-  -- where the log comes to name these blocks, behind it, each once
+  -- if the log's head begins to name these blocks, which are after the log, each once
   pub names_keep : (c : ℕ) (block blocks : List ℕ) → c ≢ 1 → logged (set d c block) ≡ blocks → length blocks ≤ 10
       → All (λ b. ((sizes_of d).inodestart ≤ b) × (b < (sizes_of d).size)) blocks → IsOnce blocks → UpToLog v (set d c block)
   names_keep c block blocks ne named few within once =

@@ -1,4 +1,4 @@
--- Marks, and lists in which no number stands twice.
+-- Marks, and lists that have no number twice.
 use Rattle.image_tree.proofs.Vocabulary.{◌≡◌, ◌≢◌, ℕ, ◌+◌, ◌<◌, Bool, true, false, List, [], ◌∷◌, ◌++◌, length, get_or, set, take, drop, filter, replicate, refl, sym, ap, ◌∙◌, subst, ⊎_elim, arith, length-append, append_assoc, Contains, append-nil, get_or_append_left, get_or_at, get_or_default, get_or-set_same, get_or-set_other, get_or-replicate, take-append-drop, Contains-push, Contains-push_cases, Contains-append_left, filter_more, filter-append, all_pairs_push, cases_eq, ne_eqb, false≢true, is_block, Marks, IsOnce}
 
 -- a front of a list without repeats has none

@@ -1,4 +1,4 @@
--- Names behind references: once where all differ, in any order, and where neighbours differ in a sorted list.
+-- Names as references: each is there once if all differ, in any order, and if neighbours differ in a sorted list.
 use Rattle.image_tree.proofs.Vocabulary.{◌≡◌, ◌≢◌, ◌⊎◌, ◌∙◌, ap, sym, refl, inl, inr, ℕ, ◌+◌, ◌<◌, Bool, true, false, List, [], ◌∷◌, length, get_or, map, arith, cases_eq, get_or-map, length-map, IsPermutation, IsPermutation-sym, IsOnce}
 use Rattle.std.proofs.Common.{Bor, Equal, Greater, IsSorted, Less, Ordering, bytes_eq, is_eq, is_lt, nat_cmp, swap}
 use Rattle.std.proofs.lemmas.Cmp.{nat_list_cmp_total, on_total}
@@ -50,7 +50,7 @@ one_place xs once i j d p q e =
     let not_above : j < i → ⊥ = λ less. once.apart j i d less p (sym e) in
     omega arith
 
--- where a swap of a and b took the element at m from
+-- the place from which a swap of a and b took the element at m
 abbrev From : ℕ → ℕ → ℕ → ℕ → Type 0
 From a b m k = ((m ≡ a) × (k ≡ b)) ⊎ (((m ≡ b) × (k ≡ a)) ⊎ ((m ≢ a) × (m ≢ b) × (k ≡ m)))
 

@@ -1,4 +1,4 @@
--- What it is to be a node, or a live directory.
+-- When an inode is a node, or a live directory.
 use Rattle.image_tree.proofs.Vocabulary.{◌≡◌, ◌≢◌, ℕ, ◌<◌, ◌≤◌, Bool, true, false, not, List, length, slice_index, refl, sym, ap, subst, arith, ◌+◌, ⊎_elim, ◌&&◌, nat_lt, All, false≢true, cases_lt, nat_tests, Dinode, sizes_of, inode_of, is_free, is_directory, is_live, is_node, is_live_directory, numbers_of, numbers_by, HasGoodNumbers, IsData, Layout, IsLayout, addresses, direct}
 use Rattle.image_tree.proofs.NumberLists.{All-addrs, twelfth_within}
 

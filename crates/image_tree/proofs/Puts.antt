@@ -94,7 +94,7 @@ module _ (v : Version) (d : List (List ℕ)) (home : ℕ) (block fresh : List �
       (all_two (λ b. ((sizes_of d).inodestart ≤ b) × (b < (sizes_of d).size)) (sizes_of d).bmapstart home (omega (arith, low, high), omega (arith, b)) (low, omega (arith, high, b)))
       (two_once (sizes_of d).bmapstart home (λ x. absurd (omega (arith, high, x))))
 
-  -- another block than the head's
+  -- a block other than the head's
   others_stay : (b : ℕ) → b ≢ head → block_at written b ≡ block_at d b
   others_stay b ne = block_at-set_other d head b block ne
 
@@ -142,7 +142,7 @@ view_then v a b c first second = record {
   same = λ x out. second.same x (subst (λ (s : Super). IsOutsideLog s x) (sym first.sizes) out) ∙ first.same x out;
 }
 
--- blocks behind the log
+-- blocks after the log
 pub behind_log : (v : Version) (d : List (List ℕ)) (b : ℕ) → UpToLog v d → (sizes_of d).inodestart ≤ b → IsOutsideLog (sizes_of d) b
 behind_log v d b good le = inr (let g = good_super v d good in let l = g.log in omega (arith, l, le))
 
@@ -187,7 +187,8 @@ module _ (v : Version) (d e : List (List ℕ)) (s : Super) (home : ℕ) (block f
 
 -- ---- the whole transaction
 
--- from the disk that a transaction begins on, through the copies, the head and what is left, where the copies are these blocks
+-- From the disk that a transaction begins on, through the copies, the head and the rest, if the copies are these
+-- blocks.
 module _ (v : Version) (a b c : List (List ℕ)) (s : Super) (home : ℕ) (x y : List ℕ) (good : UpToLog v a) (is : s ≡ sizes_of a) (low : s.inodestart ≤ home) (view : IsViewOf v a b)
     (first : block_at b (s.logstart + 1) ≡ x) (second : block_at b (s.logstart + 2) ≡ y) (put : IsPut v b c home (block_at b (s.logstart + 1)) (block_at b (s.logstart + 2))) where
   pub through : (e : List (List ℕ)) → IsViewOf v c e → IsPut v a e home x y
@@ -199,7 +200,7 @@ module _ (v : Version) (a b c : List (List ℕ)) (s : Super) (home : ℕ) (x y :
   pub named : IsPut v a c home x y
   named = through c (record { sizes = refl; good = put.good; same = λ z out. refl })
 
--- where the head's write failed
+-- if the head's write failed
 pub head_failed : (v : Version) (a b c : List (List ℕ)) (s : Super) (home : ℕ) (x y : List ℕ) → UpToLog v a → s ≡ sizes_of a → s.inodestart ≤ home → IsViewOf v a b
     → block_at b (s.logstart + 1) ≡ x → block_at b (s.logstart + 2) ≡ y → (c ≡ b) ⊎ IsPut v b c home (block_at b (s.logstart + 1)) (block_at b (s.logstart + 2))
     → IsViewOf v a c ⊎ IsPut v a c home x y

@@ -93,7 +93,7 @@ either_image v d e i well orphan may = elim may [
   | inr alone ↦ let both = freed_nodes_leave_images v d e i orphan alone.freed well in record { sizes = alone.freed.sizes; well = both.0; tree = both.1 }
 ]
 
--- ---- the inodes below one have been seen to
+-- ---- the inodes below one have been handled
 
 pub record ReclaimedTo (d e : List (List ℕ)) (i : ℕ) : Type 0 where
   pub none : (k : ℕ) → 1 ≤ k → k < i → is_orphan e k ≡ false
@@ -191,7 +191,7 @@ orphan_is d i x e low high =
     ap (λ (y : Dinode). not (is_free y) && not (is_live y)) e
     ∙ sym (ap (λ (t : Bool). (t && not (is_free (inode_of d i))) && not (is_live (inode_of d i))) (both_from (nat_lt 0 i) (nat_lt i (sizes_of d).ninodes) a b))
 
--- a block of inodes lies between the first one and the bitmap
+-- a block of inodes is between the first one and the bitmap
 pub home_low : (v : Version) (d : List (List ℕ)) (s : Super) (i : ℕ) → UpToLog v d → s ≡ sizes_of d → i < s.ninodes → s.inodestart + i / inodes_per_block < s.bmapstart
 home_low v d s i good is lt =
     let g : (sizes_of d).inodestart + ((sizes_of d).ninodes + (inodes_per_block - 1)) / inodes_per_block ≤ (sizes_of d).bmapstart =
@@ -230,7 +230,7 @@ either_after v d d1 e i told same well is yes_ may =
 pub image_next : (v : Version) (d e n : List (List ℕ)) → IsImageOf v d e → sizes_of n ≡ sizes_of e → IsWellFormed v n → tree_in v n ≡ tree_in v e → IsImageOf v d n
 image_next v d e n image sizes well tree = record { sizes = sizes ∙ image.sizes; well = well; tree = tree ∙ image.tree }
 
--- where each node has a name, nothing is changed at one more inode, whatever comes of it
+-- if each node has a name, nothing is changed at one more inode, whatever the result is
 pub same_next : (d e n : List (List ℕ)) (i : ℕ) → ReclaimedTo d e i → 1 ≤ i → i < (sizes_of d).ninodes → (is_orphan e i ≡ false → n ≡ e)
     → ((k : ℕ) → 1 ≤ k → k < (sizes_of d).ninodes → is_orphan d k ≡ false) → n ≡ d
 same_next d e n i to low high left all =

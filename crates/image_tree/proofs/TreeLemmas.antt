@@ -1,4 +1,4 @@
--- What the tables tell of the live directories.
+-- What the tables say of the live directories.
 use Rattle.image_tree.proofs.Vocabulary.{Version, ◌≡◌, ◌≢◌, ◌↔◌, ◌∙◌, ap, sym, refl, subst, ℕ, ◌<◌, ◌≤◌, Bool, true, false, IsTrue, List, length, get_or, arith, ⊎_elim, Option, Some, None, All, get_or_past, get_or_default, cases_lt, Dirent, Free, Used, gathered, times, is_node, is_live_directory, last, slots_in, slot_number, number_in, up, further_in, proper_in, Reaches, HasGoodSlots, IsDotDot, IsOneTree, Tallies, IsUpTable, IsLinks, Links}
 use Rattle.image_tree.proofs.Nodes.{node_is, directory_is}
 use Rattle.image_tree.proofs.SlotNumbers.{All-at}

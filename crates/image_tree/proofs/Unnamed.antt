@@ -5,7 +5,7 @@ use Rattle.image_tree.proofs.LinkLemmas.{up_none}
 use Rattle.image_tree.proofs.TreeLemmas.{up_zero}
 use Rattle.image_tree.proofs.Contents.{pick}
 
--- how much a number adds to how often i stands in a list
+-- how much a number adds to the count of i in a list
 abbrev hits : ℕ → ℕ → ℕ
 hits i x = if x == i then 1 else 0
 

@@ -1,4 +1,4 @@
--- What is checked of an image, each check as it passes. Their order stands in Damage.
+-- What is checked of an image: each check, as it passes. Their order is in Damage.
 use Rattle.std.specs.Prelude.{◌≡◌, ◌≢◌, ℕ, ◌+◌, ◌-◌, ◌*◌, ◌/◌, ◌%◌, ◌<◌, ◌≤◌, pos, Bool, true, false, ◌≤ℤ◌, ◌<ℤ◌, List, [], ◌∷◌, slice_index_or, All, Option, Some, None}
 use Rattle.image_tree.specs.Vocabulary.{Version, dirent_len_of, magic_of, Super, Dinode, Dirent, Free, Used, u32_at, bit_of, block_len, inodes_per_block, log_head_len, most_disk_blocks, super_block, super_magic_at, block_at, sizes_of, log_count, logged, recovered}
 pub use Rattle.image_versions.specs.Shared.{largest_size}
@@ -94,7 +94,7 @@ IsDotDot None = ⊥
 IsDotDot (Some Free) = ⊥
 IsDotDot (Some (Used number name)) = name ≡ dotdot
 
--- of the slots of directory i, where these numbers are those of nodes
+-- of the slots of directory i, if these numbers are those of nodes
 pub record AreGoodSlots (is_node : ℕ → Bool) (i : ℕ) (slots : List (Option Dirent)) : Type 0 where
   pub first : slice_index_or slots 0 None ≡ Some (Used i dot)
   pub second : IsDotDot (slice_index_or slots 1 None)
@@ -111,14 +111,15 @@ HasGoodSlots v disk = (i : ℕ) → is_live_directory disk i ≡ true → AreGoo
 pub record IsOneTree (v : Version) (disk : List (List ℕ)) : Type 0 where
   pub root : up v disk 1 ≡ 1
   pub root_unnamed : further_names_of v disk 1 ≡ 0
-  -- exactly one slot past the first two names it, and that one stands in its ".."
+  -- exactly one slot past the first two names it, and that slot is in the directory of its ".."
   pub named : (i : ℕ) → is_live_directory disk i ≡ true → i ≢ 1 → further_names_of v disk i ≡ 1
   pub proper : (i : ℕ) → is_live_directory disk i ≡ true → i ≢ 1 → proper_names_of v disk i ≡ 1
   pub reaches : (i : ℕ) → is_live_directory disk i ≡ true → Reaches (up v disk) i
 
 -- ---- 61: counts
 
--- of an inode that so many slots of live directories name, so many of them past the first two, and that is the ".." of so many others
+-- Of an inode: `names` slots of live directories name it, `further` of them past the first two, and it is the ".." of
+-- `children` other directories.
 pub record IsGoodCount (d : Dinode) (names further children : ℕ) : Type 0 where
   pub file : is_directory d ≡ false → d.nlink ≡ pos names
   pub directory : is_directory d ≡ true → is_live d ≡ true → d.nlink ≡ pos (1 + children)

@@ -1,4 +1,5 @@
--- The first check that fails of an image of one version. "Too short" is asked twice: for a superblock, and then for the size that it says.
+-- The first check that fails of an image of one version. "Too short" is checked twice: for a superblock, and then for
+-- the size that the superblock says.
 use Rattle.std.specs.Prelude.{◌⊎◌, ℕ, ◌+◌, ◌≤◌, List, length, min, Result, Ok, Err}
 use Rattle.image_tree.specs.declared.fault.Damage.{Damage}
 use Rattle.image_tree.specs.declared.fault.Damage.TheVariants.{TooShort, BadSuper, BadLog, BadType, NoRoot, BlockRange, BlockShared, BlockUnmarked, BadSize, BadEntry, NotATree, LinkCount}
@@ -68,13 +69,13 @@ JudgesFault v disk (faults.Damaged d) = IsFirstDamage v disk d
 JudgesFault v disk faults.DeviceFault = Unit {0}
 JudgesFault v disk faults.NoMemory = Unit {0}
 
--- the device has failed just where that is the answer
+-- the device has failed exactly if that is the answer
 abbrev pub fault_count_of : MountFault → ℕ → ℕ
 fault_count_of (faults.Damaged d) n = n
 fault_count_of faults.DeviceFault n = min (n + 1) most_faults
 fault_count_of faults.NoMemory n = n
 
--- of an answer: what Ok says, and a damage only where it is the first
+-- of an answer: what Ok says, and a damage only if it is the first
 abbrev pub JudgesWith : {T : Type 0} → Version → (T → Type 0) → List (List ℕ) → Result T MountFault → Type 0
 JudgesWith v P disk (Ok x) = P x
 JudgesWith v P disk (Err e) = JudgesFault v disk e

@@ -7,7 +7,8 @@ use Rattle.image_tree.specs.Damage.{UpToLog, IsWellFormed}
 use Rattle.image_tree.specs.Shape.{is_orphan}
 use Rattle.image_tree.specs.Trees.{tree_in}
 
--- inode i is free on the new disk, and so are the blocks that it named; all other inodes, bits and contents are as they were
+-- inode i is free on the new disk, and so are the blocks that it named; all other inodes, bits and contents are as
+-- before
 pub record IsFreed (v : Version) (old new : List (List ℕ)) (i : ℕ) : Type 0 where
   pub sizes : sizes_of new ≡ sizes_of old
   pub good : UpToLog v new
@@ -40,13 +41,13 @@ pub record IsFreedAlone (v : Version) (old new : List (List ℕ)) (i : ℕ) : Ty
 -- Each node without a name is freed, and nothing else is changed outside the log.
 pub record AreFreed (old new : List (List ℕ)) : Type 0 where
   pub nodes : (i : ℕ) → is_orphan old i ≡ true → inode_of new i ≡ freed_inode (inode_of old i)
-  -- each other inode has its record as before, be it in use or free
+  -- each other inode has its record as before, whether it is in use or free
   pub inodes : (i : ℕ) → is_orphan old i ≡ false → HasPlace (sizes_of old) i → inode_of new i ≡ inode_of old i
   -- the blocks that those nodes named are free
   pub cleared : (i : ℕ) → is_orphan old i ≡ true → All (λ b. b ≢ 0 → is_marked new b ≡ false) (numbers_by old i)
   -- and each other bit is as before
   pub kept : (b : ℕ) → ((i : ℕ) → is_orphan old i ≡ true → All (λ c. c ≢ 0 → c ≢ b) (numbers_by old i)) → is_marked new b ≡ is_marked old b
-  -- what all other blocks show, those of data too
+  -- what all other blocks show, even those of data
   pub others : (b : ℕ) → IsElsewhere (sizes_of old) b → recovered new b ≡ recovered old b
 
 -- The disk, of whole blocks, is the old one with its nodes without a name freed.
@@ -57,7 +58,8 @@ pub record IsFreedDisk (v : Version) (old new : List (List ℕ)) : Type 0 where
   pub bytes : HasBytes new
   pub freed : AreFreed old new
 
--- There is one such disk, but for its log: recovery leaves the same bytes on both of two, in each block outside the log.
+-- There is one such disk, except for its log. If two disks are such, recovery leaves the same bytes on both, in each
+-- block outside the log.
 abbrev pub FreedDisksAgree : Type 0
 FreedDisksAgree = (v : Version) (old one other : List (List ℕ)) → IsFreedDisk v old one → IsFreedDisk v old other
     → (b : ℕ) → IsOutsideLog (sizes_of old) b → recovered one b ≡ recovered other b
@@ -66,11 +68,11 @@ FreedDisksAgree = (v : Version) (old one other : List (List ℕ)) → IsFreedDis
 abbrev pub AreNamed : List (List ℕ) → Type 0
 AreNamed disk = (i : ℕ) → is_orphan disk i ≡ false
 
--- inode i has been seen to: freed where it was a node without a name, and else nothing is changed
+-- inode i has been handled: it is freed if it was a node without a name, and else nothing is changed
 abbrev pub IsReclaimed : Version → List (List ℕ) → List (List ℕ) → ℕ → Type 0
 IsReclaimed v old new i = ((is_orphan old i ≡ false) × (new ≡ old)) ⊎ ((is_orphan old i ≡ true) × IsFreedAlone v old new i)
 
--- a well-formed image stays one where a node without a name is freed, with the same tree
+-- a well-formed image stays one when a node without a name is freed, with the same tree
 abbrev pub FreedNodesLeaveImages : Type 0
 FreedNodesLeaveImages = (v : Version) (old new : List (List ℕ)) (i : ℕ) → is_orphan old i ≡ true → IsFreed v old new i → IsWellFormed v old
     → IsWellFormed v new × (tree_in v new ≡ tree_in v old)

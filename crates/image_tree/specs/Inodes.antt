@@ -47,7 +47,8 @@ indirect_numbers disk d = if slice_index d.addrs direct == 0 then [] else number
 unfoldable pub numbers_of : List (List ℕ) → Dinode → List ℕ
 numbers_of disk d = d.addrs ++ indirect_numbers disk d
 
--- the number of its block k: behind the direct ones a place further, since the indirect block's own number stands between
+-- the number of its block k: after the direct ones a place further, because the indirect block's own number is
+-- between
 abbrev pub block_number : List ℕ → ℕ → ℕ
 block_number numbers k = slice_index numbers (if nat_lt k direct then k else k + 1)
 
@@ -59,7 +60,7 @@ content_block disk d k = recovered disk (block_number (numbers_of disk d) k)
 unfoldable pub numbers_by : List (List ℕ) → ℕ → List ℕ
 numbers_by disk i = if is_free (inode_of disk i) then [] else numbers_of disk (inode_of disk i)
 
--- 0 stands for no block
+-- 0 means no block
 abbrev pub is_block : ℕ → Bool
 is_block b = not (b == 0)
 
@@ -69,7 +70,7 @@ named_by disk i = filter is_block (numbers_by disk i)
 
 -- ---- the content
 
--- how many blocks hold so many bytes
+-- how many blocks hold `size` bytes
 abbrev pub blocks_for : ℕ → ℕ
 blocks_for size = (size + (block_len - 1)) / block_len
 
@@ -82,7 +83,7 @@ front_blocks disk d (suc n) = front_blocks disk d n ++ content_block disk d n
 abbrev pub content_of : List (List ℕ) → Dinode → List ℕ
 content_of disk d = take d.size (front_blocks disk d (blocks_for d.size))
 
--- slot s of a directory: None where its bytes are no entry
+-- slot s of a directory: None if its bytes are no entry
 unfoldable pub slot_at : Version → List (List ℕ) → Dinode → ℕ → Option Dirent
 slot_at v disk d s = dirent_at v (s % dirents_per_block_of v) (content_block disk d (s / dirents_per_block_of v))
 

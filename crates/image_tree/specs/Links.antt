@@ -48,12 +48,12 @@ up v disk d = number_in (slice_index_or (slots_in v disk d) 1 None)
 abbrev pub proper_in : Version → List (List ℕ) → ℕ → List ℕ
 proper_in v disk d = filter (λ n. up v disk n == d) (further_in v disk d)
 
--- the ".." of a live directory, where it is another one (0 where d is no live directory)
+-- the ".." of a live directory, if it is another one (0 if d is no live directory)
 abbrev pub parent_of : Version → List (List ℕ) → ℕ → List ℕ
 parent_of v disk d = filter (λ n. not (n == d)) (up v disk d ∷ [])
 
--- ---- how often inode i is named: by slots of live directories; by those past the first two; by those in its own ".."; as the ".." of
--- others
+-- ---- how often inode i is named: by slots of live directories, by those past the first two, by those in its own
+-- "..", and as the ".." of others
 
 abbrev pub names_of : Version → List (List ℕ) → ℕ → ℕ
 names_of v disk i = times i (gathered (named_in v disk) (last disk))
@@ -69,7 +69,7 @@ children_of v disk i = times i (gathered (parent_of v disk) (last disk))
 
 -- ---- going up
 
--- so many steps by ".." from d
+-- the directory that a number of steps by ".." from d leads to
 unfoldable pub climb : (ℕ → ℕ) → ℕ → ℕ → ℕ
 climb up zero d = d
 climb up (suc n) d = climb up n (up d)

@@ -2,11 +2,11 @@
 use Rattle.std.specs.Prelude.{◌≢◌, ℕ, zero, suc, ◌+◌, ◌==◌, Bool, List, [], ◌++◌, if◌then◌else◌}
 use Rattle.image_tree.specs.Vocabulary.{AllPairs, count_by}
 
--- nothing stands in it twice
+-- nothing is in it twice
 pub record IsOnce {X : Type 0} (xs : List X) : Type 0 where
   pub apart : AllPairs (λ x y. x ≢ y) xs
 
--- how often a number stands in a list
+-- how often a number is in a list
 abbrev pub times : ℕ → List ℕ → ℕ
 times n xs = count_by (λ x. x == n) xs
 

@@ -8,7 +8,7 @@ IfDamaged (Damaged d) P = P
 IfDamaged DeviceFault P = Unit {0}
 IfDamaged NoMemory P = P
 
--- what holds where the image was refused, and the device did not fail
+-- what holds if the image was refused, and the device did not fail
 abbrev pub OnDamage : {T : Type 0} → Result T MountFault → Type 0 → Type 0
 OnDamage (Ok x) P = Unit {0}
 OnDamage (Err e) P = IfDamaged e P

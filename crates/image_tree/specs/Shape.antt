@@ -1,4 +1,4 @@
--- What an examination tells of an image.
+-- What an examination says of an image.
 use Rattle.std.specs.Prelude.{ℕ, ◌&&◌, not, Bool, List, length}
 use Rattle.image_tree.specs.declared.shape.Shape.{Shape}
 use Rattle.image_tree.specs.Vocabulary.{sizes_of}

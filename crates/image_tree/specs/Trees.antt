@@ -18,7 +18,7 @@ kind_of v disk d =
     if is_directory d then Directory (map slot_of (slots_of v disk d))
     else (if is_file d then File (content_of disk d) else Device d.major d.minor d.size)
 
--- a count, where it isn't below 0
+-- a count, if it isn't below 0
 abbrev pub count_of : ℤ → ℕ
 count_of (pos n) = n
 count_of (negsuc n) = 0

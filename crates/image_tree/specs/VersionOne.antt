@@ -138,7 +138,7 @@ first_nodes disk n = trees.first_nodes One disk n
 abbrev pub tree_in : List (List ℕ) → TreeData
 tree_in disk = trees.tree_in One disk
 
--- ---- what stays where a disk is written
+-- ---- what stays when a disk is written
 
 abbrev pub IsViewOf : List (List ℕ) → List (List ℕ) → Type 0
 IsViewOf old new = views.IsViewOf One old new

@@ -10,7 +10,8 @@ pub record IsViewOf (v : Version) (old new : List (List ℕ)) : Type 0 where
   pub good : UpToLog v new
   pub same : SameRecovered old new
 
--- two disks on which recovery leaves the same outside the log are both well formed or neither, where both have a good superblock and log
+-- if two disks have a good superblock and log, and recovery leaves the same on both outside the log, both are well
+-- formed or neither is
 abbrev pub ChecksSeeRecovered : Type 0
 ChecksSeeRecovered = (v : Version) (old new : List (List ℕ)) → IsViewOf v old new → IsWellFormed v old → IsWellFormed v new
 

@@ -14,7 +14,7 @@ use crate::links::Links;
 use block_device::{Device, Fault};
 use fs_layout::Dinode;
 
-/// Whether an inode has the right count, where tables that stop at the greatest u16 count it so.
+/// Whether an inode has the right count, if tables that stop at the greatest u16 say these counts.
 fn is_good_count(inode: &Dinode, names: u16, further: u16, children: u16) -> bool
     ensures { (n f k : ℕ) → names ≡ min n 65535 → further ≡ min f 65535 → children ≡ min k 65535
         → IsTrue result ↔ IsGoodCount inode.now n f k }

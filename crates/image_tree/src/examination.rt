@@ -76,7 +76,8 @@ fn examine_slots<D: Device>(
     Ok(layout)
 }
 
-/// All checks, in their order. Where none fails it tells where the parts of the image lie.
+/// All checks, in their order. If none fails the answer is the places of the image's parts. Else it is the first
+/// damage; or that memory was refused, or the device failed.
 pub fn examine_layout<D: Device>(
     alloc: Global,
     device: &mut D,
@@ -99,8 +100,8 @@ pub fn examine_layout<D: Device>(
     Ok(layout)
 }
 
-/// Examines an image of this version as recovery would leave it, and reads alone. A damage is the first check that fails, in the order in
-/// which `Damage` has them; memory that is refused and a device that fails end the examination wherever it is.
+/// Examines an image of this version as recovery would leave it, and only reads. A damage is the first check that
+/// fails, in the order of `Damage`. If memory is refused or the device fails, the examination ends there.
 pub fn examine<D: Device>(
     alloc: Global,
     device: &mut D,

@@ -5,7 +5,7 @@ ghost use Rattle.image_tree.specs.Faults.{damage_name, fault_name, fault_number}
 use block_device::Fault;
 use std::alloc::AllocError;
 
-/// What is wrong with an image: the first check that fails, in the order in which they stand here.
+/// What is wrong with an image: the first check that fails, in the order of these lines.
 #[derive(Clone, Copy, PartialEq, Eq, Debug)]
 pub enum Damage {
     /// The device has fewer than 2 blocks, or fewer than the superblock says.
@@ -24,9 +24,9 @@ pub enum Damage {
     BlockShared = 56,
     /// The bitmap shows a block in use as free.
     BlockUnmarked = 57,
-    /// A size is above the limit, or has no blocks behind it, or is no directory's.
+    /// A size is above the limit, or has not all its blocks, or is no directory's.
     BadSize = 58,
-    /// A live directory has a slot that is no entry, or not the one that belongs there, or a name twice.
+    /// A live directory has a slot that is no entry, or not the one that belongs there, or it has a name twice.
     BadEntry = 59,
     /// The live directories are not one tree.
     NotATree = 60,

@@ -27,15 +27,16 @@ pub fn freed_nodes_leave_images()
     ensures { FreedNodesLeaveImages }
 {}
 
-/// What freeing leaves is one disk, but for its log. The function does nothing: it carries the law.
+/// What freeing leaves is one disk, except for its log. The function does nothing: it carries the law.
 pub fn freed_disks_agree()
     ensures { FreedDisksAgree }
 {}
 
-/// Frees each node of an image of this version with count 0, in rising number: the blocks that it names are marked free,
-/// and its type becomes 0, in a transaction of its own. The device has an empty log. It takes no memory.
+/// Frees each node of an image of this version with count 0, in rising number. In a transaction of its own, the
+/// blocks that it names are marked free, and its type becomes 0 (xv6: `ireclaim`). The device has an empty log. It
+/// takes no memory.
 ///
-/// Wherever it stops, also in the middle of a write, the image is well formed, and recovery leaves the same tree.
+/// Wherever it stops, even in the middle of a write, the image is well formed, and recovery leaves the same tree.
 pub fn reclaim<D: Device>(device: &mut D, version: Version, sizes: Super) -> Result<(), Fault>
     requires well { IsWellFormed version (D.contents device.old) }
     requires empty { logged (D.contents device.old) ≡ [] }
@@ -48,13 +49,13 @@ pub fn reclaim<D: Device>(device: &mut D, version: Version, sizes: Super) -> Res
     ensures well { IsWellFormed version (D.contents device.new) }
     ensures tree { tree_in version (D.contents device.new) ≡ tree_in version (D.contents device.old) }
 
-    // Afterwards each node has a name, those that had none are free, and so are their blocks; nothing else is changed outside the log,
-    // which is empty.
+    // Afterwards each node has a name, those that had none are free, and so are their blocks. Nothing else is changed
+    // outside the log, which is empty.
     ensures named { OnOk result (AreNamed (D.contents device.new)) }
     ensures freed { OnOk result (AreFreed (D.contents device.old) (D.contents device.new)) }
     ensures empty { OnOk result (logged (D.contents device.new) ≡ []) }
 
-    // Where each node has a name, nothing is written.
+    // If each node has a name, nothing is written.
     ensures same { AreNamed (D.contents device.old) → D.contents device.new ≡ D.contents device.old }
 {
     let layout = Layout {

@@ -104,8 +104,8 @@ fn find_log<D: Device>(device: &mut D, version: Version, sizes: Super) -> Result
     })
 }
 
-/// Finds the parts of an image of this version: its superblock, and the blocks that its log holds. It takes no memory
-/// (xv6: `readsb`, `read_head`).
+/// Finds the parts of an image of this version: its superblock, and the blocks that its log holds. An error is the
+/// first damage of these two, or the device's. It takes no memory (xv6: `readsb`, `read_head`).
 pub fn find_layout<D: Device>(device: &mut D, version: Version) -> Result<Layout, MountFault>
     ensures judges { JudgesWith version (λ layout. IsLayout (D.contents device.old) layout × (layout.version ≡ version))
         (D.contents device.old) result }
@@ -124,8 +124,8 @@ pub fn find_layout<D: Device>(device: &mut D, version: Version) -> Result<Layout
     find_log(device, version, sizes)
 }
 
-/// The version whose magic number an image begins with, and the first where it is of none: whether it is an image is for its
-/// examination to say. A disk without a superblock is not read.
+/// The version whose magic number an image begins with, and the first if it is none's: its examination says whether
+/// it is an image. A disk without a superblock is not read.
 pub fn find_version<D: Device>(device: &mut D) -> Result<Version, Fault>
     ensures version { IfOk result (λ version. version ≡ version_of (D.contents device.old)) }
     ensures device { OnlyReads D.contents D.failures (faults_after result) device.old device.new }

@@ -1,7 +1,7 @@
 //! The examination of an image: what damage it has, and which tree it holds.
 //!
-//! Nodes without a name are freed before a disk is used again (`settle`): a node that was removed while it was open is one, where
-//! the file system stopped before its last close.
+//! Nodes without a name are freed before a disk is used again (`settle`). A node that was removed while it was open
+//! is one, if the file system stopped before its last close.
 #![tactic(auto, using(block_device::specs::CallLaws::by_calls))]
 
 mod content;

@@ -10,7 +10,7 @@ pub const FEWEST_INODES: u32 = 2;
 /// The most inodes, so that a u16 numbers them.
 pub const MOST_INODES: u32 = 65_535;
 
-/// Where the log can begin: behind the superblock.
+/// The first block that the log can have: the one after the superblock.
 pub const FIRST_LOG_BLOCK: u32 = 2;
 
 /// The shortest log: its head, and room for one transaction.

@@ -1,4 +1,4 @@
-//! That no name stands twice in a directory.
+//! That no directory has a name twice.
 ghost use Rattle.std.specs.Prelude.{◌≡◌, ◌++◌, ◌↔◌, map, IfOk, OnOk, IsSorted, IsTrue};
 ghost use Rattle.std.specs.Ordering.{nat_cmp};
 ghost use Rattle.std.specs.Cmp.Lexicographic.{slice_cmp};
@@ -48,7 +48,7 @@ fn are_distinct(names: &mut [&[u8]]) -> bool
     neighbours_differ(names)
 }
 
-/// Whether no name stands in two of the slots.
+/// Whether no name is in two of the slots.
 pub fn are_names_once(alloc: Global, slots: &[Option<Dirent>]) -> Result<bool, AllocError>
     ensures { IfOk result (λ once. IsTrue once ↔ IsOnce (slot_names slots.now)) }
 {

@@ -32,7 +32,7 @@ fn mark_all(seen: &mut [bool], numbers: &[u32]) -> bool
     true
 }
 
-/// Marks a number that isn't 0, where it isn't marked yet.
+/// Marks a number that isn't 0. It says whether the number is 0 or wasn't marked before.
 fn mark(seen: &mut [bool], b: u32) -> bool
     requires length { length seen.old ≡ 8192 }
     requires small { b < 8192 }

@@ -13,10 +13,11 @@ use std::alloc::{AllocError, Global};
 /// The number of the root.
 const ROOT: u16 = limits::ROOT as u16;
 
-/// As many doublings of one step as reach farther than there are inodes.
+/// The number of doublings of one step that reach farther than there are inodes.
 const DOUBLINGS: u32 = 16;
 
-/// Whether each live directory but the root is named by one slot past the first two, and that in its "..".
+/// Whether one slot past the first two names each live directory except the root, and that slot is in the directory's
+/// "..".
 fn are_named(ups: &[u16], further: &[u16], proper: &[u16]) -> bool
     requires further { length further.now ≡ length ups.now }
     requires proper { length proper.now ≡ length ups.now }

@@ -101,7 +101,7 @@ fn write_head<D: Device>(device: &mut D, layout: &Layout, home: u32) -> Result<(
     device.write(layout.sizes.logstart, &head)
 }
 
-/// Does what is left of the transaction, which is what recovery does.
+/// Does the rest of the transaction, which is what recovery does.
 pub fn install<D: Device>(device: &mut D, version: Version) -> Result<(), Fault>
     requires { IsWellFormed version (D.contents device.old) }
     ensures faults { D.failures device.new ≡ faults_after result (D.failures device.old) }

@@ -14,10 +14,11 @@ use crate::heads::find_layout;
 use block_device::{BLOCK_LEN, Device, Fault};
 use image_versions::Version;
 
-/// Copies the logged blocks of an image of this version home, and then clears the log's head (the xv6 book, chapter "File system", "Logging
-/// layer"). Where nothing is logged it writes nothing. It takes no memory.
+/// Copies the logged blocks of an image of this version home, and then clears the log's head (the xv6 book, chapter
+/// "File system", "Logging layer"). If nothing is logged it writes nothing. It takes no memory.
 ///
-/// Wherever it stops, also in the middle of a write, recovery may be run again and makes the same disk (xv6: `recover_from_log`).
+/// Wherever it stops, even in the middle of a write, recovery may be run again and makes the same disk (xv6:
+/// `recover_from_log`).
 pub fn recover<D: Device>(device: &mut D, version: Version) -> Result<(), MountFault>
     // Superblock and log are good, or the answer is their first damage; then nothing was written.
     ensures judges { JudgesWith version (λ _. UpToLog version (D.contents device.old)) (D.contents device.old) result }

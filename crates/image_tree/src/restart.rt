@@ -13,8 +13,9 @@ use image_versions::Version;
 use plain_tree::Tree;
 use std::alloc::Global;
 
-/// Recovers an image of this version, and gives the tree that it holds. Of a well-formed image the tree is the one that it held before,
-/// and no damage is found; wherever recovery stops the image stays well formed, with the same tree.
+/// Recovers an image of this version, and gives the tree that it holds. If the image is well formed, the tree is the
+/// one that it held before, and no damage is found. Wherever recovery stops, the image stays well formed, with the
+/// same tree.
 pub fn recovered_tree<D: Device>(
     alloc: Global,
     device: &mut D,

@@ -11,9 +11,11 @@ use block_device::{Device, Fault};
 use fs_layout::Super;
 use image_versions::Version;
 
-/// Recovers a well-formed image of this version, and then frees each node with count 0, as [`reclaim`] does. It takes no memory.
+/// Recovers a well-formed image of this version, and then frees each node with count 0, as [`reclaim`] does. It takes
+/// no memory.
 ///
-/// Wherever it stops, also in the middle of a write, the image is well formed, with the same tree, and it may be run again.
+/// Wherever it stops, even in the middle of a write, the image is well formed, with the same tree, and `settle` may
+/// be run again.
 pub fn settle<D: Device>(device: &mut D, version: Version, sizes: Super) -> Result<(), Fault>
     requires well { IsWellFormed version (D.contents device.old) }
     requires sizes { sizes ≡ sizes_of (D.contents device.old) }
@@ -25,8 +27,8 @@ pub fn settle<D: Device>(device: &mut D, version: Version, sizes: Super) -> Resu
     ensures well { IsWellFormed version (D.contents device.new) }
     ensures tree { tree_in version (D.contents device.new) ≡ tree_in version (D.contents device.old) }
 
-    // Afterwards each node has a name, and the log is empty. The disk is the recovered one but for the nodes that had no name: they are
-    // free, and so are their blocks. Where each node had one, the disk is the recovered one.
+    // Afterwards each node has a name, and the log is empty. The disk is the recovered one, except for the nodes that
+    // had no name: they are free, and so are their blocks. If each node had one, the disk is the recovered one.
     ensures named { OnOk result (AreNamed (D.contents device.new)) }
     ensures freed { OnOk result (AreFreed (D.contents device.old) (D.contents device.new)) }
     ensures empty { OnOk result (logged (D.contents device.new) ≡ []) }

@@ -1,4 +1,4 @@
-//! What an examination tells of an image.
+//! What an examination says of an image.
 ghost use Rattle.std.specs.Prelude.{◌≡◌, ◌<◌, ◌≤◌, ◌&&◌, not, if◌then◌else◌, length, filter, IfOk};
 ghost use Rattle.image_tree.specs.Vocabulary.{faults_after, ComesByCalls};
 ghost use Rattle.image_tree.specs.Inodes.{is_block, is_free, is_live};
@@ -13,7 +13,7 @@ use crate::numbers::numbers_at;
 use block_device::{Device, Fault};
 use fs_layout::Dinode;
 
-/// How large a well-formed image is, and what stands on it.
+/// How large a well-formed image is, and what is on it.
 #[derive(Clone, Copy, PartialEq, Eq, Debug)]
 pub struct Shape {
     /// Its size, in blocks.
@@ -57,7 +57,7 @@ fn count_blocks(numbers: &[u32]) -> u32
     blocks
 }
 
-/// Counts what stands on an image.
+/// Counts what is on an image.
 pub fn find_shape<D: Device>(device: &mut D, layout: &Layout) -> Result<Shape, Fault>
     requires layout { IsLayout (D.contents device.old) layout.now }
     requires numbers { HasGoodNumbers (D.contents device.old) }

@@ -15,7 +15,7 @@ use fs_layout::widths::BLOCK_LEN;
 use image_versions::Version;
 use image_versions::widths::{DIRECT, LARGEST_SIZE};
 
-/// The number of block k among the numbers of an inode: 0 where there is none.
+/// The number of block k among the numbers of an inode: 0 if there is none.
 pub fn block_number(numbers: &[u32], k: usize) -> u32
     requires { k < 2 ^ 32 }
     ensures { result ≡ block_number numbers.now k }

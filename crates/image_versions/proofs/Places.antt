@@ -1,4 +1,4 @@
--- The laws of the widths, version by version: nobody else asks which one it is.
+-- The laws of the widths, version by version: no other proof asks which version it is.
 use Rattle.std.proofs.Common.{◌≡◌, zero, suc, Bool, true, false, ◌==◌, ◌⊎◌, Some, None, refl, arith, inl, inr, cond, ⊎_elim}
 use Rattle.std.proofs.lemmas.Bool.{eqb-true}
 use Rattle.image_versions.specs.declared.version.Version.{Version}

@@ -1,4 +1,4 @@
--- What the widths of every version have to do with one another.
+-- How the widths of each version relate to one another.
 use Rattle.std.specs.Prelude.{◌≡◌, ℕ, ◌+◌, ◌-◌, ◌*◌, ◌/◌, ◌%◌, ◌<◌, ◌≤◌, ◌^◌, Some}
 use Rattle.image_versions.specs.declared.version.Version.{Version}
 use Rattle.image_versions.specs.declared.version.Version.TheVariants.{One, Two}
@@ -33,17 +33,17 @@ EntriesLieInBlocks = (v : Version) (place : ℕ) → place < dirents_per_block_o
 abbrev pub EntriesLieApart : Type 0
 EntriesLieApart = (v : Version) (p q : ℕ) → p < q → dirent_len_of v * p + dirent_len_of v ≤ dirent_len_of v * q
 
--- slot s of a directory is one of its block's, and stands there
+-- slot s of a directory is one of its block's, at that block's bytes
 abbrev pub SlotsLieInTheirBlocks : Type 0
 SlotsLieInTheirBlocks = (v : Version) (s : ℕ) → (s % dirents_per_block_of v < dirents_per_block_of v)
     × (dirent_len_of v * s ≡ block_len * (s / dirents_per_block_of v) + dirent_len_of v * (s % dirents_per_block_of v))
 
--- and inside the content where that has as many slots
+-- and is inside a content that has more than s slots
 abbrev pub SlotsLieInTheirContent : Type 0
 SlotsLieInTheirContent = (v : Version) (s size : ℕ) → s < size / dirent_len_of v
     → (dirent_len_of v * s + dirent_len_of v ≤ size) × (block_len * (s / dirents_per_block_of v) < size)
 
--- a length of so many entries has so many
+-- the length of n entries counts n slots, and no part of one
 abbrev pub LengthsCountSlots : Type 0
 LengthsCountSlots = (v : Version) (n : ℕ) → (dirent_len_of v * n / dirent_len_of v ≡ n) × (dirent_len_of v * n % dirent_len_of v ≡ 0)
 
@@ -59,7 +59,7 @@ BlocksHoldEntries = (v : Version) (n blocks : ℕ) → dirent_len_of v * n ≤ b
     → (n ≤ block_len * blocks / dirent_len_of v) × (block_len * blocks % dirent_len_of v ≡ 0)
     × (block_len * blocks - dirent_len_of v * n ≡ dirent_len_of v * (block_len * blocks / dirent_len_of v - n))
 
--- no more entries than a directory may have are no longer than a node may be
+-- the entries of a directory with no more than the most slots are no longer than a node may be
 abbrev pub MostSlotsFit : Type 0
 MostSlotsFit = (v : Version) (n : ℕ) → n ≤ most_slots_of v → dirent_len_of v * n ≤ largest_size
 

@@ -1,14 +1,14 @@
--- What all versions share, in bytes where nothing else is said.
+-- What all versions share: in bytes, if nothing else is said.
 use Rattle.std.specs.Prelude.{ℕ, ◌+◌, ◌*◌}
 
 abbrev pub block_len : ℕ
 block_len = 1024
 
--- the most blocks of a disk, so that the bits of all stand in one bitmap block
+-- the most blocks of a disk, so that one bitmap block has the bits of all
 abbrev pub most_disk_blocks : ℕ
 most_disk_blocks = 8191
 
--- how many block numbers stand in the inode itself
+-- how many block numbers are in the inode itself
 abbrev pub direct : ℕ
 direct = 12
 

@@ -1,8 +1,9 @@
-//! What the widths of every version have to do with one another. The functions do nothing: each carries laws, so that no proof elsewhere
-//! asks which version it is.
+//! How the widths of each version relate to one another. The functions do nothing: each carries laws, so that no
+//! proof elsewhere asks which version it is.
 ghost use Rattle.image_versions.specs.Laws.{BlocksHoldEntries, ContentsHoldTheMostSlots, EntriesFillBlocks, EntriesLieApart, EntriesLieInBlocks, LaterNamesAreLonger, LengthsCountSlots, MagicsTellVersions, MagicsAreOfTheirVersion, MostSlotsFit, NewDirectoriesFit, NumbersAreOfVersions, NumbersTellVersions, SlotsLieInTheirBlocks, SlotsLieInTheirContent, WidthsAreInRange};
 
-/// The magic number tells the version, and only that number does; each number of a version has one.
+/// The magic number of a version says which version it is, and no other number does. The version's own number says it
+/// too, and each number between the first and the last is a version's.
 pub fn magics_tell_versions()
     ensures tells { MagicsTellVersions }
     ensures only { MagicsAreOfTheirVersion }
@@ -10,7 +11,7 @@ pub fn magics_tell_versions()
     ensures between { NumbersAreOfVersions }
 {}
 
-/// Where a directory's entries stand.
+/// The places of a directory's entries.
 pub fn entries_have_places()
     ensures widths { WidthsAreInRange }
     ensures fill { EntriesFillBlocks }

@@ -1,5 +1,6 @@
-//! What the versions of images differ in, and the widths and limits that they share: one row of a table each, so that nobody else has
-//! them as numbers of its own. docs/FORMATS.md has both versions side by side.
+//! The differences between the versions of images, and the widths and limits that all share. Each version is a row of
+//! a table here, so that no other crate has numbers of its own for them. docs/FORMATS.md has both versions side by
+//! side.
 //!
 //! Version 1 is xv6's own image. In version 2 a directory's entry has 32 bytes, and so a name up to 30.
 #![tactic(auto)]

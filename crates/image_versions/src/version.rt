@@ -54,7 +54,8 @@ impl Version {
         }
     }
 
-    /// The bytes of a name at most, and of the field that holds one. A longer element of a path is cut to so many.
+    /// The bytes of a name at most, and of the field that holds one. A longer element of a path is cut to this
+    /// length.
     pub fn name_len(self) -> usize
         ensures { result ≡ name_len_of self }
     {

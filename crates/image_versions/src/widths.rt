@@ -3,10 +3,10 @@
 /// The bytes of a block.
 pub const BLOCK_LEN: usize = 1024;
 
-/// The most blocks that a disk can have, so that the bits of all stand in one bitmap block.
+/// The most blocks that a disk can have, so that one bitmap block has the bits of all.
 pub const MOST_DISK_BLOCKS: u32 = 8191;
 
-/// How many block numbers stand in the inode itself; that of the indirect block comes behind them.
+/// How many block numbers are in the inode itself; the indirect block's number comes after them.
 pub const DIRECT: usize = 12;
 
 /// How many block numbers an indirect block has.

@@ -14,7 +14,7 @@ side_by_side (suc a) zero xs = let same : suc a - 0 ≡ suc a = omega arith in r
 side_by_side (suc a) (suc b) [] = take_nil (suc a - suc b)
 side_by_side (suc a) (suc b) (x ∷ xs) = let less : suc a - suc b ≡ a - b = omega arith in rw less (ap (λ (ys : List ℕ). x ∷ ys) (side_by_side a b xs))
 
--- what is left of a beginning
+-- the rest of a beginning, after its first n elements
 pub drop_of_take : (n m : ℕ) (xs : List ℕ) → drop n (take m xs) ≡ take (m - n) (drop n xs)
 drop_of_take zero m xs = let same : m - 0 ≡ m = omega arith in rw same refl
 drop_of_take (suc n) zero xs = let none : 0 - suc n ≡ 0 = omega arith in rw none refl
@@ -23,7 +23,7 @@ drop_of_take (suc n) (suc m) (x ∷ xs) = let less : suc m - suc n ≡ m - n = o
 
 -- ---- blocks
 
--- so many blocks, one after the other
+-- the first k blocks, one after the other
 unfoldable pub front : (ℕ → List ℕ) → ℕ → List ℕ
 front content zero = []
 front content (suc k) = front content k ++ content k
@@ -48,7 +48,7 @@ module _ (content : ℕ → List ℕ) (k : ℕ) (whole : (q : ℕ) → q < k →
       ∙ block_there n q (omega (arith, le)) below))
       (cases_eq q n)
 
-  -- what the block of an offset has of the bytes between it and another, and what comes behind the block
+  -- the bytes between two offsets are those of the first offset's block, and those that come after that block
   pub part_then : (from upto : ℕ) → from / block_len < k → part_of from upto (content (from / block_len)) ++ drop (next_block from) (take upto (front content k)) ≡ drop from (take upto (front content k))
   part_then from upto lt =
       let q : ℕ = from / block_len in

@@ -54,7 +54,7 @@ bare-index Two h = index-under h.two
 pub index-kept : (e : Emptying) (h g : Hand) → beside_emptying e h ≡ beside_emptying e g → index_at e.seat h ≡ index_at e.seat g
 index-kept e h g same = sym (bare-index e.seat h) ∙ ap (index_at e.seat) same ∙ bare-index e.seat g
 
--- where a record is set
+-- a record that is set over another one
 set-over : (d : Dinode) (o : Option (GuardState Inode)) → option_map (recorded no_record) (option_map (recorded d) o) ≡ option_map (recorded no_record) o
 set-over d None = refl
 set-over d (Some g) = at g.value.content

@@ -19,7 +19,7 @@ located_so (suc n) w d bytes p some e =
     (ap (λ (q : P Located). bind q (after_location (record w { left = n }) bytes)) e
     ∙ sym (bind-assoc (locate w.sizes d (w.at / block_len)) (write_located (blocks_behind (record w { left = n }) bytes) w.at (bytes_left w bytes)) (stored w)))
 
--- there is one, which is sought
+-- there is one, and it is sought
 pub goes_on_so : (w : Writing) (d : Dinode) (bytes : List ℕ) (p : P Located) → w.left ≢ 0 → p ≡ locate w.sizes d (w.at / block_len)
     → bind p (after_location (record w { left = w.left - 1 }) bytes) ≡ write_rest w d bytes
 goes_on_so w d bytes p some e = located_so w.left w d bytes p some e
@@ -31,7 +31,7 @@ stored_so w d to m h program is =
     ap (λ (p : P (Unit {0})). bind p (give_written (record { inode = to; upto = w.at }))) program
     ∙ ap (λ (e : Dinode). let p : P WriteResult = bind (store w.sizes.inodestart w.number e) (give_written (record { inode = e; upto = w.at })) in p) is
 
--- where none was to be had the inode is stored
+-- if no block was to be had, the inode is stored
 pub none_so : (w : Writing) (l : Located) (bytes : List ℕ) → l.number ≡ None → stored w (written_so l.inode w) ≡ after_location w bytes l
 none_so w l bytes e = rw e refl
 
@@ -40,7 +40,7 @@ pub whole_so : (w : Writing) (bytes : List ℕ) (count : ℕ) (d : Dinode) → w
     → write_rest w d bytes ≡ write_part w.sizes w.number d w.at bytes
 whole_so w bytes count d done left e = rw (done, left, e) refl
 
--- and the one behind the next block
+-- and the writing after the next block
 pub past_so : (w next : Writing) (d : Dinode) (bytes : List ℕ) → IsPast w bytes next → write_rest next d bytes ≡ bind (blocks_behind w bytes d) (stored w)
 past_so w next d bytes past =
     let rest : drop next.done bytes ≡ drop (next_count w bytes) (bytes_left w bytes) = ap (λ n. drop n bytes) past.done ∙ sym (drop-drop (next_count w bytes) w.done bytes) in

@@ -1,4 +1,4 @@
--- What the beginning of a machine stands for.
+-- What the beginning of a machine means.
 use Rattle.inode_data.specs.Vocabulary.{Ret, P}
 use Rattle.inode_data.specs.declared.begun.Begun.{Begun}
 use Rattle.inode_data.specs.declared.begun.Begun.TheVariants.{Runs, Is}

@@ -14,7 +14,7 @@ use Rattle.inode_data.specs.declared.truncate.Truncate.TheVariants.{Own, Indirec
 abbrev pub record_rest : Emptying → Inode → P Dinode
 record_rest e v = store_record e.sizes v.number (without_content (record_of v))
 
--- the indirect block with what stands in it, and the rest
+-- the indirect block with the blocks that it names, and the rest
 abbrev pub indirect_rest : Emptying → Inode → P Dinode
 indirect_rest e v = free_indirect e.sizes.bmapstart (table_of (record_of v)) (record_rest e v)
 
@@ -51,7 +51,7 @@ emptying_of (GiveBack e b) = e
 emptying_of (Table e m) = e
 emptying_of (Record e m) = e
 
--- the inode is loaded, its block has a number, and there is a transaction
+-- the inode is loaded, the number of its block is a u32, and there is a transaction
 abbrev pub IsEmptying : Emptying → Hand → Type 0
 IsEmptying e h = IsLoadedAt e.seat h × HasBlock e.sizes.inodestart e.seat h × IsSome h.txn
 
@@ -78,6 +78,6 @@ TruncateReady m h = StageReady m h × IsEmptying (emptying_of m) h
 abbrev pub HasNoBuffer : Hand → Type 0
 HasNoBuffer h = (h.first ≡ None) × (h.second ≡ None)
 
--- but for the buffers and the record: the index stays
+-- the same hand, except for the buffers and the record: the index stays
 abbrev pub beside_emptying : Emptying → Hand → Hand
 beside_emptying e h = with_buffer First None (with_buffer Second None (with_record e.seat no_record h))

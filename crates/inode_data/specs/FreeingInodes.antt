@@ -7,7 +7,7 @@ use Rattle.inode_data.specs.declared.free_inode.FreeInode.{FreeInode}
 use Rattle.inode_data.specs.declared.free_inode.FreeInode.TheVariants.{Truncating, Storing}
 use Rattle.inode_data.specs.declared.truncate.Emptying.{Emptying}
 
--- an inode whose content is gone is stored so that it may be taken again
+-- an inode without content is stored so that it may be taken again
 abbrev pub store_free : Super → ℕ → Dinode → P (Unit {0})
 store_free sizes n d = store sizes.inodestart n (freed d)
 
@@ -38,6 +38,6 @@ IsUnloadedAt k h = MatchOption (inode_at k h) ⊥ (λ g. g.value.content ≡ Non
 abbrev pub HasFreed : Emptying → Hand → Type 0
 HasFreed e h = IsUnloadedAt e.seat h × HasNoBuffer h × IsSome h.txn
 
--- but for the buffers and what is loaded
+-- the same hand, except for the buffers and what is loaded
 abbrev pub beside_freeing : Emptying → Hand → Hand
 beside_freeing e h = with_buffer First None (with_buffer Second None (unloaded e.seat h))

@@ -1,4 +1,4 @@
--- What a read answers, where each block is seen as it stands.
+-- What a read answers, if each block is answered as it is seen.
 use Rattle.std.specs.Prelude.{◌≡◌, ◌⊎◌, ℕ, ◌*◌, ◌≤◌, zero, suc, List, [], ◌++◌, length, take, drop, Some, None, slice_index}
 use Rattle.inode_data.specs.Vocabulary.{Dinode, numbers_in, block_len, Get, Read, Oracle, outcome}
 use Rattle.inode_data.specs.declared.addresses.Address.{Address}
@@ -26,7 +26,8 @@ unfoldable pub front_blocks : (ℕ → List ℕ) → Dinode → ℕ → List ℕ
 front_blocks seen d zero = []
 front_blocks seen d (suc k) = front_blocks seen d k ++ content_block seen d k
 
--- The call's memory is filled with the content's bytes from the offset on, up to the end of the read, and nothing behind them changes.
+-- The call's memory is filled with the content's bytes from the offset on, up to the end of the read. Nothing after
+-- them changes.
 abbrev pub ReadsTheContent : Type 0
 ReadsTheContent = (answer : Oracle) (seen : ℕ → List ℕ) (d : Dinode) (offset n k : ℕ) (memory : List ℕ)
     → Shows answer seen → end_of d offset n ≤ block_len * k

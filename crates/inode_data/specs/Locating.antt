@@ -1,4 +1,4 @@
--- A block of a content, taken where it is missing.
+-- A block of a content, taken if it is missing.
 use Rattle.std.specs.Prelude.{◌≡◌, ◌<◌, ◌≤◌, ℕ, Option, Some, None, IsSome}
 use Rattle.inode_data.specs.Vocabulary.{MatchOption, Dinode, bits_per_block, numbers_per_block, Do, bind, unmarked, P, HandState as Hand, First, Second, Op, buffer_at, block_at, bytes_at, with_buffer, fetch_left, fetch_asked, fetch_block, fetch_place, FetchReady, marks, take_left, take_asked, take_place, TakeReady, TakeBlock}
 use Rattle.fs_machine.specs.Steps as steps

@@ -11,7 +11,7 @@ use Rattle.inode_data.specs.declared.read_part.Reading.{Reading}
 use Rattle.inode_data.specs.declared.read_part.ReadPart.{ReadPart}
 use Rattle.inode_data.specs.declared.read_part.ReadPart.TheVariants.{Fetching, Giving}
 
--- memory into which so many bytes were read
+-- memory into which `count` bytes were read
 abbrev pub filled_to : ℕ → List ℕ → FilledMemory
 filled_to count bytes = record { count = count; bytes = bytes }
 
@@ -19,7 +19,7 @@ filled_to count bytes = record { count = count; bytes = bytes }
 abbrev pub filled_in : Reading → List ℕ → FilledMemory
 filled_in r bytes = filled_to r.filled bytes
 
--- the blocks behind the one that is read next
+-- the blocks after the one that is read next
 abbrev pub read_rest : Dinode → Reading → FilledMemory → P FilledMemory
 read_rest d r = read_blocks r.left d (next_block r.from) r.upto
 
@@ -32,7 +32,7 @@ abbrev pub read_asked : ReadPart → Op
 read_asked (Fetching r m) = block_asked m
 read_asked (Giving r) = ops.Give First
 
--- a read that has so many blocks before it
+-- a read of `count` more blocks
 pub record IsReading (count : ℕ) (r : Reading) : Type 0 where
   pub within : r.upto ≤ most_bytes
   pub blocks : blocks_between r.from r.upto ≡ count
@@ -53,7 +53,7 @@ abbrev pub ReadReady : List ℕ → ReadPart → Hand → Type 0
 ReadReady bytes (Fetching r m) h = IsReading (r.left + 1) r × HasRoom r bytes × FetchesFirst m h
 ReadReady bytes (Giving r) h = IsReading r.left r × HasRoom r bytes × IsSome h.first × (h.second ≡ None)
 
--- the block's part was read, and the next block is to come
+-- the block's part was read, and the next block is next
 pub record HasRead (r : Reading) (bytes block : List ℕ) (next : Reading) (filled : List ℕ) : Type 0 where
   pub read : filled_in next filled ≡ filled_with (filled_in r bytes) (part_of r.from r.upto block)
   pub from : next.from ≡ next_block r.from

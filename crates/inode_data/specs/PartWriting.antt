@@ -19,11 +19,11 @@ bytes_left w bytes = drop w.done bytes
 abbrev pub next_count : Writing → List ℕ → ℕ
 next_count w bytes = length (front_of w.at (bytes_left w bytes))
 
--- what was written so far, where the inode's record is so
+-- what was written so far, if this is the inode's record
 abbrev pub written_so : Dinode → Writing → WriteResult
 written_so d w = record { inode = d; upto = w.at }
 
--- the blocks behind the next one, where the inode is so
+-- the blocks after the next one, if this is the inode's record
 abbrev pub blocks_behind : Writing → List ℕ → Dinode → P WriteResult
 blocks_behind w bytes d = write_blocks w.left w.sizes (w.at + next_count w bytes) (drop (next_count w bytes) (bytes_left w bytes)) d
 
@@ -31,7 +31,7 @@ blocks_behind w bytes d = write_blocks w.left w.sizes (w.at + next_count w bytes
 abbrev pub stored : Writing → WriteResult → P WriteResult
 stored w written = store_written w.sizes w.number written
 
--- all that is left, where so many blocks are, and the inode is so
+-- the rest of the writing, if this is the inode's record
 abbrev pub write_rest : Writing → Dinode → List ℕ → P WriteResult
 write_rest w d bytes = bind (write_blocks w.left w.sizes w.at (bytes_left w bytes) d) (stored w)
 
@@ -62,13 +62,13 @@ write_asked (Fetching w d f) = fetch_asked f
 write_asked (There w d) = ops.Record First
 write_asked (Storing r m) = store_asked m
 
--- a writing that has so many blocks before it, the next one too: each is one of a content, on a disk whose blocks have bits
+-- a writing of `count` more blocks, with the next one: each is one of a content, on a disk whose blocks have bits
 pub record IsWriting (count : ℕ) (w : Writing) : Type 0 where
   pub within : w.at / block_len + count ≤ most_blocks
   pub size : w.sizes.size ≤ bits_per_block
   pub block : inode_block w.sizes.inodestart w.number < 2 ^ 32
 
--- it is in the midst of the bytes, with the next block before it
+-- it is within the bytes, with the next block before it
 abbrev pub IsAmid : List ℕ → Writing → Type 0
 IsAmid bytes w = IsWriting (w.left + 1) w × (w.done ≤ length bytes)
 
@@ -82,7 +82,7 @@ WriteReady bytes (Fetching w d f) h = IsAmid bytes w × FetchReady f h × (fetch
 WriteReady bytes (There w d) h = IsAmid bytes w × HasBlock h × IsSome h.txn
 WriteReady bytes (Storing r m) h = StoreReady m h × (store_place m ≡ First) × (h.second ≡ None) × IsWithin r
 
--- a part that begins where so many of the bytes were written
+-- a part that begins after `done` of the bytes were written
 abbrev pub BeginsAmid : ℕ → WritePart → Type 0
 BeginsAmid done m = (bytes : List ℕ) (h : Hand) → NoBuffers h → IsSome h.txn → done ≤ length bytes → WriteReady bytes m h
 

@@ -2,7 +2,7 @@
 use Rattle.std.specs.Prelude.{ℕ}
 use Rattle.image_versions.specs.Shared as shared
 
--- how many block numbers stand in the inode itself; that of the indirect block comes behind them
+-- how many block numbers are in the inode itself; that of the indirect block comes after them
 abbrev pub direct : ℕ
 direct = shared.direct
 

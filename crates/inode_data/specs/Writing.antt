@@ -9,7 +9,7 @@ use Rattle.inode_data.specs.declared.locate.Located.{Located}
 use Rattle.inode_data.specs.declared.addresses.Address.{Address}
 use Rattle.inode_data.specs.declared.addresses.Address.TheVariants.{Direct, InTable}
 
--- ---- a block of a content, taken where it is missing
+-- ---- a block of a content, taken if it is missing
 
 -- a free block, filled with zeros
 abbrev pub take_one : {M : Type 0} → Super → Prog Op Answer M (Option ℕ)
@@ -35,7 +35,7 @@ abbrev pub name_in_table : {M : Type 0} → (i : ℕ) → Dinode → (table : �
 name_in_table i d table bytes None = Do (Put table None) unmarked (λ _. located d None)
 name_in_table i d table bytes (Some b) = Do (Put table (Some (with_number i b bytes))) unmarked (λ _. located d (Some b))
 
--- the number at this place of the indirect block; while its buffer is in hand, a block is taken where there is none
+-- the number at this place of the indirect block; while its buffer is in hand, a block is taken if there is none
 abbrev pub look_up : {M : Type 0} → Super → (i : ℕ) → Dinode → (table : ℕ) → List ℕ → Prog Op Answer M Located
 look_up sizes i d table bytes =
     if slice_index (numbers_in bytes) i == 0 then bind (take_one sizes) (name_in_table i d table bytes)
@@ -54,7 +54,7 @@ locate_at sizes d (Direct i) =
     if slice_index d.addrs i == 0 then bind (take_one sizes) (name_direct i d) else located d (Some (slice_index d.addrs i))
 locate_at sizes d (InTable i) = if table_of d == 0 then bind (take_one sizes) (with_table sizes i d) else locate_in_table sizes i d
 
--- Block k of a content: where it is missing it is taken, and an indirect block just before the block that needs it.
+-- Block k of a content. If it is missing it is taken, and an indirect block just before the block that needs it.
 abbrev pub locate : {M : Type 0} → Super → Dinode → ℕ → Prog Op Answer M Located
 locate sizes d k = locate_at sizes d (address k)
 
@@ -77,7 +77,7 @@ with_part at bytes block = overwrite block (at % block_len) (front_of at bytes)
 abbrev pub put_part : {M : Type 0} → Prog Op Answer M WriteResult → ℕ → (at : ℕ) → List ℕ → List ℕ → Prog Op Answer M WriteResult
 put_part more b at bytes block = Do (Put b (Some (with_part at bytes block))) unmarked (λ _. more)
 
--- the part of the next block is written, where there is one; else the writing ends before it
+-- the part of the next block is written, if there is one; else the writing ends before it
 abbrev pub write_in : {M : Type 0} → (Dinode → Prog Op Answer M WriteResult) → (at : ℕ) → List ℕ → Dinode → Option ℕ
     → Prog Op Answer M WriteResult
 write_in more at bytes d None = Ret (record { inode = d; upto = at })
@@ -87,7 +87,7 @@ abbrev pub write_located : {M : Type 0} → (Dinode → Prog Op Answer M WriteRe
     → Prog Op Answer M WriteResult
 write_located more at bytes l = write_in more at bytes l.inode l.number
 
--- these bytes go into so many blocks from an offset on, in order
+-- these bytes go into the next blocks from an offset on, in order
 unfoldable pub write_blocks : {M : Type 0} → ℕ → Super → (at : ℕ) → List ℕ → Dinode → Prog Op Answer M WriteResult
 write_blocks zero sizes at bytes d = Ret (record { inode = d; upto = at })
 write_blocks (suc n) sizes at bytes d =
@@ -101,8 +101,8 @@ grown w = record w.inode { size = max w.inode.size w.upto }
 abbrev pub store_written : {M : Type 0} → Super → ℕ → WriteResult → Prog Op Answer M WriteResult
 store_written sizes n w = bind (store sizes.inodestart n (grown w)) (λ _. Ret (record { inode = grown w; upto = w.upto }))
 
--- The bytes are written from an offset on; where a block is missing and none is free, those before it alone. The inode is stored at the
--- end.
+-- The bytes are written from an offset on. If a block is missing and none is free, only the bytes before it are
+-- written. The inode is stored at the end.
 abbrev pub write_part : {M : Type 0} → Super → ℕ → Dinode → (offset : ℕ) → List ℕ → Prog Op Answer M WriteResult
 write_part sizes n d offset bytes =
     bind (write_blocks (blocks_between offset (offset + length bytes)) sizes offset bytes d) (store_written sizes n)

@@ -1,17 +1,17 @@
-//! Where the blocks of a content stand.
+//! The places of the numbers of a content's blocks.
 ghost use Rattle.std.specs.Prelude.{◌≡◌, ◌<◌};
 ghost use Rattle.inode_data.specs.Addresses.{address, IsPlace};
 ghost use Rattle.inode_data.specs.Widths.{most_blocks};
 
 use image_versions::widths;
 
-/// How many block numbers stand in the inode itself; that of the indirect block comes behind them.
+/// How many block numbers are in the inode itself; that of the indirect block comes after them.
 pub const DIRECT: usize = widths::DIRECT;
 
 /// How many blocks a content has at most.
 pub const MOST_BLOCKS: usize = widths::MOST_CONTENT_BLOCKS;
 
-/// Where the number of a block stands.
+/// The place of a block's number.
 #[derive(Clone, Copy, PartialEq, Eq, Debug)]
 pub enum Address {
     /// At this place of the inode.
@@ -20,7 +20,7 @@ pub enum Address {
     InTable(usize),
 }
 
-/// Where the number of block `k` of a content stands.
+/// The place of the number of block `k` of a content.
 pub fn address_of(k: usize) -> Address
     requires { k < most_blocks }
     ensures there { result ≡ address k }

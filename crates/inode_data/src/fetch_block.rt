@@ -11,7 +11,8 @@ use crate::place::number_at;
 use fs_layout::Dinode;
 use fs_machine::{Answer, Fetch, Fetched, Hand, Op, Part, Place};
 
-/// Takes the buffer of a block of a content, valid, after a touch of the indirect block where the block's number stands there.
+/// Takes the buffer of a block of a content, valid, after a touch of the indirect block if that has the block's
+/// number (xv6: `bmap` of a block that is there).
 #[derive(Clone, Copy, Drop)]
 pub enum FetchBlock {
     /// The indirect block is fetched, for the number at this place.

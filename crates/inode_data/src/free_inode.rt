@@ -11,7 +11,8 @@ use fs_layout::{Dinode, Super};
 use fs_machine::{Answer, Hand, InodePlace, Op, Part, Place, Routine};
 use inode_table::{StoreRecord, record_at, unload_at};
 
-/// Empties an inode without links and stores it with type 0, so that it may be taken again. Nothing is loaded of it then.
+/// Empties an inode without links and stores it with type 0, so that it may be taken again (xv6: `iput` of the last
+/// reference). Nothing is loaded of it then.
 #[derive(Clone, Copy, Drop)]
 pub enum FreeInode {
     /// It is emptied.

@@ -1,9 +1,11 @@
-//! The content of an inode: its blocks found, read, written and given back (xv6's `bmap`, `readi`, `writei` and `itrunc` of fs.c).
+//! The content of an inode: its blocks found, read, written and given back (xv6's `bmap`, `readi`, `writei` and
+//! `itrunc` of fs.c).
 //!
-//! `specs/Programs`, `specs/Writing` and `specs/Freeing` say what is done, operation by operation; `FetchBlock`, `Locate`, `ReadPart`,
-//! `WritePart`, `Truncate` and `FreeInode` do it. The first four are told what the inode's record is, `ReadPart` and `WritePart` also which
-//! memory is read into or written from; they use the places for buffers and change nothing else in hand. `Truncate` and `FreeInode` are
-//! told at which seat the inode's lock is, and change its record in hand too.
+//! `specs/Programs`, `specs/Writing` and `specs/Freeing` say what is done, operation by operation; `FetchBlock`,
+//! `Locate`, `ReadPart`, `WritePart`, `Truncate` and `FreeInode` do it. The first four get the inode's record, and
+//! `ReadPart` and `WritePart` also the memory that they read into or write from. They use the places for buffers and
+//! change nothing else in hand. `Truncate` and `FreeInode` get the seat of the inode's lock, and change its record in
+//! hand too.
 #![tactic(auto)]
 
 mod addresses;

@@ -1,4 +1,4 @@
-//! A block of a content, taken where it is missing.
+//! A block of a content, taken if it is missing.
 ghost use Rattle.std.specs.Prelude.{◌≡◌, ◌≤◌, ◌<◌, ℕ, None, IsSome, IfSome, IfNone};
 ghost use Rattle.inode_data.specs.Vocabulary.{bits_per_block, with_buffer, IsAfter, answer_in, Goes, left_after, bare, HandState};
 ghost use Rattle.inode_data.specs.Widths.{direct, most_blocks};
@@ -16,7 +16,7 @@ use bitmap_alloc::TakeBlock;
 use fs_layout::{Dinode, Super};
 use fs_machine::{Answer, Control, Fetch, Hand, Op, Part, Place};
 
-/// A block's number, None where no block was free; and the inode's record, with what was taken for it.
+/// A block's number, None if no block was free; and the inode's record, with what was taken for it.
 #[derive(Drop, Clone, Copy)]
 pub struct Located {
     pub inode: Dinode,
@@ -32,7 +32,7 @@ impl Located {
     }
 }
 
-/// Where it stands.
+/// How far the search is.
 #[derive(Clone, Copy, Drop)]
 pub enum Stage {
     /// A block is taken for this place of the inode.
@@ -49,8 +49,8 @@ pub enum Stage {
     Give(u32),
 }
 
-/// Seeks a block of a content, and takes it where it is missing, an indirect block just before the block that needs it. The indirect
-/// block is in the second place of the hand.
+/// Seeks a block of a content, and takes it if it is missing (xv6: `bmap`). An indirect block is taken just before
+/// the block that needs it, and is in the second place of the hand.
 #[derive(Clone, Copy, Drop)]
 pub struct Locate {
     pub inode: Dinode,
@@ -192,7 +192,7 @@ fn direct_named(inode: Dinode, place: usize, number: Option<u32>) -> Located
     Located::new(inode, number)
 }
 
-// A search that stands so.
+// A search at this stage.
 #[inline(always)]
 fn runs(inode: &Dinode, sizes: &Super, stage: Stage) -> Begun<Locate, Located>
     ensures { result ≡ begun.Runs (record { inode = inode.now; sizes = sizes.now; stage = stage }) }

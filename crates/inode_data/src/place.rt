@@ -1,4 +1,4 @@
-// What a buffer in hand has of a content.
+//! What a buffer in hand has of a content.
 ghost use Rattle.std.specs.Prelude.{◌≡◌, ◌<◌, Some, IsSome, ◌≤◌, IfSome, slice_index, ◌+◌, length, None};
 ghost use Rattle.inode_data.specs.Vocabulary.{MatchOption, block_at, buffer_at, bytes_at, with_bytes, numbers_in, numbers_per_block, overwrite, First};
 ghost use Rattle.inode_data.specs.Numbers.{IsNext};

@@ -15,20 +15,20 @@ use fs_layout::Dinode;
 use fs_layout::widths::{BLOCK_LEN, Block};
 use fs_machine::{Answer, Hand, Op, Part, Place};
 
-/// What a read has to do yet.
+/// What a read must still do.
 #[derive(Clone, Copy, Drop)]
 pub struct Reading {
-    /// So many of the bytes were read.
+    /// The number of bytes that were read.
     pub filled: usize,
-    /// From this offset of the content on it goes on ..
+    /// It goes on from this offset of the content ..
     pub from: usize,
     /// .. up to this one.
     pub upto: usize,
-    /// So many blocks are to be read after the next one.
+    /// The number of blocks to read after the next one.
     pub left: usize,
 }
 
-/// Reads bytes of a content, block by block. The inode's record and the memory are lent to each step.
+/// Reads bytes of a content, block by block (xv6: `readi`). The inode's record and the memory are lent to each step.
 #[derive(Clone, Copy, Drop)]
 pub enum ReadPart {
     /// The block of the next bytes is fetched.
@@ -38,7 +38,7 @@ pub enum ReadPart {
 }
 
 impl ReadPart {
-    /// At most `count` bytes from an offset on, and none past the size. How many these were is answered.
+    /// At most `count` bytes from an offset on, and none past the size. The answer is how many these were.
     pub fn begin(inode: &Dinode, offset: u32, count: u32) -> Begun<ReadPart, usize>
         ensures program { (bytes : List ℕ) (h : HandState) → begun_of (λ m. read_left inode.now bytes m h) (λ n. filled_to n bytes) result
             ≡ read_from inode.now offset count bytes }
@@ -114,7 +114,7 @@ impl ReadPart {
     }
 }
 
-// Goes on with the next block, where one is left.
+// Goes on with the next block, if one is left.
 #[tactic(auto, unfolding(crate::specs::Programs::read_blocks))]
 fn next(inode: &Dinode, reading: &Reading) -> Begun<ReadPart, usize>
     requires { IsReading reading.now.left reading.now }
@@ -136,7 +136,7 @@ fn next(inode: &Dinode, reading: &Reading) -> Begun<ReadPart, usize>
     Begun::Runs(ReadPart::Fetching(reading, fetch))
 }
 
-// Copies the block's part behind what was read before.
+// Copies the block's part after what was read before.
 fn copied(reading: &Reading, memory: &mut [u8], block: &Block) -> Reading
     requires ready { IsReading (reading.now.left + 1) reading.now }
     requires room { HasRoom reading.now memory.old }

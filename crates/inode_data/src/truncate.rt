@@ -15,24 +15,24 @@ use fs_layout::{Dinode, Super};
 use fs_machine::{Answer, Fetch, Hand, InodePlace, Op, Part, Place, Routine};
 use inode_table::{StoreRecord, record_at};
 
-/// What an emptying is about: the inode whose lock is at this seat, and where the disk's parts lie.
+/// What an emptying is about: the seat of the inode's lock, and the places of the disk's parts.
 #[derive(Clone, Copy, Drop)]
 pub struct Emptying {
     pub seat: InodePlace,
     pub sizes: Super,
 }
 
-/// Gives back all blocks of an inode, the bitmap touched once for each, and then stores its record without them. The indirect block is
-/// in the second place of the hand.
+/// Gives back all blocks of an inode, the bitmap touched once for each, and then stores its record without them (xv6:
+/// `itrunc`). The indirect block is in the second place of the hand.
 #[derive(Clone, Copy, Drop)]
 pub enum Truncate {
-    /// The block is given back whose number stands at this place of the inode.
+    /// The block is given back that the inode's number at this place names.
     Own(Emptying, usize, FreeBlock),
     /// The indirect block is fetched.
     Indirect(Emptying, Fetch),
-    /// The block is given back whose number stands at this place of the indirect block.
+    /// The block is given back that the indirect block's number at this place names.
     Listed(Emptying, usize, FreeBlock),
-    /// All of the indirect block's were given back, and its buffer goes back, that of this block.
+    /// All that the indirect block names were given back, and its buffer goes back: that of this block.
     GiveBack(Emptying, u32),
     /// The indirect block itself is given back.
     Table(Emptying, FreeBlock),
@@ -137,7 +137,7 @@ impl Routine for Truncate {
     }
 }
 
-// The inode's own blocks are given back whose numbers stand from a place on; then what comes next.
+// Gives back the blocks that the inode itself names, from a place on; then goes on.
 fn free_own(emptying: Emptying, from: usize, hand: &mut Hand) -> Truncate
     requires emptying { IsEmptying emptying hand.old }
     requires free { HasNoBuffer hand.old }
@@ -157,7 +157,7 @@ fn free_own(emptying: Emptying, from: usize, hand: &mut Hand) -> Truncate
     }
 }
 
-// The indirect block is fetched where there is one.
+// Fetches the indirect block, if there is one.
 fn free_indirect(emptying: Emptying, hand: &mut Hand) -> Truncate
     requires emptying { IsEmptying emptying hand.old }
     requires free { HasNoBuffer hand.old }
@@ -174,7 +174,7 @@ fn free_indirect(emptying: Emptying, hand: &mut Hand) -> Truncate
     Truncate::Indirect(emptying, Fetch::Get(Place::Second, table))
 }
 
-// The blocks are given back whose numbers stand in the indirect block from a place on; then its buffer goes back.
+// Gives back the blocks that the indirect block names, from a place on; then its buffer goes back.
 fn free_listed(emptying: Emptying, from: usize, hand: &Hand) -> Truncate
     requires emptying { IsEmptying emptying hand.now }
     requires table { HasTable hand.now }

@@ -16,34 +16,34 @@ use fs_layout::{Dinode, Super};
 use fs_machine::{Answer, Control, Fetch, Hand, Op, Part, Place};
 use inode_table::StoreInode;
 
-/// What a writing has to do yet.
+/// What a writing must still do.
 #[derive(Clone, Copy, Drop)]
 pub struct Writing {
     /// The inode's number.
     pub number: u32,
     /// The superblock of its disk.
     pub sizes: Super,
-    /// At this offset of the content it goes on.
+    /// It goes on at this offset of the content.
     pub at: usize,
-    /// So many of the bytes were written.
+    /// The number of bytes that were written.
     pub done: usize,
-    /// So many blocks are to be written after the next one.
+    /// The number of blocks to write after the next one.
     pub left: usize,
 }
 
-/// What a writing ends with: the inode as it was stored, and up to which offset of its content the bytes were written. That is their
-/// end, or where a block is missing and none was free.
+/// What a writing ends with: the inode as it was stored, and the offset of its content up to which the bytes were
+/// written. That is their end, or the block that is missing if none was free.
 #[derive(Clone, Copy, Drop)]
 pub struct Written {
     pub inode: Dinode,
     pub upto: usize,
 }
 
-/// Writes bytes into a content, block by block, and then stores the inode. A block that is missing is taken; where none is free the
-/// bytes before it alone are written. The bytes are lent to each step.
+/// Writes bytes into a content, block by block, and then stores the inode (xv6: `writei`). A block that is missing is
+/// taken; if none is free, only the bytes before it are written. The bytes are lent to each step.
 #[derive(Drop)]
 pub enum WritePart {
-    /// The next block is sought, and taken where it is missing.
+    /// The next block is sought, and taken if it is missing.
     Locating(Writing, Locate),
     /// It is fetched. The inode's record so far is this, with the blocks that were taken.
     Fetching(Writing, Dinode, Fetch),
@@ -54,7 +54,8 @@ pub enum WritePart {
 }
 
 impl WritePart {
-    /// So many bytes from an offset on, into the content of inode `number`, which stands so, on a disk with this superblock.
+    /// `count` bytes from an offset on, into the content of inode `number`, whose record is `inode`, on a disk with
+    /// this superblock.
     pub fn begin(number: u32, inode: &Dinode, sizes: &Super, offset: u32, count: usize) -> WritePart
         requires within { offset + count ≤ most_bytes }
         requires size { sizes.now.size ≤ bits_per_block }
@@ -136,7 +137,7 @@ impl WritePart {
     }
 }
 
-// On from where the next block was sought.
+// Goes on after the next block was sought.
 #[inline(always)]
 fn seek_on(at: &mut WritePart, writing: Writing, located: &Located)
     requires { IsWriting (writing.left + 1) writing }
@@ -146,7 +147,7 @@ fn seek_on(at: &mut WritePart, writing: Writing, located: &Located)
     *at = found(&writing, located);
 }
 
-// On from where its buffer was fetched.
+// Goes on after its buffer was fetched.
 #[inline(always)]
 fn fetch_on(at: &mut WritePart, writing: Writing, so_far: Dinode)
     ensures { at.new ≡ parts.There writing so_far }
@@ -154,7 +155,7 @@ fn fetch_on(at: &mut WritePart, writing: Writing, so_far: Dinode)
     *at = WritePart::There(writing, so_far);
 }
 
-// On from where it was written, of so many bytes in all.
+// Goes on after it was written; `count` is the number of all bytes.
 #[inline(always)]
 fn pass(at: &mut WritePart, writing: Writing, so_far: Dinode, count: usize)
     requires ready { IsWriting (writing.left + 1) writing }
@@ -198,7 +199,7 @@ fn next_of(writing: &Writing, so_far: &Dinode) -> WritePart
     }
 }
 
-// Goes on where the next block was sought.
+// Goes on after the next block was sought.
 #[inline(always)]
 fn found(writing: &Writing, located: &Located) -> WritePart
     requires { IsWriting (writing.now.left + 1) writing.now }
@@ -232,7 +233,7 @@ fn store(writing: &Writing, so_far: &Dinode) -> WritePart
     WritePart::Storing(written, store)
 }
 
-// The record as it is to be stored.
+// The record that is to be stored.
 fn grown(writing: &Writing, so_far: &Dinode) -> Dinode
     requires { IsWriting 0 writing.now }
     ensures { result ≡ grown (written_so so_far.now writing.now) }
@@ -243,7 +244,7 @@ fn grown(writing: &Writing, so_far: &Dinode) -> Dinode
     }
 }
 
-// The writing past the next block, which was written, of so many bytes in all.
+// The writing past the next block, which was written; `count` is the number of all bytes.
 fn passed(writing: &Writing, count: usize) -> Writing
     requires ready { IsWriting (writing.now.left + 1) writing.now }
     requires there { writing.now.done ≤ count }
@@ -257,7 +258,7 @@ fn passed(writing: &Writing, count: usize) -> Writing
     }
 }
 
-// The bytes behind so many.
+// The bytes after the first `done`.
 fn rest(bytes: &[u8], done: usize) -> &[u8]
     requires { done ≤ length bytes.now }
     ensures { result.now ≡ drop done bytes.now }

@@ -1,4 +1,4 @@
--- How what was loaded stands in hand.
+-- What is loaded of an inode, as it is in hand.
 use Rattle.inode_table.proofs.Vocabulary.{◌≡◌, ℕ, Option, refl, None, option_map, option_map_or, MatchOption, IsLoadedAt, Dinode, false, Some, IsSome, is_some, InodePlace, One, Two, GuardState, Inode, Loaded, stands_so, with_inode_of, load, load_unless, P, Hand, inode_at, inode_in, no_inode, record_of, recorded, with_record}
 
 recorded_to : (d : Dinode) (o : Option (GuardState Inode)) → IsSome o → option_map_or (λ (g : GuardState Inode). g.value) (option_map (recorded d) o) no_inode ≡ stands_so d (option_map_or (λ (g : GuardState Inode). g.value) o no_inode)

@@ -17,7 +17,7 @@ record_in k h = (loaded_in k h).inode
 abbrev pub IsLoadedAt : InodePlace → Hand → Type 0
 IsLoadedAt k h = MatchOption (inode_at k h) ⊥ (λ g. IsSome g.value.content)
 
--- its block has a number
+-- its block's number is a u32
 abbrev pub HasBlock : ℕ → InodePlace → Hand → Type 0
 HasBlock inodestart k h = inode_block inodestart (number_in k h) < 2 ^ 32
 

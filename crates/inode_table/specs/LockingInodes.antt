@@ -10,7 +10,7 @@ use Rattle.inode_table.specs.LoadingHeld.{IsLoading}
 use Rattle.inode_table.specs.declared.locking_inodes.LockInode.{LockInode}
 use Rattle.inode_table.specs.declared.locking_inodes.LockInode.TheVariants.{Lock, Loading}
 
--- the lock of inode n is taken, and it is loaded where it isn't
+-- the lock of inode n is taken, and the inode is loaded if it isn't loaded
 abbrev pub lock_loaded : (inodestart n : ℕ) → P Loaded
 lock_loaded inodestart n = Do (steps.Lock n) unmarked (load_unless inodestart n)
 
@@ -18,7 +18,7 @@ abbrev pub lock_left : LockInode → Hand → P Loaded
 lock_left (Lock k inodestart) h = lock_loaded inodestart (number_at k h)
 lock_left (Loading k m) h = load_left m h
 
--- where the lock came already
+-- if the lock came already
 abbrev pub held_left : Option LockInode → InodePlace → Hand → P Loaded
 held_left None k h = Ret (loaded_in k h)
 held_left (Some m) k h = lock_left m h

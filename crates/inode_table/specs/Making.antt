@@ -9,7 +9,7 @@ use Rattle.fs_machine.specs.declared.op.Op.TheVariants as ops
 use Rattle.inode_table.specs.declared.new_inode.NewInode.{NewInode}
 use Rattle.inode_table.specs.declared.new_inode.NewInode.TheVariants.{Fetching, Look, Record, GiveBack}
 
--- the blocks behind the one that is looked at
+-- the blocks after the one that is looked at
 abbrev pub rest_of : Looking → P Made
 rest_of l = new_from l.left l.kind l.sizes (l.before + 1)
 
@@ -70,6 +70,6 @@ claimed_of made.NoInode = None
 abbrev pub NewEnds : NewInode → Made → Hand → Type 0
 NewEnds m out h = (reference_at (new_seat m) h ≡ claimed_of out) × (h.first ≡ None) × (h.second ≡ None)
 
--- but for the reference at a seat, a buffer and numbers
+-- the same hand, except for the reference at a seat, a buffer and numbers
 abbrev pub beside_new : InodePlace → Hand → Hand
 beside_new k h = with_buffer First None (with_reference k None (record h { numbers = []; count = 0 }))

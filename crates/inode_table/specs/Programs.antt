@@ -7,27 +7,27 @@ use Rattle.fs_machine.specs.Steps.{Op}
 abbrev pub no_record : Dinode
 no_record = record { kind = pos 0; major = pos 0; minor = pos 0; nlink = pos 0; size = 0; addrs = [] }
 
--- what was loaded of an inode in memory, where it is loaded
+-- what was loaded of an inode in memory, if it is loaded
 abbrev pub loaded_of : Inode → Loaded
 loaded_of inode = unwrap_or inode.content (unindexed no_record)
 
--- what stands on the disk of it
+-- its record, as it is on the disk
 abbrev pub record_of : Inode → Dinode
 record_of inode = (loaded_of inode).inode
 
--- the block of an inode, where the inode blocks begin at this one
+-- the block of an inode, if the inode blocks begin at this one
 abbrev pub inode_block : ℕ → ℕ → ℕ
 inode_block inodestart n = inodestart + n / inodes_per_block
 
--- where it stands there, counted in inodes
+-- its place in its block, counted in inodes
 abbrev pub place_of : ℕ → ℕ
 place_of n = n % inodes_per_block
 
--- an inode block with inode n so, and the others as they were
+-- an inode block with this record of inode n, and the others as they were
 unfoldable pub with_dinode : ℕ → Dinode → List ℕ → List ℕ
 with_dinode n d block = overwrite block (inode_len * place_of n) (spell_dinode d)
 
--- the buffer is given back as it was, and the inode is what stands there, with none of its names indexed
+-- the buffer is given back as it was, and the inode is as the block has it, with none of its names indexed
 abbrev pub give_back : {M : Type 0} → (b n : ℕ) → List ℕ → Prog Op Answer M Loaded
 give_back b n block = Do (Put b None) unmarked (λ _. Ret (unindexed (dinode_at (place_of n) block)))
 
@@ -35,7 +35,7 @@ give_back b n block = Do (Put b None) unmarked (λ _. Ret (unindexed (dinode_at 
 abbrev pub load : {M : Type 0} → (inodestart n : ℕ) → Prog Op Answer M Loaded
 load inodestart n = bind (fetch (inode_block inodestart n)) (give_back (inode_block inodestart n) n)
 
--- the same where it isn't loaded yet
+-- the same if it isn't loaded yet
 abbrev pub load_unless : {M : Type 0} → (inodestart n : ℕ) → Option Loaded → Prog Op Answer M Loaded
 load_unless inodestart n (Some l) = Ret l
 load_unless inodestart n None = load inodestart n

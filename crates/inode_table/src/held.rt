@@ -1,4 +1,4 @@
-// Inodes whose locks are in hand.
+//! Inodes whose locks are in hand.
 ghost use Rattle.std.specs.Prelude.{◌≡◌, Some, None, IsSome};
 ghost use Rattle.inode_table.specs.Vocabulary.{option_map, inode_at};
 ghost use Rattle.inode_table.specs.HeldInodes.{record_in, without_content, unloaded, IsLoadedAt};
@@ -25,7 +25,7 @@ fn unload(place: &mut Option<Guard<Inode>>)
     }
 }
 
-/// Nothing is loaded of the inode at a seat from now on.
+/// Unloads the inode at a seat.
 pub fn unload_at(hand: &mut Hand, seat: InodePlace)
     requires { IsSome (inode_at seat hand.old) }
     ensures { hand.new ≡ unloaded seat hand.old }

@@ -1,4 +1,4 @@
-//! An inode locked, and loaded where it isn't.
+//! An inode locked, and loaded if it isn't loaded.
 ghost use Rattle.std.specs.Prelude.{◌≡◌, ◌<◌, ◌^◌, None, IfSome, IfNone, IsSome, MatchOption};
 ghost use Rattle.inode_table.specs.Vocabulary.{Loaded, unindexed, buffer_at, IsAfter, answer_in, Goes, left_after, bare, Hand as HandState, inode_at, inode_in, number_at, reference_at, InodePlace};
 ghost use Rattle.inode_table.specs.Programs.{inode_block, load, load_unless};
@@ -76,7 +76,7 @@ impl Part for LoadInode {
     }
 }
 
-/// Begins to load it, on a disk whose inode blocks begin at block `inodestart`. None where it is loaded.
+/// Begins to load it, on a disk whose inode blocks begin at block `inodestart`. None if it is loaded.
 pub fn load_held(inodestart: u32, hand: &Hand, seat: InodePlace) -> Option<LoadInode>
     requires there { IsSome (inode_at seat hand.now) }
     requires block { HasBlock inodestart seat hand.now }
@@ -90,7 +90,7 @@ pub fn load_held(inodestart: u32, hand: &Hand, seat: InodePlace) -> Option<LoadI
     Some(LoadInode::new(inodestart, hand.inode(seat).number(), Place::First))
 }
 
-/// Takes the lock of the inode to which the reference at a seat is, and loads the inode where it isn't.
+/// Takes the lock of the inode of the reference at a seat, and loads the inode if it isn't loaded (xv6: `ilock`).
 #[derive(Clone, Copy, Drop)]
 pub enum LockInode {
     /// The lock is taken, on a disk whose inode blocks begin there.
@@ -110,7 +110,7 @@ impl LockInode {
         LockInode::Lock(seat, inodestart)
     }
 
-    /// That of an inode whose lock came to a seat, to which the reference is there. None where the inode is loaded.
+    /// The same for an inode whose lock is at a seat already, with the reference. None if the inode is loaded.
     pub fn held(inodestart: u32, hand: &Hand, seat: InodePlace) -> Option<LockInode>
         requires there { IsSome (inode_at seat hand.now) }
         requires number { number_in seat hand.now ≡ number_at seat hand.now }

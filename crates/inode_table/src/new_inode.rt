@@ -11,7 +11,7 @@ use fs_layout::widths::{ADDRESSES, Block, INODE_LEN, INODES_PER_BLOCK};
 use fs_layout::{Dinode, Super};
 use fs_machine::{Answer, Fetch, Hand, InodePlace, Op, Part, Place, Routine};
 
-/// What a search for a new inode came to.
+/// The result of a search for a new inode.
 #[derive(Clone, Copy, Drop)]
 pub enum Made {
     /// The inode of this number was taken, and the reference to it is in hand.
@@ -28,14 +28,14 @@ pub struct Looking {
     /// The type of the new inode.
     pub kind: i16,
     pub sizes: Super,
-    /// So many inode blocks stand before the one that is looked at ..
+    /// The number of inode blocks before the one that is looked at.
     pub before: u32,
-    /// .. and so many are to be looked at after it.
+    /// The number of inode blocks to look at after it.
     pub left: u32,
 }
 
-/// Takes the first inode whose type is 0 and to which no reference stands, by rising number, and records it with its type. The
-/// reference to it is at a seat then.
+/// Takes the first inode, by rising number, whose type is 0 and that has no reference, and records it with its type
+/// (xv6: `ialloc`). The reference to it is at a seat then.
 #[derive(Clone, Copy, Drop)]
 pub enum NewInode {
     /// An inode block is fetched.
@@ -44,7 +44,7 @@ pub enum NewInode {
     Look(InodePlace, Looking),
     /// One of them was claimed, of this number.
     Record(InodePlace, Looking, u32),
-    /// None could be claimed, since each place in memory is referred to.
+    /// None could be claimed, because each place in memory is referred to.
     GiveBack(InodePlace, Looking),
 }
 
@@ -166,7 +166,7 @@ fn after(looking: Looking) -> Looking
     }
 }
 
-// What a search came to that has no block left.
+// The result of a search that has no block left.
 #[tactic(auto, unfolding(crate::specs::NewInodes::new_from))]
 fn none_left(looking: Looking) -> Made
     requires { looking.left ≡ 0 }
@@ -176,7 +176,7 @@ fn none_left(looking: Looking) -> Made
     Made::NoInode
 }
 
-// The numbers of the free inodes of the block at the first place are in hand from now on.
+// Takes the numbers of the free inodes of the block at the first place in hand.
 fn hold_free(looking: Looking, hand: &mut Hand)
     requires { HasInodes hand.old }
     ensures free { HasFree looking hand.new }
@@ -204,7 +204,7 @@ fn is_free(block: &Block, number: usize, ninodes: u32) -> bool
     0 < number && number < ninodes as usize && kind_at(block, number % INODES_PER_BLOCK) == 0
 }
 
-/// The free inodes of an inode block, of which so many stand before it, and how many there are.
+/// The free inodes of an inode block that comes after `before` others, and how many there are.
 pub fn free_numbers(block: &Block, ninodes: u32, before: u32) -> ([u32; INODES_PER_BLOCK], usize)
     ensures count { result.1 ≤ inodes_per_block }
     ensures numbers { take result.1 result.0 ≡ free_in ninodes before block.now }

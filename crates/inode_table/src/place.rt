@@ -1,4 +1,4 @@
-// Where an inode stands, and what its block's buffer has there.
+//! The place of an inode, and what its block's buffer has there.
 ghost use Rattle.std.specs.Prelude.{◌≡◌, ◌<◌, ◌^◌, IsSome, ◌+◌};
 ghost use Rattle.inode_table.specs.Vocabulary.{MatchOption, inodes_per_block, buffer_at, bytes_at, with_bytes, dinode_at};
 ghost use Rattle.inode_table.specs.Programs.{inode_block, place_of, with_dinode};
@@ -15,7 +15,7 @@ pub(crate) fn block_of(inodestart: u32, number: u32) -> u32
     inodestart + number / INODES_PER_BLOCK as u32
 }
 
-// Where it stands there, counted in inodes.
+// Its place in its block, counted in inodes.
 fn place_in(number: u32) -> usize
     ensures place { result ≡ place_of number }
     ensures within { result < inodes_per_block }
@@ -23,8 +23,8 @@ fn place_in(number: u32) -> usize
     number as usize % INODES_PER_BLOCK
 }
 
-// Writes the inode into its block's buffer, at a place of the hand. It stays a function, so that what asks for it is small enough to be
-// put into its callers.
+// Writes the inode into its block's buffer, at a place of the hand. It stays a function, so that its callers are
+// small enough to be inlined.
 #[inline(never)]
 #[tactic(auto, unfolding(crate::specs::Programs::with_dinode))]
 pub(crate) fn write_dinode_at(hand: &mut Hand, place: Place, number: u32, inode: &Dinode)

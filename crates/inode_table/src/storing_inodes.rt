@@ -11,7 +11,7 @@ use crate::place::{block_of, write_dinode_at};
 use fs_layout::Dinode;
 use fs_machine::{Answer, Fetch, Hand, InodePlace, Op, Part, Place};
 
-/// Records the inode whose lock is at a seat in its block, as it is in hand.
+/// Records the inode whose lock is at a seat in its block, as it is in hand (xv6: `iupdate`).
 #[derive(Clone, Copy, Drop)]
 pub enum StoreRecord {
     /// The block is fetched.
@@ -34,7 +34,7 @@ impl StoreRecord {
         StoreRecord::Fetching(seat, Fetch::Get(place, block))
     }
 
-    /// The same where the inode stands as this record from now on.
+    /// The same, and from then on the inode has this record in hand.
     pub fn with(
         inodestart: u32,
         hand: &mut Hand,
@@ -55,7 +55,7 @@ impl StoreRecord {
         StoreRecord::new(inodestart, hand, seat, place)
     }
 
-    /// The same where its count of links is this from now on.
+    /// The same, and from then on the inode has this count of links in hand.
     pub fn with_count(
         inodestart: u32,
         hand: &mut Hand,
@@ -138,7 +138,7 @@ fn counted(inode: Dinode, count: u32) -> Dinode
     }
 }
 
-/// Records an inode in its block.
+/// Records an inode in its block, by its number and its record (xv6: `iupdate`).
 #[derive(Drop)]
 pub enum StoreInode {
     /// The block of this inode is fetched.
@@ -148,7 +148,7 @@ pub enum StoreInode {
 }
 
 impl StoreInode {
-    /// Inode `number` of a disk whose inode blocks begin at block `inodestart`, to stand there like this.
+    /// Inode `number` of a disk whose inode blocks begin at block `inodestart`, with this record.
     pub fn new(inodestart: u32, number: u32, inode: Dinode, place: Place) -> StoreInode
         requires { inode_block inodestart number < 2 ^ 32 }
         ensures program { (h : HandState) → store_left result h ≡ store inodestart number inode }

@@ -23,7 +23,7 @@ pub fn numbered(alloc: Global) -> Result<MemoryDisk, AllocError> {
     Ok(MemoryDisk::new(bytes))
 }
 
-/// The buffers, asked for once more where memory was refused.
+/// The buffers, asked for once more if memory was refused.
 pub fn buffers(rt: &impl Abort, alloc: Global) -> Buffers
     ensures { result ≡ unused_from 0 BUFFERS }
 {
@@ -64,8 +64,8 @@ fn pin(rt: &impl Abort, cache: &mut Cache<MemoryDisk>, hart: u8, b: u32) {
     }
 }
 
-/// On a fresh image, whose first 47 blocks have a zero at place 7, the first 46 blocks are in the buffers, and the first of them is asked
-/// for once more. Then block 46 takes the buffer of block 1; or of block 2, where block 1 is pinned.
+/// The first 47 blocks of a fresh image have a zero at place 7. The first 46 of them are in the buffers, and the
+/// first is asked for once more. Then block 46 takes the buffer of block 1; or that of block 2, if block 1 is pinned.
 #[test]
 fn the_least_recent_is_taken(rt: HostRuntime) -> Result<(), Fail> {
     for (pinned, taken) in [(None, 1), (Some(1), 2)] {
@@ -87,7 +87,7 @@ fn the_least_recent_is_taken(rt: HostRuntime) -> Result<(), Fail> {
     Ok(())
 }
 
-// The device fails at each call in turn: the guard isn't valid then, the rest is as it was, and the cache ends with
+// The device fails at each call in turn. The guard isn't valid then, the rest is as it was, and the cache ends with
 // the guard out.
 #[test]
 fn a_fault_leaves_the_guard(rt: HostRuntime) -> Result<(), Fail> {

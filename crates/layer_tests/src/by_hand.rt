@@ -16,7 +16,7 @@ pub fn put(image: &mut [u8], at: usize, bytes: &[u8]) {
     }
 }
 
-/// So many blocks of zeros with these bytes written, one after the other.
+/// `blocks` blocks of zeros with these bytes written, one after the other.
 pub fn with(alloc: Global, blocks: usize, changes: &[Change]) -> Result<Vec<u8>, AllocError>
     requires { blocks < 8192 }
 {
@@ -51,9 +51,9 @@ pub const SMALL: [Change; 5] = [
     (34832, b"\x01\0.."),
 ];
 
-/// 64 blocks, 16 inodes, a log of 30 blocks. The log hides the inode block 32 by its copy in block 3. "/d" is inode 2,
-/// "/f" and "/d/g" are inode 3 with 12 blocks, an indirect block and 5 bytes behind it, "/t" is the device 4, and inode 5 is
-/// a file without a name.
+/// 64 blocks, 16 inodes, a log of 30 blocks. The log hides the inode block 32 by its copy in block 3. "/d" is inode
+/// 2. "/f" and "/d/g" are inode 3 with 12 blocks, an indirect block and 5 bytes after it. "/t" is the device 4, and
+/// inode 5 is a file without a name.
 pub const RICH: [Change; 19] = [
     (
         1024,

@@ -1,5 +1,5 @@
-//! Worked runs, each with a list of steps that explains it, and what becomes of that list where one entry is another.
-//! What finds no memory is tried once more.
+//! Worked runs, each with a list of steps that explains it, and what the check says of the list if one entry is
+//! another. A call that finds no memory is tried once more.
 use crate::story::{Change, Story, StoryResult, bytes, opened};
 use plain_tree::{Action, Answer, Call, Cause, Full, NoMemory, NodeType, Stat, StepAnswer};
 use std::alloc::Global;
@@ -269,7 +269,7 @@ fn changed(alloc: Global, run: Run, one: Change, two: Change) -> StoryResult<boo
     story.is_explained()
 }
 
-/// It is found out whether the list explains the run with these changes.
+/// Whether the check answers `wanted`, for the list and the run with these changes.
 fn says(alloc: Global, run: Run, one: Change, two: Change, wanted: bool) -> bool {
     match changed(alloc, run, one, two) {
         Ok(is) => is == wanted,
@@ -342,7 +342,7 @@ fn keeps_entries_in_their_places(rt: HostRuntime) -> Result<(), Fail> {
         (Run::TwoAtOnce, Change::Of(0, 2), false),
         (Run::TwoAtOnce, Change::By(0, 1), false),
         (Run::TwoAtOnce, Change::Moved(0, 1), true),
-        // A call that answered for want of room may not be finished.
+        // A call that answered that there was no room may not be finished.
         (Run::WithoutRoom, Change::Nothing, false),
         (Run::WithoutRoom, Change::Unfinished(16), true),
     ] {

@@ -1,5 +1,6 @@
-//! Tests of the layers: the plain tree and the search for histories, images that are examined, recovered and made, and from
-//! records in blocks up to the log. They stand here, above the crates that they run, since a crate with tests is proved twice.
+//! Tests of the layers: the plain tree and the search for histories, images that are examined, recovered and made.
+//! And of the layers from records in blocks up to the log. They are here, above the crates that they run, because a
+//! crate with tests is proved twice.
 #![tactic(auto)]
 
 #[cfg(test)]

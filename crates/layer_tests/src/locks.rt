@@ -27,7 +27,7 @@ fn fifty(alloc: Global) -> Result<Vec<Box<u64>>, AllocError>
     Ok(values)
 }
 
-// A row of slots with these numbers, made once more where memory was refused. An error is of the numbers.
+// A row of slots with these numbers, made once more if memory was refused. An error is of the numbers.
 fn row_of_fifty(rt: &impl Abort, alloc: Global) -> Result<Slots<Box<u64>>, AllocError>
     ensures count { IfOk result (λ slots. length slots ≡ 50) }
     ensures numbered { IfOk result (λ slots. IsNumbered slots) }

@@ -19,7 +19,7 @@ use std::alloc::{AllocError, Global};
 use std::process::Abort;
 use std::test::Fail;
 
-// Where the parts of the fresh image lie, with fewer data blocks.
+// The places of the fresh image's parts, with fewer data blocks.
 const FRESH: Super = Super {
     size: 64,
     nblocks: 17,
@@ -42,7 +42,8 @@ fn disk(rt: &impl Abort, alloc: Global, sizes: &Super) -> Result<MemoryDisk, All
     Ok(disk)
 }
 
-// A disk that keeps the numbers of the blocks that were written, in order, and of those of the log's head how many blocks each names.
+// A disk that keeps the numbers of the blocks that were written, in order. For each write of the log's head it keeps
+// how many blocks the head names.
 #[derive(Drop)]
 struct Watched {
     disk: Fused,
@@ -83,7 +84,7 @@ impl Device for Watched {
     }
 }
 
-// Where the parts of a disk lie, once it was recovered.
+// The places of a disk's parts, after it was recovered.
 fn recovered<D: Device>(device: &mut D) -> Result<Super, MountFault>
     ensures place { IfOk result (λ sizes. IsPlaced (D.contents device.new) sizes) }
     ensures empty { IfOk result (λ _. logged (D.contents device.new) ≡ []) }
@@ -167,8 +168,9 @@ fn commit<D: Device>(rt: &impl Abort, log: &mut Log<D>, hart: u8) -> (u64, Progr
     panic!(rt; "a commit has an end")
 }
 
-/// On a fresh image a transaction records block 48, block 46 and block 48 once more: the commit writes their two copies, the head, which
-/// names two blocks, both at home in the order in which they were first recorded, and the empty head.
+/// On a fresh image a transaction records block 48, block 46 and block 48 once more. The commit writes their two
+/// copies, and the head, which names two blocks. Then it writes both at home in the order in which they were first
+/// recorded, and the empty head.
 #[test]
 fn a_commit_writes_in_order(rt: HostRuntime) -> Result<(), Fail> {
     let disk = Watched {
@@ -249,8 +251,9 @@ fn a_join_counts_what_was_recorded(rt: HostRuntime) -> Result<(), Fail> {
     Ok(())
 }
 
-// Four calls read the superblock and the head, and three the blocks. Then the device fails at each write of the commit
-// in turn: three copies, the head, three copies home, the empty head. What is there after a recovery is all or nothing.
+// Four calls read the superblock and the head, and three the blocks. Then the device fails at each write of the
+// commit in turn: three copies, the head, three copies home, the empty head. After a recovery all is there or
+// nothing.
 #[test]
 fn a_group_is_there_whole_or_not_at_all(rt: HostRuntime) -> Result<(), Fail> {
     for writes in 0..9u64 {
@@ -288,9 +291,9 @@ fn a_group_is_there_whole_or_not_at_all(rt: HostRuntime) -> Result<(), Fail> {
     Ok(())
 }
 
-// The first commit begins with event 9, of ten, and ends. The second begins with event 19, and the device fails at each
-// of its four writes in turn: a copy, the head, the copy home, the empty head. Before that there were nine calls: four read
-// the superblock and the head, one block 48, and four are the first commit's writes.
+// The first commit begins with event 9, of ten, and ends. The second begins with event 19, and the device fails at
+// each of its four writes in turn. These are a copy, the head, the copy home, the empty head. Before that there were
+// nine calls: four read the superblock and the head, one block 48, and four are the first commit's writes.
 #[test]
 fn marks_say_which_commit_stands(rt: HostRuntime) -> Result<(), Fail> {
     for (writes, cut, doubt) in [

@@ -1,4 +1,4 @@
-//! What the examination of images answers that are made by hand.
+//! What the examination answers for images that are made by hand.
 use crate::by_hand::{Change, FRESH, RICH, SMALL, fresh, with};
 use crate::told_images::holds;
 use block_device::{Device, Fused, MemoryDisk};
@@ -8,7 +8,7 @@ use plain_tree::{Node, NodeKind, Slot, Tree};
 use std::alloc::{AllocError, Global};
 use std::test::Fail;
 
-// Examines an image, once more where memory was refused: that changed nothing, so the answer is the same.
+// Examines an image, once more if memory was refused: that changed nothing, so the answer is the same.
 pub fn examine<D: Device>(alloc: Global, device: &mut D) -> Result<Shape, MountFault> {
     match image_tree::examine(alloc, device, Version::One) {
         Err(MountFault::NoMemory) => image_tree::examine(alloc, device, Version::One),
@@ -16,7 +16,7 @@ pub fn examine<D: Device>(alloc: Global, device: &mut D) -> Result<Shape, MountF
     }
 }
 
-// Makes an image's tree, once more where memory was refused.
+// Makes an image's tree, once more if memory was refused.
 fn tree_of<D: Device>(alloc: Global, device: &mut D) -> Result<Tree, MountFault> {
     match image_tree::tree_of(alloc, device, Version::One) {
         Err(MountFault::NoMemory) => image_tree::tree_of(alloc, device, Version::One),
@@ -67,7 +67,7 @@ fn shapes_count_nodes_and_blocks(rt: HostRuntime) -> Result<(), Fail> {
     Ok(())
 }
 
-// Examines an image, of which so many bytes are left: the answer, and the image.
+// Examines the first `length` bytes of an image: the answer, and the image.
 fn examine_cut(alloc: Global, image: Vec<u8>, length: usize) -> (u8, Vec<u8>) {
     let mut image = image;
     image.truncate(length);
@@ -148,7 +148,7 @@ fn turn(image: &mut [u8], place: usize, by: u8) {
     }
 }
 
-// The numbers come from a checker written apart from this one, in another language.
+// The numbers come from a separate checker, written in another language.
 #[test]
 fn every_turned_byte_is_judged(rt: HostRuntime) -> Result<(), Fail> {
     let image = with(rt.alloc(), 2000, &FRESH)?;
@@ -170,7 +170,7 @@ fn is_slot(slot: Option<&Option<Slot>>, name: &[u8], number: u16) -> bool {
     }
 }
 
-// The slots of a directory of so many links.
+// The slots of a directory with this count of links.
 fn slots_of(tree: &Tree, number: usize, links: u16) -> &[Option<Slot>] {
     match tree.node(number) {
         Some(
@@ -183,7 +183,7 @@ fn slots_of(tree: &Tree, number: usize, links: u16) -> &[Option<Slot>] {
     }
 }
 
-// The bytes of a file of so many links.
+// The bytes of a file with this count of links.
 fn bytes_of(tree: &Tree, number: usize, links: u16) -> &[u8] {
     match tree.node(number) {
         Some(
@@ -210,7 +210,7 @@ fn is_device(node: Option<&Node>) -> bool {
     )
 }
 
-// Whether each hart stands in the root, and has nothing.
+// Whether each hart is in the root, and has nothing.
 fn are_harts_new(tree: &Tree) -> bool {
     for hart in 0..8u8 {
         let is_there = tree.directory(hart) == 1;
@@ -251,7 +251,7 @@ fn trees_have_what_the_image_has(rt: HostRuntime) -> Result<(), Fail> {
     Ok(())
 }
 
-// Where memory is refused (bin/short-memory), the answer is 33 and the bytes are the same.
+// If memory is refused (bin/short-memory), the answer is 33 and the bytes are the same.
 #[test]
 fn refused_memory_changes_nothing(rt: HostRuntime) -> Result<(), Fail> {
     let image = with(rt.alloc(), 64, &RICH)?;

@@ -5,7 +5,7 @@ use mkfs::{MakeRefused, NewFile};
 use std::alloc::{AllocError, Global};
 use std::test::Fail;
 
-// Makes an image, once more where memory was refused: that changed nothing, so the answer is the same.
+// Makes an image, once more if memory was refused: that changed nothing, so the answer is the same.
 fn make(
     alloc: Global,
     size: u32,
@@ -57,7 +57,7 @@ fn refusal(made: Result<MemoryDisk, MakeRefused>) -> u32 {
     }
 }
 
-// The number that stands at a place.
+// The number at a place.
 fn number_at(bytes: &[u8], at: usize) -> usize {
     let mut number = 0usize;
     for &byte in bytes.iter().skip(at).take(4).rev() {
@@ -66,7 +66,7 @@ fn number_at(bytes: &[u8], at: usize) -> usize {
     number
 }
 
-// An image of 2000 blocks and 200 inodes with these files; no byte where none is made.
+// An image of 2000 blocks and 200 inodes with these files; no byte if none is made.
 fn image_with(alloc: Global, files: &[NewFile]) -> Vec<u8> {
     made(alloc, 2000, 200, files).unwrap_or(Vec::new(alloc))
 }
@@ -80,7 +80,7 @@ fn count_used(bytes: &[u8]) -> u32 {
     count
 }
 
-// Where the inodes of the root and of the first file stand.
+// The places of the inodes of the root and of the first file.
 const ROOT: usize = 33 * 1024 + 64;
 
 const FIRST: usize = 33 * 1024 + 128;
@@ -101,8 +101,9 @@ fn root_sizes(rt: HostRuntime) -> Result<(), Fail> {
     Ok(())
 }
 
-// Of a file of so many blocks, the numbers that stand in the image: its size, and those of its first block, its twelfth and its indirect
-// one, and the first and the last that stand in that. The root is block 47, so that the file's first block is 48.
+// The number of a file's blocks, and numbers at places of the image. These are the file's size, the numbers of its
+// first block, its twelfth and its indirect one, and the first and the last number in the indirect block. The root is
+// block 47, so the file's first block is 48.
 const LARGE: [(usize, [(usize, usize); 6]); 3] = [
     (
         12,
@@ -139,7 +140,7 @@ const LARGE: [(usize, [(usize, usize); 6]); 3] = [
     ),
 ];
 
-// Where these numbers don't stand behind the file's inode, the first of such places.
+// If these numbers aren't at their places after the file's inode, the first such place.
 fn wrong_place(bytes: &[u8], numbers: &[(usize, usize)]) -> Option<usize> {
     for (behind, number) in numbers {
         if number_at(bytes, FIRST.saturating_add(*behind)) != *number {
@@ -149,7 +150,7 @@ fn wrong_place(bytes: &[u8], numbers: &[(usize, usize)]) -> Option<usize> {
     None
 }
 
-// The second byte of a block of the file's, which stands in this block of the image.
+// Whether a block of the image has the second byte of this block of the file.
 fn has_byte(bytes: &[u8], block: usize, of_file: usize) -> bool {
     bytes.get(block.saturating_mul(1024).saturating_add(1))
         == Some(&((of_file.saturating_mul(1024).saturating_add(1) % 251) as u8))

@@ -1,4 +1,4 @@
-//! Nodes without a name that are freed, also by a call that is stopped at each call of the device in turn.
+//! Nodes without a name that are freed, even by a call that is stopped at each call of the device in turn.
 ghost use Rattle.std.specs.Prelude.{◌≡◌, IfOk};
 ghost use Rattle.group_log.specs.Vocabulary.{sizes_of};
 ghost use Rattle.image_tree.specs.VersionOne.{IsWellFormed};
@@ -12,7 +12,7 @@ use image_versions::Version;
 use std::alloc::Global;
 use std::test::Fail;
 
-// Where the log's head and its two copies stand in a fresh image.
+// The places of the log's head and of its two copies in a fresh image.
 const HEAD: usize = 2048;
 
 const FIRST_COPY: usize = 3072;
@@ -21,7 +21,7 @@ const SECOND_COPY: usize = 4096;
 
 const BITMAP: usize = 47104;
 
-// Where inode 2 stands.
+// The place of inode 2.
 const INODE: usize = 33920;
 
 // In a fresh image, inode 2: a file of one byte in block 48, without a name.
@@ -30,8 +30,8 @@ const ORPHAN: [Change; 2] = [
     (47110, b"\x01"),
 ];
 
-// 64 blocks, 16 inodes, and a log of 11 blocks. Without a name are inode 2, a file of 13 blocks with an indirect one, inode
-// 3, a directory of one block, and inode 5, a device. Inode 4 is the file "/f" of one block.
+// 64 blocks, 16 inodes, and a log of 11 blocks. Three inodes have no name: 2 is a file of 13 blocks with an indirect
+// one, 3 a directory of one block, and 5 a device. Inode 4 is the file "/f" of one block.
 const THREE: [Change; 10] = [
     (
         1024,
@@ -61,7 +61,7 @@ fn byte_at(bytes: &Vec<u8>, at: usize) -> Option<u8> {
     bytes.get(at).copied()
 }
 
-// Examines an image, once more where memory was refused.
+// Examines an image, once more if memory was refused.
 fn examined<D: Device>(alloc: Global, device: &mut D) -> Result<Layout, MountFault>
     ensures { IfOk result (λ layout. IsWellFormed (D.contents device.new) × (layout.sizes ≡ sizes_of (D.contents device.new))) }
 {
@@ -71,7 +71,7 @@ fn examined<D: Device>(alloc: Global, device: &mut D) -> Result<Layout, MountFau
     }
 }
 
-// Settles an image, on a device that fails after so many calls. It tells whether that was done, and gives the image.
+// Settles an image, on a device that fails after `calls` calls. It says whether that was done, and gives the image.
 fn stopped(alloc: Global, disk: MemoryDisk, calls: u64) -> Result<(bool, MemoryDisk), Fail> {
     let mut disk = disk;
     let Ok(layout) = examined(alloc, &mut disk) else {
@@ -82,8 +82,8 @@ fn stopped(alloc: Global, disk: MemoryDisk, calls: u64) -> Result<(bool, MemoryD
     Ok((done, device.into_disk()))
 }
 
-// The device makes 214 calls: two to recover, one for each inode, and for the orphan three further reads, its copies in the
-// log and the head as calls 8 to 10, and the writes of recovery as calls 14, 16 and 17.
+// The device makes 214 calls: two to recover, one for each inode, and for the orphan three further reads. Calls 8 to
+// 10 write its copies in the log and the head, and calls 14, 16 and 17 are the writes of recovery.
 #[test]
 fn an_orphan_goes_in_six_writes(rt: HostRuntime) -> Result<(), Fail> {
     for calls in [0, 7, 8, 9, 10, 13, 14, 15, 16, 17, 213, 214u64] {

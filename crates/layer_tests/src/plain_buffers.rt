@@ -50,7 +50,7 @@ impl Plain {
         self.rows.iter().position(|row| row.block == Some(b))
     }
 
-    // The block's buffer, else the first that is neither out nor pinned. None where it waits.
+    // The block's buffer, else the first that is neither out nor pinned. None if it waits.
     fn get(&mut self, b: u32) -> Option<Row> {
         let found = self.place_of(b);
         let free = self
@@ -124,7 +124,7 @@ fn expect_same(rt: &impl Abort, guard: &Guard<Buffer>, row: Option<Row>) {
     }
 }
 
-// A hart gets a block, and gives it back, where it isn't out.
+// A hart gets a block, and gives it back, unless it is out.
 fn pass_by(rt: &impl Abort, cache: &mut Cache<MemoryDisk>, plain: &mut Plain, hart: u8, b: u32)
     ensures others { KeepsOthers b cache.old.seats cache.new.seats }
     ensures count { length (blocks_of cache.new.device) ≡ length (blocks_of cache.old.device) }
@@ -176,7 +176,7 @@ fn go_round(
     }
 }
 
-// Unpins a block's buffer, once it was written home, or pins it where it isn't pinned; then it is given back.
+// Unpins a block's buffer, after it was written home, or pins it if it isn't pinned; then it is given back.
 fn turn_pin(rt: &impl Abort, cache: &mut Cache<MemoryDisk>, plain: &mut Plain, b: u32) {
     let is_pinned = plain.is_pinned(b);
     if !is_pinned && !(cache.is_cached(b) && cache.pinned() < MOST_PINNED) {
@@ -202,7 +202,8 @@ fn turn_pin(rt: &impl Abort, cache: &mut Cache<MemoryDisk>, plain: &mut Plain, b
     }
 }
 
-/// Of ten thousand rounds each get gives the buffer that the list has, filled or not, and waits where it does.
+/// In each of ten thousand rounds a get gives the buffer that the list has, filled or not, and waits exactly if the
+/// list does.
 #[test]
 fn buffers_go_as_a_plain_list(rt: HostRuntime) -> Result<(), Fail> {
     let mut cache = Cache::new(buffers(&rt, rt.alloc()), numbered(rt.alloc())?);

@@ -71,7 +71,7 @@ fn inode_37_at_byte_320_with_extreme_counts(rt: HostRuntime) {
     }
 }
 
-/// The bytes of an entry in the last slot of a block of ones, where its name can be read back.
+/// The bytes of an entry in the last slot of a block of ones, if its name can be read back.
 fn entry_bytes(number: u16, name: &[u8]) -> Option<[u8; 16]> {
     let mut block = [0xff; BLOCK_LEN];
     let name = Name::new(Version::One, name)?;

@@ -9,7 +9,7 @@ use plain_tree::{NodeKind, Tree};
 use std::alloc::{AllocError, Global};
 use std::test::Fail;
 
-// Where the first block of the log begins, and the three copies behind it.
+// The places of the log's first block, and of the three copies after it.
 const HEAD: usize = 2048;
 
 const COPIES: usize = 3072;
@@ -91,7 +91,7 @@ fn recovery_goes_on_where_it_stopped(rt: HostRuntime) -> Result<(), Fail> {
     Ok(())
 }
 
-// Recovers, and makes the tree, once more where memory was refused.
+// Recovers, and makes the tree, once more if memory was refused.
 fn tree_after<D: Device>(alloc: Global, device: &mut D) -> Result<Tree, MountFault> {
     match recovered_tree(alloc, device, Version::One) {
         Err(MountFault::NoMemory) => recovered_tree(alloc, device, Version::One),

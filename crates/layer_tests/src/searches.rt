@@ -1,5 +1,5 @@
-//! The search for a list that explains a run: it is found for each worked run, and not where a reply can't be.
-//! What finds no memory is tried once more.
+//! The search for a list that explains a run: it finds one for each worked run, and none if a reply is impossible. A
+//! call that finds no memory is tried once more.
 use crate::explains::{Run, told};
 use crate::story::{Change, StoryResult};
 use plain_tree::NoMemory;
@@ -12,7 +12,7 @@ fn sought(alloc: Global, run: Run, change: Change) -> StoryResult<bool> {
     story.is_explicable(6)
 }
 
-/// It is found out whether some list explains the run with this change.
+/// Whether the search answers `wanted`, for the run with this change.
 fn says(alloc: Global, run: Run, change: Change, wanted: bool) -> bool {
     match sought(alloc, run, change) {
         Ok(is) => is == wanted,

@@ -1,5 +1,6 @@
-//! Where memory is short: `bin/short-memory` refuses each request for memory in turn that a call makes, which is made between the lines
-//! "call" and "done". Then it answers 33, what it was given is as before, and made once more it comes to what it comes to else.
+//! What calls do if memory is short. `bin/short-memory` refuses, in turn, each request for memory that a call makes
+//! between the lines "call" and "done". Then the call answers 33, and what it was given is as before. Made once more,
+//! it has its usual result.
 use crate::by_hand::{RICH, with};
 use block_device::MemoryDisk;
 use image_tree::{examine, tree_of};
@@ -13,7 +14,7 @@ const NO_MEMORY: u32 = 33;
 
 const ANSWERED: u32 = 0;
 
-/// An image that wasn't made for want of memory is made the next time, of the same files.
+/// An image that wasn't made for want of memory is made the next time, from the same files.
 #[test]
 fn of_make(rt: HostRuntime) -> Result<(), Fail> {
     let alloc = rt.alloc();
@@ -62,7 +63,7 @@ fn of_examine(rt: HostRuntime) -> Result<(), Fail> {
     Ok(())
 }
 
-/// So it is of an image whose tree wasn't made.
+/// An image whose tree wasn't made for want of memory is unchanged, and its tree is made the next time.
 #[test]
 fn of_tree_of(rt: HostRuntime) -> Result<(), Fail> {
     let alloc = rt.alloc();

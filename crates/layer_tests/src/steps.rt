@@ -1,5 +1,5 @@
-//! The largest file, the named part of a tree that keeps nodes without names, and steps past the table.
-//! What finds no memory is tried once more.
+//! The largest file, the named part of a tree that keeps nodes without names, and steps past the table. A call that
+//! finds no memory is tried once more.
 use crate::story::bytes;
 use image_versions::Version;
 use plain_tree::{
@@ -56,7 +56,7 @@ fn limits_a_file(rt: HostRuntime) -> Result<(), Fail> {
     Ok(())
 }
 
-/// A root whose one name leads past the table.
+/// A root whose only name leads past the table.
 fn astray(alloc: Global) -> Result<Tree, NoMemory> {
     let name = bytes(alloc, b"x")?;
     let mut slots = Vec::new(alloc);
@@ -132,7 +132,7 @@ fn changes_a_node_past_the_table(rt: HostRuntime) -> Result<(), Fail> {
     Ok(())
 }
 
-/// /d (2), where hart 0 stands, and file 3, which has a descriptor and no name.
+/// /d (2), which is hart 0's directory, and file 3, which has a descriptor and no name.
 fn grown(alloc: Global) -> Result<Tree, ApplyRefused> {
     let mut tree = Tree::new(alloc, Version::One, 10)?;
     let flags = 0x202;

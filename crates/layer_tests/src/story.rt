@@ -1,4 +1,4 @@
-//! A run told for a test: its calls, and a list of steps with their answers.
+//! A run that is written down for a test: its calls, and a list of steps with their answers.
 use image_versions::Version;
 use plain_tree::{
     Action, Answer, Bytes, Call, Calls, Cause, NoMemory, Placed, Reply, StepAnswer, Trace,
@@ -7,20 +7,20 @@ use plain_tree::{
 use std::alloc::Global;
 use tree_histories::find_history;
 
-/// What is other than told.
+/// What is changed of the run as it was written down.
 #[derive(Clone, Copy)]
 pub(crate) enum Change {
     Nothing,
-    /// The entry stands at another place, at the event of the entry that stood there.
+    /// The entry is at another place, at the event of the entry that was there.
     Moved(usize, usize),
     Dropped(usize),
-    /// The entry stands there once more.
+    /// The entry is there once more.
     Doubled(usize),
     /// The entry has another answer.
     Answered(usize),
     /// The entry opened a file under another id.
     Under(usize, usize),
-    /// The entry stands at another event.
+    /// The entry is at another event.
     At(usize, u64),
     /// The entry is of another call.
     Of(usize, usize),
@@ -28,7 +28,7 @@ pub(crate) enum Change {
     By(usize, u8),
     /// The call was given another answer.
     Given(usize),
-    /// The call was handed back another.
+    /// The call was handed back as another one.
     Handed(usize),
     /// The call isn't finished.
     Unfinished(usize),
@@ -42,7 +42,7 @@ pub(crate) struct Story {
     pub(crate) events: u64,
 }
 
-/// What is told, where there is memory for it.
+/// The run, if there is memory for it.
 pub(crate) type StoryResult<T = ()> = Result<T, NoMemory>;
 
 /// The answer that nothing has in these runs.
@@ -116,7 +116,7 @@ impl Story {
         self.call(hart, life, call, Answer::Done)
     }
 
-    /// The last call handed back another than it was given.
+    /// The last call was handed back as another one than it was given.
     pub(crate) fn hands(&mut self, handed: Call) {
         if let Some(traced) = self.calls.last_mut() {
             if let Some((_, reply)) = &mut traced.finished {
@@ -214,7 +214,7 @@ impl Story {
         Ok(())
     }
 
-    /// Whether a list was found that explains what the calls were told, from a fresh tree of so many numbers. It is
+    /// Whether a list was found that explains the calls' replies, from a fresh tree of `ninodes` numbers. The list is
     /// checked too.
     pub(crate) fn is_explicable(self, ninodes: u16) -> StoryResult<bool> {
         let Story {
@@ -232,7 +232,7 @@ impl Story {
         }
     }
 
-    /// From a fresh tree of 200 numbers the list explains what the calls were told.
+    /// From a fresh tree of 200 numbers the list explains the calls' replies.
     pub(crate) fn is_explained(self) -> StoryResult<bool> {
         let Story {
             alloc,

@@ -17,7 +17,7 @@ use std::mem;
 use std::process::Abort;
 use std::test::Fail;
 
-// A file's record, with so many names.
+// A file's record, with this count of names.
 fn file(nlink: i16) -> Dinode {
     Dinode {
         kind: 2,
@@ -100,7 +100,8 @@ fn a_lock_waits_while_it_is_out(rt: HostRuntime) -> Result<(), Fail> {
     Ok(())
 }
 
-/// In a directory without a link a search for a name, "." too, finds nothing and begins with no block; its size is that of "." and "..".
+/// In a directory without a link a search for a name, even for ".", finds nothing and begins with no block. Its size
+/// is that of "." and "..".
 #[test]
 fn a_removed_directory_has_no_names(rt: HostRuntime) -> Result<(), Fail> {
     let removed = Dinode {

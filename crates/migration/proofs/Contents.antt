@@ -110,7 +110,7 @@ contents_ready w own v disk one two shown nodes later good l e1 e2 well says is 
     subst (λ (x : Version). HasGoodDirectories x v disk) l (subst (HasGoodDirectories own v) e1 (tells.0 so)) in
     subst HaveContents (sym all) (have_contents w v disk well (says.0 is) few)
 
--- so an image of so many blocks has room for it
+-- so an image of `size` blocks has room for it
 pub record IsFit (size : ℕ) (taken : Taken) : Type 0 where
   pub contents : HaveContents (map node_of taken.nodes.items)
   pub few : size ≤ most_disk_blocks

@@ -1,4 +1,4 @@
--- Where a new image has no inodes, its blocks are those of an image of files with the same contents.
+-- Apart from its inodes, the blocks of a new image are those of an image of files with the same contents.
 use Rattle.std.proofs.Common.{◌≡◌, ◌∙◌, sym, refl, ap, subst, arith, ℕ, suc, ◌+◌, ◌-◌, ◌*◌, ◌<◌, ◌≤◌, ◌⊎◌, inl, ⊎_elim, List, [], ◌∷◌, ◌++◌, length, take, drop, replicate, append_assoc, length-append, length-drop}
 use Rattle.std.proofs.lemmas.List.{drop-append-le, drop-drop, drop_at, get_or_past, take-append-le}
 use Rattle.std.proofs.lemmas.List.Elements.{All-cons, All-nil}
@@ -90,7 +90,7 @@ block-beside f t s r n m b lf lt ls where_ =
 regroup : (f t b d e : List ℕ) → (((f ++ t) ++ b) ++ d) ++ e ≡ f ++ (t ++ (b ++ (d ++ e)))
 regroup f t b d e = simp append_assoc
 
--- what stands behind the inodes
+-- the part after the inodes
 behind : ℕ → ℕ → List Node → List ℕ
 behind size first nodes = bitmap (used_by first nodes) ++ (data_from first nodes ++ replicate (block_len * (size - used_by first nodes)) 0)
 

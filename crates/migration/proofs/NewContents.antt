@@ -15,7 +15,7 @@ use Rattle.mkfs.proofs.Pieces.{AreLong, length-records, part-of-part, record-the
 use Rattle.migration.specs.Vocabulary.{Dinode, Dirent, content_of, dirent_len_of, slots_of}
 use Rattle.migration.specs.Nodes.{spell_slot, spell_slots}
 
--- the blocks of a content, with zeros behind it
+-- the blocks of a content, with zeros after it
 abbrev pub HasContent : List (List ℕ) → Dinode → List ℕ → Type 0
 HasContent disk d content = (k : ℕ) → block_len * k < length content → content_block disk d k ≡ take block_len (drop (block_len * k) (whole content))
 
@@ -67,7 +67,7 @@ long-slots v slots h = λ i d l. slot-width v (get_or slots i d) (h i d l)
 pub length-spelled : (v : Version) (slots : List (Option Dirent)) → All (IsRead v) slots → length (spell_slots v slots) ≡ dirent_len_of v * length slots
 length-spelled v slots h = length-records (spell_slot v) (dirent_len_of v) slots (long-slots v slots h)
 
--- as many as were spelled
+-- as many slots as were spelled
 pub count-spelled : (v : Version) (slots : List (Option Dirent)) → All (IsRead v) slots → length (spell_slots v slots) / dirent_len_of v ≡ length slots
 count-spelled v slots h = ap (λ (n : ℕ). n / dirent_len_of v) (length-spelled v slots h) ∙ (count_slots v (length slots)).0
 

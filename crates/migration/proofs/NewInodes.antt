@@ -21,7 +21,7 @@ use Rattle.migration.proofs.Steps.{length-addrs}
 use Rattle.migration.proofs.PlainNodes.{IsLaid, IsSound, plain, plains}
 use Rattle.migration.proofs.NewBlocks.{block-new, count-inodes, long-inodes, new_disk, recovered-new, sizes-new}
 
--- where the blocks of node j of the list begin
+-- the first block of node j of the list
 abbrev pub place_of : ℕ → List Node → ℕ → ℕ
 place_of first nodes j = first + blocks_of_files_before j (plains nodes)
 
@@ -59,7 +59,7 @@ good-inodes first (node ∷ nodes) (suc j) d h f all =
     let sum = sum_by-cons blocks_of_node node nodes in
     good-inodes (first + blocks_of_node node) nodes j d (omega arith) (omega (arith, sum)) (λ i x l. all (suc i) x (omega arith))
 
--- ---- where they stand
+-- ---- their places
 
 regroup : (f z i r b d e : List ℕ) → (((f ++ ((z ++ i) ++ r)) ++ b) ++ d) ++ e ≡ (f ++ z) ++ (i ++ (r ++ (b ++ (d ++ e))))
 regroup f z i r b d e = simp append_assoc

@@ -1,4 +1,4 @@
--- The blocks that the nodes of a new image name, and what stands in them.
+-- The blocks that the nodes of a new image name, and what they have.
 use Rattle.std.proofs.Common.{◌≡◌, ◌≢◌, ◌∙◌, sym, refl, ap, subst, arith, true, false, if◌then◌else◌, ◌==◌, ◌⊎◌, inl, inr, ⊎_elim, ℕ, zero, suc, ◌+◌, ◌-◌, ◌*◌, ◌<◌, ◌≤◌, List, [], ◌++◌, length, take, drop, get_or, filter, slice_index, All}
 use Rattle.std.proofs.lemmas.List.Elements.{All-nil}
 use Rattle.fs_layout.specs.Widths.{block_len}
@@ -34,7 +34,7 @@ use Rattle.migration.proofs.PlainNodes.{IsLaid, plain, plain-at, plain-count, pl
 use Rattle.migration.proofs.NewBlocks.{block-same, files_disk, head-same, log-none, new_disk, recovered-same, sizes-new, sizes-same}
 use Rattle.migration.proofs.NewInodes.{inode-new, place_of}
 
--- ---- numbers hang on the addresses alone
+-- ---- numbers depend on the addresses alone
 
 numbers_by_addrs : (disk : List (List ℕ)) (x y : Dinode) → x.addrs ≡ y.addrs → numbers_of disk x ≡ numbers_of disk y
 unfolding numbers_of

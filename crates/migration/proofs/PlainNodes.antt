@@ -33,7 +33,7 @@ pub record IsSound (node : Node) : Type 0 where
   pub size : length node.content ≤ largest_size
   pub none : is_number 0 node.kind ≡ true → node.content ≡ []
 
--- they fit, and each inode but the first is one's
+-- they fit, and each inode except the first is one's
 pub record IsLaid (size ninodes : ℕ) (nodes : List Node) : Type 0 where
   pub few : size ≤ most_disk_blocks
   pub some : 2 ≤ ninodes

@@ -10,7 +10,7 @@ use Rattle.migration.specs.Vocabulary.{Dinode, dirent_len_of, inode_of, is_direc
 tested : (a b : ℕ) → IsTrue (leb a b) ↔ (a ≤ b)
 tested a b = (λ h. grind (arith, nat_tests), λ h. grind (arith, nat_tests))
 
--- of a live directory the test of its own slots tells
+-- for a live directory the test is that of its own slots
 pub directory_told : (w v : Version) (disk : List (List ℕ)) (layout : Layout) (i a b : ℕ) (d : Dinode) → IsLayout disk layout → 1 ≤ i → i < layout.sizes.ninodes
     → d ≡ inode_of disk i → (is_directory d && is_live d) ≡ true → a ≡ dirent_len_of w → b ≡ most_slots_of v
     → IsTrue (leb (d.size / a) b) ↔ (is_live_directory disk i ≡ true → (inode_of disk i).size / dirent_len_of w ≤ most_slots_of v)

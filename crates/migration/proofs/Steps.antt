@@ -16,7 +16,7 @@ use Rattle.migration.specs.Nodes.{Node, node_of}
 use Rattle.migration.specs.Image.{blocks_of_node, data_from, image_with, inode_for, inode_table, inodes_from, used_by}
 use Rattle.migration.specs.Parts.{HaveContents}
 
--- the node at i, and those behind it
+-- the node at i, and those after it
 nodes-next : (nodes : List NewNode) (i : ℕ) (node : NewNode) → i < length nodes → node ≡ get_or nodes i node → drop i nodes ≡ node ∷ drop (i + 1) nodes
 nodes-next nodes i node l e = drop_more nodes i node l ∙ ap (λ (n : NewNode). n ∷ drop (i + 1) nodes) (sym e)
 

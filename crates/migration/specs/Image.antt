@@ -7,7 +7,8 @@ use Rattle.migration.specs.Nodes.{Node}
 abbrev pub blocks_of_node : Node → ℕ
 blocks_of_node node = node_blocks (length node.content)
 
--- the inode of a node whose blocks begin at `first`: they lie side by side, the direct ones, the indirect block, and those that it names
+-- the inode of a node whose blocks begin at `first`, side by side: the direct ones, the indirect block, and those
+-- that it names
 unfoldable pub inode_for : ℕ → Node → Dinode
 inode_for first node = record {
   kind = node.kind;
@@ -18,12 +19,12 @@ inode_for first node = record {
   addrs = padded addresses (range_with_len first (min (blocks_of_node node) addresses));
 }
 
--- each node's blocks begin where those before it end
+-- each node's blocks begin after those of the node before it
 abbrev pub inodes_from : ℕ → List Node → List Dinode
 inodes_from first [] = []
 inodes_from first (node ∷ nodes) = inode_for first node ∷ inodes_from (first + blocks_of_node node) nodes
 
--- the bytes of the inode blocks: inode 0 is free, and so are those behind the last number
+-- the bytes of the inode blocks: inode 0 is free, and so are those after the last number
 unfoldable pub inode_table : ℕ → ℕ → List Node → List ℕ
 inode_table ninodes first nodes =
     free_inodes 1 ++ flat_map spell_dinode (inodes_from first nodes)
@@ -38,7 +39,7 @@ data_from first (node ∷ nodes) = node_bytes first node.content ++ data_from (f
 abbrev pub used_by : ℕ → List Node → ℕ
 used_by first nodes = first + sum_by blocks_of_node nodes
 
--- an image of version v with these nodes: behind them the blocks that are free
+-- an image of version v with these nodes, and after them the free blocks
 unfoldable pub image_with : Version → ℕ → ℕ → List Node → List ℕ
 image_with v size ninodes nodes =
     front v size ninodes

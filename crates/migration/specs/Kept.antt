@@ -4,11 +4,12 @@ use Rattle.migration.specs.Vocabulary.{Version, Dinode, inode_of, is_node, is_li
 use Rattle.migration.specs.Nodes.{Node, free_node, spell_slots}
 use Rattle.migration.specs.Image.{image_with}
 
--- the new content of a node: that of a directory is spelled anew, another's are the same bytes, also those of a device
+-- The new content of a node. That of a directory is spelled anew; that of any other node, even of a device, has the
+-- same bytes.
 abbrev pub content_as : Version → Version → List (List ℕ) → Dinode → List ℕ
 content_as w v disk d = if is_directory d then spell_slots v (slots_of w disk d) else content_of disk d
 
--- the node with this content that is in other things as the inode says
+-- the node with this content; everything else is as the inode says
 abbrev pub node_with : Dinode → List ℕ → Node
 node_with d content = record { kind = d.kind; major = d.major; minor = d.minor; nlink = d.nlink; content = content }
 
@@ -28,6 +29,6 @@ nodes_upto w v disk (suc n) = nodes_upto w v disk n ++ new_node w v disk (suc n)
 abbrev pub new_nodes : Version → Version → List (List ℕ) → List Node
 new_nodes w v disk = nodes_upto w v disk (last disk)
 
--- the image of so many blocks with these nodes, and as many inodes as there were
+-- the image of `size` blocks with these nodes, and as many inodes as there were
 abbrev pub migrated : Version → Version → ℕ → List (List ℕ) → List ℕ
 migrated w v size disk = image_with v size (sizes_of disk).ninodes (new_nodes w v disk)

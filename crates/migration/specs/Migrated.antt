@@ -17,7 +17,7 @@ pub record HoldsTheTree (w v : Version) (disk : List (List ℕ)) (bytes : List �
   pub well_formed : IsWellFormed v (blocks_of bytes)
   pub tree : tree_in v (blocks_of bytes) ≡ tree_in w disk
 
--- just the bytes of the image, which is well formed and holds the same tree
+-- exactly the bytes of the image, which is well formed and holds the same tree
 pub record IsMigrated (w v : Version) (size : ℕ) (disk : List (List ℕ)) (bytes : List ℕ) : Type 0 where
   pub can : CanBeMigrated w v size disk
   pub bytes_are : bytes ≡ migrated w v size disk

@@ -1,4 +1,4 @@
--- What the nodes of an image have to be, so that their parts can be spelled.
+-- What the nodes of an image must be, so that their parts can be spelled.
 use Rattle.std.specs.Prelude.{◌≢◌, ◌<◌, ◌≤◌, ◌^◌, List, length, All, Option, Some, None}
 use Rattle.migration.specs.Vocabulary.{Version, Dirent, Free, Used, IsName, largest_size}
 use Rattle.migration.specs.Nodes.{Node}

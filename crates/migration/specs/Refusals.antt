@@ -6,7 +6,7 @@ use Rattle.migration.specs.Kept.{new_nodes}
 use Rattle.migration.specs.declared.refused.MigrateRefused.{MigrateRefused}
 use Rattle.migration.specs.declared.refused.MigrateRefused.TheVariants.{Fault, AlreadyNew, BadSizes, DirectoryTooBig, NoBlocks}
 
--- ---- what must hold, in the order in which it is asked
+-- ---- what must hold, in the order in which it is checked
 
 -- the version is a later one
 abbrev pub IsLater : Version → Version → Type 0
@@ -49,7 +49,7 @@ UpToDirectories w v size disk = UpToSizes w v size disk × HasGoodDirectories w 
 abbrev pub CanBeMigrated : Version → Version → ℕ → List (List ℕ) → Type 0
 CanBeMigrated w v size disk = UpToDirectories w v size disk × HasBlocks w v size disk
 
--- the refusal names the first that doesn't hold; of memory and the device nothing is said
+-- the refusal names the first that doesn't hold; nothing is said of memory and the device
 abbrev pub IsFirstRefusal : Version → Version → ℕ → List (List ℕ) → MigrateRefused → Type 0
 IsFirstRefusal w v size disk (Fault f) = JudgesFault w disk f
 IsFirstRefusal w v size disk AlreadyNew = IsWellFormed w disk × (¬ IsLater w v)
@@ -57,7 +57,7 @@ IsFirstRefusal w v size disk BadSizes = UpToLater w v disk × (¬ HasGoodSizes w
 IsFirstRefusal w v size disk DirectoryTooBig = UpToSizes w v size disk × (¬ HasGoodDirectories w v disk)
 IsFirstRefusal w v size disk NoBlocks = UpToDirectories w v size disk × (¬ HasBlocks w v size disk)
 
--- the same where any number of blocks would do
+-- the same if any number of blocks would do
 abbrev pub IsFirstRefusalOfAny : Version → Version → List (List ℕ) → MigrateRefused → Type 0
 IsFirstRefusalOfAny w v disk (Fault f) = JudgesFault w disk f
 IsFirstRefusalOfAny w v disk AlreadyNew = IsWellFormed w disk × (¬ IsLater w v)
@@ -74,7 +74,7 @@ fault_count_with BadSizes n = n
 fault_count_with DirectoryTooBig n = n
 fault_count_with NoBlocks n = n
 
--- the old image's device has failed just where that is the answer
+-- the old image's device has failed exactly if that is the answer
 abbrev pub faults_with : {T : Type 0} → Result T MigrateRefused → ℕ → ℕ
 faults_with (Ok x) n = n
 faults_with (Err e) n = fault_count_with e n

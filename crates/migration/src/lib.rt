@@ -1,6 +1,6 @@
-//! Migrates an image to a later version: a new image with the same tree, of which docs/MKFS.md says what it has.
+//! Migrates an image to a later version: makes a new image with the same tree (docs/MKFS.md says what the image has).
 //!
-//! What is made isn't examined again: that it is an image with the same tree is proved.
+//! The new image isn't examined again: it is proved that it is an image with the same tree.
 #![tactic(auto, using(block_device::specs::CallLaws::by_calls))]
 
 mod directories;

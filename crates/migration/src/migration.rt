@@ -33,9 +33,10 @@ fn migrate_from<D: Device>(
     Ok(MemoryDisk::new(bytes))
 }
 
-/// Makes an image of this version and `size` blocks, with the tree of an older one as recovery would leave that, which is only read.
-/// Each live node keeps its number, its type, its count and its device numbers, a directory its slots in their places, also free ones,
-/// and another node its bytes. Nodes without a name are left out.
+/// Makes an image of this version and `size` blocks. It has the tree of an older image as recovery would leave that;
+/// the older one is only read. Each live node keeps its number, its type, its count and its device numbers. A
+/// directory keeps its slots in their places, even free ones, and any other node its bytes. Nodes without a name are
+/// left out. A refusal is the first that holds, in the order of `MigrateRefused`.
 pub fn migrate<D: Device>(
     alloc: Global,
     old: &mut D,
@@ -52,8 +53,9 @@ pub fn migrate<D: Device>(
     migrate_from(alloc, old, from, version, size)
 }
 
-/// How many blocks an image of this version has at least, for the tree of an older one as recovery would leave that, which is only read:
-/// `migrate` finds that the blocks suffice just where its size isn't below. It may be more than an image can have.
+/// How many blocks an image of this version needs, for the tree of an older one as recovery would leave that. The
+/// older one is only read. `migrate` finds that the blocks suffice exactly if its size isn't below this. It may be
+/// more than an image can have.
 pub fn least_size<D: Device>(
     alloc: Global,
     old: &mut D,

@@ -50,7 +50,7 @@ fn load_new_content<D: Device>(
     Ok(content)
 }
 
-// What stands for a free inode.
+// The node that a free inode becomes.
 fn free_node(alloc: Global) -> NewNode
     ensures { node_of result ≡ free_node }
 {
@@ -98,7 +98,7 @@ fn load_new_node<D: Device>(
     })
 }
 
-// Puts a node behind the others. Where memory is refused, it ends the node.
+// Puts a node after the others. If memory is refused, it ends the node.
 fn push(nodes: &mut Vec<NewNode>, node: NewNode) -> Result<(), AllocError>
     ensures { OnOk result (nodes.new.items ≡ nodes.old.items ++ node ∷ []) }
 {

@@ -41,7 +41,7 @@ fn push_inode(image: &mut Vec<u8>, first: u32, node: &NewNode) -> Result<(), All
     image.extend_from_slice(&block[..INODE_LEN])
 }
 
-/// Appends the nodes' inodes, where the first node's blocks begin at `first`.
+/// Appends the nodes' inodes, if the first node's blocks begin at `first`.
 pub fn push_inodes(image: &mut Vec<u8>, first: u32, nodes: &[NewNode]) -> Result<(), AllocError>
     requires contents { HaveContents (map node_of nodes.now) }
     requires first { first < 2 ^ 16 }

@@ -6,8 +6,8 @@ use block_device::Fault;
 use image_tree::MountFault;
 use std::alloc::AllocError;
 
-/// Why an image was not migrated. Where several would do, the first in the order below is told; a failure of the device, and want of
-/// memory, which are faults too, may come at any time.
+/// Why an image was not migrated. If several reasons hold, the answer is the first in the order below. A failure of
+/// the device, or want of memory, is a fault too, and may come at any time.
 #[derive(Debug, Clone, Copy, PartialEq, Eq)]
 pub enum MigrateRefused {
     /// The old image is damaged, its device failed, or memory was refused.

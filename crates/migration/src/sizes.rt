@@ -50,7 +50,7 @@ pub fn has_good_sizes<D: Device>(
     Ok(size <= MOST_DISK_BLOCKS && first + root <= size as usize)
 }
 
-/// The first block that no node has, where the nodes' blocks begin at `first`.
+/// The first block that no node has, if the nodes' blocks begin at `first`.
 pub fn used_blocks(first: u32, nodes: &[NewNode]) -> usize
     requires first { first < 2 ^ 16 }
     requires contents { HaveContents (map node_of nodes.now) }

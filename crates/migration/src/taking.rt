@@ -1,4 +1,4 @@
-//! Taking from the old image what the new one is to have.
+//! Taking from the old image what the new one needs.
 ghost use Rattle.std.specs.Prelude.{◌≡◌, ◌↔◌, IsTrue, MatchResult};
 ghost use Rattle.migration.specs.Vocabulary.{ComesByCalls, OnlyReads};
 ghost use Rattle.migration.specs.Migrated.{IsTaken};
@@ -22,7 +22,8 @@ fn is_later(from: Version, version: Version) -> bool
     from.number() < version.number()
 }
 
-/// Takes from an image of version `from` what one of this version and so many blocks is to have; a refusal where none can be made.
+/// Takes from an image of version `from` what one of this version and `size` blocks needs; a refusal if none can be
+/// made.
 pub(crate) fn take<D: Device>(
     alloc: Global,
     old: &mut D,
@@ -56,7 +57,7 @@ pub(crate) fn take<D: Device>(
     Ok(Taken { ninodes, nodes })
 }
 
-/// How many blocks an image of this version has at least, for the tree of an image of version `from`.
+/// How many blocks an image of this version needs, for the tree of an image of version `from`.
 pub(crate) fn count_blocks<D: Device>(
     alloc: Global,
     old: &mut D,

@@ -1,4 +1,4 @@
--- The lemmas that most of this crate's other lemmas stand on.
+-- The lemmas on which most other lemmas of this crate build.
 pub use Rattle.mkfs.proofs.Joins.{used-parts}
 pub use Rattle.mkfs.proofs.Lengths.{AreNodes, Fits, blocks-large, blocks-small, inode-spelled, length-bitmap, length-front, length-indirect_block, length-inodes, length-node, length-table, length-zeros}
 pub use Rattle.mkfs.proofs.Padding.{length-addrs, length-padded, node_bytes-large, node_bytes-small, whole-front}

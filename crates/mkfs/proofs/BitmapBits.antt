@@ -43,7 +43,7 @@ byte-free used i h l =
 
 -- ---- its bits
 
--- the bit of b, from the byte that it stands in
+-- the bit of b, from the byte that has it
 bit-in : (used b byte bit : ℕ) (want : Bool) → get_or (bitmap used) (b / 8) 0 ≡ byte → bit_at byte (b % 8) ≡ bit → eqb bit 1 ≡ want
     → bit_of (bitmap used) b ≡ want
 bit-in used b byte bit want e f g = ap (λ (n : ℕ). eqb (bit_at n (b % 8)) 1) e ∙ ap (λ (n : ℕ). eqb n 1) f ∙ g

@@ -55,7 +55,7 @@ module _ (v : Version) (disk : List (List ℕ)) (ninodes : ℕ) (names contents 
       other)
       (which_inode i is.low is.bound)
 
-  -- only the root is a directory
+  -- the root is the only directory
   pub one_directory : (i : ℕ) → is_live_directory disk i ≡ true → i ≡ 1
   one_directory i live =
       let is = directory_is disk i live in
@@ -74,7 +74,7 @@ module _ (v : Version) (disk : List (List ℕ)) (ninodes : ℕ) (names contents 
   pub other_no_directory : (i : ℕ) → i ≢ 1 → is_live_directory disk i ≡ false
   other_no_directory i other = false_from_ne_true (is_live_directory disk i) (λ live. other (one_directory i live))
 
-  -- what lies behind the files is no node
+  -- an inode after the files' is no node
   pub past_no_node : (i : ℕ) → 1 + length contents < i → is_node disk i ≡ false
   past_no_node i past =
       false_from_ne_true (is_node disk i) (λ node.

@@ -20,7 +20,7 @@ in-zeros n k rest h =
 regroup : (f z i r b d e : List ℕ) → (((f ++ ((z ++ i) ++ r)) ++ b) ++ d) ++ e ≡ ((f ++ z) ++ i) ++ (r ++ (b ++ (d ++ e)))
 regroup f z i r b d e = simp append_assoc
 
--- behind the nodes' inodes stand zeros
+-- after the nodes' inodes come zeros
 zeros-at : (v : Version) (size ninodes : ℕ) (nodes : List Node) (i : ℕ) → length nodes < i → i < ninodes
     → take inode_len (drop (33792 + inode_len * i) (image_with v size ninodes nodes)) ≡ replicate inode_len 0
 unfolding image_with inode_table

@@ -17,7 +17,7 @@ gathered-one f (suc (suc n)) low none =
     ∙ ap (λ (xs : List ℕ). f 1 ++ xs) (none (suc (suc n)) (λ e. absurd (omega arith)))
     ∙ append-nil (f 1)
 
--- how much one number adds to how often another stands in a list
+-- how much one number adds to the count of another in a list
 abbrev hits : ℕ → ℕ → ℕ
 hits x i = cond (eqb x i) 1 0
 

@@ -25,7 +25,7 @@ node-block v size ninodes nodes j m n few h l within =
 
 -- ---- in the bytes of a node with more than twelve blocks
 
--- what is behind the first twelve blocks is padded as the whole is
+-- the content after the first twelve blocks is padded as the whole is
 whole-parts : (content : List ℕ) → 12288 ≤ length content → whole content ≡ take 12288 content ++ whole (drop 12288 content)
 unfolding whole padded
 whole-parts content h =
@@ -44,7 +44,7 @@ block-before a rest k h =
     ap (take block_len) (drop-append-le (block_len * k) a rest (omega arith))
     ∙ take-append-le block_len (drop (block_len * k) a) rest (omega (arith, length-drop (block_len * k) a))
 
--- a block behind the first n
+-- a block after the first n
 block-behind : (a rest : List ℕ) (n k : ℕ) → length a ≡ block_len * n → take block_len (drop (block_len * (n + k)) (a ++ rest)) ≡ take block_len (drop (block_len * k) rest)
 block-behind a rest n k h =
     let place : block_len * (n + k) ≡ block_len * n + block_len * k = omega arith in
@@ -63,7 +63,7 @@ block-of-numbers first content h few =
 
 -- ---- the blocks of the content
 
--- where block k of the content lies among a node's blocks
+-- the place of block k of the content among a node's blocks
 abbrev pub place : ℕ → ℕ
 place k = cond (nat_lt k direct) k (k + 1)
 

@@ -4,7 +4,7 @@ use Rattle.mkfs.proofs.Vocabulary.{Version, ◌≡◌, ℕ, ◌+◌, ◌/◌, �
 use Rattle.mkfs.proofs.Basics.{Fits, disk_of, sizes-there, recovered-there}
 use Rattle.mkfs.proofs.Records.{IsNode, inode-there}
 
--- an inode stands in the image where its number says
+-- an inode is at the place in the image that its number says
 pub inode-at : (v : Version) (size ninodes : ℕ) (nodes : List Node) (i : ℕ) → ninodes ≤ 65535 → Fits size ninodes nodes
     → inode_of (disk_of v size ninodes nodes) i ≡ dinode_at (i % inodes_per_block) (block_at (disk_of v size ninodes nodes) (33 + i / inodes_per_block))
 unfolding inode_of

@@ -26,7 +26,7 @@ inode-for-there v size ninodes nodes j n few h all l =
 
 -- ---- its addresses
 
--- the address of the indirect block, where there is one
+-- the address of the indirect block, if there is one
 twelfth : (first n : ℕ) → addresses ≤ n → get_or (padded addresses (range_with_len first (min n addresses))) direct 0 ≡ first + direct
 unfolding padded
 twelfth first n h =

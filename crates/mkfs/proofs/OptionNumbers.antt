@@ -22,7 +22,7 @@ no_plus (d ∷ ds) h =
 abbrev IsNumber : ℕ → ℕ → Text → Type 0
 IsNumber least greatest t = IsNumeral 10 (without_leading_plus t) × (least ≤ number_in t) × (number_in t ≤ greatest)
 
--- a text that passed the parser of such a number is one's, but for its minus
+-- a text that passed the parser of such a number is such a number's, except for its minus
 number_text : (least greatest : ℕ) (t : Text) → IsSignedIn (pos least) (pos greatest) t → IsNumber least greatest (without_minus t)
 number_text least greatest t passed = subst (IsNumber least greatest) (sym (without_minus-cond t)) (go (starts_with_minus t) refl)
   where
@@ -59,7 +59,7 @@ HasNumberRules least greatest id (r ∷ rs) = (bytes_eq r.id id ≡ true → IsN
 abbrev pub is_default_of : Text → Rule → Bool
 is_default_of id r = bytes_eq r.id id && (not (is_empty r.defaults) && r.is_simple)
 
--- the rule of an argument that has the id
+-- the rule of an argument with this id
 rule_at : (least greatest : ℕ) (xs : List Arg) (id : Text) → HasNumberRules least greatest id (map rule_of xs) → (i : ℕ) (a : Arg) → i < length xs
     → slice_index_or xs i a ≡ a → bytes_eq a.id.now id ≡ true → IsNumberRule least greatest (rule_of a)
 rule_at least greatest [] id h i a lt at same = absurd (omega arith)
@@ -67,7 +67,7 @@ rule_at least greatest (x ∷ xs) id h zero a lt at same =
     subst (λ (w : Arg). bytes_eq w.id.now id ≡ true → IsNumberRule least greatest (rule_of w)) at h.0 same
 rule_at least greatest (x ∷ xs) id h (suc n) a lt at same = rule_at least greatest xs id h.1 n a (omega arith) at same
 
--- an argument with these rules may not go without a value
+-- an argument with these rules needs a value
 not_empty : (least greatest : ℕ) (a : Arg) → IsNumberRule least greatest (rule_of a) → MayBeEmpty a → ⊥
 not_empty least greatest a h (inl none) = let one = h.2 in omega arith
 not_empty least greatest a h (inr some) =
@@ -204,7 +204,7 @@ number_parsed c m id least greatest named gives parsed =
     let locals : (out-Command c).has_globals ≡ false = is_false _ (both _ _ (both _ _ (both _ _ gives.plain).1).1).0 in
     number_given c m id least greatest named gives (parsed locals)
 
--- of a rule with another id nothing is asked
+-- a rule with another id makes no demand
 differs : {A : Type 0} (b : Bool) → b ≡ false → b ≡ true → A
 differs b f t = absurd (true≢false (sym t ∙ f))
 

@@ -1,4 +1,4 @@
--- Zeros behind numbers, and numbers that rise.
+-- Zeros after numbers, and numbers that rise.
 use Rattle.image_versions.specs.Shared.{addresses, direct, most_content_blocks}
 use Rattle.fs_layout.specs.Widths.{block_len}
 use Rattle.image_versions.specs.Shared.{largest_size}

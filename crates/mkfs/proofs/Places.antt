@@ -1,4 +1,4 @@
--- What stands where in an image.
+-- The places of the parts of an image, and what each has.
 use Rattle.image_versions.specs.Shared.{most_disk_blocks}
 use Rattle.fs_layout.specs.Widths.{block_len}
 use Rattle.mkfs.proofs.Vocabulary.{Version, ◌≡◌, ℕ, ◌-◌, ◌*◌, ◌<◌, ◌≤◌, true, eqb, List, [], ◌++◌, length, take, drop, replicate, ap, ◌∙◌, sym, refl, arith, append_assoc, length-append, eqb-true, take_at, drop_at, take-append-le, take-replicate, blocks_of, block_at, get_or-blocks_of, length-blocks_of, Super, magic_of, u32_at, u32s_at, super_fields, spell_super, IsSuper, sizes_of, log_head_at, log_count, logged, recovered, super_of-spell, data_start, super_for, Node, padded, front, inode_table, bitmap, data_from, used_by, image_with}
@@ -110,7 +110,7 @@ log-empty v size ninodes nodes n h =
     ap (λ (block : List ℕ). u32s_at (u32_at block 0) block 4) (head-there v size ninodes nodes n h)
     ∙ ap (λ (k : ℕ). u32s_at k (replicate block_len 0) 4) zero-head ∙ no-numbers (replicate block_len 0)
 
--- so what recovery leaves is what stands there
+-- so recovery leaves each block as it is there
 pub recovered-there : (v : Version) (size ninodes : ℕ) (nodes : List Node) (b : ℕ) → ninodes ≤ 65535 → Fits size ninodes nodes
     → recovered (disk_of v size ninodes nodes) b ≡ block_at (disk_of v size ninodes nodes) b
 unfolding recovered

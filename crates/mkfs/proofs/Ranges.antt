@@ -1,8 +1,8 @@
--- Numbers that rise one by one, and zeros behind them.
+-- Numbers that rise one by one, and zeros after them.
 use Rattle.mkfs.proofs.Vocabulary.{◌≡◌, ◌≢◌, ℕ, zero, suc, ◌+◌, ◌<◌, ◌≤◌, Bool, cond, not, List, [], ◌∷◌, ◌++◌, length, replicate, get_or, filter, ap, ◌∙◌, sym, refl, subst, arith, All, range_with_len, ne_eqb, append-nil, get_or_append_left, All-append, All-replicate, filter-append, length-range_with_len, get_or-range_with_len, is_block, IsOnce}
 use Rattle.mkfs.proofs.ShownTrees.{IsRange}
 
--- one range behind another
+-- one range after another
 pub range-append : (a m n : ℕ) → range_with_len a m ++ range_with_len (a + m) n ≡ range_with_len a (m + n)
 range-append a zero n =
     let start : a + 0 ≡ a = omega arith in

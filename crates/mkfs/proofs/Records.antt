@@ -51,7 +51,7 @@ good-inodes first (node ∷ nodes) (suc j) d h f all =
     let sum = sum_by-cons blocks_of_node node nodes in
     good-inodes (first + blocks_of_node node) nodes j d (omega arith) (omega (arith, sum)) (λ i x l. all (suc i) x (omega arith))
 
--- ---- where they stand
+-- ---- their places
 
 table-at : (v : Version) (size ninodes : ℕ) (nodes : List Node) (j : ℕ) (d : Dinode) → j < length nodes
     → take inode_len (drop (33856 + inode_len * j) (image_with v size ninodes nodes)) ≡ spell_dinode (get_or (inodes_from (data_start ninodes) nodes) j d)

@@ -1,4 +1,4 @@
--- The root's bytes are its entries, spelled: those of the names, and free ones behind them.
+-- The root's bytes are its entries, spelled: those of the names, and free ones after them.
 use Rattle.fs_layout.specs.Widths.{block_len}
 use Rattle.mkfs.proofs.Vocabulary.{Version, dirent_len_of, dirents_per_block_of, name_len_of, nat_le, nat_tests, true, mul-suc, mul-zero, ◌≡◌, ◌≢◌, ℕ, zero, suc, ◌+◌, ◌-◌, ◌*◌, ◌/◌, ◌%◌, ◌^◌, ◌<◌, List, [], ◌∷◌, ◌++◌, length, take, drop, replicate, get_or, Some, refl, sym, ap, ◌∙◌, arith, length-append, All, flat_map, length-replicate, replicate-append-replicate, flat_map-append, All-append, All-cons, All-head, All-tail, All-nil, All-replicate, Dirent, Free, Used, IsName, spell_dirent, dirent_at, dirent_of, IsDirent, length-spell_dirent, dirent_of-spell, blocks_for, root_size, dot, dotdot, padded, whole, root_content, root_entries, entries_from}
 use Rattle.image_versions.proofs.Places.{in_range, inside, in_their_blocks}

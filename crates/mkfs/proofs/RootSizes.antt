@@ -1,4 +1,4 @@
--- How large the root is that names so many files.
+-- How large a root with this number of files is.
 use Rattle.fs_layout.specs.Widths.{block_len}
 use Rattle.image_versions.specs.Shared.{largest_size}
 use Rattle.mkfs.proofs.Vocabulary.{◌≡◌, ℕ, ◌+◌, ◌-◌, ◌*◌, ◌/◌, ◌%◌, ◌^◌, ◌<◌, ◌≤◌, arith, blocks_for, root_size, Version, dirent_len_of, most_slots_of}

@@ -56,7 +56,7 @@ used-kind first node h =
 
 -- ---- the blocks that they name
 
--- no node's blocks end behind the last that is used
+-- no node's blocks end after the last one that is used
 pub blocks-within : (first : ℕ) (nodes : List Node) (j : ℕ) (n : Node) → j < length nodes
     → first + blocks_before j nodes + blocks_of_node (get_or nodes j n) ≤ used_by first nodes
 blocks-within first nodes j n l = omega (arith, sum_by_more_le blocks_of_node nodes j n l)
@@ -76,7 +76,7 @@ pub numbers-free : (disk : List (List ℕ)) (size ninodes : ℕ) (nodes : List N
     → numbers_by disk i ≡ []
 numbers-free disk size ninodes nodes i shows l m = numbers_by_free disk i free_inode (sym (shows.free i l m)) refl
 
--- each number that is named lies among the blocks that are used
+-- each number that is named is that of a block that is used
 pub All-named : (Q : ℕ → Type 0) (disk : List (List ℕ)) (size ninodes : ℕ) (nodes : List Node) → Shows disk size ninodes nodes → All IsKind nodes
     → ((b : ℕ) → data_start ninodes ≤ b → b < used_by (data_start ninodes) nodes → Q b)
     → (i : ℕ) → 1 ≤ i → i < (sizes_of disk).ninodes → All (λ b. b ≢ 0 → Q b) (numbers_by disk i)

@@ -1,4 +1,4 @@
--- What the disk of an image shows of the nodes that lie on it.
+-- What the disk of an image shows of its nodes.
 use Rattle.image_versions.specs.Shared.{addresses}
 use Rattle.fs_layout.specs.Widths.{block_len}
 use Rattle.mkfs.proofs.Vocabulary.{◌≡◌, ℕ, ◌+◌, ◌*◌, ◌<◌, nat_lt, List, [], ◌++◌, length, take, drop, replicate, get_or, pos, range_with_len, Dinode, block_at, sizes_of, log_count, logged, recovered, inode_of, numbers_of, content_block, is_marked, data_start, super_for, Node, whole, inodes_from, used_by, blocks_before, blocks_of_node}
@@ -7,7 +7,7 @@ use Rattle.mkfs.proofs.Vocabulary.{◌≡◌, ℕ, ◌+◌, ◌*◌, ◌<◌, na
 abbrev pub free_inode : Dinode
 free_inode = record { kind = pos 0; major = pos 0; minor = pos 0; nlink = pos 0; size = 0; addrs = replicate addresses 0 }
 
--- the numbers of a node's blocks, from the first on, with zeros behind
+-- the numbers of a node's blocks, from the first on, with zeros after them
 pub record IsRange (numbers : List ℕ) (first count : ℕ) : Type 0 where
   pub zeros : ℕ
   pub is : numbers ≡ range_with_len first count ++ replicate zeros 0

@@ -4,7 +4,7 @@ use Rattle.image_versions.specs.Shared.{largest_size}
 use Rattle.mkfs.proofs.Vocabulary.{Version, ◌≡◌, ℕ, ◌+◌, ◌-◌, ◌<◌, ◌≤◌, List, [], ◌∷◌, ◌++◌, length, take, drop, map, get_or, sym, subst, ap, if◌then◌else◌, is_ok, Ok, Err, Result, OnOk, ◌∙◌, arith, append_assoc, All, flat_map, range_with_len, drop_more, get_or-map, length-map, sum_by-cons, spell_dinode, spell_dirent, spell_numbers, Used, blocks_for, node_blocks, file_blocks, NewFile, contents_of, names_of, entries_from, inodes_from, data_from, file_node, inode_for, node_bytes, padded, whole}
 use Rattle.mkfs.proofs.Basics.{node_bytes-large, whole-front}
 
--- one part more, of those that are left
+-- one part more, of the remaining ones
 pub one_more : (old part rest left all new : List ℕ) → new ≡ old ++ part → left ≡ part ++ rest → old ++ left ≡ all → new ++ rest ≡ all
 one_more old part rest left all new n e h =
     ap (λ (xs : List ℕ). xs ++ rest) n ∙ append_assoc old part rest ∙ ap (λ (xs : List ℕ). old ++ xs) (sym e) ∙ h
@@ -12,7 +12,7 @@ one_more old part rest left all new n e h =
 pub blocks_more : (blocks part rest left all n : ℕ) → part ≡ n → left ≡ n + rest → blocks + left ≡ all → (blocks + part) + rest ≡ all
 blocks_more blocks part rest left all n e f h = omega arith
 
--- the file at i, and those behind it
+-- the file at i, and those after it
 files-next : (files : List NewFile) (i : ℕ) (file : NewFile) → i < length files → file ≡ get_or files i file → drop i files ≡ file ∷ drop (i + 1) files
 files-next files i file l e = drop_more files i file l ∙ ap (λ (f : NewFile). f ∷ drop (i + 1) files) (sym e)
 

@@ -76,7 +76,7 @@ module _ (v : Version) (disk : List (List ℕ)) (ninodes : ℕ) (names contents 
       ∙ ap File (h.content j l) in
       rw (file_is_node v disk ninodes names contents h j l, kind, (h.file j l).count) refl
 
-  -- the files, and no nodes behind them
+  -- the files, and no nodes after them
   behind : List (Option Node)
   behind = map file_in_tree contents ++ replicate (ninodes - (2 + length contents)) None
 

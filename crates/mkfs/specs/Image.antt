@@ -16,19 +16,19 @@ contents_of files = map (λ (file : NewFile). file.content.items) files
 
 -- ---- zeros
 
--- numbers, and zeros behind them, n in all
+-- numbers, and zeros after them, n in all
 unfoldable pub padded : ℕ → List ℕ → List ℕ
 padded n numbers = numbers ++ replicate (n - length numbers) 0
 
--- bytes, and zeros behind them up to a whole block
+-- bytes, and zeros after them up to a whole block
 unfoldable pub whole : List ℕ → List ℕ
 whole bytes = padded (block_len * blocks_for (length bytes)) bytes
 
--- so many blocks of zeros
+-- n blocks of zeros
 abbrev pub zero_blocks : ℕ → List ℕ
 zero_blocks n = replicate (block_len * n) 0
 
--- so many free inodes, all zeros
+-- n free inodes, all zeros
 abbrev pub free_inodes : ℕ → List ℕ
 free_inodes n = replicate (inode_len * n) 0
 
@@ -48,7 +48,7 @@ entries_from number (name ∷ names) = Used number name ∷ entries_from (number
 abbrev pub root_entries : List (List ℕ) → List Dirent
 root_entries names = Used root dot ∷ Used root dotdot ∷ entries_from first_file names
 
--- its content: behind the entries zeros, which are free entries, up to a whole block
+-- its content: after the entries zeros, which are free entries, up to a whole block
 unfoldable pub root_content : Version → List (List ℕ) → List ℕ
 root_content v names = whole (flat_map (spell_dirent v) (root_entries names))
 
@@ -68,7 +68,8 @@ blocks_of_node node = node_blocks (length node.content)
 
 -- ---- the inodes
 
--- the inode of a node whose blocks begin at `first`: they lie side by side, the direct ones, the indirect block, and those that it names
+-- the inode of a node whose blocks begin at `first`, side by side: the direct ones, the indirect block, and those
+-- that it names
 unfoldable pub inode_for : ℕ → Node → Dinode
 inode_for first node = record {
   kind = node.kind;
@@ -79,12 +80,12 @@ inode_for first node = record {
   addrs = padded addresses (range_with_len first (min (blocks_of_node node) addresses));
 }
 
--- each node's blocks begin where those before it end
+-- each node's blocks begin after those of the node before it
 abbrev pub inodes_from : ℕ → List Node → List Dinode
 inodes_from first [] = []
 inodes_from first (node ∷ nodes) = inode_for first node ∷ inodes_from (first + blocks_of_node node) nodes
 
--- the bytes of the inode blocks: inode 0 is free, and so are those behind the nodes'
+-- the bytes of the inode blocks: inode 0 is free, and so are those after the nodes'
 unfoldable pub inode_table : ℕ → ℕ → List Node → List ℕ
 inode_table ninodes first nodes =
     free_inodes 1 ++ flat_map spell_dinode (inodes_from first nodes)
@@ -102,12 +103,12 @@ bitmap used = padded block_len (replicate (used / bits_per_byte) (low_bits bits_
 
 -- ---- the data
 
--- the indirect block of a node of so many bytes whose blocks begin at `first`: it names the blocks behind it
+-- the indirect block of a node of `size` bytes whose blocks begin at `first`: it names the blocks after it
 abbrev pub indirect_block : ℕ → ℕ → List ℕ
 indirect_block first size = spell_numbers (padded numbers_per_block (range_with_len (first + addresses) (blocks_for size - direct)))
 
--- the blocks of a node with this content, the first of them block `first`: where the direct ones don't suffice, the indirect block stands
--- behind them
+-- The blocks of a node with this content, the first of them block `first`. If the direct ones don't suffice, the
+-- indirect block comes after them.
 unfoldable pub node_bytes : ℕ → List ℕ → List ℕ
 node_bytes first content =
     if nat_lt direct_len (length content)
@@ -133,7 +134,7 @@ blocks_before i nodes = sum_by blocks_of_node (take i nodes)
 unfoldable pub front : Version → ℕ → ℕ → List ℕ
 front v size ninodes = zero_blocks 1 ++ padded block_len (spell_super v (super_for size ninodes)) ++ zero_blocks log_blocks
 
--- an image with these nodes: behind them the blocks that are free
+-- an image with these nodes, and after them the free blocks
 unfoldable pub image_with : Version → ℕ → ℕ → List Node → List ℕ
 image_with v size ninodes nodes =
     front v size ninodes

@@ -1,15 +1,15 @@
--- Where the parts of an image lie that is made, in blocks.
+-- The places of the parts of an image that is made, in blocks.
 use Rattle.std.specs.Prelude.{ℕ, ◌+◌, ◌-◌, ◌*◌, ◌/◌, nat_lt, if◌then◌else◌, List, length, sum_by}
 use Rattle.mkfs.specs.Vocabulary.{Super, Version, block_len, inodes_per_block, dirent_len_of, blocks_for, direct}
 
--- where the log begins, and how many blocks it has
+-- the first block of the log, and how many blocks the log has
 abbrev pub log_start : ℕ
 log_start = 2
 
 abbrev pub log_blocks : ℕ
 log_blocks = 31
 
--- where the inodes begin
+-- the first block of the inodes
 abbrev pub inode_start : ℕ
 inode_start = log_start + log_blocks
 
@@ -17,11 +17,11 @@ inode_start = log_start + log_blocks
 abbrev pub inode_blocks : ℕ → ℕ
 inode_blocks ninodes = ninodes / inodes_per_block + 1
 
--- where the bitmap stands, in one block
+-- the block of the bitmap: it has one
 abbrev pub bitmap_start : ℕ → ℕ
 bitmap_start ninodes = inode_start + inode_blocks ninodes
 
--- where the data begins
+-- the first block of the data
 abbrev pub data_start : ℕ → ℕ
 data_start ninodes = bitmap_start ninodes + 1
 
@@ -39,7 +39,7 @@ super_for size ninodes = record {
 
 -- ---- the blocks of a node
 
--- how many blocks a node of so many bytes takes: with more than the direct ones also an indirect block
+-- how many blocks a node of `size` bytes takes: with more than the direct ones also an indirect block
 abbrev pub node_blocks : ℕ → ℕ
 node_blocks size = blocks_for size + (if nat_lt direct (blocks_for size) then 1 else 0)
 
@@ -47,6 +47,7 @@ node_blocks size = blocks_for size + (if nat_lt direct (blocks_for size) then 1 
 abbrev pub file_blocks : List (List ℕ) → ℕ
 file_blocks contents = sum_by (λ content. node_blocks (length content)) contents
 
--- how many bytes the root of this version has that names so many files: its entries, "." and ".." among them, up to a whole block
+-- the bytes of the root of this version that names this number of files: its entries, "." and ".." among them, up to
+-- a whole block
 abbrev pub root_size : Version → ℕ → ℕ
 root_size v files = block_len * blocks_for (dirent_len_of v * (2 + files))

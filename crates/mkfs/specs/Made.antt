@@ -5,7 +5,7 @@ use Rattle.mkfs.specs.Image.{image_of}
 use Rattle.mkfs.specs.Refusals.{CanBeMade}
 use Rattle.mkfs.specs.Stated.{stated_tree}
 
--- just the bytes of the image of this version, which is well formed in it and holds the stated tree
+-- exactly the bytes of the image of this version, which is well formed in it and holds the stated tree
 pub record IsMade (v : Version) (size ninodes : ℕ) (names contents : List (List ℕ)) (disk : List ℕ) : Type 0 where
   pub can : CanBeMade v size ninodes names contents
   pub bytes : disk ≡ image_of v size ninodes names contents

@@ -33,7 +33,7 @@ migrate_rule = record (new_rule (codes "migrate")) { long = Some (codes "migrate
 abbrev pub force_rule : Rule
 force_rule = record (new_rule (codes "force")) { long = Some (codes "force"); action = Some SetTrue }
 
--- the program tells what it is
+-- the program says what it is
 abbrev pub about_rule : Rule
 about_rule = record (new_rule (codes "about")) { short = Some 86; long = Some (codes "about"); action = Some actions.Version }
 
@@ -61,7 +61,7 @@ versioned_app = with_rule (with_rule (with_rule sized_app version_rule) migrate_
 abbrev pub mkfs_line : App
 mkfs_line = with_rule (with_rule versioned_app about_rule) files_rule
 
--- the number that a decimal text is, where one `+` may stand before it
+-- the number of a decimal text, which may begin with one `+`
 abbrev pub number_in : List ℕ → ℕ
 number_in text = digits_value 10 (without_leading_plus text)
 

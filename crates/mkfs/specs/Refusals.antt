@@ -6,7 +6,7 @@ use Rattle.mkfs.specs.declared.refused.MakeRefused.TheVariants.{NoMemory, BadSiz
 use Rattle.mkfs.specs.Layout.{data_start, node_blocks, file_blocks, root_size}
 use Rattle.mkfs.specs.Widths.{most_inodes}
 
--- ---- what must hold, in the order in which it is asked
+-- ---- what must hold, in the order in which it is checked
 
 -- blocks and inodes are within their limits, and the blocks before the data and the root's own fit
 pub record HasGoodSizes (v : Version) (size ninodes files : ℕ) : Type 0 where
@@ -52,7 +52,7 @@ UpToInodes v size ninodes names contents = UpToFiles v size ninodes names conten
 abbrev pub CanBeMade : Version → ℕ → ℕ → List (List ℕ) → List (List ℕ) → Type 0
 CanBeMade v size ninodes names contents = UpToInodes v size ninodes names contents × HasBlocks v size ninodes contents
 
--- the refusal names the first that doesn't hold; of memory nothing is said
+-- the refusal names the first that doesn't hold; nothing is said of memory
 abbrev pub IsFirstRefusal : Version → ℕ → ℕ → List (List ℕ) → List (List ℕ) → MakeRefused → Type 0
 IsFirstRefusal v size ninodes names contents NoMemory = Unit {0}
 IsFirstRefusal v size ninodes names contents BadSizes = ¬ HasGoodSizes v size ninodes (length names)

@@ -1,4 +1,4 @@
--- The tree that an image of a version is to hold: the root with the files' names, and the files behind it.
+-- The tree that an image of a version must hold: the root with the files' names, and then the files.
 use Rattle.std.specs.Prelude.{ℕ, ◌+◌, ◌-◌, ◌/◌, List, [], ◌∷◌, ◌++◌, length, map, replicate, Option, Some, None}
 use Rattle.mkfs.specs.Vocabulary.{Slot, Directory, File, Node, TreeData, Version, at_rest, dot, dotdot, root, dirent_len_of}
 use Rattle.mkfs.specs.Layout.{root_size}
@@ -13,7 +13,7 @@ abbrev pub slots_from : ℕ → List (List ℕ) → List (Option Slot)
 slots_from number [] = []
 slots_from number (name ∷ names) = used number name ∷ slots_from (number + 1) names
 
--- ".", ".." and the files; behind them the slots are free, up to the end of the root's last block
+-- ".", ".." and the files; after them the slots are free, up to the end of the root's last block
 abbrev pub root_slots : Version → List (List ℕ) → List (Option Slot)
 root_slots v names =
     used root dot ∷ used root dotdot ∷ slots_from first_file names

@@ -5,7 +5,7 @@ ghost use Rattle.mkfs.specs.Image.{whole};
 use fs_layout::widths::BLOCK_LEN;
 use std::alloc::AllocError;
 
-/// Appends a byte so many times.
+/// Appends a byte `n` times.
 pub fn push_many(image: &mut Vec<u8>, n: usize, byte: u8) -> Result<(), AllocError>
     ensures { OnOk result (image.new.items ≡ image.old.items ++ replicate n byte) }
 {

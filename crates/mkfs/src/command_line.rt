@@ -13,7 +13,7 @@ const NAME: &str = "mkfs";
 // The program's own version. The word "version" means that of the image.
 const RELEASE: &str = "0.1, for images of version 1, xv6's, and version 2";
 
-// What an image can hold, the statuses, and where more is said.
+// What an image can hold, the statuses, and the files that say more.
 const AFTER_HELP: &str = "\
 Limits:
   --size     up to 8191 blocks of 1024 bytes, into which the files and what comes before them fit
@@ -88,7 +88,7 @@ fn migrate_option<'a>(alloc: Global) -> Arg<'a>
         )
 }
 
-// What stands in the image's place may be anything.
+// The file in the image's place may be anything.
 fn force<'a>(alloc: Global) -> Arg<'a>
     ensures rule { rule_of result ≡ force_rule }
     ensures local { result.global ≡ false }
@@ -175,8 +175,9 @@ fn command<'a>(alloc: Global) -> Result<Command<'a>, AllocError>
     versioned.arg(about(alloc))?.arg(files(alloc))
 }
 
-/// Reads a command line, the program's name first. After an `Ok` the values are those that the words give, and the numbers
-/// are there, that of the version one that there is; an error has one of the kinds that the words call for, or memory was refused.
+/// Reads a command line, the program's name first. After an `Ok` the values are those that the words give. The
+/// numbers are there, and that of the version is one that there is. An error has one of the kinds that the words call
+/// for, or memory was refused.
 pub fn options<'a>(alloc: Global, words: &'a [String]) -> Result<ArgMatches<'a>, Error>
     ensures numbers { IfOk result (λ matches. HasNumber matches (codes "size") × HasNumber matches (codes "inodes") × HasVersion matches) }
     ensures values { IfOk result (λ matches. rows_of (found_of matches) ≡ matches_of mkfs_line (map string_bytes words.entry.now)) }
@@ -194,7 +195,7 @@ pub fn number(matches: &ArgMatches, id: &str) -> u32
     matches.get_one::<u32>(id).unwrap()
 }
 
-/// The version that the image is to have.
+/// The version of the image to make.
 pub fn version(matches: &ArgMatches) -> Version
     requires { HasVersion matches.now }
     ensures { (h : HasVersion matches.now) → result ≡ h.version }

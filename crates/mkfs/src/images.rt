@@ -61,9 +61,8 @@ fn bytes_of(rt: &HostRuntime, file: &File) -> io::Result<Vec<u8>>
     Ok(bytes)
 }
 
-/// Reads the file of an image, as far as an image can use it: what stands behind that isn't had in memory. A regular file above 4 GiB is
-/// too
-/// large, and so is anything else that has more than an image uses, as a device without end.
+/// Reads the file of an image, as far as an image can use it: the bytes after that aren't read into memory. A regular
+/// file above 4 GiB is too large. So is anything else that has more than an image uses, as a device without end.
 pub fn read_image(rt: &HostRuntime, path: &str) -> Result<ImageFile, ImageRefused>
     ensures { IfOk result (λ image. length image.bytes.items ≤ 8387585) }
 {
@@ -89,7 +88,8 @@ fn begin_image(bytes: Vec<u8>) -> bool {
     disk.read(SUPER_BLOCK, &mut block).is_ok() && read_version(&block).is_some()
 }
 
-/// Whether a regular file of this name is there that isn't empty, and is no image, also a damaged one; or can't be read.
+/// Whether a regular file of this name is there that isn't empty, and is no image, not even a damaged one. A file
+/// that can't be read counts as one.
 pub fn is_other_file(rt: &HostRuntime, path: &str) -> bool {
     match fs::metadata(rt, path) {
         Ok(metadata) if metadata.is_file() && metadata.len() > 0 => {}

@@ -1,4 +1,4 @@
-//! Where things lie.
+//! The places of an image's parts.
 ghost use Rattle.std.specs.Prelude.{◌≡◌, ◌+◌, ◌*◌, ◌^◌, ◌<◌, ◌≤◌, length, All};
 ghost use Rattle.mkfs.specs.Vocabulary.{blocks_for, largest_size};
 ghost use Rattle.mkfs.specs.Layout.{bitmap_start, data_start, file_blocks, node_blocks, root_size, super_for};
@@ -12,7 +12,7 @@ use fs_layout::widths::{BLOCK_LEN, INODES_PER_BLOCK};
 use image_versions::Version;
 use image_versions::widths::DIRECT;
 
-/// How many blocks hold so many bytes.
+/// How many blocks hold `size` bytes.
 pub fn blocks_for(size: usize) -> usize
     requires { size < 2 ^ 32 }
     ensures { result ≡ blocks_for size }
@@ -20,7 +20,7 @@ pub fn blocks_for(size: usize) -> usize
     (size + BLOCK_LEN - 1) / BLOCK_LEN
 }
 
-/// How many blocks a node of so many bytes takes.
+/// How many blocks a node of `size` bytes takes.
 pub fn node_blocks(size: usize) -> usize
     requires { size < 2 ^ 32 }
     ensures value { result ≡ node_blocks size }
@@ -30,7 +30,7 @@ pub fn node_blocks(size: usize) -> usize
     if blocks > DIRECT { blocks + 1 } else { blocks }
 }
 
-/// Where the data begins, as a block's number.
+/// The first block of the data.
 pub fn data_start(ninodes: u32) -> u32
     ensures { result ≡ data_start ninodes }
 {
@@ -69,7 +69,7 @@ pub fn file_blocks(files: &[NewFile]) -> usize
     blocks
 }
 
-/// How many bytes the root of this version has that names so many files.
+/// The bytes of the root of this version that names `files` files.
 pub fn root_size(version: Version, files: usize) -> usize
     requires { files < 2 ^ 24 }
     ensures { result ≡ root_size version files }
@@ -77,7 +77,7 @@ pub fn root_size(version: Version, files: usize) -> usize
     BLOCK_LEN * blocks_for(version.dirent_len() * (2 + files))
 }
 
-/// How many blocks are used in all, where the data begins at `first` and the root has so many bytes.
+/// How many blocks are used in all, if the data begins at `first` and the root has `root` bytes.
 pub fn used_blocks(first: u32, root: usize, files: &[NewFile]) -> usize
     requires root { root ≤ largest_size }
     requires each { All (λ content. length content ≤ largest_size) (contents_of files.now) }

@@ -1,8 +1,8 @@
-//! Makes images of both versions: a root with files in it, on an otherwise empty disk.
-//! `make_as` answers exactly the bytes that docs/FORMATS.md describes, or the first refusal that stands in its order.
+//! Makes images of both versions: a root with files in it, on an otherwise empty disk. `make_as` answers exactly the
+//! bytes that docs/FORMATS.md describes, or the first refusal that holds, in its order.
 //!
-//! The host's files that the programs read and write are read no further than they can serve, and written beside their place and
-//! then moved there, so that none is ever half written.
+//! The programs read the host's files no further than they can use them. They write a file beside its place and then
+//! move it there, so that none is ever half written.
 #![tactic(auto)]
 
 mod appends;
@@ -38,7 +38,8 @@ use std::fs::{File, Files};
 use std::io;
 use std::io::Read;
 
-/// The file's bytes; of a longer one the first `most` and one more, so that a device that never ends is left there.
+/// The file's bytes; of a longer one the first `most` and one more, so that the reading of a device without end stops
+/// there.
 pub fn read_at_most<R: Files + Alloc>(rt: &R, path: &str, most: usize) -> io::Result<Vec<u8, R::A>>
     ensures { IfOk result (λ bytes. length bytes.items ≤ most + 1) }
 {

@@ -121,8 +121,9 @@ fn image_bytes(
     Ok(image)
 }
 
-/// Makes an image of this version, of `size` blocks with `ninodes` inodes, the first unused, whose root has these
-/// files in this order: their names and contents. No check of an image of the version fails on it.
+/// Makes an image of this version, of `size` blocks with `ninodes` inodes, the first unused. Its root has these files
+/// in this order: their names and contents. No check of an image of the version fails on it. A refusal is the first
+/// that holds, in the order of `MakeRefused`.
 pub fn make_as(
     alloc: Global,
     version: Version,
@@ -157,7 +158,7 @@ pub fn make_as(
     }
 }
 
-/// Makes an image of version 1.
+/// Makes an image of version 1, as `make_as` does.
 pub fn make(
     alloc: Global,
     size: u32,
@@ -171,8 +172,8 @@ pub fn make(
     make_as(alloc, Version::One, size, ninodes, files)
 }
 
-/// What an image that can be made holds in front: as many blocks as asked for, the superblock, and
-/// an empty log, so that recovery leaves each block as it stands.
+/// What an image that can be made holds in front: as many blocks as asked for, the superblock, and an empty log. So
+/// recovery leaves each block as it is.
 pub fn made_front()
     ensures size { (v : Version) (size ninodes : ℕ) (names contents : List (List ℕ)) → length names ≡ length contents
         → CanBeMade v size ninodes names contents
@@ -188,7 +189,7 @@ pub fn made_front()
         → recovered (blocks_of (image_of v size ninodes names contents)) b ≡ block_at (blocks_of (image_of v size ninodes names contents)) b }
 {}
 
-/// The inodes of an image that can be made, where they stand: the first is inode 1, the root.
+/// The inodes of an image that can be made, at their places: the first is inode 1, the root.
 pub fn made_inodes()
     ensures { (v : Version) (size ninodes i : ℕ) (names contents : List (List ℕ)) (d : Dinode) → length names ≡ length contents
         → CanBeMade v size ninodes names contents
@@ -197,8 +198,8 @@ pub fn made_inodes()
         ≡ slice_index_or (inodes_from (data_start ninodes) (nodes_with (root_content v names) contents)) i d }
 {}
 
-/// The bitmap of an image that can be made, and each node's blocks: they begin where those of the
-/// nodes before it end. Node 0 of the list is the root.
+/// The bitmap of an image that can be made, and each node's blocks: they begin after those of the nodes before it.
+/// Node 0 of the list is the root.
 pub fn made_blocks()
     ensures bitmap { (v : Version) (size ninodes : ℕ) (names contents : List (List ℕ)) → length names ≡ length contents
         → CanBeMade v size ninodes names contents

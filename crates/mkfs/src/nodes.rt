@@ -50,7 +50,7 @@ pub fn root_content(
     Ok(content)
 }
 
-/// Appends the files' inodes, where the first file's blocks begin at `first`.
+/// Appends the files' inodes, if the first file's blocks begin at `first`.
 pub fn push_file_inodes(
     image: &mut Vec<u8>,
     first: u32,

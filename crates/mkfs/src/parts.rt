@@ -44,7 +44,7 @@ pub fn push_entry(
     content.extend_from_slice(&block[..version.dirent_len()])
 }
 
-/// Appends a bitmap in which the bits of so many blocks are set.
+/// Appends a bitmap in which the bits of the first `used` blocks are set.
 pub fn push_bitmap(image: &mut Vec<u8>, used: usize) -> Result<(), AllocError>
     requires { used ≤ most_disk_blocks }
     ensures { OnOk result (image.new.items ≡ image.old.items ++ bitmap used) }
@@ -76,7 +76,7 @@ pub fn addresses(first: u32, count: usize) -> [u32; ADDRESSES]
     numbers
 }
 
-// The inode of a node of so many bytes whose blocks begin at `first`.
+// The inode of a node of `size` bytes whose blocks begin at `first`.
 fn inode_for(kind: i16, first: u32, size: usize) -> Dinode
     requires size { size ≤ largest_size }
     requires first { first < 2 ^ 31 }
@@ -92,7 +92,7 @@ fn inode_for(kind: i16, first: u32, size: usize) -> Dinode
     }
 }
 
-/// Appends the inode of a node of so many bytes whose blocks begin at `first`.
+/// Appends the inode of a node of `size` bytes whose blocks begin at `first`.
 pub fn push_inode(image: &mut Vec<u8>, kind: i16, first: u32, size: usize) -> Result<(), AllocError>
     requires size { size ≤ largest_size }
     requires first { first < 2 ^ 31 }

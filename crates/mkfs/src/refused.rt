@@ -2,8 +2,8 @@
 ghost use Rattle.std.specs.Prelude.{◌≡◌};
 ghost use Rattle.mkfs.specs.Refusals.{name_of, number_of};
 
-/// Why an image was not made. Where several would do, the first in the order below is told; memory
-/// may be wanted at any time.
+/// Why an image was not made. If several reasons hold, the answer is the first in the order below; memory may be
+/// refused at any time.
 #[derive(Debug, Clone, Copy, PartialEq, Eq)]
 pub enum MakeRefused {
     /// Memory was refused.

@@ -5,13 +5,13 @@ use std::io::{ErrorKind, Read, Seek, SeekFrom, Write};
 use std::{fs, io, process};
 use thiserror::Error;
 
-/// How many bytes are looked at together: where all are zeros, none is written. A page of most hosts.
+/// How many bytes are looked at together: if all are zeros, none is written. A page of most hosts.
 const PIECE: usize = 4096;
 
 /// How many bytes are copied from file to file at once.
 const COPIED: usize = 16 * PIECE;
 
-/// Why a file wasn't written. What stood in its place is there still.
+/// Why a file wasn't written. Whatever was in its place is still there.
 #[derive(Debug, Drop, Error)]
 pub enum SaveRefused {
     /// A directory, a device, a pipe, or a link to one.
@@ -41,7 +41,7 @@ fn of_file(alloc: Global, name: &str, error: io::Error) -> SaveRefused {
     }
 }
 
-// The regular file that stands there, through any links; none where nothing does.
+// The regular file that is there, through any links; none if nothing is there.
 fn standing(rt: &HostRuntime, name: &str) -> Result<Option<Metadata>, SaveRefused> {
     match fs::metadata(rt, name) {
         Ok(metadata) if metadata.is_file() => Ok(Some(metadata)),
@@ -55,7 +55,7 @@ fn standing(rt: &HostRuntime, name: &str) -> Result<Option<Metadata>, SaveRefuse
     }
 }
 
-// Where a file is written: what it is called, the path without links, and what is to be replaced there.
+// The place of a file to write: what it is called, the path without links, and what is replaced there.
 #[derive(Drop)]
 struct Place<'a> {
     name: &'a str,
@@ -81,7 +81,7 @@ impl<'a> Place<'a> {
         Ok(format!(in rt.alloc(); "{path}.{id}.part")?)
     }
 
-    // A new file beside it. One that stands in the way is named itself, since it is for somebody to remove.
+    // A new file beside it. If one is in the way, the error names that file itself, because somebody must remove it.
     fn new_file(&self, rt: &HostRuntime, beside: &str) -> Result<File, SaveRefused> {
         OpenOptions::new()
             .write(true)
@@ -95,7 +95,7 @@ impl<'a> Place<'a> {
     }
 }
 
-// What a file is to have: bytes, and then all that is left of another file, which may be more than memory has room for.
+// What a file gets: bytes, and then the rest of another file, which may be more than memory has room for.
 #[derive(Drop)]
 struct Content<'a> {
     bytes: &'a [u8],
@@ -129,7 +129,7 @@ fn read_some(file: &mut File, buffer: &mut [u8]) -> io::Result<usize> {
     Ok(0)
 }
 
-// Writes all that is left of the other file.
+// Writes the rest of the other file.
 fn copy_sparse(alloc: Global, file: &mut File, rest: &mut File) -> io::Result<()> {
     let mut buffer = vec![in alloc; 0; COPIED]?;
     for _part in 0..u64::MAX {
@@ -142,7 +142,7 @@ fn copy_sparse(alloc: Global, file: &mut File, rest: &mut File) -> io::Result<()
     Ok(())
 }
 
-// Writes this, and gives the file the mode of the one that it is to replace.
+// Writes this, and gives the file the mode of the one that it replaces.
 fn fill(
     alloc: Global,
     file: &mut File,
@@ -154,7 +154,7 @@ fn fill(
         let mut rest = rest;
         copy_sparse(alloc, file, &mut rest)?;
     }
-    // Where it ends in zeros, they were stepped over.
+    // if it ends in zeros, they were stepped over
     let end = file.stream_position()?;
     file.set_len(end)?;
     match old {
@@ -163,7 +163,7 @@ fn fill(
     }
 }
 
-// Writes the file beside its place and moves it there. After a fault nothing of it is left.
+// Writes the file beside its place and moves it there. After a fault nothing of it remains.
 fn replace(rt: &HostRuntime, place: &Place, content: Content) -> Result<(), SaveRefused> {
     let beside = place.beside(rt)?;
     let written = match place.new_file(rt, beside.as_str()) {
@@ -180,8 +180,8 @@ fn replace(rt: &HostRuntime, place: &Place, content: Content) -> Result<(), Save
     })
 }
 
-/// Tells beforehand why a file of this name can't be written, as far as that is known then: a new file is made beside it, and
-/// removed. What stands there isn't touched.
+/// Says beforehand why a file of this name can't be written, as far as that is known then. It makes a new file beside
+/// it, and removes that. The file that is there isn't touched.
 pub fn try_to_save(rt: &HostRuntime, name: &str) -> Result<(), SaveRefused> {
     let place = Place::of(rt, name)?;
     let beside = place.beside(rt)?;
@@ -189,10 +189,10 @@ pub fn try_to_save(rt: &HostRuntime, name: &str) -> Result<(), SaveRefused> {
     fs::remove_file(rt, beside.as_str()).map_err(|error| of_file(rt.alloc(), name, error))
 }
 
-/// Replaces the regular file with this name, or makes a new one. A link is followed, and what it leads to is replaced. The
-/// mode of a file that was there stays. Until the whole file is written what stood there stays, also where this fails. It gets
-/// these bytes, and behind them what is left of `rest`, copied from file to file. Pieces of zeros are left out, where the file system can
-/// leave them out.
+/// Replaces the regular file with this name, or makes a new one. A link is followed, and the file that it leads to is
+/// replaced. The mode of a file that was there stays. Until the whole file is written, and if this fails, the old
+/// file stays. The new file gets these bytes, and after them the rest of `rest`, copied from file to file. Pieces of
+/// zeros are left out, if the file system can leave them out.
 pub fn save(
     rt: &HostRuntime,
     name: &str,

@@ -1,15 +1,15 @@
-//! Where the parts of an image lie and how much fits: the tables of docs/FORMATS.md. What a version has of its own, and what other crates
-//! have to know as well, stands in `image_versions`.
+//! The places of the parts of an image, and how much fits: the tables of docs/FORMATS.md. What a version has of its
+//! own, and what other crates must know as well, is in `image_versions`.
 
 use image_versions::widths::{BLOCK_LEN, DIRECT};
 
-/// Where the log begins, as a block's number.
+/// The first block of the log.
 pub const LOG_START: u32 = 2;
 
 /// How many blocks the log has, its head among them.
 pub const LOG_BLOCKS: u32 = 31;
 
-/// Where the inodes begin, as a block's number.
+/// The first block of the inodes.
 pub const INODE_START: u32 = 33;
 
 /// The bytes in the blocks that an inode names directly.
@@ -24,10 +24,10 @@ pub const ROOT: u16 = 1;
 /// The first file's inode.
 pub const FIRST_FILE: u16 = 2;
 
-/// What an inode says that a directory's is.
+/// The type in a directory's inode.
 pub const DIRECTORY: i16 = 1;
 
-/// What an inode says that a file's is.
+/// The type in a file's inode.
 pub const FILE: i16 = 2;
 
 /// How many bits a byte has.

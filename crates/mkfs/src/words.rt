@@ -8,7 +8,7 @@ use thiserror::Error;
 /// The most bytes of a word that is no text which are read, to show it.
 const MOST_SHOWN: usize = 4096;
 
-/// A word that is no text, for whoever typed it: what isn't a printed letter as `\x` and two digits.
+/// A word that is no text, for the person who typed it: each byte that isn't a printed letter as `\x` and two digits.
 #[derive(Debug, Drop)]
 pub struct OddWord {
     // The program's name is word 0.
@@ -48,7 +48,7 @@ impl From<AllocError> for WordsRefused {
     }
 }
 
-// The first word that is no text. One that is very long is passed over.
+// The first word that is no text. A very long one is passed over.
 fn odd_word(rt: &HostRuntime) -> Result<Option<OddWord>, AllocError> {
     let mut buffer = vec![in rt.alloc(); 0; MOST_SHOWN]?;
     for place in 0..usize::MAX {
@@ -67,7 +67,8 @@ fn odd_word(rt: &HostRuntime) -> Result<Option<OddWord>, AllocError> {
     Ok(None)
 }
 
-/// The command line's words, the program's name first. One that is no text is named.
+/// The command line's words, the program's name first. If a word is no text, the error names the first such word that
+/// is short enough to show.
 pub fn read_words(rt: &HostRuntime) -> Result<Vec<String>, WordsRefused> {
     match env::args(rt) {
         Ok(words) => Ok(words.collect(rt.alloc())?),

@@ -59,7 +59,7 @@ mkdir_few t d e none = go (look t.nodes d e) none
       | inr y ↦ absurd (let x = rw y at h in cc)
     ]
 
--- A node that is changed after the table had grown to its place. t1: the grown tree.
+-- A node is changed after the table has grown to its place. t1: the grown tree.
 pub changed_far : (g : Node → Node) (t t1 t2 : Tree) (n k : ℕ) → t1 ≡ t → t2 ≡ at_node t1 n g → n ≡ k → t2 ≡ at_node t k g
 changed_far g t t1 t2 n k a b c = b ∙ (ap (λ (x : Tree). at_node x n g) a ∙ ap (λ (j : ℕ). at_node t j g) c)
 
@@ -84,7 +84,7 @@ raised_far t t1 t2 t3 h n x o a b b' c e =
     subst (λ (p : Option Hold). t3 ≡ record (at_hold t p raised) { holds = put t.holds h (raise_hold p) }) e
     (b' ∙ ap (λ (y : Tree). record y { holds = put y.holds h (Some (record { number = x.number; raised = true })) }) (changed_far raised t t1 t2 n x.number a b c))
 
--- the directory without the name, its count lower where a directory goes
+-- the directory without the name; its count is one lower if the name was a directory's
 abbrev pub without_name : Name → Bool → Node → Node
 without_name e lowers v = record v { kind = Directory (cleared (slots_of v.kind) e); count = if lowers then v.count - 1 else v.count }
 
@@ -95,7 +95,7 @@ removed_far t t1 t2 t3 d j n k e lowers a l b b' c c' found =
     let cleared_so = changed_far (without_name e lowers) t t1 t2 j d a b c ∙ ap (λ (z : Bool). at_node t d (without_name e z)) is in
     subst (λ (p : Option ℕ). t3 ≡ removed_child t d e p) found (changed_far lowered (at_node t d (without_name e (is_directory (node_at t n).kind))) t2 t3 k n cleared_so b' c')
 
--- what is read where nothing refuses it ends at a u64
+-- if nothing refuses the read, it ends at a u64
 pub read_advances : (t : Tree) (h fd by : ℕ) (a : StepAnswer) → read_refusal t (file_at t h fd) ≡ None → EndsWithin (file_at t h fd) (read_count a) → by ≡ read_count a → Advances t (t.fds h fd) by
 read_advances t h fd by a none within e f is = elim (cases_Bool (nat_lt fd 16)) [
   | inl y ↦

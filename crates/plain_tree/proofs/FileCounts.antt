@@ -86,11 +86,11 @@ all_found es (suc n) h =
     let rest = all_found es n (λ j lt. h j (omega arith)) in
     omega (arith, one, rest)
 
--- as many ids as there are entries, and no more
+-- as many ids as there are entries, at most
 pub ids_few : (es : List OpenFileEntry) (n : ℕ) → ((j : ℕ) → j < n → file_in es j ≢ None) → n ≤ length es
 ids_few es n h = omega (arith, all_found es n h, found_few es n)
 
--- where all ids up to the number of entries are used, that number isn't
+-- if all ids below the number of entries are used, that number isn't
 pub last_unused : (es : List OpenFileEntry) → ((j : ℕ) → j < length es → file_in es j ≢ None) → file_in es (length es) ≡ None
 last_unused es h = go (file_in es (length es)) refl
   where

@@ -2,7 +2,7 @@
 use Rattle.plain_tree.proofs.Vocabulary.{◌≡◌, Version, ℕ, suc, ◌+◌, ◌<◌, ◌≤◌, Bool, true, false, ◌↔◌, IsTrue, List, [], ◌∷◌, refl, sym, ◌∙◌, ap, subst, drop, length, get_or, add-one, drop-cons, drop_all, TreeStep, StepAnswer, Placed, Tree, Step, IsInPlace, IsApplied, Chain, Leads, LeadsOn}
 use Rattle.plain_tree.proofs.StepLaws.{step_taken, applied_step, step_one}
 
--- the step was made and answered b
+-- the step was made and answered b: r says whether that is the answer a
 pub made_leads : (v : Version) (r : Bool) (t : Tree) (s : TreeStep) (a b : StepAnswer) (t' : Tree) → IsInPlace t s.hart s.action → (IsTrue r ↔ (b ≡ a)) → IsApplied v t s b t' → LeadsOn v r t s a t'
 made_leads v true t s a b t' p same x = subst (λ (c : StepAnswer). Step v t s c t') (same.0 refl) (applied_step v t s x.id b t' p x.least x.made)
 made_leads v false t s a b t' p same x = λ u y.
@@ -13,7 +13,7 @@ made_leads v false t s a b t' p same x = λ u y.
 pub step_placed : (v : Version) (t : Tree) (s : TreeStep) (a : StepAnswer) (t' : Tree) → Step v t s a t' → IsInPlace t s.hart s.action
 step_placed v t s a t' x = (step_taken v t s a t' x).place
 
--- one list leads from t where another leads from u
+-- rest leads from t exactly if list leads from u
 pub record LeadsSame (v : Version) (t : Tree) (rest : List Placed) (u : Tree) (list : List Placed) : Type 0 where
   pub to : Leads v t rest → Leads v u list
   pub from : Leads v u list → Leads v t rest
@@ -29,7 +29,7 @@ one_more : (v : Version) (t mid u : Tree) (e : Placed) (es : List Placed) → St
 unfolding Chain
 one_more v t mid u e es x y = (mid, x, y)
 
--- what a list leads through that leads from t
+-- a list that leads from t: its first step, and the tree from which the rest leads
 record Begins (v : Version) (t : Tree) (e : Placed) (es : List Placed) : Type 0 where
   mid : Tree
   step : Step v t e.step e.answer mid

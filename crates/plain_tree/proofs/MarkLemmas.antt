@@ -22,7 +22,7 @@ same_is [] (y ∷ ys) h = absurd cc
 same_is (x ∷ xs) [] h = absurd cc
 same_is (x ∷ xs) (y ∷ ys) h = more_same x y xs ys (eq_of x y (and_left (x == y) (same_name xs ys) h)) (same_is xs ys (and_right (x == y) (same_name xs ys) h))
 
--- where a name is found a slot has it
+-- if a name is found, a slot has it
 pub record FoundAt (ss : List (Option Slot)) (e : Name) : Type 0 where
   pub k : ℕ
   pub slot : Slot
@@ -116,7 +116,7 @@ look_marked d marks size closed k e j m l = elim (cases_lt k (length marks)) [
   | inr ge ↦ absurd (let x : None ≡ Some j = sym (look_none (tree_of d).nodes k e (at_none d k (omega (arith, size, ge)))) ∙ l in cc)
 ]
 
--- what a closed set of marks leads to is marked
+-- if the marks are closed, whatever a path leads to from a marked number is marked
 all_followed : (d : TreeData) (marks : List Bool) → length marks ≡ length d.nodes → IsClosed (tree_of d) marks → (k : ℕ) (es : List Name) (n : ℕ) → is_marked marks k ≡ true → follow (tree_of d).nodes k es ≡ Some n → is_marked marks n ≡ true
 unfolding follow
 all_followed d marks size closed k [] n m h =
@@ -169,7 +169,7 @@ length_same (suc count) = ap suc (length_same count)
 none_reached : (t : Tree) (count n : ℕ) → n < length (replicate count false) → is_marked (replicate count false) n ≡ true → IsReached t n
 none_reached t count n lt h = absurd (let x : true ≡ false = sym h ∙ unmarked_at count n (omega (arith, length_same count, lt)) in cc)
 
--- the root is marked, where it is in range
+-- marks with the root alone, if it is in range
 pub first_marks : (d : TreeData) (marks : List Bool) → marks ≡ set (replicate (length d.nodes) false) root true → MarksReached d marks
 first_marks d marks e = subst (λ (m : List Bool). MarksReached d m) (sym e) (record {
   size = length-set (replicate (length d.nodes) false) root true ∙ length_same (length d.nodes);

@@ -74,7 +74,7 @@ name_cut v e =
     let more : name_len_of v ≡ suc (suc (suc (name_len_of v - 3))) = omega arith in
     rw more (cut_dotdot (name_len_of v - 3) e)
 
--- what climbs with its elements cut climbs with them as they are
+-- a path climbs with its elements cut exactly if it climbs with them as they are
 cut_climbs : (v : Version) (es : List (List ℕ)) → climbs_in (map (λ e. take (name_len_of v) e) es) ≡ climbs_in es
 unfolding climbs_in
 cut_climbs v [] = refl

@@ -1,4 +1,4 @@
--- What comes next of a call depends only on how many of its steps acted, and on the last answer.
+-- The next step of a call depends only on how many of its steps acted, and on the last answer.
 use Rattle.plain_tree.proofs.Vocabulary.{◌≡◌, ◌≢◌, ℕ, suc, ◌+◌, ◌<◌, ◌≤◌, Bool, true, false, nat_lt, List, [], ◌∷◌, ◌++◌, length, ◌==◌, refl, sym, ◌∙◌, ap, subst, not, Decides, take, drop, get_or, append_assoc, drop-cons, inl, inr, arith, Option, Some, None, if◌then◌else◌, length_push, take-append-drop, take_all, take_more, cases_Bool, nat_tests, Cause, Call, OpenCall as Open, ReadCall as Read, Write, Link, UnlinkCall as Unlink, MkdirCall as Mkdir, ChdirCall as Chdir, DupCall as Dup, FstatCall as Fstat, CloseCall as Close, InheritCall as Inherit, Action, Bump as BumpStep, Enter as EnterStep, Unbump as UnbumpStep, WritePart as WritePartStep, StepAnswer, Opened, Bytes, Status, NewFd, Done, Failed, NoRoom, Placed, Nothing, Progress, act_of, acts_of, has, empty_it, is_nothing, Act, Follows, cause_of, if_done, if_failed, last_cause, next_link, next_of, next_open, next_piece, once, piece, piece_count, to_truncate, has_failed, is_done, last_of, link_next, next_at, next_where, only_next, open_next, progress_of, said, truncate_next}
 use Rattle.std.proofs.lemmas.List.{append-nil}
 
@@ -83,7 +83,7 @@ piece_is fd bytes acts (Some k) false h = absurd cc
 piece_is fd bytes acts None true h = absurd cc
 piece_is fd bytes acts None false h = refl
 
--- what the acts say of what comes next
+-- what the acts say of the next step
 next_is : (c : Call) (acts : List Act) → next_of c acts ≡ next_at c (progress_of acts)
 unfolding next_of
 next_is (Open path flags) acts = open_is path flags acts
@@ -129,7 +129,7 @@ own_more id es i e lt is h = rw (take_next es i e lt is, acts_append id (take i 
 other_more : (id : ℕ) (es : List Placed) (i : ℕ) (e : Placed) → i < length es → e ≡ get_or es i e → e.call ≢ id → acts_of id (take (i + 1) es) ≡ acts_of id (take i es)
 other_more id es i e lt is h = rw (take_next es i e lt is, acts_append id (take i es) (e ∷ []), acts_other id e [] h, acts_none id) (append-nil (acts_of id (take i es)))
 
--- p is how far the first i of the list have the call
+-- p: how far the call is after the first i entries of the list
 pub record HasCome (p : Progress) (id : ℕ) (list : List Placed) (i : ℕ) : Type 0 where
   pub is : p ≡ progress_of (acts_of id (take i list))
   pub bound : p.count ≤ i
@@ -153,7 +153,7 @@ other_come p id list i e lt is h come = record { is = rw (other_more id list i e
 pub all_come : (p : Progress) (id : ℕ) (list : List Placed) (i : ℕ) → length list ≤ i → HasCome p id list i → p ≡ progress_of (acts_of id list)
 all_come p id list i le come = come.is ∙ ap (λ xs. progress_of (acts_of id xs)) (take_all i list le)
 
--- What follows what.
+-- What follows after what.
 
 pub follows_none : (c : Call) (id : ℕ) (list : List Placed) → Follows c [] (acts_of id (take 0 list))
 unfolding Follows
@@ -164,7 +164,7 @@ unfolding Follows
 follows_push c before [] a f n = (rw (append-nil before) at n, tt)
 follows_push c before (b ∷ bs) a f n = (f.0, follows_push c (before ++ b ∷ []) bs a f.1 (rw (append_assoc before (b ∷ []) bs) n))
 
--- the step that stands there comes next of the ones before it
+-- a step of the sequence is the next one after the steps before it
 pub follows_at : (c : Call) (before acts : List Act) (a : Act) (rest : List Act) → Follows c before (acts ++ a ∷ rest) → next_of c (before ++ acts) ≡ Some a.step
 unfolding Follows
 follows_at c before [] a rest f = rw (append-nil before) f.0

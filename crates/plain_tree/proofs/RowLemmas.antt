@@ -24,12 +24,12 @@ row_key t h j n lt lj = rw (below_is h hart_count lt, below_is j descriptor_coun
 pub row_is : (t : Tree) (h n : ℕ) → h < hart_count → row_names (row_of t h) n ≡ ((t.cwd h == n) || (hold_names (t.holds h) n || any_below descriptor_count (λ i. fd_names t (t.fds h i) n)))
 row_is t h n lt = ap (λ (z : Bool). (t.cwd h == n) || (hold_names (t.holds h) n || z)) (any_same descriptor_count (λ j. key_names ((row_of t h).keys j) n) (λ i. fd_names t (t.fds h i) n) (λ j lj. row_key t h j n lt lj))
 
--- a node is named where a row names it
+-- a node is named if a row names it
 pub rows_name : (t : Tree) (n : ℕ) → is_named t n ≡ any_below hart_count (λ h. row_names (row_of t h) n)
 unfolding is_named
 rows_name t n = any_same hart_count (λ h. (t.cwd h == n) || (hold_names (t.holds h) n || any_below descriptor_count (λ i. fd_names t (t.fds h i) n))) (λ h. row_names (row_of t h) n) (λ h lt. sym (row_is t h n lt))
 
--- A descriptor's key, and what stands behind it.
+-- A descriptor's key, and the open file that it is of.
 
 pub key_from : (t : Tree) (h fd id : ℕ) (f : OpenFile) → h < hart_count → fd < descriptor_count → t.fds h fd ≡ Some id → t.files id ≡ Some f → (row_of t h).keys fd ≡ Some (key_is f)
 key_from t h fd id f lt low e q = rw (below_is h hart_count lt, below_is fd descriptor_count low) (ap (λ (z : Option ℕ). key_at t.files z) e ∙ ap (λ (z : Option OpenFile). key_of z) q)

@@ -63,7 +63,7 @@ new_row : (t : Tree) (h id flags : ℕ) (par : Option (ℕ × Name)) (new g : �
 new_row t h id flags None new g ne not' = refl
 new_row t h id flags (Some q) new g ne not' = in_row t h id flags q.0 q.1 (look t.nodes q.0 q.1) new g ne not'
 
--- an offset stands in no row
+-- no row has an offset, so a moved offset changes none
 moved_row : (t : Tree) (o : Option ℕ) (by g : ℕ) → row_of (moved t o by) g ≡ row_of t g
 moved_row t None by g = refl
 moved_row t (Some id) by g = same_row (moved t (Some id) by) t g refl refl refl (λ i lg li. at (t.fds g i))
@@ -124,7 +124,7 @@ dir_row : (t : Tree) (h : ℕ) (r : Option ℕ) (g : ℕ) → g ≢ h → row_of
 dir_row t h None g ne = refl
 dir_row t h (Some n) g ne = cwd_row t h n g ne
 
--- a descriptor's open file stays where those without one go
+-- a descriptor's open file stays when open files without a descriptor go
 kept_file : (t : Tree) (g i k : ℕ) → g < hart_count → i < descriptor_count → t.fds g i ≡ Some k → (closed t).files k ≡ t.files k
 unfolding has_fd
 kept_file t g i k lg li q = rw (any_at hart_count (λ h. any_below descriptor_count (λ j. elim (t.fds h j) [ None ↦ false | Some l ↦ l == k ])) g lg (any_at descriptor_count (λ j. elim (t.fds g j) [ None ↦ false | Some l ↦ l == k ]) i li (rw q (eq_self k)))) refl
@@ -164,7 +164,7 @@ refused_row : (t : Tree) (h : ℕ) (s : Action) (g : ℕ) → g ≢ h → row_of
 refused_row t h Bump g ne = settled_row (drop_hold t h) g ∙ hold_row t h None g ne
 refused_row t h s g ne = refl
 
--- a new open file's id is none of a hart's whose descriptors have their open files
+-- if a hart's descriptors have their open files, an unused id is none of theirs
 new_id : (t : Tree) (g id : ℕ) → HasFiles t g → t.files id ≡ None → HasNot t g id
 new_id t g id own none i k lg li q e = own i k lg li q (ap t.files e ∙ none)
 

@@ -33,7 +33,7 @@ none_at : (t : Tree) (n : ℕ) → t.nodes n ≡ None → (settle t).nodes n ≡
 unfolding settle
 none_at t n h = rw h (none_both (is_named t n))
 
--- by whether the node is lost that stands there
+-- by whether the node that is there is lost
 stays_of : (o : Option Node) (b : Bool) → lost_of o b ≡ false → cond (is_live o || b) o None ≡ o
 stays_of None b h = none_both b
 stays_of (Some v) b h = rw (live_or v.count b h) refl

@@ -4,7 +4,7 @@ use Rattle.plain_tree.proofs.Maps.{and_true, either, eq_not, eq_self, same_or, p
 use Rattle.plain_tree.proofs.Settling.{Unnamed, unnamed, is_unnamed, settle_nodes, settle_or, settle_again, settle_named, settle_none, named_fd, named_hold}
 use Rattle.plain_tree.proofs.RowLemmas.{less_is}
 
--- Nodes ms in place of a tree's: what a step of hart h asks for is the same.
+-- Nodes ms in place of a tree's: what a step of hart h asks for is the same in both.
 pub record Asked (t : Tree) (ms : ℕ → Option Node) (h : ℕ) (res : Option ℕ) (par : Option (ℕ × Name)) : Type 0 where
   pub node : (n : ℕ) → res ≡ Some n → ms n ≡ t.nodes n
   pub directory : (q : ℕ × Name) → par ≡ Some q → ms q.0 ≡ t.nodes q.0
@@ -139,7 +139,7 @@ pub makes_same : (t : Tree) (ms : ℕ → Option Node) (h : ℕ) (s : Action) (r
 makes_same t ms h (Open path flags) res par a = ap (λ (b : Bool). creates flags && b) (absent_same t ms h res par a)
 makes_same t ms h s res par a = refl
 
--- Changes. Where nodes ns stand in tree b, nodes ms settle to the same.
+-- Changes. If tree b has nodes ns, it settles to the same tree with nodes ms.
 abbrev pub Agrees : Tree → (ℕ → Option Node) → (ℕ → Option Node) → Type 0
 Agrees b ms ns = (n : ℕ) → (ms n ≡ ns n) ⊎ ((ms n ≡ None) × (is_live (ns n) ≡ false) × (is_named b n ≡ false))
 
@@ -165,11 +165,11 @@ put_at ms ns d x y n same e = elim (same_or n d) [
 settles : (b : Tree) (ms : ℕ → Option Node) → Agrees b ms b.nodes → settle (with_nodes b ms) ≡ settle b
 settles b ms a = settle_nodes b ms b.nodes a
 
--- ms has of t's nodes all but such as no hart names and have no count
+-- ms has all nodes of t except some that no hart names and that have no count
 abbrev pub Leaves : Tree → (ℕ → Option Node) → Type 0
 Leaves t ms = (n : ℕ) → (ms n ≡ t.nodes n) ⊎ ((ms n ≡ None) × (is_live (t.nodes n) ≡ false) × Unnamed t n)
 
--- where the harts of b name no more than those of t, but for what ms has
+-- if the harts of b name no more than those of t, except what ms has
 begins : (t b : Tree) (ms : ℕ → Option Node) → Leaves t ms → ((n : ℕ) → Unnamed t n → Unnamed b n ⊎ (ms n ≡ t.nodes n)) → Agrees b ms t.nodes
 begins t b ms leaves less n = elim (leaves n) [
   | inl e ↦ inl e
@@ -264,7 +264,7 @@ closed_unnamed t n u = record { cwd = u.cwd; hold = u.hold; fds = λ g i lg li. 
 
 -- Each action.
 
--- ms in place of t's nodes, where t's harts change to those of b
+-- ms in place of t's nodes, when t's harts change to those of b
 abbrev Grows : Tree → (ℕ → Option Node) → ℕ → Type 0
 Grows t ms k = (b : Tree) → ((n : ℕ) → n ≢ k → Unnamed t n → Unnamed b n) → Agrees b ms t.nodes
 
@@ -504,7 +504,7 @@ refused_same t h Bump lt =
     ∙ sym (ap (λ (u : Tree). settle (drop_hold u h)) (as_settled t) ∙ hold_settles t (settle t).nodes (settle t).nodes t.nodes h None lt (leaves t) (λ n e. refl) (λ b a. a))
 refused_same t h s lt = refl
 
--- what a step takes of an unsettled tree it may take of the settled one
+-- the number and the id that a step may take in an unsettled tree it may take in the settled one
 settled_choice : (t : Tree) (h : ℕ) (s : Action) (res : Option ℕ) (par : Option (ℕ × Name)) (new id : ℕ) → h < hart_count → AsksForWhatStays t res par → MayChoose t h s par new id → MayChoose (settle t) h s par new id
 settled_choice t h s res par new id lt a may = subst (λ (u : Tree). MayChoose u h s par new id) (sym (as_settled t)) (record {
   node = λ y. fresh (may.node (sym (makes_same t (settle t).nodes h s res par (asked t h res par lt a)) ∙ y));

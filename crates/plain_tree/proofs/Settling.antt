@@ -2,7 +2,7 @@
 use Rattle.plain_tree.proofs.Vocabulary.{◌≡◌, ◌⊎◌, inl, inr, ℕ, ◌<◌, Bool, true, false, ◌||◌, ◌==◌, nat_lt, Option, Some, None, refl, sym, ◌∙◌, ap, if◌then◌else◌, Node, OpenFile, hart_count, descriptor_count, Tree, any_below, fd_names, hold_names, is_directory, is_live, is_named, live_directory, settle, file_at, with_nodes, row_of}
 use Rattle.plain_tree.proofs.Maps.{and_true, or_none, or_left, or_right, any_none, none_any, any_at}
 
--- A change that is made before a tree settles is the same after it, where what had left isn't asked for.
+-- A change before a tree settles gives the same as after, if it doesn't ask for what settling removes.
 pub settle_nodes : (b : Tree) (ns ms : ℕ → Option Node) → ((n : ℕ) → (ns n ≡ ms n) ⊎ ((ns n ≡ None) × (is_live (ms n) ≡ false) × (is_named b n ≡ false))) → settle (with_nodes b ns) ≡ settle (with_nodes b ms)
 unfolding settle is_named
 settle_nodes b ns ms same = λ i. record b { nodes = λ n. each n (same n) i }
@@ -11,7 +11,7 @@ settle_nodes b ns ms same = λ i. record b { nodes = λ n. each n (same n) i }
     each n (inl e) = λ i. if is_live (e i) || is_named b n then e i else None
     each n (inr e) = rw (e.0, e.1, e.2) refl
 
--- what settling leaves of a number
+-- what settling leaves at a number
 pub settle_or : (t : Tree) (n : ℕ) → ((settle t).nodes n ≡ t.nodes n) ⊎ (((settle t).nodes n ≡ None) × (is_live (t.nodes n) ≡ false) × (is_named t n ≡ false))
 unfolding settle
 settle_or t n = pick (is_live (t.nodes n)) (is_named t n) refl refl
@@ -111,7 +111,7 @@ named_fd t h fd n lt low is =
 pub named_hold : (t : Tree) (h n : ℕ) → h < hart_count → hold_names (t.holds h) n ≡ true → is_named t n ≡ true
 named_hold t h n lt is = named_by t n h lt (or_right (t.cwd h == n) (hold_names (t.holds h) n || any_below descriptor_count (λ i. fd_names t (t.fds h i) n)) (or_left (hold_names (t.holds h) n) (any_below descriptor_count (λ i. fd_names t (t.fds h i) n)) is))
 
--- Fewer descriptors, or other open files, of which none names more: the tree settles as it would have.
+-- Fewer descriptors, or other open files that name no more: the tree settles as it would have.
 
 abbrev pub with_open : Tree → (ℕ → ℕ → Option ℕ) → (ℕ → Option OpenFile) → Tree
 with_open t X F = record t { fds = X; files = F }

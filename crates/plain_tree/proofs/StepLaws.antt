@@ -1,4 +1,4 @@
--- A step with its answer, against what is applied.
+-- A step with its answer, compared with what is applied.
 use Rattle.plain_tree.proofs.Vocabulary.{◌≡◌, Version, ℕ, ◌<◌, ◌≤◌, Bool, true, false, ◌&&◌, nat_lt, List, [], ◌∷◌, ◌⊎◌, inl, inr, refl, sym, ◌∙◌, ap, subst, arith, Option, Some, None, if◌then◌else◌, cases_Bool, nat_tests, Cause, Node, OpenFile, Action, Open, Fstat, TreeStep, StepAnswer, Opened, Bytes, Status, NewFd, Done, Failed, NoRoom, Placed, Name, Tree, resolve, parent, settle, look, and_then, Step, StepWith, MayChoose, IsInPlace, IsLeastUnused, IsNewNode, answer_with, effect_with, refusal, refused, path_of, place_of, opens_one, opens_file, stat_answer, file_at, has_room, lowest, opened, creates, with_file, opened_new, opened_in, opened_at, Outcome, applied, in_place, IsApplied, IsAppliedAt, IsBadChoice, Chain, hart_count}
 
 -- one id is the least unused
@@ -22,7 +22,7 @@ and_right false b h = absurd cc
 pub applied_in : (v : Version) (t : Tree) (s : TreeStep) (id : ℕ) → IsInPlace t s.hart s.action → applied v t s id ≡ in_place v t s (refusal v t s.hart s.action) id
 applied_in v t s id p = rw (and_left (nat_lt s.hart hart_count) (place_of t s.hart s.action) p, and_right (nat_lt s.hart hart_count) (place_of t s.hart s.action) p) refl
 
--- with all descriptors taken an open's id is of no account
+-- if all descriptors are taken, an open's id doesn't matter
 full_file : (t : Tree) (h id n flags : ℕ) → has_room (t.fds h) ≡ false → with_file t h id n flags ≡ t
 full_file t h id n flags r = rw r refl
 
@@ -67,7 +67,7 @@ open_same v t h path flags res par new id id' same =
       | inr y ↦ record { answer = full_opened t h id id' n y; effect = full_effect v t h path flags res par new id id' y }
     ]
 
--- the answer and the effect depend on the id only where a file is opened
+-- the answer and the effect depend on the id only if a file is opened
 pub same_at : (v : Version) (t : Tree) (h : ℕ) (s : Action) (res : Option ℕ) (par : Option (ℕ × Name)) (new id id' : ℕ) → (opens_one t h s ≡ true → id ≡ id') → SameAt v t h s res par new id id'
 unfolding answer_with effect_with
 same_at v t h (Open path flags) res par new id id' same = open_same v t h path flags res par new id id' same
@@ -115,7 +115,7 @@ cases_refusal : (r : Option Cause) → (r ≡ None) ⊎ ((k : Cause) × (r ≡ S
 cases_refusal None = inl refl
 cases_refusal (Some k) = inr (k, refl)
 
--- where the step opens a file these are one id
+-- the two ids are one if the step opens a file
 abbrev SameId : Version → Tree → TreeStep → ℕ → ℕ → Type 0
 SameId v t s id id' = refusal v t s.hart s.action ≡ None → opens_one t s.hart s.action ≡ true → id ≡ id'
 

@@ -19,7 +19,7 @@ pub record Outcome : Type 0 where
   pub answer : StepAnswer
   pub tree : Tree
 
--- A step out of its place changes nothing. dup alone is out of its place for want of a descriptor.
+-- A step out of its place changes nothing. Only dup is out of its place for want of a descriptor.
 abbrev pub out_of_place : Action → StepAnswer
 out_of_place (Dup fd) = NoRoom Descriptors
 out_of_place s = Failed BadDescriptor
@@ -31,7 +31,8 @@ in_place_with v t s res par None id = record {
   tree = settle (effect_with v t s.hart s.action res par s.new id);
 }
 
--- res, par: what the action's path was found to lead to, and the directory before its last element, with that; id: of a new open file
+-- res: what the action's path was found to lead to; par: the directory before its last element, with that element;
+-- id: of a new open file
 abbrev pub applied_with : Version → Tree → TreeStep → Option ℕ → Option (ℕ × Name) → ℕ → Outcome
 applied_with v t s res par id =
     if nat_lt s.hart hart_count
@@ -39,20 +40,21 @@ applied_with v t s res par id =
     else record { answer = out_of_place s.action; tree = t })
     else record { answer = Failed BadDescriptor; tree = t }
 
--- the step makes a node, and may not take the number that it says
+-- the step makes a node, and may not take the number that it gives
 pub record IsBadChoiceWith (v : Version) (t : Tree) (s : TreeStep) (res : Option ℕ) (par : Option (ℕ × Name)) : Type 0 where
   pub hart : s.hart < hart_count
   pub not_refused : refusal_with v t s.hart s.action res par ≡ None
   pub makes : makes_node t s.action par ≡ true
   pub bad : IsNewNode t s.new → ⊥
 
--- What the code promises: with id for a new open file the step answers a and goes on to t', and the number for a new node is right.
+-- What the code promises. With id for a new open file the step answers a and goes on to t', and the number of a new
+-- node is right.
 pub record IsAppliedAtWith (v : Version) (t : Tree) (s : TreeStep) (res : Option ℕ) (par : Option (ℕ × Name)) (id : ℕ) (a : StepAnswer)
     (t' : Tree) : Type 0 where
   pub is : applied_with v t s res par id ≡ record { answer = a; tree = t' }
   pub chosen : IsBadChoiceWith v t s res par → ⊥
 
--- the same, where a file that is opened takes the least unused id
+-- the same, and a file that is opened takes the least unused id
 pub record IsAppliedWith (v : Version) (t : Tree) (s : TreeStep) (res : Option ℕ) (par : Option (ℕ × Name)) (a : StepAnswer) (t' : Tree)
     : Type 0 where
   pub id : ℕ

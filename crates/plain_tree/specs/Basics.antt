@@ -1,4 +1,4 @@
--- The words that most of this crate's other definitions stand on.
+-- The words on which most other definitions of this crate build.
 pub use Rattle.plain_tree.specs.Steps.{IsInPlace, IsLeastUnused, IsNewNode, Step, StepWith, empty_it, file_at, has, is_nothing, makes_node, opens_one, path_of, refusal, refused}
 unfoldable pub use Rattle.plain_tree.specs.Steps.{answer_with, cleared, effect_with, first_free, has_fd, place_of}
 pub use Rattle.plain_tree.specs.Tree.{Name, Tree, and_then, climbs, dot, dotdot, hold_names, is_empty, parent, resolve, tree_of}

@@ -68,7 +68,7 @@ next_link old new (a ∷ b ∷ []) = if_done b.answer (EnterStep new)
 next_link old new (a ∷ b ∷ c ∷ []) = if_failed c.answer UnbumpStep
 next_link old new (a ∷ b ∷ c ∷ d ∷ ds) = None
 
--- the step that comes after these, where the call goes on
+-- the step that comes after these, if the call goes on
 unfoldable pub next_of : Call → List Act → Option Action
 next_of (Open path flags) acts = next_open path flags acts
 next_of (Read fd buffer) acts = once (ReadStep fd (length buffer)) acts
@@ -113,7 +113,7 @@ abbrev pub linked : Option Cause → Answer
 linked (Some k) = Refused k
 linked None = Finished
 
--- the reply of a call that is through
+-- the reply of a call with no further step
 unfoldable pub reply_of : Call → List Act → Reply
 reply_of (Open path flags) acts = record { answer = plain_answer (first_answer acts); call = Open path flags }
 reply_of (Read fd buffer) acts = record { answer = plain_answer (first_answer acts); call = Read fd (in_buffer buffer (first_answer acts)) }

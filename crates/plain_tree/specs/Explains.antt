@@ -55,12 +55,13 @@ unfoldable pub acts_of : ℕ → List Placed → List Act
 acts_of id [] = []
 acts_of id (e ∷ es) = if e.call == id then act_of e ∷ acts_of id es else acts_of id es
 
--- a finished call's steps are its whole written sequence and make its reply, another's are a beginning of it
+-- a finished call's steps are its whole written sequence and make its reply; the steps of any other call are a
+-- beginning of it
 abbrev pub IsWritten : Call → List Act → Option (ℕ × Reply) → Type 0
 IsWritten c acts (Some r) = IsWhole c acts r.1
 IsWritten c acts None = IsBeginning c acts
 
--- not after the return; where there is none, not after the last event
+-- not after the return; if there is none, not after the last event
 abbrev pub IsInTime : ℕ → ℕ → Option (ℕ × Reply) → Type 0
 IsInTime events n (Some r) = n ≤ r.0
 IsInTime events n None = n < events

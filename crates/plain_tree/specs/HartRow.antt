@@ -1,4 +1,4 @@
--- What a tree has of one hart: its current directory, its hold, and its descriptors with what they stand for.
+-- What a tree has of one hart: its current directory, its hold, and its descriptors with their open files.
 use Rattle.std.specs.Prelude.{ℕ, Bool, false, ◌&&◌, ◌||◌, ◌==◌, nat_lt, if◌then◌else◌, Option, Some, None}
 use Rattle.plain_tree.specs.declared.tree.OpenFile.{OpenFile}
 use Rattle.plain_tree.specs.declared.tree.Hold.{Hold}

@@ -1,4 +1,4 @@
--- Words in which the search for the named part is promised.
+-- Words for the promises of the search for the named part.
 use Rattle.std.specs.Prelude.{ℕ, ◌≡◌, ◌<◌, length, slice_index_or, Bool, true, false, List, Option, Some}
 use Rattle.plain_tree.specs.declared.node.Slot.{Slot}
 use Rattle.plain_tree.specs.Basics.{TreeData, Name, Tree, tree_of, first_slot, look, root}

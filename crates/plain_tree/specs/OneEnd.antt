@@ -1,4 +1,4 @@
--- What a step answers and what a list of steps leads to, where it leads anywhere.
+-- A step gives one answer at most, and a list of steps leads to one tree at most.
 use Rattle.std.specs.Prelude.{◌≡◌, List}
 use Rattle.image_versions.specs.declared.version.Version.{Version}
 use Rattle.plain_tree.specs.declared.step.TreeStep.{TreeStep}

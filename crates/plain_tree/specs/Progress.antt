@@ -1,4 +1,4 @@
--- How far a call has come, and what comes next of it.
+-- How far a call is, and which step comes next.
 use Rattle.std.specs.Prelude.{ℕ, Bool, true, false, List, [], ◌∷◌, length, ◌==◌, nat_lt, if◌then◌else◌, Option, Some, None}
 use Rattle.plain_tree.specs.declared.call.Call.{Call}
 use Rattle.plain_tree.specs.declared.call.Call.TheVariants.{Open, Read, Write, Link, Unlink, Mkdir, Chdir, Dup, Fstat, Close, Inherit}
@@ -12,7 +12,7 @@ use Rattle.plain_tree.specs.declared.progress.Progress.{Progress}
 use Rattle.plain_tree.specs.Basics.{has, empty_it}
 use Rattle.plain_tree.specs.Calls.{Act, piece, piece_count}
 
--- what an answer says to the step after it
+-- what an answer says to the next step
 abbrev pub said : StepAnswer → Last
 said (Opened fd id is_file) = if is_file then File fd else Other
 said Done = WasDone
@@ -35,7 +35,7 @@ abbrev pub has_failed : Last → Bool
 has_failed HasFailed = true
 has_failed last = false
 
--- What comes next of each call.
+-- The next step of each call.
 
 abbrev pub truncate_next : ℕ → Last → Option Action
 truncate_next flags (File fd) = if has flags empty_it then Some (TruncateStep fd) else None
@@ -62,7 +62,7 @@ link_next old new p =
 abbrev pub only_next : Action → Progress → Option Action
 only_next s p = next_where (p.count == 0) s
 
--- the step that comes next where the call has come so far
+-- the next step of a call with this progress
 abbrev pub next_at : Call → Progress → Option Action
 next_at (Open path flags) p = open_next path flags p
 next_at (Read fd buffer) p = only_next (ReadStep fd (length buffer)) p

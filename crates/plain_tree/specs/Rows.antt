@@ -1,4 +1,4 @@
--- Short runs as tree steps, with what they answer from a fresh tree; of version 1, where nothing else is said.
+-- Short runs as tree steps, with what they answer from a fresh tree; of version 1, if nothing else is said.
 use Rattle.std.specs.Prelude.{◌≡◌, ℕ, true, false, List, [], ◌∷◌, ◌++◌, map, codes, replicate}
 use Rattle.image_versions.specs.declared.version.Version.{Version}
 use Rattle.image_versions.specs.declared.version.Version.TheVariants.{One, Two}
@@ -132,7 +132,7 @@ EmptiesUnderAWriter = is_so One (
     ∷ line 0 (WritePart 0 []) Done
     ∷ [])
 
--- An open of /d/f that acts after both unlinks finds nothing, also where both names were made anew later.
+-- An open of /d/f that acts after both unlinks finds nothing, even if both names were made anew later.
 abbrev pub FindsNothingInTheRemoved : Type 0
 FindsNothingInTheRemoved = is_so One (
     makes 1 2 (Mkdir (codes "/d")) Done

@@ -78,7 +78,7 @@ unfoldable pub lowest_from : ℕ → ℕ → (ℕ → Option ℕ) → ℕ
 lowest_from zero i used = i
 lowest_from (suc more) i used = elim (used i) [ None ↦ i | Some id ↦ lowest_from more (i + 1) used ]
 
--- the lowest free descriptor; 16 where there is none
+-- the lowest free descriptor; 16 if there is none
 abbrev pub lowest : (ℕ → Option ℕ) → ℕ
 lowest used = lowest_from descriptor_count 0 used
 
@@ -112,7 +112,7 @@ abbrev pub open_old : Tree → ℕ → Option ℕ → Option Cause
 open_old t flags None = Some NoEntry
 open_old t flags (Some n) = open_kind flags (node_at t n).kind
 
--- where the file may be made a name that isn't there is no fault
+-- if the file may be made, a name that isn't there is no fault
 abbrev pub open_there : Tree → ℕ → Option ℕ → Option Cause
 open_there t flags None = None
 open_there t flags (Some n) = open_kind flags (node_at t n).kind
@@ -202,7 +202,7 @@ abbrev pub fd_refusal : Option OpenFile → Option Cause
 fd_refusal None = Some BadDescriptor
 fd_refusal (Some f) = None
 
--- the path that a step follows; empty where it follows none
+-- the path that a step follows; empty if it follows none
 abbrev pub path_of : Action → List ℕ
 path_of (Open path flags) = path
 path_of (Find old) = old
@@ -221,7 +221,7 @@ follows_path (Mkdir path) = true
 follows_path (Chdir path) = true
 follows_path s = false
 
--- The first cause that stands. res: what the path resolves to; par: its parent, with the last element.
+-- The first cause that applies. res: what the path resolves to; par: its parent, with the last element.
 unfoldable pub refusal_with : Version → Tree → ℕ → Action → Option ℕ → Option (ℕ × Name) → Option Cause
 refusal_with v t h (Open path flags) res par = if creates flags then open_new t flags par else open_old t flags res
 refusal_with v t h (Read fd n) res par = read_refusal t (file_at t h fd)
@@ -240,7 +240,7 @@ refusal_with v t h s res par = None
 abbrev pub refusal : Version → Tree → ℕ → Action → Option Cause
 refusal v t h s = refusal_with v t h s (resolve v t h (path_of s)) (parent v t h (path_of s))
 
--- Where a step has its place.
+-- When a step is in its place.
 
 abbrev pub is_open_file : Tree → Option OpenFile → Bool
 is_open_file t None = false
@@ -253,8 +253,8 @@ holds_raised r (Some o) = if r then o.raised else not o.raised
 abbrev pub has_descriptors : Tree → ℕ → Bool
 has_descriptors t h = any_below descriptor_count (λ i. not (is_nothing (t.fds h i)))
 
--- truncate is of an open file, a find is made by a hart that holds nothing raised, the other steps of a link have their hold, an inherit
--- is to another hart without descriptors, and dup has a free descriptor
+-- Truncate is of an open file. A find is made by a hart that holds nothing raised, and the other steps of a link have
+-- their hold. An inherit is to another hart without descriptors, and dup has a free descriptor.
 unfoldable pub place_of : Tree → ℕ → Action → Bool
 place_of t h (Truncate fd) = is_open_file t (file_at t h fd)
 place_of t h (Find old) = not (holds_raised true (t.holds h))
@@ -304,7 +304,7 @@ abbrev pub new_directory : ℕ → ℕ → Node
 new_directory n d =
     record { count = 1; kind = Directory (Some (record { name = dot; number = n }) ∷ Some (record { name = dotdot; number = d }) ∷ []) }
 
--- a new open file; where the hart's descriptors are taken there is none
+-- a new open file; none if the hart's descriptors are taken
 abbrev pub with_file : Tree → ℕ → ℕ → ℕ → ℕ → Tree
 with_file t h id n flags = if has_room (t.fds h) then record t {
   files = put t.files id (Some
@@ -407,7 +407,8 @@ has_fd t id = any_below hart_count (λ h. any_below descriptor_count (λ i. elim
 abbrev pub closed : Tree → Tree
 closed t = record t { files = λ id. if has_fd t id then t.files id else None }
 
--- The tree after the step, before the nodes that nothing keeps leave it. new: the number of a new node; id: of a new open file.
+-- The tree after the step, before the nodes that nothing keeps are removed. The number of a new node is new, the id
+-- of a new open file is id.
 unfoldable pub effect_with : Version → Tree → ℕ → Action → Option ℕ → Option (ℕ × Name) → ℕ → ℕ → Tree
 effect_with v t h (Open path flags) res par new id =
     if creates flags then opened_new t h id flags par new else opened_at t h id flags res new
@@ -440,7 +441,7 @@ abbrev pub opens_file : Tree → Option ℕ → Bool
 opens_file t None = true
 opens_file t (Some n) = is_file (node_at t n).kind
 
--- Where the hart's descriptors are taken an open answers so; a file that it made stays.
+-- If the hart's descriptors are taken, an open answers so; a file that it made stays.
 abbrev pub opened : Tree → ℕ → ℕ → Option ℕ → StepAnswer
 opened t h id n = if has_room (t.fds h) then Opened (lowest (t.fds h)) id (opens_file t n) else NoRoom Descriptors
 
@@ -466,13 +467,13 @@ abbrev pub is_absent : Tree → Option (ℕ × Name) → Bool
 is_absent t None = false
 is_absent t (Some q) = is_nothing (look t.nodes q.0 q.1)
 
--- the step, where it isn't refused, makes a node
+-- the step makes a node, if it isn't refused
 abbrev pub makes_node : Tree → Action → Option (ℕ × Name) → Bool
 makes_node t (Open path flags) par = creates flags && is_absent t par
 makes_node t (Mkdir path) par = true
 makes_node t s par = false
 
--- the step, where it isn't refused, opens a file
+-- the step opens a file, if it isn't refused
 abbrev pub opens_one : Tree → ℕ → Action → Bool
 opens_one t h (Open path flags) = has_room (t.fds h)
 opens_one t h s = false
@@ -482,12 +483,12 @@ pub record IsLeastUnused (t : Tree) (id : ℕ) : Type 0 where
   pub unused : t.files id ≡ None
   pub least : (j : ℕ) → j < id → t.files j ≢ None
 
--- What a step takes: for a new node any number that isn't in the tree, for a new open file the least unused id.
+-- What a step may take: for a new node any number that isn't in the tree, for a new open file the least unused id.
 pub record MayChoose (t : Tree) (h : ℕ) (s : Action) (par : Option (ℕ × Name)) (new id : ℕ) : Type 0 where
   pub node : makes_node t s par ≡ true → IsNewNode t new
   pub file : opens_one t h s ≡ true → IsLeastUnused t id
 
--- The step, where the path was found to resolve to res and its parent to be par.
+-- The step, if its path was found to resolve to res and its parent is par.
 abbrev pub StepWith : Version → Tree → ℕ → Action → Option ℕ → Option (ℕ × Name) → StepAnswer → ℕ → ℕ → Tree → Type 0
 StepWith v t h s res par (Failed k) new id t' = (refusal_with v t h s res par ≡ Some k) × (t' ≡ refused t h s) × IsInPlace t h s
 StepWith v t h s res par a new id t' = (refusal_with v t h s res par ≡ None) × (a ≡ answer_with v t h s res par id)

@@ -14,7 +14,7 @@ use Rattle.plain_tree.specs.declared.tree.Hart.{Hart}
 use Rattle.plain_tree.specs.TreeData.{TreeData}
 use Rattle.plain_tree.specs.Widths.{hart_count, descriptor_count, root}
 
--- a name is its bytes, at most as many as the version's names have, without a zero byte
+-- a name is its bytes: none of them zero, and at most as many as a name of the version has
 abbrev pub Name : Type 0
 Name = List ℕ
 
@@ -26,7 +26,7 @@ pub record Tree : Type 0 where
   pub fds : ℕ → ℕ → Option ℕ  -- by hart and descriptor, the id of the open file
   pub holds : ℕ → Option Hold  -- by hart
 
--- The tree that the data of a `Tree` says.
+-- The tree that the data of a `Tree` means.
 
 unfoldable pub file_in : List OpenFileEntry → ℕ → Option OpenFile
 file_in [] id = None
@@ -93,7 +93,7 @@ unfoldable pub climbs_in : List Name → Bool
 climbs_in [] = false
 climbs_in (e ∷ es) = same_name e dotdot || climbs_in es
 
--- in one version where in any, since no name is cut to ".."
+-- in one version exactly if in any, because no name is cut to ".."
 abbrev pub climbs : List ℕ → Bool
 climbs path = climbs_in (elements One path)
 
@@ -139,7 +139,7 @@ unfoldable pub follow : (ℕ → Option Node) → ℕ → List Name → Option �
 follow ns d [] = Some d
 follow ns d (e ∷ es) = and_then (look ns d e) (λ n. follow ns n es)
 
--- the directory before the last element, where it is live, with that element
+-- the directory before the last element, if it is live, with that element
 unfoldable pub parent_from : (ℕ → Option Node) → ℕ → Name → List Name → Option (ℕ × Name)
 parent_from ns d e [] = if live_directory (ns d) then Some (d, e) else None
 parent_from ns d e (e' ∷ es) = and_then (look ns d e) (λ n. parent_from ns n e' es)

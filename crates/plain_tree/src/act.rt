@@ -1,4 +1,4 @@
-//! What a step that isn't refused changes, before the nodes that nothing keeps leave the tree.
+//! What a step that isn't refused changes, before the nodes that nothing keeps are removed.
 ghost use Rattle.std.specs.Prelude.{◌≡◌, ◌<◌, ◌||◌, length, true, not, IfOk, IfSome, MatchResult};
 ghost use Rattle.plain_tree.specs.Code.{Advances, HasFiles, ReadsWithin, is_open, with_name};
 ghost use Rattle.plain_tree.specs.Steps.{IsNewNode, answer_with, at_dir, at_hold, bump_refusal, closed, drop_hold, effect_with, enter_hold, entered, file_at, has, has_room, held, is_absent, lowered, lowest, made, makes_node, mkdir_refusal, moved, new_directory, new_file, node_at, opened_at, opened_in, opened_new, place_of, raise_hold, raised, read_write, refusal_with, removed, truncated, with_file, with_nodes, write_only, write_refusal, wrote};
@@ -72,7 +72,7 @@ impl Tree {
         self.set_files(files);
     }
 
-    /// Opens the node, where the hart has a descriptor free.
+    /// Opens the node, if the hart has a free descriptor.
     fn open_node(&mut self, alloc: Global, hart: u8, number: u16, flags: u32, id: usize) -> Attempt
         requires hart { hart < HARTS }
         requires unused { (tree_of self.old).files id ≡ None }
@@ -252,7 +252,7 @@ impl Tree {
         Ok(())
     }
 
-    /// Takes the name out of the directory, and one from the count of what it named.
+    /// Takes the name out of the directory, and lowers the count of the node that it named.
     fn unlink(&mut self, alloc: Global, parent: Option<u16>, name: &[u8]) -> Attempt
         requires { IfSome parent (λ d. live_directory ((tree_of self.old).nodes d) ≡ true) }
         ensures { MatchResult result (λ _. tree_of self.new ≡ removed (tree_of self.old) (with_name parent name.now))
@@ -387,7 +387,7 @@ impl Tree {
         self.advance(id, count);
     }
 
-    /// The change that the action makes, where it has its place and isn't refused. `answer` is what it answers.
+    /// The change that the action makes, if it is in its place and isn't refused. `answer` is its answer.
     #[tactic(auto, unfolding(crate::specs::Steps::effect_with))]
     pub(crate) fn act(
         &mut self,

@@ -1,10 +1,10 @@
-//! What a call is answered.
+//! The answers of calls.
 ghost use Rattle.std.specs.Prelude.{◌≡◌};
 ghost use Rattle.plain_tree.specs.Numbers.{cause_name, cause_number, full_name, full_number, type_number};
 
 use crate::call::Call;
 
-/// Why a call is refused. A refused call changes nothing, but for the pieces of a write before the refused one.
+/// Why a call is refused. A refused call changes nothing, except for the pieces of a write before the refused one.
 #[derive(Clone, Copy, PartialEq, Eq, Debug)]
 pub enum Cause {
     NoEntry = 1,
@@ -40,7 +40,8 @@ pub enum NodeType {
     Device,
 }
 
-/// What `fstat` answers. The device is always 1; the size is in bytes, that of a directory 16 for each slot.
+/// What `fstat` answers. The device is always 1. The size is in bytes: a directory's is 16 for each slot in version
+/// 1, 32 in version 2.
 #[derive(Clone, Copy, PartialEq, Eq, Debug)]
 pub struct Stat {
     pub device: u32,

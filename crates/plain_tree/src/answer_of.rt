@@ -17,7 +17,7 @@ use crate::widths::{CREATE, DESCRIPTOR_COUNT, ROOT_DEVICE};
 use image_versions::Version;
 use std::alloc::Global;
 
-/// So many bytes from the offset on, as far as there are.
+/// At most `count` bytes from the offset on, as far as there are any.
 fn cut_out(alloc: Global, bytes: &[u8], offset: u64, count: usize) -> Attempt<Vec<u8>>
     ensures bytes { IfOk result (λ v. v.items ≡ take count (drop offset bytes.now)) }
     ensures within { IfOk result (λ v. offset + length v.items < 2 ^ 64) }
@@ -149,7 +149,7 @@ impl Tree {
         self.look(directory, name)
     }
 
-    /// The answer of the action, where it isn't refused.
+    /// The answer of the action, if it isn't refused.
     #[tactic(auto, unfolding(crate::specs::Steps::answer_with))]
     pub(crate) fn answer(
         &self,

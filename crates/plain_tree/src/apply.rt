@@ -63,8 +63,9 @@ impl Tree {
         self.apply_found(alloc, version, step, &found)
     }
 
-    /// The same where a walk has found what the step's path leads to, element by element as calls do (xv6: `namex`), whatever was removed
-    /// or made meanwhile. `found` is taken as it is; its parent, if it has one, is a live directory.
+    /// The same after a walk has found what the step's path leads to, element by element as calls do (xv6: `namex`),
+    /// whatever was removed or made meanwhile. `found` is taken as it is; its parent, if it has one, is a live
+    /// directory.
     pub fn apply_found(
         &mut self,
         alloc: Global,

@@ -1,4 +1,4 @@
-//! Where the entries of a list have their place in a trace.
+//! When the entries of a list belong to the calls of a trace.
 ghost use Rattle.std.specs.Prelude.{◌≡◌, IsTrue, ◌↔◌};
 ghost use Rattle.plain_tree.specs.Explains.{AllBelong, Belongs, IsInTime, Rises};
 
@@ -19,7 +19,7 @@ pub(crate) fn rises(list: &[Placed]) -> bool
     true
 }
 
-/// Not after the return; where there is none, not after the last event.
+/// Not after the return; if there is none, not after the last event.
 fn is_in_time(events: u64, event: u64, finished: &Option<(u64, Reply)>) -> bool
     ensures { IsTrue result ↔ IsInTime events event finished.now }
 {

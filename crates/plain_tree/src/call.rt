@@ -1,7 +1,7 @@
 //! The calls.
 use crate::bytes::Bytes;
 
-/// A call of a hart. `inherit` stands for what fork does to files.
+/// A call of a hart. `inherit` is what fork does to files.
 #[derive(Clone, PartialEq, Drop)]
 pub enum Call {
     Open { path: Bytes, flags: u32 },

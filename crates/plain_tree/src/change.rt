@@ -104,7 +104,7 @@ impl Tree {
         self.set_node(number, Node { count, kind });
     }
 
-    /// What the file's bytes are after the write; none where it leaves the node as it is.
+    /// The file's bytes after the write; none if it leaves the node as it is.
     fn rewritten(
         &self,
         alloc: Global,
@@ -183,7 +183,7 @@ impl Tree {
         entered
     }
 
-    /// A directory with the first slot of that name free, and one name less where it says so.
+    /// A directory with the first slot of that name free; its count is one lower if `lowers`.
     pub(crate) fn clear(&mut self, alloc: Global, directory: usize, name: &[u8], lowers: bool)
         requires { directory < length self.old.nodes }
         ensures table { length self.new.nodes ≡ length self.old.nodes }

@@ -26,7 +26,7 @@ fn is_whole(id: usize, call: &Call, list: &[Placed], reply: &Reply) -> bool
         && had_room(id, list)
 }
 
-/// The list has of the call what it is to have: all of it where it is finished, else a beginning.
+/// The list has the steps of the call: all if it is finished, else a beginning.
 fn is_written(id: usize, traced: &TracedCall, list: &[Placed]) -> bool
     ensures { IsTrue result ↔ IsWritten traced.now.call (acts_of id list.now) traced.now.finished }
 {
@@ -36,7 +36,7 @@ fn is_written(id: usize, traced: &TracedCall, list: &[Placed]) -> bool
     }
 }
 
-/// The list has of each call what it is to have.
+/// The list has the steps of each call: all if it is finished, else a beginning.
 fn all_written(calls: &[TracedCall], list: &[Placed]) -> bool
     ensures { IsTrue result ↔ AllWritten calls.now list.now }
 {
@@ -48,9 +48,9 @@ fn all_written(calls: &[TracedCall], list: &[Placed]) -> bool
     true
 }
 
-/// The list of tree steps explains the trace from this tree: the numbers never fall, each step leads on from the
-/// one before, each call has its steps and its reply, and no entry belongs to anything else. The steps are made on a
-/// copy of the tree. The error is that memory is short for the copy or for a step.
+/// The list of tree steps explains the trace from this tree. The event numbers never fall, and each step leads on
+/// from the one before. Each call has its steps and its reply, and no entry belongs to anything else. The steps are
+/// made on a copy of the tree. The error is that memory is short for the copy or for a step.
 pub fn check(
     alloc: Global,
     version: Version,

@@ -10,7 +10,7 @@ use crate::widths::{DESCRIPTOR_COUNT, DOT, DOTDOT, ROOT};
 use image_versions::Version;
 use std::alloc::Global;
 
-/// Adds so many places with nothing in them.
+/// Adds `count` places with nothing in them.
 pub(crate) fn push_absent<T: Drop>(places: &mut Vec<Option<T>>, count: usize) -> Attempt
     ensures { MatchResult result (λ _. places.new.items ≡ places.old.items ++ replicate count None)
         (λ _. places.new.items ≡ places.old.items) }

@@ -26,7 +26,7 @@ impl Tree {
         step.hart < HARTS && self.has_place(step.hart, &step.action)
     }
 
-    /// Makes the step, and says whether it leads on with that answer. Where it doesn't, the tree is of no account.
+    /// Makes the step, and says whether it leads on with that answer. If it doesn't, the tree is of no use after it.
     fn lead_on(&mut self, alloc: Global, version: Version, entry: &Placed) -> Attempt<bool>
         ensures { IfOk result (λ b. LeadsOn version b (tree_of self.old) entry.now.step entry.now.answer (tree_of self.new)) }
     {

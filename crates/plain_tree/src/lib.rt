@@ -1,5 +1,6 @@
-//! The plain tree: what the files and directories are to a caller, what each call does to them in steps that each
-//! happen at one moment, and when a list of such steps explains the replies that several harts were given.
+//! The plain tree. It says what the files and directories are to a caller. It says what each call does to them in
+//! steps, each of which happens at one moment. It also says when a list of such steps explains the replies that
+//! several harts got.
 #![tactic(auto)]
 
 mod act;

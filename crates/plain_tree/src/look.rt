@@ -9,8 +9,8 @@ use crate::tree::Tree;
 use crate::widths::ROOT;
 use image_versions::Version;
 
-/// What an action's path leads to, or what a walk along it has found: the node, and the live directory before the last element, with that
-/// element.
+/// What an action's path leads to, or what a walk along it has found. It is the node, and the live directory before
+/// the last element, with that element.
 #[derive(Drop)]
 pub struct Found<'a> {
     pub node: Option<u16>,

@@ -36,7 +36,7 @@ fn new_among(slots: &[Option<Slot>], marks: &[bool]) -> Option<u16>
     None
 }
 
-/// No marks, for so many numbers.
+/// No marks, for `count` numbers.
 fn no_marks(alloc: Global, count: usize) -> Attempt<Vec<bool>>
     ensures { IfOk result (λ v. v.items ≡ replicate count false) }
 {

@@ -5,7 +5,8 @@ use crate::bytes::Bytes;
 use std::alloc::AllocError;
 use std::marker::Model;
 
-/// A used slot of a directory: a name of at most 14 bytes, and the number of the node that it names.
+/// A used slot of a directory: a name, and the number of the node that it names. A name has at most 14 bytes in
+/// version 1, and 30 in version 2.
 #[derive(Clone, Drop)]
 pub struct Slot {
     pub name: Bytes,
@@ -65,7 +66,7 @@ impl Slots {
 pub enum NodeKind {
     Directory { slots: Slots },
     File { bytes: Bytes },
-    /// A device as its image has it: `size` is the size that the inode says, and has no bytes behind it.
+    /// A device as its image has it: `size` is the size that the inode says, and there are no bytes of it.
     Device { major: i16, minor: i16, size: u32 },
 }
 

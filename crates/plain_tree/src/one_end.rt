@@ -1,7 +1,8 @@
-//! Where steps lead.
+//! The trees that steps lead to.
 ghost use Rattle.plain_tree.specs.OneEnd.{ChainsToOne, StepsToOne};
 
-/// A step gives one answer at most, and leads to one tree: that of `Tree::apply`, where it is in its place.
+/// A step gives one answer at most, and leads to one tree at most: that of `Tree::apply`, if the step is in its
+/// place.
 pub fn steps_to_one()
     ensures { StepsToOne }
 {}

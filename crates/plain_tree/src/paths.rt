@@ -23,7 +23,7 @@ pub(crate) fn begins_at_root(path: &[u8]) -> bool
     }
 }
 
-/// Where the path's first '/' is, or its end.
+/// The index of the path's first '/', or its length.
 fn name_end(path: &[u8]) -> usize
     ensures bound { result ≤ length path.now }
     ensures cut { (v : Version) → elements v path.now ≡ with_element v (take result path.now) (elements v (drop (result + 1) path.now)) }

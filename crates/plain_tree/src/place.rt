@@ -1,4 +1,4 @@
-//! Where a step has its place, and what it may choose.
+//! When a step is in its place, and what it may choose.
 ghost use Rattle.std.specs.Prelude.{◌≡◌, ◌<◌, ◌≤◌, ℕ, true, IsTrue, ◌↔◌};
 ghost use Rattle.plain_tree.specs.Code.{with_name};
 ghost use Rattle.plain_tree.specs.Steps.{IsNewNode, has_descriptors, has_room, holds_raised, is_open_file, lowest, makes_node, opens_one, place_of};
@@ -20,7 +20,7 @@ fn is_raised(raised: bool, hold: Option<Hold>) -> bool
 }
 
 impl Tree {
-    /// The lowest free descriptor, 16 where there is none.
+    /// The lowest free descriptor, 16 if there is none.
     #[tactic(auto, unfolding(crate::specs::Steps::lowest_from))]
     pub(crate) fn lowest(&self, hart: u8) -> usize
         ensures value { result ≡ lowest ((tree_of self.now).fds hart) }
@@ -62,7 +62,7 @@ impl Tree {
         }
     }
 
-    /// The action has its place here.
+    /// The action is in its place here.
     #[tactic(auto, unfolding(crate::specs::Steps::place_of))]
     pub fn has_place(&self, hart: u8, action: &Action) -> bool
         ensures { result ≡ place_of (tree_of self.now) hart action.now }
@@ -80,7 +80,7 @@ impl Tree {
         }
     }
 
-    /// The action, where it isn't refused, makes a node.
+    /// The action makes a node, if it isn't refused.
     pub(crate) fn makes_node(&self, action: &Action, found: &Found) -> bool
         ensures { result ≡ makes_node (tree_of self.now) action.now (with_name found.now.parent found.now.name.now) }
     {

@@ -1,4 +1,4 @@
-//! How far a call has come: how many of its steps acted, and what the last of them answered.
+//! How far a call is: how many of its steps acted, and what the last of them answered.
 ghost use Rattle.std.specs.Prelude.{◌≡◌, ◌+◌, ◌<◌};
 ghost use Rattle.plain_tree.specs.Explains.{acts_of};
 ghost use Rattle.plain_tree.specs.Progress.{progress_of, said};

@@ -1,4 +1,4 @@
-//! Why a step is refused, and where it has its place.
+//! Why a step is refused, and when it is in its place.
 ghost use Rattle.std.specs.Prelude.{◌≡◌, ◌<◌, length, drop, true};
 ghost use Rattle.plain_tree.specs.Code.{with_name};
 ghost use Rattle.plain_tree.specs.Steps.{any_used, bump_refusal, chdir_refusal, child_refusal, creates, enter_refusal, fd_refusal, file_at, find_refusal, has, has_descriptors, has_driver, has_room, holds_raised, is_file, is_open_file, lowest, mkdir_refusal, no_driver, node_at, not_empty, open_kind, open_new, open_old, part_refusal, place_of, read_refusal, refusal_with, unlink_refusal, write_kind, write_refusal};
@@ -261,7 +261,7 @@ impl Tree {
         }
     }
 
-    /// The first cause that stands. `found` is what the action's path leads to.
+    /// The first cause that applies. `found` is what the action's path leads to.
     #[tactic(auto, unfolding(crate::specs::Steps::refusal_with))]
     pub(crate) fn refusal(
         &self,

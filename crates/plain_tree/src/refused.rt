@@ -1,7 +1,7 @@
 //! Why the tree gives no answer.
 use std::alloc::{AllocError, AllocFailed};
 
-/// Memory is short. What was asked for changed nothing.
+/// Memory is short. The request changed nothing.
 #[derive(Clone, Copy, PartialEq, Eq, Debug)]
 pub struct NoMemory;
 
@@ -23,8 +23,8 @@ impl<T: Drop> From<AllocFailed<T>> for NoMemory {
 /// Why a step was not made. The tree is as it was.
 #[derive(Clone, Copy, PartialEq, Eq, Debug)]
 pub enum ApplyRefused {
-    /// Memory is short for the step. A step may change a node whose number isn't below `ninodes`, as one of
-    /// `Tree::of_nodes` does where a slot has such a number: then it asks for the places up to that node too.
+    /// Memory is short for the step. A step may change a node whose number isn't below `ninodes`: in a tree of
+    /// `Tree::of_nodes` a slot may have such a number. Then the step asks for the places up to that node too.
     NoMemory,
     /// The step makes a node, and its number is 0, past the last or already in the tree.
     BadChoice,

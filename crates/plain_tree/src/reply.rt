@@ -30,7 +30,7 @@ pub(crate) fn had_room(id: usize, list: &[Placed]) -> bool
     true
 }
 
-/// The cause, where the step was refused.
+/// The cause, if the step was refused.
 fn cause_of(answer: &StepAnswer) -> Option<Cause>
     ensures { result ≡ cause_of answer.now }
 {
@@ -85,7 +85,7 @@ pub fn is_plain(given: &StepAnswer, answer: &Answer) -> bool
     }
 }
 
-/// The answer is the cause; where there is none, the count.
+/// The answer is the cause; if there is none, the count.
 pub fn is_counted(cause: Option<Cause>, count: usize, answer: &Answer) -> bool
     ensures { IsTrue result ↔ (answer.now ≡ counted cause count) }
 {
@@ -96,7 +96,7 @@ pub fn is_counted(cause: Option<Cause>, count: usize, answer: &Answer) -> bool
     }
 }
 
-/// The answer is the cause; where there is none, that it is done.
+/// The answer is the cause; if there is none, that it is done.
 pub fn is_linked(cause: Option<Cause>, answer: &Answer) -> bool
     ensures { IsTrue result ↔ (answer.now ≡ linked cause) }
 {

@@ -1,15 +1,15 @@
-//! The definitions, computed on short runs from a fresh tree of 200 numbers; of version 1, where nothing else is said.
+//! The definitions, computed on short runs from a fresh tree of 200 numbers; of version 1, if nothing else is said.
 ghost use Rattle.std.specs.Prelude.{◌≡◌, [], ◌∷◌, codes};
 ghost use Rattle.plain_tree.specs.Rows.{CutsNames, EmptiesUnderAWriter, FindsNothingInTheRemoved, KeepsTheOpenFile, KeepsWhatItMade, LinksWhileUnlinked, MakesDirectory, MakesLongerDirectory, ReadsRoot, RefusesWhatIsOutOfPlace, SharesItsOffset, StaysInTheRemoved, TakesItsRaiseBack, TakesNoElements, TellsLongNames, WritesInPieces};
 ghost use Rattle.plain_tree.specs.Tree.{elements};
 ghost use Rattle.image_versions.specs.declared.version.Version.TheVariants.{One, Two};
 
-/// Empty elements of a path are dropped, and each of the others is cut, in version 1 to 14 bytes.
+/// Empty elements of a path are dropped. Each other one is cut, in version 1 to 14 bytes.
 pub fn cuts_elements()
     ensures { elements One (codes "//a//bcdefghijklmnopq/") ≡ codes "a" ∷ codes "bcdefghijklmno" ∷ [] }
 {}
 
-/// In version 2 an element of up to 30 bytes stays as it is, and a longer one is cut to so many.
+/// In version 2 an element of up to 30 bytes stays as it is, and a longer one is cut to 30.
 pub fn keeps_elements()
     ensures { elements Two (codes "abcdefghijklmno/abcdefghijklmnp//0123456789012345678901234567890123")
         ≡ codes "abcdefghijklmno" ∷ codes "abcdefghijklmnp" ∷ codes "012345678901234567890123456789" ∷ [] }
@@ -65,12 +65,12 @@ pub fn stays_in_the_removed()
     ensures { StaysInTheRemoved }
 {}
 
-/// A file whose one name goes while a link is under way keeps its bytes under the new name.
+/// A file whose only name goes while a link is under way keeps its bytes under the new name.
 pub fn links_while_unlinked()
     ensures { LinksWhileUnlinked }
 {}
 
-/// Between its steps a link's raise is seen, and after a refused name it is taken back.
+/// Between its steps a link's raise is seen, and after a refused name the link takes it back.
 pub fn takes_its_raise_back()
     ensures { TakesItsRaiseBack }
 {}

@@ -95,7 +95,7 @@ impl Tree {
         false
     }
 
-    /// A node has this number that nothing keeps: its count is 0, and no hart names it.
+    /// A node of this number is there that nothing keeps: its count is 0, and no hart names it.
     fn is_lost(&self, number: usize) -> bool
         ensures { result ≡ is_lost (tree_of self.now) number }
     {

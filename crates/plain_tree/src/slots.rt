@@ -10,7 +10,7 @@ use crate::refused::Attempt;
 use image_versions::Version;
 use std::alloc::Global;
 
-/// Where the first free slot is.
+/// The index of the first free slot.
 fn free_slot(slots: &[Option<Slot>]) -> Option<usize>
     ensures { FreeAt slots.now result }
 {
@@ -39,7 +39,7 @@ pub(crate) fn enter_slot(slots: &mut Vec<Option<Slot>>, slot: Slot) -> Attempt
     }
 }
 
-/// Where the first slot of that name is.
+/// The index of the first slot of that name.
 fn slot_named(slots: &[Option<Slot>], name: &[u8]) -> Option<usize>
     ensures { ClearsAt slots.now name.now result }
 {

@@ -14,7 +14,7 @@ pub enum Action {
     Read { fd: u32, count: usize },
     /// Writes one piece.
     WritePart { fd: u32, bytes: Bytes },
-    /// Finds what a link is to name, and holds it. Made where nothing is held raised.
+    /// Finds the node that a link will name, and holds it. It is in its place if the hart holds nothing raised.
     Find { old: Bytes },
     /// Raises the count of what is held.
     Bump,
@@ -32,7 +32,7 @@ pub enum Action {
 }
 
 impl Action {
-    /// The path that it follows; empty where it follows none.
+    /// The path that it follows; empty if it follows none.
     pub fn path(&self) -> &[u8]
         ensures { result.now ≡ path_of self.now }
     {
@@ -48,7 +48,7 @@ impl Action {
     }
 }
 
-/// A step of a hart. `new` is the number of the node that the step makes; where it makes none, it says nothing.
+/// A step of a hart. `new` is the number of the node that the step makes, and means nothing if it makes none.
 #[derive(Clone, Drop)]
 pub struct TreeStep {
     pub hart: u8,

@@ -1,4 +1,4 @@
-//! What a run of several harts showed, and the list of steps that explains it.
+//! What a run of several harts showed, and a list of steps for it.
 ghost use Rattle.std.specs.Prelude.{◌≡◌};
 
 use crate::answer::Reply;

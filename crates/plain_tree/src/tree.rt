@@ -47,7 +47,7 @@ pub struct Hart {
 }
 
 /// The nodes by their numbers (number 0 names none), the open files, and the harts. A contract reads it by `tree_of`.
-/// New nodes have numbers below `ninodes`. The table grows past it where a step changes a node past the table's end.
+/// New nodes have numbers below `ninodes`. The table grows past it if a step changes a node past the table's end.
 #[derive(Drop)]
 pub struct Tree {
     ninodes: usize,
@@ -68,7 +68,7 @@ impl Model for Tree {
     ghost invariant = { λ t. (t.ninodes ≤ length t.nodes.items) × (length t.harts ≡ 8) };
 }
 
-/// Where the first entry of that id stands.
+/// The index of the first entry of that id.
 #[tactic(auto, unfolding(crate::specs::Tree::file_in))]
 fn entry_of(files: &[OpenFileEntry], id: usize) -> Option<usize>
     ensures { MatchOption result (file_in files.now id ≡ None) (λ i. IsEntryOf files.now id i) }
@@ -101,7 +101,7 @@ impl Tree {
         }
     }
 
-    /// The numbers of new nodes are below it.
+    /// The numbers of new nodes are below this.
     pub fn ninodes(&self) -> usize
         ensures { result ≡ (tree_of self.now).ninodes }
     {
@@ -128,7 +128,7 @@ impl Tree {
         self.nodes.len()
     }
 
-    /// Has a place for the number: the table grows to it where it ends before.
+    /// Has a place for the number: the table grows to it if it is shorter.
     pub(crate) fn reach(&mut self, number: usize) -> Attempt
         requires { number < 2 ^ 16 }
         ensures tree { tree_of self.new ≡ tree_of self.old }
@@ -226,7 +226,7 @@ impl Tree {
         self.harts[usize::from(hart)] = value;
     }
 
-    /// Takes the node out; an empty file where there is none.
+    /// Takes the node out; an empty file if there is none.
     pub(crate) fn take_node(&mut self, alloc: Global, number: usize) -> Node
         requires { number < length self.old.nodes }
         ensures node { result ≡ node_at (tree_of self.old) number }
@@ -286,7 +286,7 @@ impl Tree {
         self.files = files;
     }
 
-    /// Moves the offset of the open file on, where there is one.
+    /// Moves the offset of the open file on, if there is one.
     pub(crate) fn advance(&mut self, id: Option<usize>, by: u64)
         requires { Advances (tree_of self.old) id by }
         ensures { tree_of self.new ≡ moved (tree_of self.old) id by }
@@ -302,7 +302,7 @@ impl Tree {
         self.files[i] = OpenFileEntry { id, file };
     }
 
-    /// Where an open file stands that no descriptor has.
+    /// The index of an open file that no descriptor has.
     fn orphan(&self) -> Option<usize>
         ensures { IsOrphan self.now result }
     {

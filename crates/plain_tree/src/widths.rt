@@ -34,7 +34,7 @@ pub(crate) const CREATE: u32 = 512;
 
 pub(crate) const EMPTY_IT: u32 = 1024;
 
-/// What parts the elements of a path.
+/// The byte between the elements of a path.
 pub(crate) const SLASH: u8 = b'/';
 
 /// The names of a directory itself and of its parent.

@@ -80,7 +80,7 @@ fn is_next_of_link(old: &Bytes, new: &Bytes, progress: Progress, action: &Action
     }
 }
 
-/// The action comes next of the call where it has come so far.
+/// The action is the next step of a call with this progress.
 fn is_next(call: &Call, progress: Progress, action: &Action) -> bool
     ensures { IsTrue result ↔ (next_at call.now progress ≡ Some action.now) }
 {
@@ -130,7 +130,7 @@ fn is_link_through(progress: Progress) -> bool
     }
 }
 
-/// Nothing comes next of the call where it has come so far.
+/// A call with this progress has no further step.
 fn is_last(call: &Call, progress: Progress) -> bool
     ensures { result ≡ is_nothing (next_at call.now progress) }
 {

@@ -6,13 +6,13 @@ use plain_tree::{Answer, Bytes, Call, Cause, Reply};
 use std::alloc::Global;
 use std::process::Abort;
 
-// To write, where it may be made.
+// To write; the file may be made.
 const CREATE: u32 = 0x201;
 
 /// How many bytes a hart writes.
 const WRITTEN: usize = 3;
 
-// What a buffer has where nothing was read.
+// What a buffer has if nothing was read.
 const UNREAD: u8 = u8::MAX;
 
 /// A name in the root. Each hart has two of its own; it begins with another one of the four that all share than its neighbour.
@@ -88,7 +88,7 @@ pub const DIRECTORIES: [Row; 17] = [
     (Ask::Close(1), MADE, MADE),
 ];
 
-/// What takes the shared names away that are left.
+/// What removes the remaining shared names.
 pub const SWEEP: [Row; 4] = [
     (Ask::Unlink(Name::Shared(0)), MADE, GONE),
     (Ask::Unlink(Name::Shared(1)), MADE, GONE),
@@ -202,7 +202,7 @@ impl Rounds {
         ]
     }
 
-    // Whether a hart's reply, before which it had so many others, is one that its row may have.
+    // Whether a hart's reply is one that its row may have; `place` is the number of replies before it.
     fn is_good(&self, hart: u8, place: usize, reply: &Reply) -> bool {
         match self.rows(hart).get(place) {
             Some((_, one, other)) => {
@@ -213,7 +213,7 @@ impl Rounds {
         }
     }
 
-    /// How many replies of a run are such as their rows may have.
+    /// How many replies of a run are replies that their rows may have.
     pub fn count_good(&self, run: &LeftRun) -> u32 {
         let mut places = [0usize; 8];
         let mut good: u32 = 0;

@@ -1,4 +1,4 @@
-//! What a closed kernel holds, and which replies it tells from those of its list.
+//! What a closed kernel holds, and which replies it distinguishes from those of its list.
 ghost use Rattle.std.specs.Prelude.{◌≡◌};
 
 use crate::kernels::{
@@ -15,7 +15,7 @@ use std::process::Abort;
 use std::sync::Wait;
 use std::sync::ledger::{Blank, Ledger};
 
-// The kernel's disk passes so many calls, which are more than it needs.
+// The kernel's disk passes this number of calls, which is more than it needs.
 const FUSE: u64 = 1_000_000;
 
 // The first entry of the root.
@@ -23,7 +23,7 @@ const DOT: [u8; 16] = *b"\x01\0.\0\0\0\0\0\0\0\0\0\0\0\0\0";
 
 const UNREAD: [u8; 16] = [9; 16];
 
-// What a hart is said to have been answered, by the place of one of the run's replies.
+// A reply that a hart is said to have got, by the place of one of the run's replies.
 #[derive(Clone, Copy)]
 enum Said {
     // that reply
@@ -34,7 +34,7 @@ enum Said {
     HandedBack(usize),
 }
 
-// A hart, what it is said to have been answered, and the first place at which that isn't so.
+// A hart, the replies that it is said to have got, and the first place at which that isn't so.
 type Row = (u8, &'static [Said], Option<u64>);
 
 // Of the run's replies the first three are those of hart 0, and the fourth is that of hart 1.
@@ -203,7 +203,7 @@ fn shows<L: Ledger>(rt: &impl Abort, alloc: Global, closed: Closed<L>, replies: 
     }
 }
 
-// Each row differs where it says.
+// Each row differs at the place that it names.
 fn differs<L: Ledger>(rt: &impl Abort, alloc: Global, closed: &Closed<L>, replies: &[Reply]) {
     for (number, (hart, row, wanted)) in ROWS.iter().enumerate() {
         let all = say_all(rt, alloc, replies, *row);
@@ -230,8 +230,9 @@ fn look_into<L: Ledger, R: Wait + Abort>(
     shows(rt, alloc, closed, replies);
 }
 
-/// A closed kernel has the image and the fuse that it was opened with, and its events show the calls with their replies. It finds the first
-/// place at which other replies are not a hart's: where one is missing, is too many, stands at another's place, or has another answer or call.
+/// A closed kernel has the image and the fuse that it was opened with, and its events show the calls with their
+/// replies. It finds the first place at which other replies are not a hart's. There one is missing, is too many, is
+/// another's, or has another answer or call.
 #[test]
 fn replies_differ(rt: HostRuntime) {
     let alloc = rt.alloc();

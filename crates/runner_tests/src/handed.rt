@@ -23,7 +23,7 @@ use std::sync::Wait;
 use std::sync::ledger::{Blank, Ledger};
 use std::thread::Threads;
 
-// Where the environment names the seed of the plan, and the seed where it names none.
+// The environment's variable that names the seed of the plan, and the seed if there is none.
 const SEED: &str = "EIGHT_HARTS_SEED";
 
 const FIRST_SEED: u64 = 1;
@@ -87,8 +87,9 @@ fn is_explained(rt: &impl Abort, alloc: Global, image: &[u8], run: &LeftRun) -> 
     explains && !list.is_empty()
 }
 
-/// Eight threads make the calls of a plan, which a gate hands turns to: the close finds each seat's replies in the list, each event is that of its
-/// turn and came to what a world made of it, one list of tree steps explains all replies, and the disk is in order.
+/// Eight threads make the calls of a plan, and a gate hands turns to them. The close finds each seat's replies in the
+/// list. Each event is that of its turn, and has the outcome that a world gave it. One list of tree steps explains
+/// all replies, and the disk is in order.
 #[test]
 fn eight_harts(rt: HostRuntime) {
     let alloc = rt.alloc();

@@ -1,4 +1,5 @@
-//! What the tests have in common: memory, images, seats, and calls of a kernel. Where memory for a test is refused, it says so, and ends.
+//! What the tests have in common: memory, images, seats, and calls of a kernel. If memory for a test is refused, the
+//! test says so, and ends.
 ghost use Rattle.std.specs.Prelude.{◌≡◌};
 
 use hart_runner::{CallFault, Gate, Kernel, Seat};
@@ -11,7 +12,7 @@ use std::process::Abort;
 use std::sync::Wait;
 use std::sync::ledger::Ledger;
 
-/// What a call came to: its reply, or why it was stopped, where it was started.
+/// The result of a call: its reply, or why it was stopped, if it was started.
 pub type CallResult = Result<Reply, Option<Halt>>;
 
 /// One item more.
@@ -50,7 +51,7 @@ pub fn read(rt: &impl Abort, alloc: Global, fd: u32, buf: &[u8; 16]) -> Call {
     }
 }
 
-// A new image of so many blocks and inodes, whose root has these files.
+// A new image of this number of blocks and inodes, whose root has these files.
 fn made(rt: &impl Abort, alloc: Global, size: u32, ninodes: u32, files: &[NewFile]) -> Vec<u8> {
     let disk = make(alloc, size, ninodes, files).expect(rt, "error");
     disk.into_bytes()
@@ -66,7 +67,7 @@ pub fn roomy_image(rt: &impl Abort, alloc: Global) -> Vec<u8> {
     made(rt, alloc, 200, 64, &[])
 }
 
-/// The image that `mkfs` makes where nothing else is asked: 2000 blocks and 200 inodes, and a root without names.
+/// The image that `mkfs` makes if nothing else is asked for: 2000 blocks and 200 inodes, and a root without names.
 pub fn fresh_image(rt: &impl Abort, alloc: Global) -> Vec<u8> {
     made(rt, alloc, 2000, 200, &[])
 }
@@ -110,7 +111,7 @@ pub fn all_of<L: Ledger>(a: Seat<L>, b: Seat<L>, others: [Seat<L>; 6]) -> [Seat<
     [a, b, c, d, e, f, g, h]
 }
 
-/// The seat after a call, and what the call came to. One that is stopped is given up.
+/// The seat after a call, and the call's result. If the call is stopped, it is given up.
 pub fn came_of<L: Ledger>(
     made: Result<(Seat<L>, Receipt<L>), CallFault<L>>,
 ) -> (Seat<L>, CallResult) {
@@ -122,7 +123,7 @@ pub fn came_of<L: Ledger>(
     }
 }
 
-/// Makes a call. What finds no memory is tried once more.
+/// Makes a call. A call that finds no memory is tried once more.
 pub fn called<L: Ledger, G: Gate + Drop, R: Wait>(
     rt: &R,
     kernel: &Kernel<L, G>,

@@ -1,5 +1,5 @@
-//! Tests of running harts: threads that make calls of one kernel. They stand here, above the crates that they run, since a crate with
-//! tests is proved twice.
+//! Tests of running harts: threads that make calls of one kernel. They are here, above the crates that they run,
+//! because a crate with tests is proved twice.
 #![tactic(auto)]
 
 #[cfg(test)]
@@ -25,5 +25,5 @@ mod turns;
 #[cfg(test)]
 mod work;
 
-// `rt test` runs the tests, and nothing else is here to be run.
+// `rt test` runs the tests; there is nothing else to run here.
 fn main() {}

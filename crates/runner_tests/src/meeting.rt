@@ -23,7 +23,7 @@ const HELD_TRY: u64 = 9;
 
 #[derive(Drop)]
 struct Flags {
-    // the next call of hart 0 is to be held
+    // the next call of hart 0 must be held
     armed: AtomicBool,
     held: AtomicBool,
     returned: AtomicBool,
@@ -55,7 +55,7 @@ fn poll(clock: &impl Clock, flag: &AtomicBool) {
     }
 }
 
-// How many steps of hart 0's last call stand before the start of hart 1's.
+// How many steps of hart 0's last call come before the start of hart 1's.
 fn steps_before<L: Ledger>(closed: &Closed<L>) -> usize {
     let mut steps: usize = 0;
     let mut before: usize = 0;
@@ -114,7 +114,8 @@ fn call_meeting<L: Ledger, G: Gate + Drop, R: Wait + Clock>(
     made
 }
 
-// What two calls that met are answered, where they are, and how many of the first one's steps stand before the start of the second.
+// The answers of two calls that met, if they have any. The number says how many of the first one's steps come before
+// the start of the second.
 type Met = (Option<Answer>, Option<Answer>, usize);
 
 fn answer_of(came: &CallResult) -> Option<Answer> {
@@ -178,8 +179,9 @@ fn meet<'a, L: Ledger + Send + Sync, R: Threads + Wait + Clock + Abort + Sync>(
     }
 }
 
-/// Hart 0 has made `/a` and `/b`. It is held before try 9 of its open of `/a/x`, when it has locked `/a`, until hart 1's mkdir of
-/// `/b/x`, begun then, has returned: in the list just nine steps of that open stand before the start of the mkdir.
+/// Hart 0 has made `/a` and `/b`. It is held before try 9 of its open of `/a/x`, when it has locked `/a`. Then hart
+/// 1's mkdir of `/b/x` begins, and hart 0 is held until that has returned. In the list exactly nine steps of that
+/// open come before the start of the mkdir.
 #[test]
 fn two_harts_meet(rt: HostRuntime) {
     let alloc = rt.alloc();

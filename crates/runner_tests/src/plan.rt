@@ -8,13 +8,13 @@ use plain_tree::HARTS;
 use std::alloc::Global;
 use std::process::Abort;
 
-// So many tables of calls the harts go through, each of them four.
+// The number of tables of calls that the harts go through, each of them four.
 const TABLES: u32 = 32;
 
 /// How many calls a plan has: each table has 17.
 pub const CALLS: u32 = 544;
 
-// No plan takes as many draws.
+// More draws than a plan takes.
 const MOST_DRAWS: u32 = 1_000_000;
 
 // Numbers that look as if drawn.
@@ -38,7 +38,7 @@ impl Draw {
     }
 }
 
-/// Calls of eight harts, and what a world makes of them where each event is the next turn.
+/// Calls of eight harts, and what a world makes of them if each event is the next turn.
 #[derive(Drop)]
 pub struct Plan {
     pub rounds: Rounds,
@@ -63,14 +63,14 @@ fn hart_of(event: &Event) -> u8 {
     }
 }
 
-// How far a hart has come: how many calls it has started, and whether the last one is under way.
+// How far a hart is: how many calls it has started, and whether the last one is under way.
 #[derive(Clone, Copy)]
 struct Stand {
     started: usize,
     is_busy: bool,
 }
 
-// The events so far, what they came to, and how far each hart has come.
+// The events so far, their outcomes, and how far each hart is.
 #[derive(Drop)]
 struct Made {
     events: Vec<Event>,
@@ -152,7 +152,7 @@ fn turn(
     }
 }
 
-// Makes all calls, each event that of a hart which is drawn.
+// Makes all calls; each event is that of a hart which is drawn.
 fn play(
     rt: &impl Abort,
     alloc: Global,

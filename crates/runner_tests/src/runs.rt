@@ -5,7 +5,7 @@ use std::alloc::Global;
 use std::process::Abort;
 use std::sync::ledger::Ledger;
 
-/// The events of a run, what they came to, and the bytes of the disk then.
+/// The events of a run, their outcomes, and the bytes of the disk then.
 #[derive(Drop)]
 pub struct LeftRun {
     pub events: Vec<Event>,
@@ -77,7 +77,7 @@ fn are_same_outcomes(one: &[Came], other: &[Came]) -> bool {
     one.len() == other.len()
 }
 
-/// Whether two runs have the same events, which came to the same, and leave the same disk.
+/// Whether two runs have the same events with the same outcomes, and leave the same disk.
 pub fn are_same(one: &LeftRun, other: &LeftRun) -> bool {
     are_same_events(one.events.as_slice(), other.events.as_slice())
         && are_same_outcomes(one.outcomes.as_slice(), other.outcomes.as_slice())

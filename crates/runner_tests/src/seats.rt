@@ -1,4 +1,4 @@
-//! What the calls of two seats come to: at a shared offset, and where the device fails.
+//! The results of the calls of two seats: at a shared offset, and if the device fails.
 ghost use Rattle.std.specs.Prelude.{◌≡◌};
 
 use crate::kernels::{
@@ -22,7 +22,7 @@ const DOT: [u8; 16] = *b"\x01\0.\0\0\0\0\0\0\0\0\0\0\0\0\0";
 
 const DOT_DOT: [u8; 16] = *b"\x01\0..\0\0\0\0\0\0\0\0\0\0\0\0";
 
-// No mount of the fresh image makes as many calls of the disk.
+// More calls of the disk than a mount of the fresh image makes.
 const MOST_CALLS: u64 = 100_000;
 
 // Hart 0 makes the first call, hart 1 inherits its files, and then both read at once. The reads as they are handed back.
@@ -77,7 +77,7 @@ fn seats_share_an_offset(rt: HostRuntime) {
     assert!(rt; (one == dot && two == dot_dot) || (one == dot_dot && two == dot));
 }
 
-// Whether a world is mounted on a disk of this image that passes so many calls.
+// Whether a world is mounted on a disk of this image that passes `fuse` calls.
 fn is_mounted(rt: &impl Abort, alloc: Global, image: &[u8], fuse: u64) -> bool {
     let disk = MemoryDisk::new(copied(rt, alloc, image));
     match World::mount(alloc, Fused::new(disk, fuse)) {
@@ -137,7 +137,7 @@ fn stops_of<L: Ledger, R: Wait + Abort>(
     }
 }
 
-// That, on a disk of this image that passes so many calls. None where the device fails before.
+// The same on a disk of this image that passes `fuse` calls. None if the device fails before.
 fn stops<L: Ledger, R: Wait + Abort>(
     rt: &R,
     alloc: Global,
@@ -165,8 +165,9 @@ fn stops_with<R: Wait + Abort>(rt: &R, alloc: Global, image: &[u8], fuse: u64) -
     stops::<Brand, R>(rt, alloc, Blank::new(8), image, fuse)
 }
 
-/// A kernel opens with the least fuse at which a world is mounted, and with no smaller one. Then the first call that needs a block is stopped by
-/// the device's failure, and another hart's call by the halt; given up, both seats are as the list has them. The closed kernel has image and fuse.
+/// A kernel opens with the least fuse at which a world is mounted, and with no smaller one. Then the device's failure
+/// stops the first call that needs a block, and the halt stops another hart's call. Given up, both seats are as the
+/// list has them. The closed kernel has the image and the fuse.
 #[test]
 fn a_fuse_stops_calls(rt: HostRuntime) {
     let alloc = rt.alloc();

@@ -1,5 +1,6 @@
-//! Where memory is short: `bin/short-memory` refuses each request for memory in turn that a call makes, which is made between the first lines
-//! "call" and "done". Then it answers 33, and the run goes on as one that met no refusal.
+//! What calls do if memory is short. `bin/short-memory` refuses, in turn, each request for memory that a call makes
+//! between the first lines "call" and "done". Then the call answers 33, and the run goes on as one that met no
+//! refusal.
 ghost use Rattle.std.specs.Prelude.{◌≡◌};
 
 use crate::kernels::{all_of, called, came_of, closed, copied, first_two, image, mkdir, no_kernel};
@@ -71,7 +72,7 @@ fn of_open(rt: HostRuntime) {
     assert!(rt; left.bytes.as_slice() == image.as_slice());
 }
 
-// A call, made between the lines. Where it finds no memory, what is handed back is made once more, or goes on.
+// A call, made between the lines. If it finds no memory, what is handed back is made once more, or goes on.
 fn call_short<L: Ledger, R: Wait + Print>(
     rt: &R,
     kernel: &Kernel<L, NoGate>,
@@ -157,7 +158,7 @@ impl<R: Print> Gate for Marks<'_, R> {
     }
 }
 
-// A call. Where it finds no memory it goes on, up to the second line; where it then finds none, it goes on once more.
+// A call. If it finds no memory it goes on, up to the second line; if it then finds none, it goes on once more.
 fn resume_short<L: Ledger, R: Wait + Print>(
     rt: &R,
     kernel: &Kernel<L, Marks<'_, R>>,
@@ -218,8 +219,8 @@ fn resume_once<R: Wait + Print + Abort>(rt: &R, alloc: Global) -> HartEnd {
     resume_on::<Brand, R>(rt, alloc, Blank::new(8), image, call)
 }
 
-/// A call that is stopped for want of memory, and stopped again as it goes on, has changed nothing: it comes to the reply that it would have
-/// had. Of its requests two in a row are refused.
+/// A call that is stopped for want of memory, and stopped again as it goes on, has changed nothing. It gets the reply
+/// that it would have had. Of its requests two in a row are refused.
 #[test]
 fn of_resume(rt: HostRuntime) {
     let alloc = rt.alloc();
@@ -265,7 +266,8 @@ fn answer_of<R: Threads + Wait + Sync>(
     }
 }
 
-/// What is printed of a script whose threads find no memory is a beginning of what is printed else, and all of it the next time.
+/// What is printed of a script whose threads find no memory is a beginning of what the script usually prints. The
+/// next time all of it is printed.
 #[test]
 fn of_run_threads(rt: HostRuntime) {
     let alloc = rt.alloc();

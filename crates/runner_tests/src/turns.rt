@@ -5,17 +5,17 @@ use std::sync::Wait;
 use std::sync::atomic::{AtomicBool, AtomicU64, Ordering};
 use std::time::Duration;
 
-// So many times a hart looks at a turn that stands still before it lets all go.
+// How often a hart looks at a turn that doesn't change before it lets all go.
 const PATIENCE: u32 = 30;
 
-// So many milliseconds lie between two of these looks.
+// The milliseconds between two of these looks.
 const LOOK: u64 = 1000;
 
-/// The turns of harts in their order, and how far they have come.
+/// The turns of harts in their order, and how far they are.
 #[derive(Drop)]
 pub struct Turns {
     harts: Vec<u8>,
-    // Twice the place of the turn that is handed out; one more where its hart has taken it.
+    // Twice the place of the turn that is handed out; one more if its hart has taken it.
     place: AtomicU64,
     // Whether no hart waits for a turn any more.
     are_let_go: AtomicBool,
@@ -68,7 +68,7 @@ impl Turns {
         }
     }
 
-    // Gives up the hart's turn, and takes its next one as soon as it is handed out.
+    // Gives up the hart's turn, and takes its next one when it is handed out.
     fn take<R: Wait>(&self, rt: &R, hart: u8) {
         self.pass(hart);
         let mut seen = u64::MAX;

@@ -18,7 +18,7 @@ use std::sync::ledger::{Blank, Ledger};
 use std::thread;
 use std::thread::Threads;
 
-// So many times the harts do their work.
+// How often the harts do their work.
 const ROUNDS: u32 = 100;
 
 // How many calls are made in a round.
@@ -29,7 +29,7 @@ pub trait Turning: Gate {
     /// Before this hart starts a call.
     fn start(&self, rt: &impl Wait, hart: u8);
 
-    /// Where the hart's last step found no memory, and it will ask for that step once more.
+    /// The hart's last step found no memory, and it will ask for that step once more.
     fn again(&self, hart: u8);
 
     /// When the hart has made all its calls.
@@ -44,7 +44,7 @@ impl Turning for NoGate {
     fn end(&self, _hart: u8) {}
 }
 
-/// A hart's seat, and the calls that it is to make.
+/// A hart's seat, and the calls that it will make.
 #[derive(Drop)]
 pub struct Task<L: Ledger> {
     seat: Seat<L>,
@@ -54,7 +54,7 @@ pub struct Task<L: Ledger> {
 /// What harts' work leaves, and how many of their calls were answered.
 pub type Worked<S> = (S, u32);
 
-// Makes a call. What finds no memory is tried once more.
+// Makes a call. A call that finds no memory is tried once more.
 fn make<L: Ledger, G: Turning + Drop, R: Wait>(
     rt: &R,
     kernel: &Kernel<L, G>,
@@ -170,7 +170,7 @@ struct Calls {
     sweep: Vec<Call>,
 }
 
-// Hart 0 takes away the shared names that are left.
+// Hart 0 removes the remaining shared names.
 fn sweep<L: Ledger, R: Wait>(
     rt: &R,
     kernel: &Kernel<L, NoGate>,
@@ -218,8 +218,9 @@ fn round<L: Ledger + Send + Sync, R: Threads + Wait + Abort + Sync>(
     }
 }
 
-/// Eight harts make, write, link, read and unlink files in one directory at once, over names of their own and four shared ones: each
-/// call is answered as it may be, the close finds each seat's replies in the list, and nothing is left on the disk but the root.
+/// Eight harts make, write, link, read and unlink files in one directory at once, over names of their own and four
+/// shared ones. Each call is answered as it may be, and the close finds each seat's replies in the list. Nothing but
+/// the root is left on the disk.
 #[test]
 fn eight_harts(rt: HostRuntime) {
     let alloc = rt.alloc();

@@ -1,4 +1,4 @@
--- A line of more words than a call has says nothing.
+-- A line of more words than a command has says nothing.
 use Rattle.script.proofs.Vocabulary.{arith, ◌≡◌, ℕ, ◌<◌, Bool, true, false, List, [], ◌∷◌, length, cond, Option, Some, None, refl, ap, bytes_eq, codes, hart_in, Call, Run, Start, line_in, call_in, hart_with_call, with_two, with_one}
 
 either : {A : Type 0} (b : Bool) (x y : Option A) → x ≡ None → y ≡ None → cond b x y ≡ None

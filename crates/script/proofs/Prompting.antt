@@ -1,4 +1,4 @@
--- A line that says something in a script is none of those that only a prompt has.
+-- A line that says something in a script is none of the lines that only a prompt has.
 use Rattle.script.proofs.Vocabulary.{◌≡◌, ℕ, Bool, true, false, ◌||◌, List, cond, Option, Some, None, refl, ap, sym, ◌∙◌, none-some, same_Some, bytes_eq-Decides, bytes_eq, codes, Asked, Nothing, Help, State, Quit, ends_input, Line, is_passed_over, line_in, call_in, said_in, with_one, value_after}
 use Rattle.std.specs.Prelude.{◌⊎◌, []}
 use Rattle.std.proofs.Common.{inl, inr}

@@ -1,4 +1,4 @@
--- What stands in the grammar is read.
+-- What is in the grammar is read.
 use Rattle.script.proofs.Vocabulary.{◌≡◌, ℕ, Bool, true, false, List, cond, Option, Some, None, refl, ap, sym, ◌∙◌, none-some, bytes_eq-Decides, option_and_then, bytes_eq, codes, Kind, number_in, hart_in, bytes_in, value_after, Call, Open, Read, Write, Fill, Link, Unlink, Mkdir, Chdir, Dup, Fstat, Close, Inherit, Line, Start, Run, Step, Upto, End, All, line_in, call_in, kind_in, one_operand, two_operands, hart_with_call, with_one, with_two, HasCall, SaysCall, SaysLine, kind_word}
 use Rattle.fs_machine.specs.declared.kind.Kind.TheVariants as kinds
 

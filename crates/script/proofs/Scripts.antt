@@ -7,7 +7,7 @@ use Rattle.script.specs.Said.{numbered}
 use Rattle.script.specs.declared.command.Front.{Front}
 use Rattle.std.specs.Prelude.{map, option_map}
 
--- behind these lines
+-- after these lines
 abbrev pub with_lines : List NumberedLine → ReadLines → ReadLines
 with_lines front rest = record { front = front ++ rest.front; bad = rest.bad }
 
@@ -20,7 +20,7 @@ ended_by front bad = record { front = front; bad = bad }
 push_line : (front : List NumberedLine) (n : ℕ) (said : Line) (rest : ReadLines) → with_lines front (first_said n (Some said) rest) ≡ with_lines (front ++ at_line n said ∷ []) rest
 push_line front n said rest = ap (λ xs. ended_by xs rest.bad) (sym (append_assoc front (at_line n said ∷ []) rest.front))
 
--- line i of the lines, the first of those that are left
+-- line i of the lines, the first of the remaining ones
 one_line : (n : ℕ) (lines : List (List ℕ)) (i : ℕ) (line : List ℕ) → i < length lines → line ≡ get_or lines i line
     → lines_from n (drop i lines) ≡ cond (is_passed_over line) (lines_from (n + 1) (drop (i + 1) lines)) (first_said n (said_in line) (lines_from (n + 1) (drop (i + 1) lines)))
 unfolding lines_from

@@ -2,7 +2,7 @@
 use Rattle.script.proofs.Vocabulary.{◌≡◌, ℕ, ◌+◌, ◌<◌, ◌≤◌, List, length, drop, get_or, ap, sym, ◌∙◌, at_drop_more, at_drop_all}
 use Rattle.script.specs.Asking.{single_spaced, with_word}
 
--- word i of the words, the first of those that are left
+-- word i of the words, the first of the remaining ones
 pub word_spaced : (line : List ℕ) (words : List (List ℕ)) (i j : ℕ) (word : List ℕ) → i < length words → word ≡ get_or words i word → j ≡ i + 1
     → single_spaced (with_word line word) (drop j words) ≡ single_spaced line (drop i words)
 unfolding single_spaced

@@ -1,4 +1,4 @@
--- What is read stands in the grammar.
+-- What is read is in the grammar.
 use Rattle.script.proofs.Vocabulary.{◌≡◌, ℕ, Bool, true, false, List, [], ◌∷◌, cond, Option, Some, None, refl, ap, sym, ◌∙◌, subst, none-some, same_Some, bytes_eq-Decides, option_and_then, bytes_eq, codes, Kind, number_in, hart_in, bytes_in, Call, Open, Read, Write, Fill, Link, Unlink, Mkdir, Chdir, Dup, Fstat, Close, Inherit, Line, Start, Run, Step, Upto, End, line_in, call_in, kind_in, one_operand, two_operands, hart_with_call, do_in, start_in, step_in, upto_in, end_in, all_in, with_one, with_two, HasCall, SaysCall, SaysLine, IsKind, kind_word}
 
 -- ---- what an answer came from

@@ -1,4 +1,4 @@
--- What the lines ask that are typed at a prompt: those of a script, and a few that only tell something.
+-- What the lines ask that are typed at a prompt: those of a script, and a few that only show something.
 use Rattle.std.specs.Prelude.{◌≡◌, ◌⊎◌, ℕ, ◌==◌, Bool, ◌||◌, false, List, [], ◌∷◌, ◌++◌, if◌then◌else◌, Option, Some, None, codes, Result, Ok, Err}
 use Rattle.script.specs.Vocabulary.{bytes_eq}
 use Rattle.script.specs.declared.asked.Asked.{Asked as AskedOf}
@@ -25,7 +25,7 @@ asked_by (asks.Run command) = Run (line_said command)
 abbrev pub ends_input : List ℕ → Bool
 ends_input line = bytes_eq line (codes "quit") || bytes_eq line (codes "exit")
 
--- a word more, behind a space where there is one before it
+-- one more word, after a space if there is one before it
 abbrev pub with_word : List ℕ → List ℕ → List ℕ
 with_word line [] = line
 with_word [] (b ∷ bs) = b ∷ bs
@@ -49,7 +49,7 @@ abbrev pub or_asked : Option Asked → Option Asked → Option Asked
 or_asked (Some asked) other = Some asked
 or_asked None other = other
 
--- where a line says nothing as it stands, what it says with one space between its words, and none at an end
+-- what the line says as it is; if that is nothing, what it says with one space between its words, and none at an end
 abbrev pub asked_in : List ℕ → Option Asked
 asked_in line = or_asked (asked_as_typed line) (asked_as_typed (single_spaced [] (words_of line)))
 
@@ -59,15 +59,15 @@ GivesAsked number (Ok a) asked = asked ≡ Some (asked_by a)
 GivesAsked number (Err (faults.Line n reason)) asked = (n ≡ number) × (asked ≡ None)
 GivesAsked number (Err faults.Memory) asked = Unit {0}
 
--- A line of a script, but an empty one or a comment, is run at a prompt as what it says; and no other line is run but one that is such a
--- line once one space stands between its words, and none at an end.
+-- A line of a script that isn't empty or a comment is run at a prompt as what it says. No other line is run, except
+-- one that becomes such a line with one space between its words, and none at an end.
 abbrev pub PromptsRunScripts : Type 0
 PromptsRunScripts =
     (said : Line) (line : List ℕ) → is_passed_over line ≡ false
     → (said_in line ≡ Some said → asked_in line ≡ Some (Run said))
     × (asked_in line ≡ Some (Run said) → (said_in line ≡ Some said) ⊎ (said_in (single_spaced [] (words_of line)) ≡ Some said))
 
--- ---- the lines that are typed: each up to its byte 10, and the last one also without
+-- ---- the lines that are typed: each up to its byte 10, and the last one even without
 
 abbrev pub with_byte : ℕ → List (List ℕ) → List (List ℕ)
 with_byte b [] = (b ∷ []) ∷ []

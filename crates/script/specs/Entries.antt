@@ -11,7 +11,7 @@ is_printed b = nat_lt 32 b && nat_lt b 127
 abbrev pub all_printed : List ℕ → Bool
 all_printed bytes = list_all is_printed bytes
 
--- as it stands where each of its bytes is printed, else in digits; of no bytes as in a script
+-- as it is if each of its bytes is printed, else in digits; of no bytes as in a script
 abbrev pub path_word : List ℕ → List ℕ
 path_word [] = codes "\"\""
 path_word (b ∷ bs) = if all_printed (b ∷ bs) then b ∷ bs else codes "hex:" ++ hex (b ∷ bs)
@@ -52,7 +52,7 @@ may_make (Open path flags) (Opened fd id is_file) = true
 may_make (Mkdir path) Done = true
 may_make a b = false
 
--- the number of the node that was made; where none was made a step says 0
+-- the number of the node that was made; if none was made a step says 0
 abbrev pub made_number : Placed → Option ℕ
 made_number e = if may_make e.step.action e.answer && not (e.step.new == 0) then Some e.step.new else None
 

@@ -96,8 +96,8 @@ SaysLine (Upto hart kind steps) ws = HasUpto hart kind steps ws
 SaysLine (End hart) ws = HasOne (codes "end") IsHart hart ws
 SaysLine All ws = ws ≡ codes "all" ∷ []
 
--- the line's words say this, and it doesn't end in a carriage return; a line with an empty word says nothing, since no verb,
--- number, kind or bytes is an empty word
+-- The line's words say this, and it doesn't end in a carriage return. A line with an empty word says nothing, because
+-- no verb, number, kind or bytes is an empty word.
 abbrev pub Says : Line → List ℕ → Type 0
 Says said line = (ends_in_return line ≡ false) × SaysLine said (words_of line)
 

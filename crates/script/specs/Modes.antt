@@ -5,13 +5,13 @@ use Rattle.script.specs.declared.mode.Mode.{Mode}
 use Rattle.script.specs.declared.mode.Schedule.{Schedule}
 use Rattle.script.specs.declared.mode.Schedule.TheVariants.{Listed, Round}
 
--- the schedule of this name; the first one where none is named
+-- the schedule of this name; the first one if none is named
 abbrev pub schedule_named : Option Text → Option Schedule
 schedule_named None = Some Listed
 schedule_named (Some name) =
     if bytes_eq name (codes "listed") then Some Listed else if bytes_eq name (codes "round") then Some Round else None
 
--- the number of a text that is a u32's, where one `+` may stand first; 0 where there is none
+-- the number of a text that is a u32's, and may begin with one `+`; 0 if there is none
 abbrev pub IsNumber : Option Text → ℕ → Type 0
 IsNumber None n = n ≡ 0
 IsNumber (Some text) n = IsNumeral 10 (without_leading_plus text) → digits_value 10 (without_leading_plus text) < 2 ^ 32
@@ -30,7 +30,7 @@ pub record IsModeOf (f : Found) (m : Mode) : Type 0 where
   pub explain : IsFlag (one_text f (codes "explain")) m.explain
   pub check : IsFlag (one_text f (codes "check")) m.check
 
--- none where there is no schedule of the name that is given
+-- none if there is no schedule of the name that is given
 abbrev pub HasMode : Found → Option Mode → Type 0
 HasMode f (Some m) = IsModeOf f m
 HasMode f None = schedule_named (first_value f (codes "schedule")) ≡ None

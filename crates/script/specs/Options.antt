@@ -6,7 +6,7 @@ use Rattle.script.specs.Vocabulary.{App, Rule, new_app, new_rule, with_rule, Set
 abbrev pub image_rule : Rule
 image_rule = record (new_rule (codes "image")) { action = Some Set; value_names = 1 }
 
--- in which order the lines are run, by a word that is looked at later
+-- in which order the lines are run, by a word whose meaning is checked later
 abbrev pub schedule_rule : Rule
 schedule_rule = record (new_rule (codes "schedule")) { long = Some (codes "schedule"); action = Some Set; value_names = 1 }
 

@@ -1,4 +1,4 @@
--- How the words of a line are read: what it says, where it says anything.
+-- How the words of a line are read: what the line says, if it says anything.
 use Rattle.std.specs.Prelude.{ℕ, ◌+◌, Bool, ◌||◌, List, [], ◌∷◌, ◌==◌, nat_eq, if◌then◌else◌, Option, Some, None, codes, Result, Ok, Err}
 use Rattle.script.specs.Vocabulary.{option_and_then, bytes_eq, Kind, slice_split, ends_with}
 use Rattle.fs_machine.specs.declared.kind.Kind.TheVariants as kinds
@@ -112,7 +112,7 @@ said_in line = if ends_in_return line then None else line_in (words_of line)
 abbrev pub is_passed_over : List ℕ → Bool
 is_passed_over line = bytes_eq line [] || begins_with (codes "#") line
 
--- what the lines say up to the first that says nothing, and the number of that one
+-- what the lines say up to the first that says nothing, and the number of that line
 pub record ReadLines : Type 0 where
   pub front : List NumberedLine
   pub bad : Option ℕ

@@ -1,4 +1,4 @@
--- What a line of a script says, apart from how it lies in memory.
+-- What a line of a script says, however it is in memory.
 use Rattle.std.specs.Prelude.{ℕ, List, codes}
 use Rattle.script.specs.Vocabulary.{Kind}
 use Rattle.script.specs.declared.call.CallLine.{CallLine}

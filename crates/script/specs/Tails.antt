@@ -9,11 +9,11 @@ pub record TailView (T : Type 0) : Type 0 where
 abbrev pub tail : {T : Type 0} → ℕ → List T → TailView T
 tail most events = record { most = most; events = events }
 
--- one event more, the oldest gone where they would be too many
+-- one more event; the oldest is dropped if they would be too many
 abbrev pub with_event : {T : Type 0} → TailView T → T → TailView T
 with_event t event = tail t.most (keep_last t.most (t.events ++ event ∷ []))
 
--- these events more, one after the other
+-- these events after the others, one after the other
 abbrev pub with_events : {T : Type 0} → TailView T → List T → TailView T
 with_events t [] = t
 with_events t (event ∷ events) = with_events (with_event t event) events

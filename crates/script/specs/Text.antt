@@ -11,7 +11,7 @@ abbrev pub hex : List ℕ → List ℕ
 hex [] = []
 hex (b ∷ bs) = hex_digit (b / 16) ∷ hex_digit (b % 16) ∷ hex bs
 
--- after a space, where there are any
+-- after a space, if there are any
 abbrev pub bytes_text : List ℕ → List ℕ
 bytes_text [] = []
 bytes_text (b ∷ bs) = codes " " ++ hex (b ∷ bs)
@@ -45,7 +45,7 @@ answer_text c Done = codes "ok"
 answer_text c (Failed cause) = numbered_text (codes "failed") (cause_number cause) (cause_name cause)
 answer_text c (Full full) = numbered_text (codes "full") (full_number full) (full_name full)
 
--- the hart, the call's word, what is told of it, and the line's end
+-- the hart, the call's word, what is said of it, and the line's end
 abbrev pub told_line : ℕ → List ℕ → List ℕ → List ℕ
 told_line hart name told = decimal hart ++ codes " " ++ name ++ codes " " ++ told ++ codes "\n"
 

@@ -21,11 +21,11 @@ below limit n = if nat_lt n limit then Some n else None
 abbrev pub digit_in : ℕ → ℕ → Option ℕ
 digit_in radix b = option_and_then (below radix) (digit_of b)
 
--- the number with one digit more, where it fits
+-- the number with one more digit, if it fits
 abbrev pub with_digit : ℕ → ℕ → ℕ → Option ℕ
 with_digit radix value b = option_and_then (λ d. below (2 ^ 32) (value * radix + d)) (digit_in radix b)
 
--- the number with these digits more, the most significant first
+-- the number with these further digits, the most significant first
 unfoldable pub value_after : ℕ → ℕ → List ℕ → Option ℕ
 value_after radix value [] = Some value
 value_after radix value (b ∷ bs) = option_and_then (λ v. value_after radix v bs) (with_digit radix value b)

@@ -16,7 +16,7 @@ pub enum Asked {
     Nothing,
     /// Which lines there are.
     Help,
-    /// How far each hart's call has come, and where the log's commit is.
+    /// How far each hart's call is, and how far the log's commit is.
     State,
     /// That no more lines are read.
     Quit,
@@ -24,8 +24,8 @@ pub enum Asked {
     Run(Command),
 }
 
-/// What a line asks that is typed as the one of this number, counted from 1. Where it says nothing, spaces at its ends and beside others
-/// are passed over.
+/// What a line asks that is typed as the one of this number, counted from 1. If it says nothing as it is, spaces at
+/// its ends and beside others are passed over. The error is that the line asks nothing, with why, or want of memory.
 pub fn asked_in(alloc: Global, number: u64, line: &[u8]) -> Result<Asked, ScriptFault>
     ensures { GivesAsked number result (asked_in line.now) }
 {
@@ -51,7 +51,7 @@ fn single_spaced(alloc: Global, line: &[u8]) -> Result<Vec<u8>, AllocError>
     Ok(single)
 }
 
-// Appends a word, where it is one, behind a space where there is one before it.
+// Appends a word, unless it is empty, after a space if there is one before it.
 fn put_word(line: &mut Vec<u8>, word: &[u8]) -> Result<(), AllocError>
     ensures { OnOk result (line.new.items ≡ with_word line.old.items word.now) }
 {
@@ -64,7 +64,7 @@ fn put_word(line: &mut Vec<u8>, word: &[u8]) -> Result<(), AllocError>
     line.extend_from_slice(word)
 }
 
-// What the line asks as it stands.
+// What the line asks as it is.
 fn asked_as_typed(alloc: Global, number: u64, line: &[u8]) -> Result<Asked, ScriptFault>
     ensures { GivesAsked number result (asked_as_typed line.now) }
 {

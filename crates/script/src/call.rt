@@ -8,7 +8,7 @@ pub enum CallLine {
     Open { path: Vec<u8>, flags: u32 },
     Read { fd: u32, count: u32 },
     Write { fd: u32, bytes: Vec<u8> },
-    /// A write of so many bytes `x`.
+    /// A write of `count` bytes `x`.
     Fill { fd: u32, count: u32 },
     Link { old: Vec<u8>, new: Vec<u8> },
     Unlink { path: Vec<u8> },

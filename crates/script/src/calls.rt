@@ -28,7 +28,7 @@ const CALLS: [(&str, &str); 12] = [
     ("inherit", "H inherit CHILD"),
 ];
 
-// Why a verb with so many operands is no call.
+// Why this verb with its operands is no call.
 fn no_call(verb: &[u8]) -> Reason {
     for (name, line) in CALLS {
         if verb == name.as_bytes() {

@@ -3,16 +3,16 @@ use crate::call::CallLine;
 use crate::reason::Reason;
 use fs_machine::Kind;
 
-/// What a line of a script says. A hart is any u8, also one that there isn't.
+/// What a line of a script says. A hart is any u8, even one that there isn't.
 #[derive(Debug, PartialEq, Drop)]
 pub enum Command {
     /// The call is started.
     Start { hart: u8, call: CallLine },
     /// The call is started, and the hart steps until it ends.
     Do { hart: u8, call: CallLine },
-    /// So many steps of a hart.
+    /// `steps` steps of a hart.
     Step { hart: u8, steps: u32 },
-    /// Steps of a hart until its call has made so many steps of this kind.
+    /// Steps of a hart until its call has made `steps` steps of this kind.
     Upto { hart: u8, kind: Kind, steps: u32 },
     /// Steps of a hart until its call ends.
     End { hart: u8 },
@@ -34,7 +34,7 @@ pub struct BadLine {
     pub why: Reason,
 }
 
-/// The commands of a script up to its first line that says nothing, and that line, where there is one.
+/// The commands of a script up to its first line that says nothing, and that line, if there is one.
 #[derive(Debug, PartialEq, Drop)]
 pub struct Front {
     pub lines: Vec<ScriptLine>,

@@ -13,7 +13,7 @@ const NAME: &str = "console";
 
 const VERSION: &str = "0.1, for images of xv6 (version 1)";
 
-// The script's grammar, the statuses, and where more is said.
+// The script's grammar, the statuses, and the files that say more.
 const AFTER_HELP: &str = "\
 The script, from standard input, is lines of words parted by single spaces; a line that begins with # is a comment:
   H CALL starts a call on hart H (0 to 7): open PATH FLAGS, read FD N, write FD BYTES, fill FD N,
@@ -198,7 +198,7 @@ fn command<'a>(alloc: Global) -> Result<Command<'a>, AllocError>
     printing.arg(check(alloc))?.arg(save(alloc))
 }
 
-// The schedule of this name; the first one where none is named.
+// The schedule of this name; the first one if none is named.
 fn schedule_of(name: Option<&str>) -> Option<Schedule>
     ensures { result ≡ schedule_named (option_map (λ s. s.now) name.entry) }
 {
@@ -235,7 +235,7 @@ fn flag_in(matches: &ArgMatches, id: &str) -> bool
     matches.get_flag(id)
 }
 
-/// How the console is to run, where there is a schedule of the name that is given.
+/// How the console must run; none if there is no schedule of the name that is given.
 pub fn mode_of(matches: &ArgMatches) -> Option<Mode>
     ensures { HasMode (found_of matches.now) result }
 {
@@ -252,7 +252,7 @@ pub fn mode_of(matches: &ArgMatches) -> Option<Mode>
     })
 }
 
-/// Whether each hart is to have a thread.
+/// Whether each hart has a thread.
 pub fn has_threads(matches: &ArgMatches) -> bool
     ensures { IsFlag (one_text (found_of matches.now) (codes "threads")) result }
 {
@@ -266,7 +266,7 @@ pub fn has_prompt(matches: &ArgMatches) -> bool
     flag_in(matches, PROMPT)
 }
 
-/// Reads a command line, the program's name first. After an `Ok` the values are those that the words give; an error
+/// Reads a command line, the program's name first. After an `Ok` the values are those that the words give. An error
 /// has one of the kinds that the words call for, or memory was refused.
 pub fn options<'a>(alloc: Global, words: &'a [String]) -> Result<ArgMatches<'a>, Error>
     ensures values { IfOk result (λ matches. rows_of (found_of matches) ≡ matches_of console_line (map string_bytes words.entry.now)) }

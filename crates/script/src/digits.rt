@@ -55,7 +55,7 @@ fn digits_value(digits: &[u8], radix: u32) -> Option<u32>
     Some(value)
 }
 
-// The number with one digit more, where it fits.
+// The number with one more digit, if it fits.
 fn with_digit(radix: u32, value: u32, byte: u8) -> Option<u32>
     ensures { result ≡ with_digit radix value byte }
 {

@@ -9,9 +9,9 @@ use plain_tree::{Action, Placed, Stat, StepAnswer};
 use std::io;
 use std::io::Write;
 
-/// The line of an entry, as `event 12: 0 open /d/f 0: failed 1 NoEntry`: its event, its hart, what the step did, and what that answered.
-/// A piece of a write stands with its length, a read with the bytes that it gave, and a node that was made with its inode's number, as
-/// `event 30: 0 open /f 513: fd 0, inode 2`.
+/// Writes the line of an entry, as `event 12: 0 open /d/f 0: failed 1 NoEntry`: its event, its hart, what the step
+/// did, and what that answered. A piece of a write has its length in the line, a read the bytes that it gave. A node
+/// that was made has its inode's number, as `event 30: 0 open /f 513: fd 0, inode 2`.
 pub fn write_entry<W: Write>(out: &mut W, entry: &Placed) -> io::Result<()>
     ensures { OnOk result (Appends (W.contents out.old) (W.contents out.new) (entry_line entry.now)) }
 {
@@ -159,7 +159,7 @@ fn write_at_path<W: Write>(out: &mut W, word: &str, path: &[u8]) -> io::Result<(
     write_path(out, path)
 }
 
-// A path as it stands where each of its bytes is printed, else in digits.
+// A path as it is if each of its bytes is printed, else in digits.
 fn write_path<W: Write>(out: &mut W, path: &[u8]) -> io::Result<()>
     ensures { OnOk result (Appends (W.contents out.old) (W.contents out.new) (path_word path.now)) }
 {

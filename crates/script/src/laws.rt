@@ -2,7 +2,7 @@
 ghost use Rattle.script.specs.Asking.{PromptsRunScripts};
 ghost use Rattle.script.specs.Grammar.{LinesAreRead};
 
-/// A line is read as that which its words say in the grammar, and as nothing where they stand nowhere in it: so each line says
+/// A line is read as what its words say in the grammar, and as nothing if they are nowhere in it. So each line says
 /// one thing at most.
 pub fn lines_are_read()
     ensures { LinesAreRead }

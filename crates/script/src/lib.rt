@@ -1,8 +1,8 @@
 //! Scripts of the console: what their lines say (docs/SCRIPT.md has the grammar), and the lines that answer them.
 //!
-//! What a script's lines say is answered in order, each with its number; or the number of the first line that says nothing, with why.
-//! A line that is typed at a prompt is read alone. Beside them stand the command line, the lines of replies and of a history's entries,
-//! and the last of many events.
+//! The answer of a script is what its lines say, in order, each with its number. If a line says nothing, the answer
+//! is the number of the first such line, with why. A line that is typed at a prompt is read alone. The command line,
+//! the lines of replies and of a history's entries, and the last of many events are here too.
 #![tactic(auto)]
 
 mod asked;

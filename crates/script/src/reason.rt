@@ -53,13 +53,13 @@ pub enum Reason {
     SpaceBefore,
     /// The line ends with a space.
     SpaceBehind,
-    /// Two spaces stand beside one another.
+    /// Two spaces are beside one another.
     DoubledSpace,
-    /// Words are parted by spaces, also between quotation marks.
+    /// Spaces separate words, even between quotation marks.
     Quoted,
     /// The line begins with a call's word, and no hart.
     HartMissing(Shown),
-    /// More words stand behind one that has a line of its own at a prompt.
+    /// More words come after one that has a line of its own at a prompt.
     StandsAlone(Shown),
     /// The first word is neither the word of a command nor a number.
     NoSuchCommand(Shown),

@@ -8,7 +8,7 @@ use plain_tree::{Answer, Call, Reply, Stat};
 use std::io;
 use std::io::Write;
 
-/// The line of a reply.
+/// Writes the line of a reply to the hart's call, whose word is `name`. An error is the writer's.
 pub fn write_reply<W: Write>(out: &mut W, hart: u8, name: &str, reply: &Reply) -> io::Result<()>
     ensures { OnOk result (Appends (W.contents out.old) (W.contents out.new) (reply_line hart name.now reply.now)) }
 {
@@ -56,7 +56,8 @@ fn write_state<W: Write>(out: &mut W, kind: u8, nlink: u16, size: u64) -> io::Re
     writeln!(out, " {kind} {nlink} {size}")
 }
 
-/// What became of a call, with its number and name.
+/// Writes the line of a call's fate (`failed`, `refused` or `stopped`), with the number and the name of the reason.
+/// An error is the writer's.
 pub fn write_numbered<W: Write>(
     out: &mut W,
     hart: u8,
@@ -84,7 +85,7 @@ fn write_given<W: Write>(out: &mut W, call: &Call, count: u32) -> io::Result<()>
     }
 }
 
-/// A space and the bytes, where there are any.
+/// A space and the bytes, if there are any.
 pub(crate) fn write_bytes<W: Write>(out: &mut W, bytes: &[u8]) -> io::Result<()>
     ensures { OnOk result (Appends (W.contents out.old) (W.contents out.new) (bytes_text bytes.now)) }
 {
@@ -112,14 +113,14 @@ fn hex_digit(n: u8) -> u8
     if n < 10 { b'0' + n } else { b'a' - 10 + n }
 }
 
-/// The line of a hart that waits.
+/// Writes the line of a hart that waits. An error is the writer's.
 pub fn write_waits<W: Write>(out: &mut W, hart: u8) -> io::Result<()>
     ensures { OnOk result (Appends (W.contents out.old) (W.contents out.new) (decimal hart ++ codes " waits\n")) }
 {
     writeln!(out, "{hart} waits")
 }
 
-/// The line of an image that was examined and is well formed.
+/// Writes the line of an image that was examined and is well formed. An error is the writer's.
 pub fn write_shape<W: Write>(out: &mut W, shape: &Shape) -> io::Result<()>
     ensures { OnOk result (Appends (W.contents out.old) (W.contents out.new) (shape_line shape.now)) }
 {

@@ -9,8 +9,8 @@ use std::marker::Model;
 /// For how many events there is room when the first one is noted.
 const FIRST_ROOM: usize = 16;
 
-/// The last n of the events that were noted. It takes memory as it fills, for no more than n and no more than twice as many as there
-/// were. A contract sees it as a `Tail`: n, and the events.
+/// The last n of the events that were noted. It takes memory as it fills: for no more than n, and for no more than
+/// twice the events that were noted. A contract sees it as a `Tail`: n, and the events.
 #[derive(Drop)]
 pub struct Tail<T> {
     most: u32,
@@ -29,7 +29,7 @@ impl<T> Model for Tail<T> {
 }
 
 impl<T: Drop> Tail<T> {
-    /// Of no event, for the last `most`.
+    /// With no event yet, for the last `most`. An error is want of memory.
     pub fn new(alloc: Global, most: u32) -> Result<Tail<T>, AllocError>
         ensures { IfOk result (λ t. t ≡ tail most []) }
     {
@@ -39,7 +39,8 @@ impl<T: Drop> Tail<T> {
         })
     }
 
-    /// Notes an event; where there are more than n, the oldest goes.
+    /// Notes an event; if there are more than n, the oldest is dropped. An error is want of memory, and then nothing
+    /// changes.
     pub fn note(&mut self, event: T) -> Result<(), AllocError>
         ensures noted { OnOk result (self.new ≡ with_event self.old event) }
         ensures same { OnErr result (self.new ≡ self.old) }

@@ -9,7 +9,8 @@ use crate::line::command;
 use crate::reason::Reason;
 use std::alloc::{AllocError, Global};
 
-/// The commands of a script, in order, each with the number of its line.
+/// The commands of a script, in order, each with the number of its line. The error is the first line that says
+/// nothing, with why, or want of memory.
 pub fn parse(alloc: Global, text: &[u8]) -> Result<Vec<ScriptLine>, ScriptFault>
     ensures { GivesScript result (script_in text.now) }
 {
@@ -22,8 +23,8 @@ pub fn parse(alloc: Global, text: &[u8]) -> Result<Vec<ScriptLine>, ScriptFault>
     }
 }
 
-/// The commands of a script up to its first line that says nothing, and that line: one before it may be bad where it is to be run. Only
-/// want of memory is an error.
+/// The commands of a script up to its first line that says nothing, and that line. A line before it may be bad when
+/// it is run. Only want of memory is an error.
 pub fn parse_front(alloc: Global, text: &[u8]) -> Result<Front, AllocError>
     ensures { IfOk result (λ front. GivesFront front text.now) }
 {
@@ -52,7 +53,8 @@ pub fn parse_front(alloc: Global, text: &[u8]) -> Result<Front, AllocError>
     Ok(Front { lines, bad: None })
 }
 
-/// What is wrong with a bad line, seen from without: how it ends, its spaces, its quotation marks, or else the reason that was found.
+/// What is wrong with a bad line, as its writer sees it first. It is how the line ends, its spaces, its quotation
+/// marks, or else the reason that was found.
 pub fn plainest(line: &[u8], reason: Reason) -> Reason {
     match reason {
         Reason::CarriageReturn => reason,
@@ -68,7 +70,7 @@ fn has_empty_word(line: &[u8]) -> bool {
     line.split(|b| *b == b' ').any(|word| word.is_empty())
 }
 
-// Whether a word begins with a quotation mark, and isn't the one that stands for no bytes.
+// Whether a word begins with a quotation mark, and isn't the one for no bytes.
 fn has_quoted_word(line: &[u8]) -> bool {
     line.split(|b| *b == b' ').any(|word| word.starts_with(b"\"") && word != b"\"\"".as_slice())
 }

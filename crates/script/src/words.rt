@@ -35,7 +35,7 @@ pub fn bytes(alloc: Global, word: &[u8], name: &'static str) -> Result<Vec<u8>, 
     }
 }
 
-// The bytes of so many pairs of digits.
+// The bytes of these pairs of digits.
 #[tactic(auto, using(crate::proofs::Pairs::one_pair, crate::proofs::Pairs::no_pair, crate::proofs::Pairs::push_front))]
 fn hex_bytes(alloc: Global, digits: &[u8], name: &'static str) -> Result<Vec<u8>, LineFault>
     ensures { Gives (λ v. v.items) result (pairs_in digits.now) }

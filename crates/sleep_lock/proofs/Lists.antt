@@ -1,7 +1,7 @@
 use Rattle.sleep_lock.proofs.Vocabulary.{◌≡◌, ◌<◌, ℕ, zero, suc, List, [], ◌∷◌, length, set, Some, refl, ap, arith, get_or_from_slice_get, set-get_or}
 use Rattle.std.specs.List.{slice_get}
 
--- what stands there, written there, changes nothing
+-- an element written to its own place changes nothing
 pub set_same : {X : Type 0} (xs : List X) (i : ℕ) (x : X) → slice_get xs i ≡ Some x → set xs i x ≡ xs
 set_same xs i x e = subst_set xs i x e
   where

@@ -7,7 +7,7 @@ abbrev pub row_of : {T : Type 0} → ℕ → List T → List (SlotState T)
 row_of n [] = []
 row_of n (v ∷ vs) = filled n v ∷ row_of (n + 1) vs
 
--- the row and what a hart gets, where it tries to take the value of that slot
+-- the row, and what a hart gets when it tries to take the value of that slot
 abbrev pub lock_at : {T : Type 0} → List (SlotState T) → ℕ → ℕ → Option (SlotState T) → List (SlotState T) × Option (GuardState T)
 lock_at slots number hart None = (slots, None)
 lock_at slots number hart (Some s) = (slice_set slots number (taken s hart), guard_of s hart)

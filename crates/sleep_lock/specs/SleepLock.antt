@@ -2,7 +2,7 @@
 use Rattle.std.specs.Prelude.{ℕ, Option, Some, None}
 use Rattle.std.specs.Option.{option_map, option_map_or}
 
--- a slot: its number, the value where it is in, and the hart that has it where it is out
+-- a slot: its number, the value if it is in, and the hart that has it if it is out
 pub record SlotState (T : Type 0) : Type 0 where
   pub number : ℕ
   pub inside : Option T

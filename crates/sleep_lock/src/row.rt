@@ -1,4 +1,4 @@
-// Slots in a row.
+//! Slots in a row.
 ghost use Rattle.std.specs.Prelude.{◌≡◌, ◌<◌, ◌≤◌, ◌^◌, Some, IfOk, IfSome, length, slice_get};
 ghost use Rattle.std.specs.Borrow.{sem};
 ghost use Rattle.sleep_lock.specs.Row.{lock_of, unlocked, IsOut, IsNumbered, LeavesOthers, row_of};
@@ -22,7 +22,7 @@ impl<T> Model for Slots<T> {
     ghost view = { λ s. s.items.items };
 }
 
-/// The sign that a row of so many slots has ended.
+/// The sign that a row of slots has ended, with their number.
 #[derive(Drop)]
 pub struct RetiredSlots {
     count: usize,
@@ -82,8 +82,8 @@ impl<T> Slots<T> {
         &mut self.items[number as usize]
     }
 
-    /// Takes the value of the slot at this number. There is no guard exactly where that value is out already, and then
-    /// nothing changes.
+    /// Takes the value of the slot at this number. The answer is no guard exactly if that value is out already, and
+    /// then nothing changes.
     pub fn lock(&mut self, hart: u8, number: u32) -> Option<Guard<T>>
         requires { number < length self.old }
         ensures gives { (self.new, result) ≡ lock_of self.old number hart }

@@ -1,4 +1,4 @@
-// A slot and its guard.
+//! A slot and its guard.
 ghost use Rattle.std.specs.Prelude.{◌≡◌, ◌<◌, ◌↔◌, IsNone};
 ghost use Rattle.std.specs.Borrow.{sem};
 ghost use Rattle.sleep_lock.specs.SleepLock.{guard_of, taken, filled, emptied};
@@ -30,7 +30,7 @@ impl<T> Model for Slot<T> {
 /// A guard is put back, or ended after its slot has ended: code that lets one go doesn't compile.
 pub struct Guard<T> {
     number: u32,
-    // As wide as the number, so that a guard has no byte of no meaning: such bytes would be copied one by one where it moves.
+    // As wide as the number, so that a guard has no padding. Padding would make a move copy the guard byte by byte.
     hart: u32,
     value: Box<T>,
 }
@@ -72,7 +72,7 @@ impl<T> Slot<T> {
         }
     }
 
-    /// Takes the value out for a hart. There is no guard exactly where the value is out already, and then nothing
+    /// Takes the value out for a hart. The answer is no guard exactly if the value is out already, and then nothing
     /// changes (xv6: `acquiresleep`, which sleeps there).
     pub fn try_take(&mut self, hart: u8) -> Option<Guard<T>>
         ensures guard { result ≡ guard_of self.old hart }
@@ -92,7 +92,8 @@ impl<T> Slot<T> {
         }
     }
 
-    /// Puts back what was taken out of this slot (xv6: `releasesleep`). The slot has to be out in the hand that the guard names.
+    /// Puts back the value that was taken out of this slot (xv6: `releasesleep`). The slot must be out, in the hand
+    /// of the guard's hart.
     pub fn put(&mut self, guard: Guard<T>)
         requires { self.old ≡ emptied guard }
         ensures { self.new ≡ filled guard.number guard.value }
@@ -109,7 +110,7 @@ impl<T> Slot<T> {
         self.holder = None;
     }
 
-    /// Ends the slot, and the value where it is in it.
+    /// Ends the slot, and the value if it is in it.
     pub fn retire(self) -> Retired
     where
         T: Drop,
@@ -164,7 +165,7 @@ impl<T> Guard<T> {
         std::mem::replace(&mut *self.value, value)
     }
 
-    /// Ends a guard, and its value, once its slot has ended.
+    /// Ends a guard, and its value, after its slot has ended.
     pub fn retire(self, slot: &Retired)
     where
         T: Drop,
@@ -177,7 +178,8 @@ impl<T> Guard<T> {
         } = self;
     }
 
-    /// Ends a guard, and its value, once a row of slots has ended. That it is the row of its slot isn't told.
+    /// Ends a guard, and its value, after a row of slots has ended. Nothing says that it is the row of the guard's
+    /// slot.
     pub fn retire_in_row(self, _slots: &RetiredSlots)
     where
         T: Drop,

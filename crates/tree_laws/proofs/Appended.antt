@@ -2,7 +2,7 @@
 use Rattle.image_versions.specs.declared.version.Version.{Version}
 use Rattle.tree_laws.proofs.Vocabulary.{◌≡◌, ℕ, refl, sym, subst, List, [], ◌∷◌, ◌++◌, false, World, Event, Happens, Runs, climbing, NoneClimbs, IsStartBy, Alone}
 
--- a run, and a run from where it ended
+-- a run, and a run from its end
 pub runs_append : (version : Version) (w mid w' : World) (es later : List Event) → Runs version w es mid → Runs version mid later w' → Runs version w (es ++ later) w'
 unfolding Runs
 runs_append version w mid w' [] later r s = subst (λ (z : World). Runs version z later w') (sym r) s

@@ -1,4 +1,4 @@
--- The lemmas that most of this crate's other lemmas stand on.
+-- The lemmas on which most other lemmas of this crate build.
 pub use Rattle.tree_laws.proofs.Book.{BookOk, below_later, explained, later_ok, list_has, passes_ok, reply_ok, start_ok, tell_ok, write_ok}
 unfoldable pub use Rattle.tree_laws.proofs.Book.{AllBelow}
 pub use Rattle.tree_laws.proofs.Forest.{apart, childless, children_none, cleared_forest, entered_shape, grown_forest, mentions_part, mentions_two, plain_or, shape_rest, shrunk_forest}

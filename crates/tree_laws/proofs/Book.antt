@@ -1,10 +1,11 @@
--- The history, for all calls: what starting, writing, telling and replying keep true. Nothing here knows the moves or what a tree step does.
+-- The history, for all calls: what starting, writing, reporting and replying keep true. Nothing here knows the moves,
+-- or what a tree step does.
 use Rattle.image_versions.specs.declared.version.Version.{Version}
 use Rattle.tree_laws.proofs.Vocabulary.{◌≡◌, ◌≢◌, ℕ, ◌+◌, ◌<◌, ◌≤◌, Bool, true, ◌&&◌, ◌==◌, inl, inr, refl, sym, ◌∙◌, ap, subst, arith, List, [], ◌∷◌, ◌++◌, append_assoc, append-nil, length, Option, Some, None, slice_get, Reply, Call, Trace, TracedCall, Placed, TreeData, Tree, tree_of, put, Step, is_nothing, Act, next_of, Follows, IsWhole, noted, ends_at, Chain, ChainBy, act_in, acts_of, IsWritten, IsInTime, Belongs, Rises, AllBelong, Explains, Started, Replied, Deed, MayEnd, HartStanding, History, writes, tells, entry_of, starts, replies, passes, Free, Busy}
 use Rattle.tree_laws.proofs.Maps.{either, eq_self, eq_not, eq_is, same_or, put_same, put_other, put_is, and_true}
 use Rattle.tree_laws.proofs.Lists.{get_left, get_last, get_more, get_past, get_map, map_get}
 
--- late: by hart, what the list has of its call and the call wasn't told yet
+-- late: for each hart, what the list has of its call but the call hasn't been handed yet
 abbrev pub IsAccountedFor : (ℕ → List Act) → History → ℕ → TracedCall → Option (ℕ × Reply) → Type 0
 IsAccountedFor late b id s None = (x : List Act) × (b.calls s.hart ≡ Busy id s.call x) × (acts_of id b.list ≡ x ++ late s.hart) × Follows s.call [] (x ++ late s.hart)
 IsAccountedFor late b id s (Some r) = IsWhole s.call (acts_of id b.list) r.1
@@ -13,7 +14,7 @@ unfoldable pub AllBelow : ℕ → List Placed → Type 0
 AllBelow now [] = Unit {0}
 AllBelow now (e ∷ es) = (e.event < now) × AllBelow now es
 
--- now: the number of the event at hand, or the one after it once something acted at it
+-- now: the number of the event at hand, or the next one after something acted at it
 pub record BookOk (version : Version) (base t : Tree) (late : ℕ → List Act) (now : ℕ) (b : History) : Type 0 where
   pub rises : Rises 0 b.list
   pub below : AllBelow now b.list
@@ -171,7 +172,7 @@ write_ok version base t t' late b h id c x d k is none next step =
         (w.0, w.1, acts_same id' b.list (entry_of b.trace.events id h d) ne ∙ (w.2 ∙ ap (λ (z : List Act). w.0 ++ z) (sym there)), subst (λ (z : List Act). Follows s.call [] (w.0 ++ z)) (sym there) w.3)
     others id' s ne (Some r) w = subst (λ (z : List Act). IsWhole s.call z r.1) (sym (acts_same id' b.list (entry_of b.trace.events id h d) ne)) w
 
--- the call is told what stands in the list
+-- the call is handed what the list has
 pub tell_ok : (version : Version) (base t : Tree) (late : ℕ → List Act) (now : ℕ) (b : History) (h id : ℕ) (c : Call) (x : List Act) (d : Deed) → BookOk version base t late now b → b.calls h ≡ Busy id c x → late h ≡ d.act ∷ []
     → BookOk version base t (put late h []) now (tells (Busy id c x) b h d)
 tell_ok version base t late now b h id c x d k is one =

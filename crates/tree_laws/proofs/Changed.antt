@@ -6,7 +6,8 @@ use Rattle.tree_laws.proofs.Facts.{entry_found, entry_linked}
 use Rattle.tree_laws.proofs.Placed.{with_directory, without, less, without_folders, less_folder, put_turn, can_go, type_file, type_folder, raised_folder, positive, gone, links_node}
 use Rattle.tree_laws.proofs.Kept.{LiveParent, in_place, absent_slot, none_taken, or_first, dotted, plain, there_map, open_node, file_type, emptied_type, type_written, written_dir}
 
--- par: the path's parent and last element; b: whether the step enters or clears names; m: whether it makes a node; new: the number it may choose
+-- par: the path's parent and last element; b: whether the step enters or clears names; m: whether it makes a node;
+-- new: the number that it may choose
 pub data Change (F F' : Folders) (b m : Bool) (par : Option (ℕ × Name)) (new : ℕ) : Type 0 where
   Same : F' ≡ F → Change F F' b m par new
   Entered : (d n : ℕ) (e : Name) (ss : Slots) → b ≡ true → par ≡ Some (d, e) → F d ≡ Some ss → first_slot ss e ≡ None → F' ≡ put F d (Some (first_free ss (record { name = e; number = n }))) → Change F F' b m par new

@@ -1,4 +1,4 @@
--- The entries up to a moment are the list as it stood then.
+-- The entries up to a moment are the list as it was then.
 use Rattle.image_versions.specs.declared.version.Version.{Version}
 use Rattle.tree_laws.proofs.Vocabulary.{◌≡◌, ℕ, zero, suc, ◌+◌, ◌<◌, ◌≤◌, true, false, refl, sym, ◌∙◌, ap, subst, arith, List, [], ◌∷◌, ◌++◌, append_assoc, append-nil, length, inl, inr, Option, Some, None, nat_lt, nat_tests, Reply, Trace, Placed, hart_count, Tree, noted, Shown, Started, Replied, Other, Deed, Stage, HartStanding, History, writes, writes_any, tells_any, entry_of, Free, Busy, World, Event, lost_of, unless, falls, all_fall, moves_on, finishes, Happens, Runs, opened, shown_of, Starts, Steps, Nothing, before}
 use Rattle.tree_laws.proofs.Basics.{either, AllBelow, below_later}

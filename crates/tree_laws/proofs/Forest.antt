@@ -1,4 +1,5 @@
--- How the forest of live directories and the counts of links go on when a name is entered or cleared, a file becomes a directory, or an empty directory a file.
+-- How the forest of live directories and the counts of links change. A name is entered or cleared, a file becomes a
+-- directory, or an empty directory a file.
 use Rattle.tree_laws.proofs.Vocabulary.{◌≡◌, ◌≢◌, ℕ, suc, ◌+◌, ◌<◌, ◌≤◌, Bool, true, false, ◌&&◌, not, ◌==◌, ◌⊎◌, inl, inr, refl, sym, ◌∙◌, ap, subst, arith, [], drop, Option, Some, None, Slot, Name, put, same_name, dot, dotdot, first_slot, first_free, cleared, Slots, Folders, up_in, past, has_up, one_if, count_in, mentions, children, NamesOnce, IsInOrder, IsForest}
 use Rattle.tree_laws.proofs.Maps.{same_or, eq_not, put_same, put_other, put_is}
 use Rattle.tree_laws.proofs.Sums.{sum_same, sum_changed, sum_part, sum_two, sum_none, one_no, count_nil, count_entered, count_cleared}
@@ -84,7 +85,7 @@ order_kept F F' C C' R R' N D D' d ss ss' k up dots once above counts unheld sai
 some_not : (F : Folders) (d : ℕ) (ss : Slots) → F d ≡ Some ss → F d ≢ None
 some_not F d ss h = λ q. absurd (cc (h, q))
 
--- what is no live directory is apart from what is one
+-- a node that is no live directory isn't one that is
 pub apart : (F : Folders) (n d : ℕ) (ss : Slots) → F n ≡ None → F d ≡ Some ss → n ≢ d
 apart F n d ss none some = λ e. absurd (let q : F d ≡ None = subst (λ (z : ℕ). F z ≡ None) e none in cc (q, some))
 
@@ -113,7 +114,8 @@ shape_rest d up ss rest h = ap (λ (z : Slots). drop 2 z) h
 pub shape_dots : (d up : ℕ) (ss rest : Slots) → ss ≡ Dots d up rest → ss ≡ Dots d (up_in ss) (drop 2 ss)
 shape_dots d up ss rest h = subst (λ (z : Slots). z ≡ Dots d (up_in z) (drop 2 z)) (sym h) refl
 
--- One folder's slots past the first two change; links and raised holds of what is no directory change with the names.
+-- One folder's slots past the first two change. The links and raised holds of nodes that are no directories change
+-- with the names.
 pub one_folder : (F : Folders) (C C' R R' : ℕ → ℕ) (N : ℕ) (D : ℕ → ℕ) (d : ℕ) (ss ss' : Slots) → IsForest F C R N D → F d ≡ Some ss
     → ss' ≡ Dots d (up_in ss) (drop 2 ss') → NamesOnce ss'
     → ((k : ℕ) (ks : Slots) → F k ≡ Some ks → (C' k ≡ C k) × (R' k ≡ R k) × (count_in (drop 2 ss') k ≡ count_in (drop 2 ss) k))
@@ -160,11 +162,11 @@ one_folder F C C' R R' N D d ss ss' f is shape once dirs others =
       ];
     }
 
--- what is no live directory and is named by an entry
+-- a node that is no live directory, and that an entry names
 not_one : (F : Folders) (n k : ℕ) (ks : Slots) → F n ≡ None → F k ≡ Some ks → one_if (n == k) ≡ 0
 not_one F n k ks none is = one_no (n == k) (eq_not n k (apart F n k ks none is))
 
--- a name is entered for what is no live directory
+-- a name is entered for a node that is no live directory
 pub entered_forest : (F : Folders) (C C' R R' : ℕ → ℕ) (N : ℕ) (D : ℕ → ℕ) (d : ℕ) (ss : Slots) (s : Slot) → IsForest F C R N D → F d ≡ Some ss
     → first_slot ss s.name ≡ None → F s.number ≡ None
     → ((k : ℕ) (ks : Slots) → F k ≡ Some ks → (C' k ≡ C k) × (R' k ≡ R k))
@@ -181,7 +183,7 @@ entered_forest F C C' R R' N D d ss s f is absent plain dirs others =
     (λ k ks kis. let z : one_if (s.number == k) ≡ 0 = not_one F s.number k ks plain kis in let c = count k in ((dirs k ks kis).0, (dirs k ks kis).1, omega (arith, c, z)))
     (λ k kis. let o = others k kis in let c = count k in omega (arith, o, c))
 
--- a name of what is no live directory is cleared
+-- a name of a node that is no live directory is cleared
 pub cleared_forest : (F : Folders) (C C' R R' : ℕ → ℕ) (N : ℕ) (D : ℕ → ℕ) (d n : ℕ) (ss : Slots) (e : Name) → IsForest F C R N D → F d ≡ Some ss
     → same_name e dot ≡ false → same_name e dotdot ≡ false → first_slot ss e ≡ Some n → F n ≡ None
     → ((k : ℕ) (ks : Slots) → F k ≡ Some ks → (C' k ≡ C k) × (R' k ≡ R k))
@@ -199,7 +201,7 @@ cleared_forest F C C' R R' N D d n ss e f is a b found plain dirs others =
     (λ k ks kis. let z : one_if (n == k) ≡ 0 = not_one F n k ks plain kis in let c = count k in ((dirs k ks kis).0, (dirs k ks kis).1, omega (arith, c, z)))
     (λ k kis. let o = others k kis in let c = count k in omega (arith, o, c))
 
--- links and raised holds alone change
+-- only links and raised holds change
 pub recounted_forest : (F : Folders) (C C' R R' : ℕ → ℕ) (N : ℕ) (D : ℕ → ℕ) → IsForest F C R N D
     → ((k : ℕ) (ks : Slots) → F k ≡ Some ks → (C' k ≡ C k) × (R' k ≡ R k))
     → ((k : ℕ) → F k ≡ None → C' k + R k ≡ C k + R' k)
@@ -317,7 +319,7 @@ childless F C R N D n f empty = children_none F N n (λ c ne. free_up c ne (plai
         ap (λ (o : Option Slots). has_up o n) e.1
         ∙ eq_not (up_in e.0) n (λ r. absurd (let z : count_in (past (F n)) c ≡ 1 = subst (λ (x : ℕ). count_in (past (F x)) c ≡ 1) r p in let y = empty c in omega (arith, z, y)))
 
--- An empty directory but the root becomes a file; its ".." loses one.
+-- An empty directory other than the root becomes a file; its ".." loses one.
 pub shrunk_forest : (F : Folders) (C C' R : ℕ → ℕ) (N : ℕ) (D : ℕ → ℕ) (n : ℕ) (ns : Slots) → IsForest F C R N D → F n ≡ Some ns → n ≢ 1
     → ((k : ℕ) → count_in (drop 2 ns) k ≡ 0)
     → ((k : ℕ) → C' k + one_if (up_in ns == k) ≡ C k)

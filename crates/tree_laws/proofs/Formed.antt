@@ -8,7 +8,7 @@ use Rattle.tree_laws.proofs.Nodes.{folder_live, folder_dead, some_node, everywhe
 abbrev pub InRange : (ℕ → Option Node) → ℕ → Type 0
 InRange ns below = (n : ℕ) (v : Node) → ns n ≡ Some v → (1 ≤ n) × (n < below)
 
--- what is there stays there, a directory or none
+-- a node that is there stays there, and stays a directory or none
 abbrev pub Keeps : (ℕ → Option Node) → (ℕ → Option Node) → Type 0
 Keeps ns ns' = (n : ℕ) (b : Bool) → IsThere ns n b → IsThere ns' n b
 
@@ -74,7 +74,7 @@ not_folder v h = folder_dead (Some v) (both_false (nat_lt 0 v.count) (is_directo
 abbrev pub Forested : Tree → (ℕ → Option Node) → (ℕ → ℕ) → Type 0
 Forested t ns D = IsForest (folders_of ns) (links_in ns) (raises t.holds) t.ninodes D
 
--- one node's content changes, which is no directory
+-- the content of one node changes, which is no directory
 pub well_content : (t : Tree) (n : ℕ) (v w : Node) → IsWellFormed t → t.nodes n ≡ Some v → w.count ≡ v.count → is_directory v.kind ≡ false → is_directory w.kind ≡ false → IsWellFormed (with_nodes t (put t.nodes n (Some w)))
 well_content t n v w k is count dv dw =
     let ns = put t.nodes n (Some w) in

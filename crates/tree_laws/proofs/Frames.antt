@@ -25,7 +25,7 @@ look_alike ns ns' s a (Some ss) p q = look_by ns' s a ss (first_slot ss a) q ref
 same_folder : (ns ns' : Nodes) (s : ℕ) (a : Name) → folder (ns' s) ≡ folder (ns s) → look ns' s a ≡ look ns s a
 same_folder ns ns' s a e = look_alike ns ns' s a (folder (ns s)) refl e
 
--- what was found is found still
+-- what was found is still found
 grows_paths : (ns ns' : Nodes) (s x : ℕ) (w : List Name) → ((s y : ℕ) (a : Name) → look ns s a ≡ Some y → look ns' s a ≡ Some y) → follow ns s w ≡ Some x → follow ns' s w ≡ Some x
 grows_paths ns ns' s x [] k h = follow_end ns' s ∙ (sym (follow_end ns s) ∙ h)
 grows_paths ns ns' s x (a ∷ w) k h =
@@ -66,7 +66,7 @@ cleared_removes ns ns' d n e ss apart is once found is' gone rest stays = record
   alike = λ a h. same_is a e h;
 }
 
--- in an empty directory "." alone is found beside ".."
+-- an empty directory finds only "." beside ".."
 empty_stays : (ns : Nodes) (n : ℕ) (ss : Slots) → folder (ns n) ≡ Some ss → ss ≡ Dots n (up_in ss) (drop 2 ss) → any_used (drop 2 ss) ≡ false → (a : Name) (y : ℕ) → same_name a dotdot ≡ false → look ns n a ≡ Some y → y ≡ n
 empty_stays ns n ss is shape bare a y nd h =
     let f = found_in ns n y a h in
@@ -128,7 +128,7 @@ change_leads ns ns' b m par new (Removed d n e ss ds bt pt dn is once found dis 
     (empty_stays ns n ds dis shape bare))
     a x w c h
 
--- what is no live directory stays so
+-- a node that is no live directory stays so
 change_dead : (ns ns' : Nodes) (b m : Bool) (par : Option (ℕ × Name)) (new : ℕ) → Change (folders_of ns) (folders_of ns') b m par new → (k : ℕ) → (m ≡ true → k ≢ new) → folder (ns k) ≡ None → folder (ns' k) ≡ None
 change_dead ns ns' b m par new (Same is) k ne h = ap (λ (G : Folders). G k) is ∙ h
 change_dead ns ns' b m par new (Entered d n e ss bt pt is none to) k ne h = ap (λ (G : Folders). G k) to ∙ (put_other (folders_of ns) d _ k (λ q. absurd (let z : folder (ns k) ≡ Some ss = subst (λ (j : ℕ). folder (ns j) ≡ Some ss) (sym q) is in cc (z, h))) ∙ h)
@@ -197,7 +197,7 @@ change_finds ns ns' b m par new (Removed d n e ss ds bt pt dn is once found dis 
           (look_by ns' d a _ (first_slot ss a) (ap (λ (G : Folders). G d) to ∙ put_same F1 d (Some (cleared ss e))) (cleared_other ss e a (flipped e a (ne_names d e a b par bt pt other'))) ∙ sym (look_by ns d a ss (first_slot ss a) is refl))
     ]
 
--- a directory that is live no more had no entries
+-- a directory that isn't live after the step had no entries
 change_gone : (ns ns' : Nodes) (b m : Bool) (par : Option (ℕ × Name)) (new : ℕ) → Change (folders_of ns) (folders_of ns') b m par new → (k : ℕ) (ks : Slots) → folder (ns k) ≡ Some ks → folder (ns' k) ≡ None → any_used (drop 2 ks) ≡ false
 change_gone ns ns' b m par new (Same is) k ks h gone = absurd (let z : folder (ns' k) ≡ Some ks = ap (λ (G : Folders). G k) is ∙ h in cc (z, gone))
 change_gone ns ns' b m par new (Entered d n e ss bt pt is none to) k ks h gone = elim (put_is (folders_of ns) d (Some (first_free ss (record { name = e; number = n }))) k) [
@@ -228,7 +228,7 @@ change_gone ns ns' b m par new (Removed d n e ss ds bt pt dn is once found dis s
   ]
 ]
 
--- where the step makes no node of this number, it becomes no live directory
+-- if the step makes no node of this number, the number becomes no live directory
 step_dead : (version : Version) (t t' : Tree) (h : ℕ) (s : Action) (res : Option ℕ) (par : Option (ℕ × Name)) (a : StepAnswer) (new id : ℕ) → IsWellFormed t → IsFound t res par → StepWith version t h s res par a new id t'
     → (n : ℕ) → (refusal_with version t h s res par ≡ None → makes_node t s par ≡ true → n ≢ new) → live_directory (t.nodes n) ≡ false → live_directory (t'.nodes n) ≡ false
 step_dead version t t' h s res par a new id k found o n ne dead = folder_none (t'.nodes n) (go a o)

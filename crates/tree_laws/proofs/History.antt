@@ -1,11 +1,12 @@
--- The whole event: the history, the other harts, and the walks that are lost. Every run is explained by the list that is kept.
+-- The whole event: the history, the other harts, and the walks that are lost. The list that is kept explains every
+-- run.
 use Rattle.image_versions.specs.declared.version.Version.{Version}
 use Rattle.tree_laws.proofs.Vocabulary.{◌≡◌, ◌≢◌, ℕ, zero, suc, ◌+◌, ◌<◌, ◌≤◌, true, false, inl, inr, refl, sym, ◌∙◌, ap, subst, arith, List, [], ◌∷◌, ◌++◌, map, length, Option, Some, None, Reply, Call, Trace, TreeData, hart_count, Tree, tree_of, put, live_directory, Act, next_of, call_climbs, ChainBy, Rises, AllBelong, noted, trace_from, trace_of, Explains, IsWellFormed, Deed, Walk, Stage, Move, fail, after, HartStanding, History, writes, writes_any, tells, tells_any, passes, Free, Busy, World, Event, lost, lost_of, unless, falls, all_fall, moves_on, MayReply, finishes, stepped, Happens, Runs, opened, shown_of, climbing, NoneClimbs, IsStartBy, Alone, Starts, Steps, Nothing}
 use Rattle.tree_laws.proofs.Basics.{same_or, put_same, put_other, BookOk, AllBelow, write_ok, tell_ok, start_ok, reply_ok, passes_ok, later_ok, explained, LeavesWalk, StepBy, walk_falls, walk_kept}
 use Rattle.tree_laws.proofs.Moved.{WalkAt, MoveResult, HasMoved, no_walk, lost_dead, lost_live, any_moved}
 use Rattle.tree_laws.proofs.Moved.MoveResult.{Stays, ActsThere, Went, GivesWalkUp}
 
--- Which calls a hart may make, so that another hart's call climbs nowhere where it makes one.
+-- Which calls a hart may make, so that no path of another hart's call has ".." while it makes one.
 abbrev pub Apart : (ℕ → Call → Type 0) → Type 0
 Apart Ok = (h g : ℕ) (c c' : Call) → g ≢ h → Ok h c → Ok g c' → call_climbs c' ≡ false
 
@@ -101,7 +102,7 @@ mid_tells version base t late n b h id c x d k is one = record {
   ok = subst (λ (s : HartStanding). BookOk version base t (put late h []) (n + 1) (tells s b h d)) (sym is) (tell_ok version base t late (n + 1) b h id c x d k.ok is one);
 }
 
--- what is lost in the event is the next step of its call, and fails there
+-- the step that is lost in the event is the next step of its call, and fails there
 pub record MayFall (version : Version) (m m' : Stage) (late : ℕ → List Act) (b : History) (g : ℕ) : Type 0 where
   pub none : falls m m' g ≡ None → late g ≡ lately (lost_of m' g)
   pub some : (d : Deed) → falls m m' g ≡ Some d → (late g ≡ []) × (lost_of m' g ≡ Some d) × (id : ℕ) × (c : Call) × (x : List Act) × (b.calls g ≡ Busy id c x) × (next_of c x ≡ Some d.act.step) × StepBy version m'.tree g d m'.tree
@@ -237,7 +238,7 @@ own_part version base m m' late k b h id c x a mid is mine (GivesWalkUp d told s
 abbrev Calm : (ℕ → Call → Type 0) → ℕ → Type 0
 Calm Ok g = (c : Call) → Ok g c → call_climbs c ≡ false
 
--- what was lost stays so, and what is lost now fails now
+-- a walk that was lost stays so, and a walk that is lost in this event fails in it
 may_fall : (version : Version) (Ok : ℕ → Call → Type 0) (m m' : Stage) (late : ℕ → List Act) (b : History) (g : ℕ) (s : HartStanding) (v : Option Walk) → Calm Ok g → b.calls g ≡ s → m.walk g ≡ v → m'.walk g ≡ v → late g ≡ lately (lost_of m g) → OwnOk version Ok m.tree g s v
     → ((w : Walk) → m.walk g ≡ Some w → LeavesWalk m.tree m'.tree g w.at) → MayFall version m m' late b g
 may_fall version Ok m m' late b g s None calm st old new mine own left = record {
@@ -283,7 +284,7 @@ own_after version Ok m m' g Free v calm vw own left = own
 own_after version Ok m m' g (Busy id c x) None calm vw own left = own
 own_after version Ok m m' g (Busy id c x) (Some w) calm vw own left = (own.0, walk_kept version m.tree m'.tree g c x w (calm c own.0) own.1 (left w vw))
 
--- late: what the list has of a call that it wasn't told yet, the failing step of a lost walk
+-- late: what the list has of a call and the call hasn't been handed yet, which is the failing step of a lost walk
 pub record Inv (version : Version) (Ok : ℕ → Call → Type 0) (base : Tree) (w : World) : Type 0 where
   pub good : IsWellFormed w.stage.tree
   pub late : ℕ → List Act

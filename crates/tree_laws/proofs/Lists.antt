@@ -10,7 +10,7 @@ pub get_last : {A : Type 0} → (xs : List A) (x : A) → slice_get (xs ++ x ∷
 get_last [] x = refl
 get_last (y ∷ xs) x = get_last xs x
 
--- what stands in a list with one more
+-- an element of a list with one more is one of the list, or the new one
 pub get_more : {A : Type 0} → (xs : List A) (x : A) (i : ℕ) (v : A) → slice_get (xs ++ x ∷ []) i ≡ Some v → (slice_get xs i ≡ Some v) ⊎ ((i ≡ length xs) × (x ≡ v))
 get_more [] x zero v h = inr (refl, (let q : Some x ≡ Some v = h in cc))
 get_more [] x (suc i) v h = absurd (let q : None ≡ Some v = h in cc)

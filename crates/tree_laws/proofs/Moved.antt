@@ -9,7 +9,7 @@ abbrev pub WalkAt : Version → Tree → ℕ → Call → List Act → Option Wa
 WalkAt version t h c x None = Unit {0}
 WalkAt version t h c x (Some w) = WalkOk version t h c x w
 
--- a: what the call is told; it was told x before
+-- a: what the call is handed; x: what it was handed before
 pub data MoveResult (version : Version) (m : Stage) (h : ℕ) (c : Call) (x : List Act) (a : Option Deed) (m' : Stage) : Type 0 where
   Stays : a ≡ None → m' ≡ m → MoveResult version m h c x a m'
   ActsThere : (d : Deed) → a ≡ Some d → lost_of m h ≡ None → m'.walk h ≡ None → next_of c x ≡ Some d.act.step → StepBy version m.tree h d m'.tree → MoveResult version m h c x a m'
@@ -71,7 +71,7 @@ acts_moved version m m' h c x s new a good next none k =
       };
     }
 
--- the walk goes on to a node, and is lost there where that is no live directory
+-- the walk goes on to a node, and is lost there if that is no live directory
 goes_moved : (version : Version) (m m' : Stage) (h : ℕ) (c : Call) (x : List Act) (w : Walk) (done : List Name) (a : Option Deed) → IsWellFormed m.tree → lost_of m h ≡ None → next_of c x ≡ Some w.step
     → follows_path w.step ≡ true → IsInPlace m.tree h w.step → elements version (path_of w.step) ≡ done ++ w.next ∷ w.rest → follow m.tree.nodes (start_of m.tree h (path_of w.step)) done ≡ Some w.at
     → GoesTo m h w a m' → HasMoved version m h c x a m'

@@ -132,7 +132,7 @@ settled_well t k = record {
   directories = λ h lt. let th = k.directories h lt in record { node = th.node; is = settle_named t (t.cwd h) (cwd_named t h lt) ∙ th.is; inode_type = th.inode_type };
 }
 
--- A dead node that nothing names leaves.
+-- A dead node that nothing names is removed.
 pub well_gone : (t : Tree) (i : ℕ) → IsWellFormed t → is_live (t.nodes i) ≡ false → is_named t i ≡ false → IsWellFormed (record t { nodes = put t.nodes i None })
 well_gone t i k dead unnamed = record {
   range = λ n v is. k.range n v (sym (stays n v is) ∙ is);

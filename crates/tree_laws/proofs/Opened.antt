@@ -5,7 +5,7 @@ use Rattle.tree_laws.proofs.Basics.{either, eq_self, put_is, put_same, put_other
 abbrev pub new_open : ℕ → ℕ → OpenFile
 new_open n flags = record { number = n; offset = 0; readable = not (has flags write_only); writable = has flags write_only || has flags read_write }
 
--- what a map of maps has where one was put
+-- what a map of maps has after one was put
 put_at : (fds : ℕ → ℕ → Option ℕ) (h g i : ℕ) (w : ℕ → Option ℕ) → ((g ≡ h) × (put fds h w g i ≡ w i)) ⊎ ((g ≢ h) × (put fds h w g i ≡ fds g i))
 put_at fds h g i w = elim (put_is fds h w g) [
   | inl p ↦ inl (p.0, ap (λ (f : ℕ → Option ℕ). f i) p.1)

@@ -113,7 +113,7 @@ without_range ns d n N b e p q r =
     let ns1 = put ns d (Some (less b e (node_or (ns d)))) in
     range_put ns1 n (lowered (node_or (ns1 n))) N (range_put ns d (less b e (node_or (ns d))) N r p.0 p.1) q.0 q.1
 
--- folders and counts afterwards, where d and n differ
+-- folders and counts afterwards, if d and n differ
 pub without_folders : (ns : ℕ → Option Node) (d n : ℕ) (b : Bool) (e : Name) → folders_of (without ns d e n b) ≡ put (put (folders_of ns) d (folder (Some (less b e (node_or (ns d)))))) n (folder (Some (lowered (node_or (put ns d (Some (less b e (node_or (ns d)))) n)))))
 without_folders ns d n b e =
     let ns1 = put ns d (Some (less b e (node_or (ns d)))) in
@@ -189,7 +189,7 @@ gone c h = grind (arith, nat_tests)
 left_false : (a b : Bool) → a ≡ false → (a && b) ≡ false
 left_false a b h = grind arith
 
--- What well-formedness says where the directory d names n, which has no entries of its own.
+-- What well-formedness says if the directory d names n, which has no entries of its own.
 pub record CanGo (t : Tree) (d n : ℕ) (e : Name) : Type 0 where
   pub good : live_directory (t.nodes d) ≡ true
   pub found : look t.nodes d e ≡ Some n

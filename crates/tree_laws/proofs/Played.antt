@@ -1,4 +1,4 @@
--- Runs that are computed: what a script of moves does, and that it is a run where each move is allowed.
+-- Runs that are computed: what a script of moves does, and that it is a run if each move is allowed.
 use Rattle.image_versions.specs.declared.version.Version.{Version}
 use Rattle.tree_laws.proofs.Vocabulary.{◌≡◌, ◌≢◌, ℕ, zero, suc, ◌+◌, ◌*◌, ◌<◌, Bool, true, false, ◌&&◌, ◌||◌, not, ◌==◌, refl, ap, subst, arith, List, [], ◌∷◌, Option, Some, None, nat_lt, if◌then◌else◌, nat_tests, Cause, Reply, Call, Action, Open, Truncate, Read, WritePart, Find, Bump, Enter, Unbump, Unlink, Mkdir, Chdir, Dup, Close, Fstat, Inherit, StepAnswer, Opened, Bytes, Status, NewFd, Done, Failed, NoRoom, OpenFile, hart_count, descriptor_count, Name, Tree, put, any_below, elements, live_directory, look, start_of, resolve, parent, settle, path_of, follows_path, makes_node, opens_one, is_nothing, place_of, IsInPlace, IsLeastUnused, MayChoose, StepWith, refusal_with, refused, effect_with, answer_with, Act, next_of, reply_of, had_room, Deed, Walk, Stage, Move, Acts, StartLeadsTo, LookupLeadsTo, walks_at, fail, after, Begin, Look, GiveUpWalk, Own, HartStanding, starts, Free, Busy, World, Event, PlaysAny, BeginsNext, stepped, Happens, Runs, Starts, Steps, Nothing}
 use Rattle.tree_laws.proofs.Basics.{eq_self, eq_not, and_true, any_none}
@@ -10,7 +10,7 @@ pub data Plan : Type 0 where
   GiveUp : Plan
   AtOnce : (new : ℕ) → Plan
 
--- a move, what it tells, the stage after it, and whether it is allowed
+-- a move, the deed that it hands the call, the stage after it, and whether it is allowed
 pub record Played : Type 0 where
   pub move : Option Move
   pub told : Option Deed
@@ -105,7 +105,7 @@ looked version m h w [] r new = acted version m h w.step r (Some (w.at, w.next))
 looked version m h w (e ∷ es) None new = acted version m h w.step None None new
 looked version m h w (e ∷ es) (Some n) new = gone_to m h (record { step = w.step; at = n; next = e; rest = es })
 
--- this move, where it is allowed
+-- this move, if it is allowed
 abbrev pub moves : Move → Bool → Played → Played
 moves v b p = record { move = Some v; told = p.told; stage = p.stage; may = b && p.may }
 
@@ -227,7 +227,7 @@ looked_ok version m h w [] r new may = acted_ok version m h w.step r (Some (w.at
 looked_ok version m h w (e ∷ es) None new may = acted_ok version m h w.step None None new may
 looked_ok version m h w (e ∷ es) (Some n) new may = (refl, refl)
 
--- the move is one that the call may make now
+-- the move is one that the call may make next
 abbrev pub MayPlay : Version → Stage → ℕ → Call → List Act → Played → Type 0
 MayPlay version m h c acts p = BeginsNext c acts p.move × PlaysAny version m h p.move p.told p.stage
 

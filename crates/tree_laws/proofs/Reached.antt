@@ -12,7 +12,7 @@ sum_some (suc n) f h = elim (same_or (f n) 0) [
   | inl e ↦ let ih = sum_some n f (omega (arith, h, e)) in (ih.0, (let l = ih.1 in omega (arith, l)), ih.2)
 ]
 
--- where names stand once, a later slot is found under its name
+-- if each name is there once, a later slot is found under its name
 named_later : (s : Slot) (ss : Slots) (e : Name) (n : ℕ) → first_slot ss s.name ≡ None → first_slot ss e ≡ Some n → first_slot (Some s ∷ ss) e ≡ Some n
 named_later s ss e n none found = elim (either (same_name s.name e)) [
   | inr y ↦ slot_past s ss e y ∙ found
@@ -75,7 +75,7 @@ live_links : (o : Option Node) → is_live o ≡ true → 1 ≤ links_of o
 live_links None h = absurd cc
 live_links (Some v) h = grind (arith, nat_tests)
 
--- Each live node, where no raised hold names it, has a path from the root.
+-- Each live node that no raised hold names has a path from the root.
 pub reached : (t : Tree) (n : ℕ) → IsWellFormed t → is_live (t.nodes n) ≡ true → raises t.holds n ≡ 0 → IsReached t n
 reached t n k live held = elim (plain_or (folder (t.nodes n))) [
   | inr some ↦ folder_reached t k.depth (suc (k.depth n)) n some.0 k.forest some.1 (omega arith)

@@ -1,4 +1,4 @@
--- Where one hart alone makes calls, the list is its calls' sequences one after the other.
+-- If one hart alone makes calls, the list is its calls' sequences one after the other.
 use Rattle.image_versions.specs.declared.version.Version.{Version}
 use Rattle.tree_laws.proofs.Vocabulary.{◌≡◌, ◌≢◌, ℕ, zero, suc, ◌<◌, ◌≤◌, ◌==◌, inl, inr, refl, sym, ◌∙◌, ap, subst, arith, List, [], ◌∷◌, ◌++◌, append_assoc, append-nil, map, length, Option, Some, None, Reply, Call, Trace, TracedCall, Placed, TreeData, hart_count, Tree, tree_of, put, Act, trace_of, ends_at, IsWellFormed, Deed, Stage, HartStanding, History, writes, writes_any, tells, tells_any, entry_of, Free, Busy, World, Event, lost_of, unless, falls, all_fall, moves_on, finishes, Happens, Runs, Alone, IsStartBy, opened, shown_of, Starts, Steps, Nothing, of_call, in_turn}
 use Rattle.tree_laws.proofs.Basics.{either, same_or, eq_self, eq_not, put_same, map_length, more_length}

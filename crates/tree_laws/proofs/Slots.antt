@@ -57,7 +57,7 @@ entered_other (Some s' ∷ ss) s e ne =
       | inr y ↦ slot_past s' (first_free ss s) e y ∙ (ih ∙ sym (slot_past s' ss e y))
     ]
 
--- the name is found afterwards where it wasn't before
+-- the name is found afterwards if it wasn't found before
 pub entered_here : (ss : Slots) (s : Slot) → first_slot ss s.name ≡ None → first_slot (first_free ss s) s.name ≡ Some s.number
 unfolding first_free
 entered_here [] s none = slot_here s [] s.name (same_self s.name)
@@ -95,7 +95,7 @@ cleared_other (Some s ∷ ss) e a ne =
       ])
     ]
 
--- where names stand once, the cleared one is gone
+-- if each name is there once, the cleared one is gone
 pub cleared_gone : (ss : Slots) (e : Name) → NamesOnce ss → first_slot (cleared ss e) e ≡ None
 unfolding NamesOnce cleared
 cleared_gone [] e o = slot_nil e
@@ -132,7 +132,7 @@ cleared_once (Some s ∷ ss) e o =
       | inr y ↦ rw y (cleared_less ss e s.name o.0, ih)
     ]
 
--- "." and ".." stand in front
+-- "." and ".." come first
 
 abbrev pub Dots : ℕ → ℕ → Slots → Slots
 Dots d up rest = Some (record { name = dot; number = d }) ∷ Some (record { name = dotdot; number = up }) ∷ rest

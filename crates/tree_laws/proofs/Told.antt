@@ -1,4 +1,4 @@
--- What calls are told: the failing step of a lost walk when it is given up, everything else at once.
+-- What calls are handed: the failing step of a lost walk when it is given up, everything else at once.
 use Rattle.image_versions.specs.declared.version.Version.{Version}
 use Rattle.tree_laws.proofs.Vocabulary.{◌≡◌, ℕ, ◌<◌, refl, ◌∙◌, ap, List, [], ◌∷◌, ◌++◌, append-nil, Option, Some, None, Reply, Call, hart_count, Tree, Act, acts_of, Deed, Stage, MoveStep as Step, begins, IsNext, after, MayEnd, IsPlayed, told_by, HartStanding, History, writes_any, tells_any, Busy, World, lost_of, unless, moves_on, Tells}
 use Rattle.tree_laws.proofs.Basics.{list_has}
@@ -23,7 +23,7 @@ pub told_more : (acts : List Act) (es : List Step) (e : Step) → told_by acts (
 told_more acts [] e = refl
 told_more acts (x ∷ es) e = told_more (after x.told acts) es e
 
--- How the calls stand after a hart's event.
+-- The state of the calls after a hart's event.
 
 moved_calls : (w : World) (h : ℕ) (told : Option Deed) (m : Stage) (g : ℕ) → (moves_on w.stage m h told w.history).calls g ≡ (tells_any told h (writes_any (unless (lost_of w.stage h) told) h w.history)).calls g
 moved_calls w h told m g = ap (λ (f : ℕ → HartStanding). f g) (falls_calls w.stage m hart_count (tells_any told h (writes_any (unless (lost_of w.stage h) told) h w.history)))

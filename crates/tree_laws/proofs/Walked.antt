@@ -1,4 +1,5 @@
--- A walk's path so far leads to its node while that is a live directory; when another hart's step kills it the walk fails just then.
+-- A walk's path so far leads to its node while that is a live directory. If another hart's step kills the directory,
+-- the walk fails at that step.
 use Rattle.image_versions.specs.declared.version.Version.{Version}
 use Rattle.tree_laws.proofs.Vocabulary.{◌≡◌, ℕ, Bool, true, false, ◌&&◌, not, ◌⊎◌, inl, inr, refl, sym, ◌∙◌, ap, subst, List, [], ◌∷◌, ◌++◌, length, Option, Some, None, nat_lt, Cause, NoEntry, Call, OpenCall, ReadCall, WriteCall, LinkCall, UnlinkCall, MkdirCall, ChdirCall, DupCall, FstatCall, CloseCall, InheritCall, Action, Open, Truncate, Read, WritePart, Find, Bump, Enter, Unbump, Unlink, Mkdir, Chdir, Dup, Close, Fstat, Inherit, StepAnswer, Opened, Bytes, Status, NewFd, Done, Failed, NoRoom, Hold, hart_count, Name, Tree, elements, climbs, climbs_in, pieces, live_directory, follow, start_of, resolve, parent, parent_of, path_of, follows_path, refusal_with, refusal_by, refused, place_of, holds_raised, IsInPlace, Step, creates, has, empty_it, Act, next_of, call_climbs, last_cause, next_piece, once, to_truncate, if_done, if_failed, piece, piece_count, Deed, Walk, fail}
 use Rattle.tree_laws.proofs.Maps.{either, or_none}
@@ -180,14 +181,14 @@ calm_step (InheritCall child) x s calm h = subst (λ (z : Action). climbs (path_
 calm_done : (version : Version) (t : Tree) (h : ℕ) (c : Call) (x : List Act) (w : Walk) → (k : WalkOk version t h c x w) → climbs (path_of w.step) ≡ false → climbs_in k.done ≡ false
 calm_done version t h c x w k calm = climbs_front k.done (w.next ∷ w.rest) (subst (λ (z : List Name). climbs_in z ≡ false) k.path (climbs_the_same version (path_of w.step) ∙ calm))
 
--- where the path so far leads in the tree that the event leaves
+-- the node to which the path so far leads in the tree that the event leaves
 still_at : (version : Version) (t t' : Tree) (g : ℕ) (c : Call) (x : List Act) (w : Walk) → call_climbs c ≡ false → (k : WalkOk version t g c x w) → LeavesWalk t t' g w.at → live_directory (t.nodes w.at) ≡ true
     → (follow t'.nodes (start_of t' g (path_of w.step)) k.done ≡ Some w.at) ⊎ ((live_directory (t'.nodes w.at) ≡ false) × (follow t'.nodes (start_of t' g (path_of w.step)) k.done ≡ None))
 still_at version t t' g c x w calm k f good =
     let at : follow t.nodes (start_of t' g (path_of w.step)) k.done ≡ Some w.at = subst (λ (z : ℕ). follow t.nodes z k.done ≡ Some w.at) (sym (start_same t t' g (path_of w.step) f.cwd)) (k.here good) in
     f.paths (start_of t' g (path_of w.step)) w.at k.done (calm_done version t g c x w k (calm_step c x w.step calm k.next)) at
 
--- a walk whose directory died fails just now
+-- a walk whose directory died in this event fails in it
 pub walk_falls : (version : Version) (t t' : Tree) (g : ℕ) (c : Call) (x : List Act) (w : Walk) → call_climbs c ≡ false → WalkOk version t g c x w → LeavesWalk t t' g w.at → live_directory (t.nodes w.at) ≡ true → live_directory (t'.nodes w.at) ≡ false → StepBy version t' g (fail w.step) t'
 walk_falls version t t' g c x w calm k f good bad =
     lost_fails version t' g w.at w.next k.done w.rest w.step k.follows (place_kept t t' g w.step k.follows f.hold k.place) k.path (elim (still_at version t t' g c x w calm k f good) [ inl p ↦ inl (p, bad) | inr p ↦ inr p.1 ])

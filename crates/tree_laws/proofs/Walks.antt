@@ -38,7 +38,7 @@ settled_at : (t : Tree) (n : ℕ) → is_live (t.nodes n) ≡ true → (settle t
 unfolding settle
 settled_at t n h = rw (or_true (is_live (t.nodes n)) (is_named t n) h) refl
 
--- settling keeps the live directories, so each path leads where it led
+-- settling keeps the live directories, so each path leads to the same node as before
 pub settle_keeps : (t : Tree) → KeepsDirectories t.nodes (settle t).nodes
 settle_keeps t = record { kept = λ d h. settled_at t d (live_is_kept (t.nodes d) h) }
 
@@ -77,7 +77,7 @@ pub record Removes (ns ns' : Nodes) (d : ℕ) (e : Name) (n : ℕ) : Type 0 wher
   pub rest : (s : ℕ) (a : Name) → s ≢ n → ((s ≡ d) × (same_name a e ≡ true) → ⊥) → look ns' s a ≡ look ns s a
   pub alike : (a : Name) → same_name a e ≡ true → a ≡ e
 
--- a path without ".." cannot leave n
+-- a path without ".." can't leave n
 pub stuck : (ns ns' : Nodes) (d n x : ℕ) (e : Name) (w : List Name) → Removes ns ns' d e n → climbs_in w ≡ false → follow ns n w ≡ Some x → x ≡ n
 unfolding climbs_in
 stuck ns ns' d n x e [] r c h = let q : follow ns n [] ≡ Some n = follow_end ns n in cc (h, q)
@@ -87,7 +87,7 @@ stuck ns ns' d n x e (a ∷ w) r c h =
     let same : f.0 ≡ n = r.stays a f.0 two.0 f.1 in
     stuck ns ns' d n x e w r two.1 (subst (λ (z : ℕ). follow ns z w ≡ Some x) same f.2)
 
--- A path without ".." leads where it led, or led to what was removed and leads nowhere.
+-- A path without ".." leads to the same node as before, or it led to what was removed and leads nowhere.
 pub after_removal : (ns ns' : Nodes) (d n s x : ℕ) (e : Name) (w : List Name) → Removes ns ns' d e n → climbs_in w ≡ false → follow ns s w ≡ Some x
     → (follow ns' s w ≡ Some x) ⊎ ((x ≡ n) × (follow ns' s w ≡ None))
 unfolding climbs_in

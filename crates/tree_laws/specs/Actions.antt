@@ -1,9 +1,10 @@
--- What each action makes of a tree before it settles, and what it answers, where it isn't refused.
+-- What each action makes of a tree before it settles, and what it answers, if it isn't refused.
 use Rattle.std.specs.Prelude.{◌≡◌, ℕ, List, length, Option, None, if◌then◌else◌}
 use Rattle.image_versions.specs.declared.version.Version.{Version}
 use Rattle.tree_laws.specs.Vocabulary.{Action, Open, Truncate, Read, WritePart, Find, Bump, Enter, Unbump, Unlink, Mkdir, Chdir, Dup, Close, Fstat, Inherit, StepAnswer, Bytes, NewFd, Done, Name, Tree, put, look, and_then, creates, file_at, part, moved, truncated, wrote, held, at_hold, raise_hold, enter_hold, drop_hold, raised, lowered, removed, made, at_dir, closed, lowest, opened_new, opened_at, opened, stat_answer, effect_with, answer_with}
 
--- the step makes this tree and gives this answer, whatever its path leads to (res), and its parent with the last element (par)
+-- the step makes this tree and gives this answer, whatever its path leads to (res), and whatever its parent with the
+-- last element is (par)
 abbrev pub Makes : Version → Action → (Tree → ℕ → Option ℕ → Option (ℕ × Name) → ℕ → ℕ → Tree)
     → (Tree → ℕ → Option ℕ → Option (ℕ × Name) → ℕ → StepAnswer) → Type 0
 Makes version s tree answer = (t : Tree) (h : ℕ) (res : Option ℕ) (par : Option (ℕ × Name)) (new id : ℕ)

@@ -26,7 +26,7 @@ returns h c a = Steps h None (Some (record { answer = a; call = c }))
 abbrev pub placed : ℕ → ℕ → ℕ → ℕ → Action → StepAnswer → Placed
 placed event call h new s a = record { event = event; call = call; step = record { hart = h; new = new; action = s }; answer = a }
 
--- A walk of one element from the root; where its step makes a node, that has this number.
+-- A walk of one element from the root; if its step makes a node, that node has this number.
 abbrev pub walks : ℕ → Action → ℕ → List Event
 walks h s new = goes h (Begin s 0) ∷ goes h (Look new) ∷ []
 
@@ -166,7 +166,7 @@ removed_under = makes_both 2 3 ++ removes_both ++ gives_up ∷ []
 abbrev pub WalkerFails : Type 0
 WalkerFails = IsRun removed_under until_removed
 
--- The names are made again before hart 0 looks, as nodes 3 and 4: its open fails all the same, where it failed.
+-- The names are made again before hart 0 looks, as nodes 3 and 4. Its open fails all the same, at the same event.
 abbrev pub made_again : List Event
 made_again = makes_both 2 3 ++ removes_both ++ makes_both 3 4 ++ gives_up ∷ []
 
@@ -174,7 +174,7 @@ abbrev pub WalkerStaysFailed : Type 0
 WalkerStaysFailed = IsRun made_again
     (until_removed ++ placed 25 6 1 3 (MkdirStep (codes "/d")) Done ∷ placed 30 7 1 4 (OpenStep (codes "/d/f") 512) (Opened 0 0 true) ∷ [])
 
--- A walk that comes to a file is lost there and then, and fails where it was lost.
+-- A walk that reaches a file is lost there at once, and fails there.
 
 abbrev pub open_below_a : Call
 open_below_a = Open (codes "/a/b") 0

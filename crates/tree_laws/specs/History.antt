@@ -1,10 +1,10 @@
--- The history so far: the list of tree steps that is kept beside the trace, and how each hart's call stands. Entries are appended, never
--- changed.
+-- The history so far: the list of tree steps that is kept beside the trace, and the state of each hart's call.
+-- Entries are appended, never changed.
 use Rattle.std.specs.Prelude.{ℕ, List, [], ◌∷◌, ◌++◌, length, Option, Some, None}
 use Rattle.tree_laws.specs.Vocabulary.{Reply, Call, Trace, Placed, put, Act, noted, Started, Replied, Other}
 use Rattle.tree_laws.specs.Moves.{Deed}
 
--- id: the call's place in the trace; told: its acts, as far as it was told
+-- id: the call's place in the trace; `told`: the acts that the call was handed
 pub data HartStanding : Type 0 where
   Free : HartStanding
   Busy : (id : ℕ) → (c : Call) → (told : List Act) → HartStanding
@@ -28,7 +28,7 @@ abbrev pub writes_any : Option Deed → ℕ → History → History
 writes_any None h b = b
 writes_any (Some d) h b = writes (b.calls h) b h d
 
--- the hart's call is told the deed
+-- the hart's call is handed the deed
 abbrev pub tells : HartStanding → History → ℕ → Deed → History
 tells Free b h d = b
 tells (Busy id c told) b h d = record b { calls = put b.calls h (Busy id c (told ++ d.act ∷ [])) }

@@ -5,12 +5,12 @@ use Rattle.tree_laws.specs.Vocabulary.{Action, StepAnswer, hart_count, Name, Tre
 use Rattle.tree_laws.specs.WellFormed.{raises, IsWellFormed}
 use Rattle.tree_laws.specs.Leaves.{IsFound, LeavesFinding, Frame, IsNobodys}
 
--- Every tree step, also a refused one, keeps a tree well formed, whatever was found for its path.
+-- Every tree step, even a refused one, keeps a tree well formed, whatever was found for its path.
 abbrev pub StepsKeepWellFormed : Version → Type 0
 StepsKeepWellFormed version = (t t' : Tree) (h : ℕ) (s : Action) (res : Option ℕ) (par : Option (ℕ × Name)) (a : StepAnswer) (new id : ℕ)
     → IsWellFormed t → IsFound t res par → StepWith version t h s res par a new id t' → IsWellFormed t'
 
--- Before the nodes that nothing keeps leave it the tree is well formed too.
+-- The tree is also well formed before the nodes that nothing keeps are removed.
 abbrev pub EffectsKeepWellFormed : Version → Type 0
 EffectsKeepWellFormed version = (t : Tree) (h : ℕ) (s : Action) (res : Option ℕ) (par : Option (ℕ × Name)) (new id : ℕ) → IsWellFormed t
     → IsFound t res par → IsInPlace t h s → refusal_with version t h s res par ≡ None → MayChoose t h s par new id
@@ -21,7 +21,7 @@ abbrev pub StepsLeaveFinding : Version → Type 0
 StepsLeaveFinding version = (t t' : Tree) (h : ℕ) (s : Action) (res : Option ℕ) (par : Option (ℕ × Name)) (a : StepAnswer) (new id : ℕ)
     → IsWellFormed t → IsFound t res par → StepWith version t h s res par a new id t' → LeavesFinding version t h s res par new t'
 
--- A path without ".." leads where it led, or led to what the step removed.
+-- A path without ".." leads to the same node as before, or it led to what the step removed.
 abbrev pub StepsLeavePaths : Version → Type 0
 StepsLeavePaths version = (t t' : Tree) (h : ℕ) (s : Action) (res : Option ℕ) (par : Option (ℕ × Name)) (a : StepAnswer) (new id : ℕ)
     → IsWellFormed t → IsFound t res par → StepWith version t h s res par a new id t' → Frame version t h s res par new t'
@@ -31,7 +31,7 @@ abbrev pub PathsLeadToWhatIsFound : Version → Type 0
 PathsLeadToWhatIsFound version =
     (t : Tree) (h : ℕ) (path : List ℕ) → h < hart_count → IsWellFormed t → IsFound t (resolve version t h path) (parent version t h path)
 
--- A dead node that nothing names may leave.
+-- A dead node that nothing names may be removed.
 abbrev pub DeadNodesMayLeave : Type 0
 DeadNodesMayLeave = (t : Tree) (n : ℕ) → IsWellFormed t → is_live (t.nodes n) ≡ false → is_named t n ≡ false
     → IsWellFormed (record t { nodes = put t.nodes n None })
@@ -44,6 +44,6 @@ NewNumbersAreNobodys = (t : Tree) (n : ℕ) → IsWellFormed t → t.nodes n ≡
 abbrev pub FreshTreesAreWellFormed : Version → Type 0
 FreshTreesAreWellFormed version = (ninodes : ℕ) → 2 ≤ ninodes → IsWellFormed (tree_of (fresh version ninodes))
 
--- What is live has a path from the root, but for a node that a link has raised and not yet named.
+-- Each live node has a path from the root, except one that a link has raised and not yet named.
 abbrev pub LiveNodesAreReached : Type 0
 LiveNodesAreReached = (t : Tree) (n : ℕ) → IsWellFormed t → is_live (t.nodes n) ≡ true → raises t.holds n ≡ 0 → IsReached t n

@@ -21,13 +21,14 @@ names_change (Close fd) = false
 names_change (Fstat fd) = false
 names_change (Inherit child) = false
 
--- What was found for a step's path: a node that is there, and a live directory that has its last element to look up. Of a
--- path with ".." these need not be what it leads to by now.
+-- What was found for a step's path: a node that is there, and a live directory that has its last element to look up.
+-- If the path has "..", it may lead to other nodes at the time of the step.
 pub record IsFound (t : Tree) (res : Option ℕ) (par : Option (ℕ × Name)) : Type 0 where
   pub node : (n : ℕ) → res ≡ Some n → t.nodes n ≢ None
   pub directory : (q : ℕ × Name) → par ≡ Some q → live_directory (t.nodes q.0) ≡ true
 
--- What live directories find. A step that enters or clears a name changes it at that name alone, any other changes nothing.
+-- What live directories find. A step that enters or clears a name changes it at that name alone; any other step
+-- changes nothing.
 pub record LeavesFinding (version : Version) (t : Tree) (h : ℕ) (s : Action) (res : Option ℕ) (par : Option (ℕ × Name)) (new : ℕ)
     (t' : Tree) : Type 0 where
   pub finds : (d : ℕ) (e : Name) → live_directory (t.nodes d) ≡ true → live_directory (t'.nodes d) ≡ true
@@ -40,8 +41,8 @@ pub record LeavesFinding (version : Version) (t : Tree) (h : ℕ) (s : Action) (
       ≡ false
       → live_directory (t'.nodes d) ≡ false
 
--- What a step by hart h leaves to the walks of others: a path without ".." leads where it led, or led to what was removed and leads
--- nowhere.
+-- What a step by hart h leaves to the walks of others. A path without ".." leads to the same node as before, or it
+-- led to what was removed and leads nowhere.
 pub record Frame (version : Version) (t : Tree) (h : ℕ) (s : Action) (res : Option ℕ) (par : Option (ℕ × Name)) (new : ℕ)
     (t' : Tree) : Type 0 where
   pub paths : (a x : ℕ) (w : List Name) → climbs_in w ≡ false → follow t.nodes a w ≡ Some x

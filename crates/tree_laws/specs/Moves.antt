@@ -1,4 +1,5 @@
--- The moves of calls on a tree, as a single hart sees them: walks, lookups, acts. A walk that was lost is told so when it is given up.
+-- The moves of calls on a tree, as a single hart sees them: walks, lookups, acts. A call learns that its walk is lost
+-- when it gives the walk up.
 use Rattle.std.specs.Prelude.{◌≡◌, ◌≢◌, ℕ, ◌<◌, true, false, List, [], ◌∷◌, ◌++◌, Option, Some, None}
 use Rattle.image_versions.specs.declared.version.Version.{Version}
 use Rattle.tree_laws.specs.Vocabulary.{NoEntry, Reply, Call, Action, Inherit, StepAnswer, Failed, hart_count, Name, Tree, put, elements, live_directory, look, start_of, resolve, parent, path_of, follows_path, makes_node, refusal_with, IsInPlace, StepWith, Act, next_of, reply_of, had_room}
@@ -8,7 +9,7 @@ pub record Deed : Type 0 where
   pub act : Act
   pub new : ℕ
 
--- A walk for a tree step stands at a node; the elements next and rest are left.
+-- A walk for a tree step is at a node; the elements next and rest are still to be looked up.
 pub record Walk : Type 0 where
   pub step : Action
   pub at : ℕ
@@ -20,9 +21,9 @@ pub record Stage : Type 0 where
   pub tree : Tree
   pub walk : ℕ → Option Walk  -- by hart
 
--- new: the number for a new node, where the step makes one
+-- new: the number for a new node, if the step makes one
 pub data Move : Type 0 where
-  Begin : Action → (new : ℕ) → Move  -- a path's walk stands at its start
+  Begin : Action → (new : ℕ) → Move  -- a path's walk begins at its start
   Look : (new : ℕ) → Move  -- the next element is looked up
   GiveUpWalk : Action → Move  -- the walk for this step, which is lost, is given up
   Own : Action → (new : ℕ) → Move  -- a step without a path
@@ -35,7 +36,8 @@ abbrev pub walks_at : Option Walk → ℕ → Type 0
 walks_at None n = ⊥
 walks_at (Some w) n = w.at ≡ n
 
--- The step acts by what was found for its path: res and par. The hart is told the deed, and the walk that led to it ends.
+-- The step acts by what was found for its path: res and par. The hart is handed the deed, and the walk that led to it
+-- ends.
 pub record Acts (version : Version) (m : Stage) (h : ℕ) (s : Action) (res : Option ℕ) (par : Option (ℕ × Name)) (new : ℕ)
     (told : Option Deed)
     (m' : Stage) : Type 0 where
@@ -44,13 +46,13 @@ pub record Acts (version : Version) (m : Stage) (h : ℕ) (s : Action) (res : Op
   pub deed : told ≡ Some (record { act = record { step = s; answer = answer }; new = new })
   pub step : StepWith version m.tree h s res par answer new id m'.tree
   pub walk : m'.walk ≡ put m.walk h None
-  -- where it makes a node, no other hart's walk stands at the number
+  -- if it makes a node, no other hart's walk is at the number
   pub alone : refusal_with version m.tree h s res par ≡ None → makes_node m.tree s par ≡ true → (g : ℕ) → g < hart_count → g ≢ h
       → walks_at (m.walk g) new → ⊥
-  -- who inherits has no walk
+  -- a hart that inherits has no walk
   pub idle : (g : ℕ) → g < hart_count → s ≡ Inherit g → m.walk g ≡ None
 
--- the hart's walk stands here from now on, and the hart is told nothing
+-- the hart's walk goes on from here, and the hart is handed nothing
 abbrev pub GoesTo : Stage → ℕ → Walk → Option Deed → Stage → Type 0
 GoesTo m h w told m' = (told ≡ None) × (m' ≡ record { tree = m.tree; walk = put m.walk h (Some w) })
 
@@ -60,7 +62,7 @@ StartLeadsTo version m h s [] new told m' = Acts version m h s (Some (start_of m
 StartLeadsTo version m h s (e ∷ es) new told m' =
     GoesTo m h (record { step = s; at = start_of m.tree h (path_of s); next = e; rest = es }) told m'
 
--- the step acts at the last lookup, or where nothing was found
+-- the step acts at the last lookup, or when nothing was found
 abbrev pub LookupLeadsTo : Version → Stage → ℕ → Walk → List Name → Option ℕ → ℕ → Option Deed → Stage → Type 0
 LookupLeadsTo version m h w [] found new told m' = Acts version m h w.step found (Some (w.at, w.next)) new told m'
 LookupLeadsTo version m h w (e ∷ es) None new told m' = Acts version m h w.step None None new told m'
@@ -91,14 +93,14 @@ pub record ActsAtOnce (version : Version) (m : Stage) (h : ℕ) (s : Action) (ne
   pub rests : m.walk h ≡ None
   pub acts : Acts version m h s (resolve version m.tree h (path_of s)) (parent version m.tree h (path_of s)) new told m'
 
--- the hart's move, and what its call is told
+-- the hart's move, and what its call is handed
 abbrev pub Plays : Version → Stage → ℕ → Move → Option Deed → Stage → Type 0
 Plays version m h (Begin s new) told m' = BeginsWalk version m h s new told m'
 Plays version m h (Look new) told m' = LooksUp version m h new told m'
 Plays version m h (GiveUpWalk s) told m' = GivesUp m h s told m'
 Plays version m h (Own s new) told m' = ActsAtOnce version m h s new told m'
 
--- a move with what it tells the call
+-- a move with what it hands the call
 pub record Step : Type 0 where
   pub move : Move
   pub told : Option Deed
@@ -115,23 +117,23 @@ begins (Look new) = None
 begins (GiveUpWalk s) = None
 begins (Own s new) = Some s
 
--- where a step is begun, it is the next one of the call's written sequence
+-- if a step is begun, it is the next one of the call's written sequence
 abbrev pub IsNext : Call → List Act → Option Action → Type 0
 IsNext c acts None = Unit {0}
 IsNext c acts (Some s) = next_of c acts ≡ Some s
 
--- the acts that the call was told, the oldest first
+-- the acts that the call was handed, the oldest first
 abbrev pub after : Option Deed → List Act → List Act
 after None acts = acts
 after (Some d) acts = acts ++ d.act ∷ []
 
--- the written sequence is through, no step of it was without room, and makes this reply
+-- the written sequence has no further step, no step of it was without room, and it makes this reply
 pub record MayEnd (c : Call) (acts : List Act) (r : Reply) : Type 0 where
   pub through : next_of c acts ≡ None
   pub reply : r ≡ reply_of c acts
   pub room : had_room acts ≡ true
 
--- these moves, after the acts that were told so far, are the rest of the call, and make this reply
+-- these moves, after the acts that were handed so far, are the rest of the call, and make this reply
 abbrev pub IsPlayed : Call → List Act → List Step → Reply → Type 0
 IsPlayed c acts [] r = MayEnd c acts r
 IsPlayed c acts (e ∷ es) r = IsNext c acts (begins e.move) × IsPlayed c (after e.told acts) es r
@@ -140,7 +142,7 @@ IsPlayed c acts (e ∷ es) r = IsNext c acts (begins e.move) × IsPlayed c (afte
 abbrev pub IsWholeCall : Call → List Step → Reply → Type 0
 IsWholeCall c es r = IsPlayed c [] es r
 
--- what the call was told after these moves
+-- what the call was handed after these moves
 abbrev pub told_by : List Act → List Step → List Act
 told_by acts [] = acts
 told_by acts (e ∷ es) = told_by (after e.told acts) es

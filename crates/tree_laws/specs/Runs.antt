@@ -6,8 +6,8 @@ use Rattle.tree_laws.specs.Moves.{Deed, Walk, Stage, Move, fail, Plays, begins, 
 use Rattle.tree_laws.specs.History.{History, writes_any, tells_any, starts, replies, passes}
 use Rattle.tree_laws.specs.History.HartStanding.{Free, Busy}
 
--- A walk is lost where it stands at no live directory. Its call fails at the very event in which that comes about, and is told when it
--- gives the walk up.
+-- A walk is lost if its node is no live directory. Its call fails at the very event that makes it so, and is handed
+-- that failure when it gives the walk up.
 abbrev pub lost : Tree → Option Walk → Option Deed
 lost t None = None
 lost t (Some w) = if live_directory (t.nodes w.at) then None else Some (fail w.step)
@@ -15,7 +15,7 @@ lost t (Some w) = if live_directory (t.nodes w.at) then None else Some (fail w.s
 abbrev pub lost_of : Stage → ℕ → Option Deed
 lost_of m g = lost m.tree (m.walk g)
 
--- what stands in the list by now isn't written again
+-- what the list already has isn't written again
 abbrev pub unless : Option Deed → Option Deed → Option Deed
 unless None d = d
 unless (Some e) d = None
@@ -29,7 +29,8 @@ unfoldable pub all_fall : Stage → Stage → ℕ → History → History
 all_fall m m' zero b = b
 all_fall m m' (suc n) b = writes_any (falls m m' n) n (all_fall m m' n b)
 
--- a hart's event: what its call is told is written, unless it was when the walk was lost, and then the walks that the event loses
+-- A hart's event. What its call is handed is written, unless it was written when the walk was lost. Then the walks
+-- that the event loses are written.
 abbrev pub moves_on : Stage → Stage → ℕ → Option Deed → History → History
 moves_on m m' h told b = all_fall m m' hart_count (tells_any told h (writes_any (unless (lost_of m h) told) h b))
 
@@ -51,7 +52,7 @@ abbrev pub BeginsNext : Call → List Act → Option Move → Type 0
 BeginsNext c acts None = Unit {0}
 BeginsNext c acts (Some v) = IsNext c acts (begins v)
 
--- A reply is given where the call has no walk and its written sequence is through.
+-- A reply is given if the call has no walk and its written sequence has no further step.
 abbrev pub MayReply : Stage → ℕ → Call → List Act → Option Reply → Type 0
 MayReply m h c acts None = Unit {0}
 MayReply m h c acts (Some r) = (m.walk h ≡ None) × MayEnd c acts r
@@ -68,7 +69,7 @@ pub record HasStarted (w : World) (h : ℕ) (c : Call) (w' : World) : Type 0 whe
   pub free : w.history.calls h ≡ Free
   pub world : w' ≡ record { stage = w.stage; history = starts w.history h c }
 
--- The call c of hart h, which was told these acts, makes at most one move, is told of it, and may reply.
+-- The call c of hart h, which was handed these acts, makes at most one move, is handed the deed, and may reply.
 pub record HasStepped (version : Version) (w : World) (h : ℕ) (v : Option Move) (r : Option Reply) (w' : World) : Type 0 where
   pub hart : h < hart_count
   pub id : ℕ

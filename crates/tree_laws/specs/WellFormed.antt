@@ -1,4 +1,4 @@
--- A well-formed plain tree: live directories stand in one tree under the root, and counts are numbers of links.
+-- A well-formed plain tree: live directories form one tree under the root, and counts are numbers of links.
 use Rattle.std.specs.Prelude.{◌≡◌, ◌≢◌, ℕ, zero, suc, ◌+◌, ◌<◌, ◌≤◌, Bool, true, false, ◌&&◌, not, List, [], ◌∷◌, drop, ◌==◌, if◌then◌else◌, Option, Some, None}
 use Rattle.tree_laws.specs.Vocabulary.{Slot, Node, OpenFile, Hold, hart_count, descriptor_count, root, Tree, dot, dotdot, is_directory, live_directory, all_slots, first_slot}
 
@@ -54,7 +54,7 @@ count_in (s ∷ ss) n = names s n + count_in ss n
 unfoldable pub mentions : Folders → ℕ → ℕ → ℕ
 mentions folders below n = sum_below below (λ d. count_in (past (folders d)) n)
 
--- how many live directories but the root have d as their ".."
+-- how many live directories other than the root have d as their ".."
 unfoldable pub children : Folders → ℕ → ℕ → ℕ
 children folders below d = sum_below below (λ c. one_if (not (c == root) && has_up (folders c) d))
 
@@ -84,7 +84,7 @@ pub record IsInOrder (folders : Folders) (links held : ℕ → ℕ) (below : ℕ
   pub counted : links d ≡ 1 + children folders below d
   pub unheld : held d ≡ 0
   pub rooted : d ≡ root → (up_in ss ≡ root) × (mentions folders below root ≡ 0)
-  -- any other directory has one place, in its "..", which lies higher
+  -- any other directory has one place, in its "..", which is higher
   pub place : d ≢ root → (mentions folders below d ≡ 1) × (count_in (past (folders (up_in ss))) d ≡ 1) × (depth (up_in ss) < depth d)
 
 -- Live directories and counts of links fit. held: how many raised holds name a node. Going up from a directory, depth falls until the root
@@ -92,7 +92,7 @@ pub record IsInOrder (folders : Folders) (links held : ℕ → ℕ) (below : ℕ
 pub record IsForest (folders : Folders) (links held : ℕ → ℕ) (below : ℕ) (depth : ℕ → ℕ) : Type 0 where
   pub rooted : folders root ≢ None
   pub directory : (d : ℕ) (ss : Slots) → folders d ≡ Some ss → IsInOrder folders links held below depth d ss
-  -- what is no live directory: one for each name, and one for each raised hold; so what is dead has neither
+  -- a node that is no live directory: one for each name, and one for each raised hold; so a dead node has neither
   pub other : (n : ℕ) → folders n ≡ None → links n ≡ mentions folders below n + held n
 
 abbrev pub folders_of : (ℕ → Option Node) → Folders

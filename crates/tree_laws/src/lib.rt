@@ -1,9 +1,9 @@
-//! Laws of the plain tree: when a tree is well formed, that every tree step keeps it so, and what a step leaves of
-//! directories and of the paths that other harts follow.
+//! Laws of the plain tree: when a tree is well formed, and that each tree step keeps it so. Laws of what a step
+//! leaves of directories and of the paths that other harts follow.
 //!
-//! And of the moves of calls on a tree (walks, lookups, acts), as a single hart sees them: each run of them is explained by one
-//! list of tree steps. A walk that another hart's step kills fails at that very step; its call is told when it gives the walk up.
-//! The functions do nothing: each carries a law.
+//! Laws of the moves of calls on a tree too (walks, lookups, acts), as a single hart sees them. One list of tree
+//! steps explains each run of them. A walk that another hart's step kills fails at that very step; its call learns it
+//! when it gives the walk up. The functions do nothing: each carries a law.
 #![tactic(auto)]
 
 ghost use Rattle.image_versions.specs.declared.version.Version.{Version};
@@ -12,8 +12,8 @@ ghost use Rattle.tree_laws.specs.Laws.{StepsKeepWellFormed, EffectsKeepWellForme
 ghost use Rattle.tree_laws.specs.Examples.{OpenFinishes, ReadFinishes, WriteFinishes, LinkFinishes, UnlinkFinishes, MkdirFinishes, ChdirFinishes, DupFinishes, FstatFinishes, CloseFinishes, InheritFinishes, WalkerFails, WalkerStaysFailed, WalkerFailsAtAFile};
 ghost use Rattle.tree_laws.specs.MoveLaws.{RunsAreExplained, ListsLeadToTheTree, ListsGrow, OneHartIsExplained, CallsAreToldLate, WrittenMovesComeNext, WrittenMovesEnd, MovesTellInTurn, EventsTellTheirHart, RunsGoOn};
 
-/// Each of the fifteen tree steps, refused or not, keeps a tree well formed, for any node that is there and any live
-/// directory that were found for its path.
+/// Each of the fifteen tree steps, refused or not, keeps a tree well formed. It does so for any node that is there
+/// and any live directory that were found for its path.
 pub fn steps_keep_well_formed()
     ensures { (version : Version) → StepsKeepWellFormed version }
 {}
@@ -29,7 +29,7 @@ pub fn steps_leave_finding()
     ensures { (version : Version) → StepsLeaveFinding version }
 {}
 
-/// A path without ".." that led somewhere leads there still, or led to what the step removed and leads nowhere.
+/// A path without ".." that led somewhere still leads there, or led to what the step removed and leads nowhere.
 pub fn steps_leave_paths()
     ensures { (version : Version) → StepsLeavePaths version }
 {}
@@ -54,63 +54,63 @@ pub fn fresh_trees_are_well_formed()
     ensures { (version : Version) → FreshTreesAreWellFormed version }
 {}
 
-/// Going down from the root reaches each live node, but one that a link has raised and not yet named.
+/// Going down from the root reaches each live node, except one that a link has raised and not yet named.
 pub fn live_nodes_are_reached()
     ensures { LiveNodesAreReached }
 {}
 
-/// What each of the fifteen actions makes of a tree before it settles, and what it answers, where it isn't refused.
+/// What each of the fifteen actions makes of a tree before it settles, and what it answers, if it isn't refused.
 pub fn actions_are_told()
     ensures { (version : Version) → ActionsAreTold version }
 {}
 
-/// The list that a run keeps, by appending alone, explains its trace: calls of many harts that walk, look up, enter
-/// and remove step by step act as one list of tree steps. No path has the element "..".
+/// The list that a run keeps, by appending alone, explains the run's trace. Calls of many harts that walk, look up,
+/// enter and remove step by step act as one list of tree steps. No path has the element "..".
 pub fn explained()
     ensures { (version : Version) → RunsAreExplained version }
 {}
 
-/// At each moment the list so far leads from the first tree to the tree as it stands then, which is well formed.
+/// At each moment the list so far leads from the first tree to the tree at that moment, which is well formed.
 pub fn lists_lead_to_the_tree()
     ensures { (version : Version) → ListsLeadToTheTree version }
 {}
 
-/// The entries of the events up to a moment are the list as it stood at that moment.
+/// The entries of the events up to a moment are the list as it was at that moment.
 pub fn lists_grow()
     ensures { (version : Version) → ListsGrow version }
 {}
 
-/// Where one hart alone makes calls the same holds for any paths, and the list is the sequences of its calls one after
+/// If one hart alone makes calls, the same holds for any paths, and the list is the sequences of its calls one after
 /// the other.
 pub fn one_hart_is_explained()
     ensures { (version : Version) → OneHartIsExplained version }
 {}
 
-/// What the list has of a call under way is what the call was told; where its walk is lost, also the failing step, of
-/// which it is told when it gives the walk up.
+/// What the list has of a call under way is what the call was handed. If its walk is lost, the list also has the
+/// failing step, which the call is handed when it gives the walk up.
 pub fn calls_are_told_late()
     ensures { (version : Version) → CallsAreToldLate version }
 {}
 
-/// A call whose moves are all written begins in each the step that its written sequence has next, and may reply after
-/// the last.
+/// If all moves of a call are written, each of them begins the next step of the call's written sequence. After the
+/// last the call may reply.
 pub fn written_moves_come_next()
     ensures next { WrittenMovesComeNext }
     ensures last { WrittenMovesEnd }
     ensures told { MovesTellInTurn }
 {}
 
-/// An event of a hart tells that hart's call alone, and ends no other.
+/// An event of a hart hands a deed to that hart's call alone, and ends no other call.
 pub fn events_tell_their_hart()
     ensures { EventsTellTheirHart }
 {}
 
-/// A run and a run from where it ended are one run.
+/// A run and a run from its end are one run.
 pub fn runs_go_on()
     ensures { (version : Version) → RunsGoOn version }
 {}
 
-/// There are runs: for each of the eleven calls one in which it finishes.
+/// There are runs: for each of the eleven calls one in which the call finishes.
 pub fn each_call_finishes()
     ensures open { OpenFinishes }
     ensures read { ReadFinishes }
@@ -125,8 +125,8 @@ pub fn each_call_finishes()
     ensures inherit { InheritFinishes }
 {}
 
-/// A hart walks to a directory that another hart removes under it: its open fails at that very unlink, also where the
-/// names are made again before it looks. An open through a file fails where its walk comes to the file.
+/// A hart walks to a directory that another hart removes under it. Its open fails at that very unlink, even if the
+/// names are made again before it looks. An open through a file fails when its walk reaches the file.
 pub fn walkers_fail_with_their_directory()
     ensures removed { WalkerFails }
     ensures made_again { WalkerStaysFailed }

@@ -9,7 +9,8 @@ use crate::rows::{Ask, CREATE, READ, READ_AND_WRITE, TRUNCATE, WRITE};
 use std::alloc::Global;
 use std::process::Abort;
 
-// A call of hart 0, calls of hart 1 in turn, and what is on the disk then: nodes with a name, nodes without one, and blocks of contents.
+// A call of hart 0, calls of hart 1 in turn, and what is on the disk then. These are nodes with a name, nodes without
+// one, and blocks of contents.
 type Meeting = (Ask<'static>, &'static [Ask<'static>], (u32, u32, u32));
 
 // An inode is taken, and blocks, and given back.
@@ -68,7 +69,8 @@ const MEETINGS: &[Meeting] = &[
     (Unlink(b"/d/x"), CLEARS_AND_MAKES, (4, 1, 6)),
 ];
 
-// One list of tree steps explains all replies, and the image is in order, where so many calls of hart 1 come first.
+// One list of tree steps explains all replies, and the image is in order, if the first `first` calls of hart 1 come
+// before.
 fn meets(rt: &impl Abort, alloc: Global, meeting: &Meeting, first: usize) {
     let (call, calls, left) = meeting;
     let lines = [

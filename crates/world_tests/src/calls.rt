@@ -13,10 +13,11 @@ use crate::worked::{DIRECTORY_IS_MADE, NEW_FILE_IS_WRITTEN};
 use block_device::{BLOCK_LEN, Device, Fault, MemoryDisk};
 use plain_tree::{Cause, NodeType};
 
-// So many calls are told.
+// The most calls that are recorded.
 const MOST_CALLS: usize = 4096;
 
-// A disk that tells its calls, in their order: the number of the block that was read, or the negative one of the block that was written.
+// A disk that records its calls, in their order. A read is the number of its block, and a write the negative number
+// of its block.
 #[derive(Drop)]
 struct RecordingDisk {
     disk: MemoryDisk,
@@ -88,7 +89,7 @@ const TOLD: &[(&[Line], &[i16])] = &[
     (TOO_BIG, &CALLS_OF_TOO_BIG),
 ];
 
-/// Behind those of the mount a row makes these calls of the device, in this order.
+/// After those of the mount a row makes these calls of the device, in this order.
 #[test]
 fn the_calls_of_the_device_are_these(rt: HostRuntime) {
     let image = Image::Made(2000, 200);

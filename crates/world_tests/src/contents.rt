@@ -11,7 +11,8 @@ use plain_tree::NodeType;
 use std::alloc::Global;
 use std::process::Abort;
 
-/// Twelve blocks and a byte are read from each place of the first block on, up to past the blocks whose numbers stand in the inode.
+/// Twelve blocks and a byte are read from each place of the first block on, up to past the blocks whose numbers are
+/// in the inode.
 #[test]
 fn contents_are_read_from_each_place(rt: HostRuntime) {
     let mut lines = Vec::new(rt.alloc());
@@ -36,10 +37,12 @@ fn contents_are_read_from_each_place(rt: HostRuntime) {
     assert!(rt; counts(&rt, rt.alloc(), disk) == (2, 0, 16));
 }
 
-/// Bytes that are written within a content, or over its end, stand there; those before and behind them stay, also after another mount.
+/// Bytes that are written within a content, or over its end, are there afterwards. Those before and after them stay,
+/// even after another mount.
 #[test]
 fn bytes_are_changed_in_place(rt: HostRuntime) {
-    // The size, from where on is written, how many bytes, and the blocks of the root and the file then.
+    // The size, the place at which the write begins, how many bytes it has, and the blocks of the root and the file
+    // then.
     let rows: [(u32, u32, u32, u32); 16] = [
         (0, 0, 1, 2),
         (1, 0, 1, 2),
@@ -66,7 +69,8 @@ fn bytes_are_changed_in_place(rt: HostRuntime) {
     }
 }
 
-// Of so many bytes those from a place on are written, so many, and all are read, before and behind another mount. The disk then.
+// In a file of the row's size the row's bytes are written from its place on, and all are read, before and after
+// another mount. Gives the disk then.
 fn change_in_place(
     rt: &impl Abort,
     alloc: Global,

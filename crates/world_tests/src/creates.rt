@@ -9,7 +9,8 @@ use plain_tree::{Cause, Full, NodeType};
 use std::ops::Range;
 
 const ROWS: &[Row] = &[
-    // An open makes a file, and mkdir a directory, which has "." and ".." and gives its parent a link; another hart finds both at once.
+    // An open makes a file, and mkdir a directory, which has "." and ".." and gives its parent a link. Another hart
+    // finds both at once.
     (
         Image::Tree,
         &[
@@ -35,8 +36,8 @@ const ROWS: &[Row] = &[
         ],
         (9, 0, 6),
     ),
-    // What is there is opened, and emptied where it is to be, but no directory; nothing is made where there is no directory or in one
-    // that was removed, and no directory under a name that is there.
+    // A file that is there is opened, and emptied if the open empties, but no directory is. Nothing is made if there
+    // is no directory, or in one that was removed, and no directory is made under a name that is there.
     (
         Image::Tree,
         &[
@@ -78,7 +79,7 @@ const ROWS: &[Row] = &[
         ],
         (8, 0, 5),
     ),
-    // In a directory without a slot nothing is made.
+    // In a directory without a free slot nothing is made.
     (
         Image::Crowded,
         &[
@@ -88,7 +89,7 @@ const ROWS: &[Row] = &[
         ],
         (4, 0, 539),
     ),
-    // A file that an open has made stays where no descriptor is left for it.
+    // A file that an open has made stays if no descriptor is left for it.
     (
         SMALL,
         &[
@@ -124,7 +125,7 @@ const MADE: &[u8] = b"\x02\0\0\0\0\0\x01\0\0\0\0\0\0\0\0\0\0\0\0\0\0\0\0\0\0\0\0
     \x01\0\0\0\0\0\x01\0\x20\0\0\0\x33\0\0\0\0\0\0\0\0\0\0\0\0\0\0\0\0\0\0\0\
     \0\0\0\0\0\0\0\0\0\0\0\0\0\0\0\0\0\0\0\0\0\0\0\0\0\0\0\0\0\0\0\0";
 
-/// A directory and a file that take the inodes of removed devices have nothing of these, the device numbers neither.
+/// A directory and a file that take the inodes of removed devices have nothing of these, not even the device numbers.
 #[test]
 fn new_inodes_have_no_device_numbers(rt: HostRuntime) {
     const LINES: &[Line] = &[
@@ -138,7 +139,7 @@ fn new_inodes_have_no_device_numbers(rt: HostRuntime) {
     assert!(rt; disk.into_bytes().as_slice().get(INODES) == Some(MADE));
 }
 
-/// Each row comes to what it tells, and is run again by its events.
+/// Each row has the results that it names, and is run again by its events.
 #[test]
 fn rows_are_run(rt: HostRuntime) {
     are_run(&rt, rt.alloc(), ROWS);

@@ -14,7 +14,7 @@ use std::process::Abort;
 // Paths that lead to nothing.
 const MISSING: [&[u8]; 3] = [b"/d/missing", b"/d/aaa", b"/d/aaaaa"];
 
-// A path in `/d`, and whether its name is there to stay, goes again, or comes later.
+// A path in `/d`, and whether its name stays, goes again, or comes later.
 #[derive(Clone, Copy)]
 struct Entry {
     path: [u8; 7],
@@ -26,7 +26,7 @@ fn path(number: u32) -> [u8; 7] {
     [b'/', b'd', b'/', a, b, c, d]
 }
 
-// Names of the numbers below a count, those of which go whose number leaves this rest by this divisor.
+// Names of the numbers below a count. A name goes if its number leaves this rest by this divisor.
 fn entries(rt: &impl Abort, alloc: Global, count: u32, divisor: u32, rest: u32) -> Vec<Entry> {
     let mut entries = Vec::new(alloc);
     for number in 0..count {
@@ -59,7 +59,8 @@ fn push_slot(rt: &impl Abort, content: &mut Vec<u8>, number: u8, path: &[u8]) {
     }
 }
 
-// The directory's content. The free slots are those of later names in turn, and then those behind the last one.
+// The directory's content. The free slots have the later names in turn, and the remaining ones come after the last
+// slot.
 fn content(rt: &impl Abort, alloc: Global, entries: &[Entry], later: &[[u8; 7]]) -> Vec<u8> {
     let mut content = Vec::new(alloc);
     push_slot(rt, &mut content, 3, b"/d/.");
@@ -121,7 +122,7 @@ fn push_looks<'a>(
     push(rt, lines, Do(0, Close(0), Done));
 }
 
-// A directory of so many names, of which some go, and others come: the disk then.
+// A directory of `count` names, of which some go, and others come: the disk then.
 fn change_names(rt: &impl Abort, alloc: Global, count: u32, divisor: u32, rest: u32) -> MemoryDisk {
     let entries = entries(rt, alloc, count, divisor, rest);
     let later = later(rt, alloc, entries.as_slice());
@@ -140,11 +141,12 @@ fn change_names(rt: &impl Abort, alloc: Global, count: u32, divisor: u32, rest: 
     disk
 }
 
-/// Of each name of a directory it is known whether it is there, also where names went between others; and a new name goes into the first
-/// free slot, or behind the last one.
+/// A lookup of each name of a directory says whether the name is there, even if names went between others. A new name
+/// goes into the first free slot, or after the last one.
 #[test]
 fn names_take_free_slots(rt: HostRuntime) {
-    // How many names, the divisor and the rest of those that go, and the blocks of the root and the directory at last.
+    // How many names, the divisor and the rest of those that go, and the blocks of the root and the directory at the
+    // end.
     let rows: [(u32, u32, u32, u32); 9] = [
         (1, 5, 3, 2),
         (1, 1, 0, 2),

@@ -1,4 +1,4 @@
-//! A stop behind each event of a row: the disk has the tree that a beginning of its history leads to.
+//! A stop after each event of a row: the disk has the tree that a beginning of its history leads to.
 use crate::histories::is_named_after;
 use crate::images::{SMALL, disk_of};
 use crate::lists::{Group, first, groups_in, holds, mounted_again, play, run_over};
@@ -73,7 +73,7 @@ fn is_same_entry(entry: &Placed, wanted: &Placed) -> bool {
         && entry.answer == wanted.answer
 }
 
-// Of the first so many events the list is that of all, up to there: nothing is put into the past.
+// For the first `count` events the list is that of all, up to there: nothing is put into the past.
 fn is_beginning(list: &[Placed], whole: &[Placed], count: usize) -> bool {
     let before = whole
         .iter()
@@ -86,7 +86,7 @@ fn is_beginning(list: &[Placed], whole: &[Placed], count: usize) -> bool {
             .all(|(entry, wanted)| is_same_entry(entry, wanted))
 }
 
-// The leave of the last group whose head was written in the first so many events.
+// The leave of the last group whose head was written in the first `count` events.
 fn cut_of(groups: &[Group], count: usize) -> Option<u64> {
     let mut cut = None;
     for group in groups {
@@ -99,7 +99,7 @@ fn cut_of(groups: &[Group], count: usize) -> Option<u64> {
     cut
 }
 
-// Stopped behind these events, and mounted again, the disk has what has names after these steps.
+// Stopped after these events, and mounted again, the disk has the named nodes of the tree that these steps lead to.
 fn stops_behind(
     rt: &impl Abort,
     alloc: Global,
@@ -114,7 +114,7 @@ fn stops_behind(
     is_cut && is_named_after(rt, alloc, &mut old, list, &mut disk)
 }
 
-// Stops a row behind each of its events.
+// Stops a row after each of its events.
 fn stops(rt: &impl Abort, alloc: Global, row: &[Line], commits: usize) {
     let (made, _disk) = play(rt, alloc, disk_of(rt, alloc, SMALL), row);
     let groups = groups_in(rt, alloc, made.outcomes.as_slice());
@@ -130,8 +130,9 @@ fn stops(rt: &impl Abort, alloc: Global, row: &[Line], commits: usize) {
     }
 }
 
-/// Stopped behind any event of a row, the disk has the tree of the history that is handed out, up to the run's cut: the leave behind which
-/// the last head was written. And the history of a beginning of the events is a beginning of that of all.
+/// Stopped after any event of a row, the disk has the tree of the history that is handed out, up to the run's cut.
+/// The cut is the leave whose group has the last head that was written. The history of a beginning of the events is a
+/// beginning of the history of all.
 #[test]
 fn stop_everywhere(rt: HostRuntime) {
     for (row, commits) in STOPPED {

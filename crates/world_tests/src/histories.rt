@@ -1,4 +1,4 @@
-//! Lists of tree steps that explain what events came to, and where they lead.
+//! Lists of tree steps that explain the outcomes of events, and the trees that they lead to.
 use crate::images::tree_in;
 use crate::trees::is_same_tree;
 use block_device::MemoryDisk;
@@ -40,7 +40,7 @@ fn make_steps(rt: &impl Abort, alloc: Global, tree: &mut Tree, list: &[Placed]) 
     }
 }
 
-/// Whether a disk has what has names after these steps, from the tree of another disk on.
+/// Whether a disk has the named nodes of the tree that these steps lead to, from the tree of another disk on.
 pub fn is_named_after(
     rt: &impl Abort,
     alloc: Global,

@@ -75,12 +75,12 @@ const FULL_UNDER_WAY: &str =
 const FULL_UNDER_WAY_AND_CLIMBS: &str =
     "do 0 open /.. 0\ndo 0 open / 0\ndo 0 open / 0\ndo 0 open / 0\ndo 0 open / 0\ndo 0 open / 0\ndo 0 open / 0\ndo 0 open / 0\ndo 0 open / 0\ndo 0 open / 0\ndo 0 open / 0\ndo 0 open / 0\ndo 0 open / 0\ndo 0 open / 0\ndo 0 open / 0\ndo 0 open / 0\n0 open / 0\nupto 0 slot 2";
 
-/// A file is claimed for which there is no place in memory, and its call isn't told so yet.
+/// A file is claimed for which there is no place in memory, and its call hasn't got that reply yet.
 const PLACE_UNDER_WAY: &str =
     "do 0 open /f0 0x200\ndo 0 open /f1 0x200\ndo 0 open /f2 0x200\ndo 0 open /f3 0x200\ndo 0 open /f4 0x200\ndo 0 open /f5 0x200\ndo 0 open /f6 0x200\ndo 0 open /f7 0x200\ndo 0 open /f8 0x200\ndo 0 open /f9 0x200\ndo 0 open /f10 0x200\ndo 0 open /f11 0x200\ndo 0 open /f12 0x200\ndo 0 open /f13 0x200\ndo 0 open /f14 0x200\ndo 0 open /f15 0x200\ndo 1 open /f16 0x200\ndo 1 open /f17 0x200\ndo 1 open /f18 0x200\ndo 1 open /f19 0x200\ndo 1 open /f20 0x200\ndo 1 open /f21 0x200\ndo 1 open /f22 0x200\ndo 1 open /f23 0x200\ndo 1 open /f24 0x200\ndo 1 open /f25 0x200\ndo 1 open /f26 0x200\ndo 1 open /f27 0x200\ndo 1 open /f28 0x200\ndo 1 open /f29 0x200\ndo 1 open /f30 0x200\ndo 1 open /f31 0x200\ndo 2 open /f32 0x200\ndo 2 open /f33 0x200\ndo 2 open /f34 0x200\ndo 2 open /f35 0x200\ndo 2 open /f36 0x200\ndo 2 open /f37 0x200\ndo 2 open /f38 0x200\ndo 2 open /f39 0x200\ndo 2 open /f40 0x200\ndo 2 open /f41 0x200\ndo 2 open /f42 0x200\ndo 2 open /f43 0x200\ndo 2 open /f44 0x200\ndo 2 open /f45 0x200\ndo 2 open /f46 0x200\ndo 2 open /f47 0x200\ndo 3 open /f48 0x200\n4 open /new 0x200\nupto 4 up 2";
 
-/// A run, the lines of its list after their event numbers, and of moves of an entry from a place to another whether the list explains
-/// the run then.
+/// A run, and the lines of its list after their event numbers. For moves of an entry from one place to another,
+/// whether the list explains the run then.
 struct Row {
     text: &'static str,
     lines: &'static [&'static str],
@@ -130,7 +130,7 @@ const ROWS: [Row; 3] = [
     },
 ];
 
-// What a script's events are explained by, where memory isn't short.
+// What explains a script's events, if memory isn't short.
 fn explained(alloc: Global, play: &Play) -> Result<Result<Vec<Placed>, ExplainRefused>, Fail> {
     match explain(alloc, &play.image, &play.events) {
         Err(ExplainRefused::NoMemory) => Err(Fail::from(AllocError)),
@@ -145,7 +145,8 @@ fn list_of(alloc: Global, play: &Play) -> Result<Vec<Placed>, Fail> {
     }
 }
 
-// The list with an entry moved, and numbered as the one that it comes to stand before, or behind where it moves on.
+// The list with an entry moved. The entry gets the event of the one before which it is put, or after which if it
+// moves on.
 fn moved(
     alloc: Global,
     list: &[Placed],
@@ -196,8 +197,8 @@ fn plays_row(rt: &impl Abort, alloc: Global, row: &Row) -> Result<(), Fail> {
     Ok(())
 }
 
-/// A failing walk stands where its directory was removed, a link's raise where it was made and taken back; and neither may stand where the
-/// tree would have given another answer.
+/// In the list a failing walk comes at the removal of its directory, and a link's raise when it is made and taken
+/// back. Neither may come at a time when the tree would have given another answer.
 #[test]
 fn walks_fail_where_their_directory_goes(rt: HostRuntime) -> Result<(), Fail> {
     let alloc = rt.alloc();
@@ -241,20 +242,20 @@ fn lists_explain_meetings(rt: HostRuntime) -> Result<(), Fail> {
     explain_all(&rt, rt.alloc(), &texts)
 }
 
-/// The numbers of nodes that harts make in directories of their own are those which later calls tell, in whatever order the nodes were entered;
-/// and those of directories of which only reads of their parents tell.
+/// The numbers of nodes that harts make in directories of their own are those that later calls show, in whatever
+/// order the nodes were entered. So are those of directories that only reads of their parents show.
 #[test]
 fn lists_explain_numbers(rt: HostRuntime) -> Result<(), Fail> {
     explain_all(&rt, rt.alloc(), &[MEETINGS, LISTED])
 }
 
-/// And that of a write in ninety pieces, the last of which is refused or finds its place.
+/// A list explains a write in ninety pieces too, the last of which is refused or is written.
 #[test]
 fn a_list_explains_a_long_write(rt: HostRuntime) -> Result<(), Fail> {
     explain_all(&rt, rt.alloc(), &[TOO_BIG, BIGGEST])
 }
 
-/// No events are explained by no steps.
+/// An empty list explains a run without events.
 #[test]
 fn an_empty_list_explains_nothing_made(rt: HostRuntime) -> Result<(), Fail> {
     let alloc = rt.alloc();
@@ -265,7 +266,7 @@ fn an_empty_list_explains_nothing_made(rt: HostRuntime) -> Result<(), Fail> {
     Ok(())
 }
 
-/// A path that climbs is refused, and want of room also where a path climbs, and in a call that hasn't replied.
+/// A path that climbs is refused. Want of room is refused too, if a path climbs, or in a call that hasn't replied.
 #[test]
 fn runs_are_refused(rt: HostRuntime) -> Result<(), Fail> {
     let alloc = rt.alloc();

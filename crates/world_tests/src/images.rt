@@ -14,25 +14,26 @@ use std::process::Abort;
 pub enum Image {
     /// Directories `/d` (inode 2) and `/d/e` (3), the file `/d/e/f` (4) with the byte A, and the devices `/t` (5) and `/u` (6).
     Tree,
-    /// The directory `/d` (inode 2) and the root, each with 17,152 slots; and a file (3) with 32,767 names, which fill
-    /// the root from `/aaad` on, and the slots of `/d` up to its last ones.
+    /// The directory `/d` (inode 2) and the root, each with 17,152 slots; and a file (3) with 32,767 names. The names
+    /// fill the root from `/aaad` on, and the slots of `/d` up to its last ones.
     Crowded,
     /// A root without names, and a log of 30 blocks.
     ShortLog,
-    /// A new one of so many blocks and inodes, without names.
+    /// A new one of this number of blocks and inodes, without names.
     Made(u32, u32),
-    /// A new one of so many blocks and 16 inodes, whose file `/f` (inode 2) has these bytes. The blocks before the data are 36.
+    /// A new one of this number of blocks and 16 inodes, whose file `/f` (inode 2) has these bytes. The blocks before
+    /// the data are 36.
     WithFile(u32, &'static [u8]),
 }
 
 /// A new small one: 23 blocks are free.
 pub const SMALL: Image = Image::Made(60, 16);
 
-// Bytes that stand at a place of an image.
+// Bytes at a place of an image.
 type Part = (usize, &'static [u8]);
 
-// 64 blocks, 200 inodes, a log of 31 blocks: directories `/d` (inode 2) and `/d/e` (3), the file `/d/e/f` (4) with one byte, and
-// the devices `/t` (5) of major 1 and `/u` (6) of major 10. Of its blocks four have contents.
+// 64 blocks, 200 inodes, a log of 31 blocks. There are directories `/d` (inode 2) and `/d/e` (3), the file `/d/e/f`
+// (4) with one byte, and the devices `/t` (5) of major 1 and `/u` (6) of major 10. Of its blocks four have contents.
 const TREE: [Part; 20] = [
     (
         1024,
@@ -71,7 +72,8 @@ const SHORT_LOG: [Part; 5] = [
     (47120, b"\x01\0.."),
 ];
 
-// 2000 blocks, 200 inodes, a log of 31 blocks: the root, a directory and a file, but for the numbers of their blocks, and names.
+// 2000 blocks, 200 inodes, a log of 31 blocks: the root, a directory and a file, without the numbers of their blocks,
+// and without names.
 const CROWDED: [Part; 11] = [
     (
         1024,
@@ -105,7 +107,7 @@ fn image_of(rt: &impl Abort, alloc: Global, blocks: usize, parts: &[Part]) -> Ve
     image
 }
 
-// Where a slot of a directory lies, whose blocks stand in a row from this one on, the indirect one among them.
+// The place of a slot of a directory whose blocks, the indirect one among them, are in a row from this one on.
 fn slot_at(first: u16, slot: u16) -> usize {
     let block = first as usize + slot as usize / 64;
     let table = if slot < 768 { 0 } else { 1 };
@@ -135,7 +137,7 @@ fn put_names(image: &mut [u8], inode: u16, first: u16, slots: Range<u16>) {
     }
 }
 
-// Both directories' blocks stand in a row.
+// Both directories' blocks are in a row.
 fn crowded(rt: &impl Abort, alloc: Global) -> Vec<u8> {
     let mut image = image_of(rt, alloc, 2000, &CROWDED);
     put_names(image.as_mut_slice(), 1, 47, 3..17_152);
@@ -148,7 +150,7 @@ fn with_file(rt: &impl Abort, alloc: Global, size: u32, bytes: &[u8]) -> MemoryD
     make(alloc, size, 16, &[NewFile { name, content }]).expect(rt, "error")
 }
 
-/// A disk with an image. Where memory for it is refused, the test says so, and ends.
+/// A disk with an image. If memory for it is refused, the test says so, and ends.
 pub fn disk_of(rt: &impl Abort, alloc: Global, image: Image) -> MemoryDisk {
     match image {
         Image::Tree => MemoryDisk::new(image_of(rt, alloc, 64, &TREE)),
@@ -178,7 +180,7 @@ pub fn tree_in(rt: &impl Abort, alloc: Global, disk: &mut MemoryDisk) -> Tree {
     tree_of(alloc, disk, Version::One).expect(rt, "error")
 }
 
-/// How many nodes with a name, nodes without one and blocks of contents stand on a disk, whose image is well formed.
+/// How many nodes with a name, nodes without one and blocks of contents are on a disk, whose image is well formed.
 pub fn counts(rt: &impl Abort, alloc: Global, disk: MemoryDisk) -> (u32, u32, u32) {
     let mut disk = disk;
     let shape = examine(alloc, &mut disk, Version::One).expect(rt, "error");

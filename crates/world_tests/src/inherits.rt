@@ -69,7 +69,7 @@ const ROWS: &[Row] = &[
     ),
 ];
 
-/// Each row comes to what it tells, and is run again by its events.
+/// Each row has the results that it names, and is run again by its events.
 #[test]
 fn rows_are_run(rt: HostRuntime) {
     are_run(&rt, rt.alloc(), ROWS);

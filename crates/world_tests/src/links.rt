@@ -9,8 +9,8 @@ use fs_machine::Kind;
 use plain_tree::{Cause, Full, NodeType};
 
 const ROWS: &[Row] = &[
-    // A file gets another name: it opens by both, and has two links; the directory of the new name is as large as before where a slot
-    // was free, and has one slot more elsewhere.
+    // A file gets another name: it opens by both, and has two links. The directory of the new name is as large as
+    // before if a slot was free, and else has one slot more.
     (
         Image::Tree,
         &[
@@ -27,7 +27,8 @@ const ROWS: &[Row] = &[
         ],
         (6, 0, 4),
     ),
-    // No directory is linked, no name that is there, none where there is no directory; the file has its one link still.
+    // No directory is linked, no name is linked that is there, and none if there is no directory; the file still has
+    // its one link.
     (
         Image::Tree,
         &[
@@ -74,7 +75,7 @@ const ROWS: &[Row] = &[
         ],
         (6, 0, 4),
     ),
-    // In a directory that was removed, also meanwhile, nothing is linked.
+    // In a directory that was removed, even meanwhile, nothing is linked.
     (
         Image::Tree,
         &[
@@ -120,7 +121,7 @@ const ROWS: &[Row] = &[
     ),
 ];
 
-/// Each row comes to what it tells, and is run again by its events.
+/// Each row has the results that it names, and is run again by its events.
 #[test]
 fn rows_are_run(rt: HostRuntime) {
     are_run(&rt, rt.alloc(), ROWS);

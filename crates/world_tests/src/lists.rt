@@ -1,4 +1,4 @@
-//! Rows as lists of events: how they are played, what a run makes of them, and where a device has failed in it.
+//! Rows as lists of events: how they are played, what a run makes of them, and at which step a device has failed.
 use crate::images::{counts, disk_of};
 use crate::memory::push;
 use crate::rows::{Ask, Line, Row, Says, call, is_told};
@@ -9,10 +9,10 @@ use plain_tree::{Call, Trace};
 use std::alloc::Global;
 use std::process::Abort;
 
-// No call here takes as many steps.
+// More steps than a call here takes.
 const MOST_STEPS: u32 = 100_000;
 
-/// What lines have made of a world: its events, in their order, and what each of them came to.
+/// What lines have made of a world: its events, in their order, and the outcome of each.
 #[derive(Drop)]
 pub struct Made {
     pub events: Vec<Event>,
@@ -32,7 +32,7 @@ impl Made {
         matches!(self.outcomes.last(), Some(Came::Stepped(Outcome::Done(_))))
     }
 
-    // What ran in the last event, where its call goes on.
+    // What ran in the last event, if its call goes on.
     fn last_kind(&self) -> Option<Kind> {
         kind_of(self.outcomes.last()?)
     }
@@ -53,7 +53,8 @@ fn make(rt: &impl Abort, world: &mut World<MemoryDisk>, made: &mut Made, event: 
     push(rt, &mut made.outcomes, came);
 }
 
-// At most so many steps of a hart, until so many of a kind have run, or to one that doesn't run and leave the call under way.
+// At most `most` steps of a hart. They end when `count` of a kind have run, or with one that doesn't run or ends the
+// call.
 fn go_on(
     rt: &impl Abort,
     world: &mut World<MemoryDisk>,
@@ -81,7 +82,7 @@ fn end(rt: &impl Abort, world: &mut World<MemoryDisk>, made: &mut Made, hart: u8
     go_on(rt, world, made, hart, Kind::Reply, 1, MOST_STEPS);
 }
 
-// Steps of the harts from 0 on in turn: whether the call of each ends with what is told.
+// Steps of the harts from 0 on in turn: whether the call of each ends with the outcome that is wanted.
 fn take_turns(
     rt: &impl Abort,
     world: &mut World<MemoryDisk>,
@@ -106,7 +107,7 @@ fn take_turns(
     false
 }
 
-// Plays a line, and answers whether it came to what it tells.
+// Plays a line, and answers whether it had the outcome that it names.
 fn tell(
     rt: &impl Abort,
     alloc: Global,
@@ -211,7 +212,7 @@ fn meet(
     next
 }
 
-// A call of hart 0 with calls of hart 1, so many of which come before it. Whether both harts are idle then.
+// A call of hart 0 with calls of hart 1, the first `count` of which come before it. Whether both harts are idle then.
 fn come_between(
     rt: &impl Abort,
     alloc: Global,
@@ -234,7 +235,7 @@ fn come_between(
     is_idle && made.is_last(&Says::Idle)
 }
 
-// Plays lines, up to the first one that doesn't come to what it tells: its number.
+// Plays lines, up to the first one that hasn't the outcome that it names: its number.
 fn tell_all(
     rt: &impl Abort,
     alloc: Global,
@@ -250,7 +251,7 @@ fn tell_all(
     None
 }
 
-/// A world over a device that doesn't fail in the mount. Where memory for it is refused, the test says so, and ends.
+/// A world over a device that doesn't fail in the mount. If memory for it is refused, the test says so, and ends.
 pub fn mounted<D: Device + Drop>(rt: &impl Abort, alloc: Global, device: D) -> World<D> {
     match World::mount(alloc, device) {
         Ok(world) => world,
@@ -258,7 +259,8 @@ pub fn mounted<D: Device + Drop>(rt: &impl Abort, alloc: Global, device: D) -> W
     }
 }
 
-// Plays lines over a new world of a disk, each of which comes to what it tells, and gives the disk back. They are those of this row.
+// Plays lines over a new world of a disk, each of which has the outcome that it names, and gives the disk back. They
+// are those of this row.
 fn play_row(
     rt: &impl Abort,
     alloc: Global,
@@ -277,7 +279,7 @@ fn play_row(
     (made, disk)
 }
 
-/// Plays lines over a new world of a disk, each of which comes to what it tells, and gives the disk back.
+/// Plays lines over a new world of a disk, each of which has the outcome that it names, and gives the disk back.
 pub fn play(
     rt: &impl Abort,
     alloc: Global,
@@ -287,12 +289,12 @@ pub fn play(
     play_row(rt, alloc, disk, lines, 0)
 }
 
-/// Ends the test where something isn't so, and tells a number.
+/// Ends the test if something isn't so, and prints a number.
 pub fn holds(rt: &impl Abort, is_so: bool, what: &str, number: usize) {
     assert!(rt; is_so, "{what} {number}");
 }
 
-/// These events over a world. Where memory is short the world is handed back as it was, and ends.
+/// These events over a world. If memory is short the world is handed back as it was, and ends.
 pub fn ran<D: Device + Drop>(
     rt: &impl Abort,
     alloc: Global,
@@ -308,7 +310,7 @@ pub fn ran<D: Device + Drop>(
     }
 }
 
-/// What a list of events came to, the device then, and the run's cut and doubt.
+/// The outcomes of a list of events, the device then, and the run's cut and doubt.
 #[derive(Drop)]
 pub struct RunEnd<D: Device + Drop> {
     pub device: D,
@@ -338,7 +340,7 @@ pub fn run_over<D: Device + Drop>(
     }
 }
 
-/// At most so many first ones.
+/// The first `count` items, or all if there are fewer.
 pub fn first<T>(items: &[T], count: usize) -> &[T] {
     match items.split_at_checked(count) {
         Some((first, _)) => first,
@@ -375,7 +377,7 @@ fn is_same(came: &Came, wanted: &Came) -> bool {
     }
 }
 
-/// Whether events came to the same as others.
+/// Whether events had the same outcomes as others.
 pub fn are_same(outcomes: &[Came], wanted: &[Came]) -> bool {
     for (came, wanted) in outcomes.iter().zip(wanted.iter()) {
         if !is_same(came, wanted) {
@@ -385,8 +387,8 @@ pub fn are_same(outcomes: &[Came], wanted: &[Came]) -> bool {
     outcomes.len() == wanted.len()
 }
 
-// Whether `run` makes of these events, over a new world of a disk, the same outcomes, in their order, and the same bytes of the disk.
-// Its cut is the leave behind which the last head was written.
+// Whether `run` makes of these events, over a new world of a disk, the same outcomes, in their order, and the same
+// bytes of the disk. Its cut is the leave whose group has the last head that was written.
 fn is_run(rt: &impl Abort, alloc: Global, disk: MemoryDisk, made: &Made, bytes: &[u8]) -> bool {
     let groups = groups_in(rt, alloc, made.outcomes.as_slice());
     let last = groups.as_slice().last().map(|group| group.leave);
@@ -397,7 +399,8 @@ fn is_run(rt: &impl Abort, alloc: Global, disk: MemoryDisk, made: &Made, bytes: 
         && (ended.cut, ended.doubt) == (last, None)
 }
 
-// A row comes to what it tells, line by line, and leaves what it tells; and `run` makes the same of its events.
+// A row has the outcomes that it names, line by line, and leaves what it names; and `run` makes the same of its
+// events.
 fn row_is_run(rt: &impl Abort, alloc: Global, row: &Row, number: usize) {
     let (image, lines, left) = row;
     let (made, disk) = play_row(rt, alloc, disk_of(rt, alloc, *image), *lines, number);
@@ -408,15 +411,16 @@ fn row_is_run(rt: &impl Abort, alloc: Global, row: &Row, number: usize) {
     holds(rt, is_run && counts == *left, "row", number);
 }
 
-/// Each row comes to what it tells, line by line, and leaves what it tells; and `run` makes the same of its events.
+/// Each row has the outcomes that it names, line by line, and leaves what it names; and `run` makes the same of its
+/// events.
 pub fn are_run(rt: &impl Abort, alloc: Global, rows: &[Row]) {
     for (number, row) in rows.iter().enumerate() {
         row_is_run(rt, alloc, row, number);
     }
 }
 
-/// A group's commit: the events of the leave that began it, and of its writes. These are the copies in the log, the head, as many
-/// blocks at home, and the head again.
+/// A group's commit: the events of the leave that began it, and of its writes. These are the copies in the log, the
+/// head, the same number of blocks at home, and the head again.
 #[derive(Drop)]
 pub struct Group {
     pub leave: u64,
@@ -434,7 +438,7 @@ impl Group {
     }
 }
 
-/// The commits of a run, by what its events came to. Each of them has come to its end.
+/// The commits of a run, by the outcomes of its events. Each of them has ended.
 pub fn groups_in(rt: &impl Abort, alloc: Global, outcomes: &[Came]) -> Vec<Group> {
     let mut groups: Vec<Group> = Vec::new(alloc);
     let mut leave = None;
@@ -484,7 +488,7 @@ impl Calls {
         }
     }
 
-    // Whether an event of a stopped world comes to this: starts are taken as before, and no call goes on.
+    // Whether an event of a stopped world has this outcome: starts are taken as before, and no call goes on.
     fn is_halted(&self, event: &Event, came: &Came) -> bool {
         match (event, came) {
             (Event::Start { hart, call: _ }, Came::Started) => {
@@ -513,8 +517,8 @@ fn child_of(call: &Call) -> Option<u8> {
     }
 }
 
-/// Where the device failed in a run, in which step: up to there each event came to what it did without that, and from then on no call
-/// goes on. None where it came to its end.
+/// The step of a run in which the device failed. Up to there each event had the outcome that it has without the
+/// failure, and from then on no call goes on. None if the run ended.
 pub fn stopped_at(rt: &impl Abort, made: &Made, outcomes: &[Came]) -> Option<u64> {
     let mut calls = Calls { harts: [None; 8] };
     let mut stopped = None;

@@ -1,6 +1,6 @@
-//! Tests of a mounted world: what its calls answer, event by event, and the histories that are handed out. They stand here, above the
-//! crates that they run, since a crate with tests is proved twice. Most are rows (`rows`), over a few images (`images`), so that few
-//! functions are to be proved.
+//! Tests of a mounted world: what its calls answer, event by event, and the histories that are handed out. They are
+//! here, above the crates that they run, because a crate with tests is proved twice. Most are rows (`rows`), over a
+//! few images (`images`), so that there are few functions to prove.
 #![tactic(auto)]
 
 #[cfg(test)]
@@ -52,5 +52,5 @@ mod worked;
 #[cfg(test)]
 mod writes;
 
-// `rt test` runs the tests, and nothing else is here to be run.
+// `rt test` runs the tests; there is nothing else to run here.
 fn main() {}

@@ -1,4 +1,4 @@
-//! Memory of a test. Where it is refused the test says so, and ends.
+//! Memory of a test. If it is refused the test says so, and ends.
 use std::alloc::Global;
 use std::process::Abort;
 

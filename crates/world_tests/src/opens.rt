@@ -10,7 +10,8 @@ use hart_core::StartRefused;
 use plain_tree::{Cause, NodeType};
 
 const ROWS: &[Row] = &[
-    // On a fresh image the root opens, by its name and by an empty path, tells its state, and is read; and it has no parent.
+    // On a fresh image the root opens, by its name and by an empty path. It gives its state and is read, and it has
+    // no parent.
     (
         SMALL,
         &[
@@ -48,7 +49,8 @@ const ROWS: &[Row] = &[
         ],
         (6, 0, 4),
     ),
-    // What isn't there isn't opened, nor a directory for writing, nor a device without a driver; and only a directory becomes a hart's.
+    // A name that isn't there isn't opened, nor a directory for writing, nor a device without a driver; and only a
+    // directory becomes a hart's.
     (
         Image::Tree,
         &[
@@ -65,8 +67,8 @@ const ROWS: &[Row] = &[
         ],
         (6, 0, 4),
     ),
-    // A start is refused where there is no such hart, where the hart has a call, where a path is too long or has a zero byte, and where
-    // too much is to be read.
+    // A start is refused if there is no such hart, or if the hart has a call. It is refused if a path is too long or
+    // has a zero byte, and if too much would be read.
     (
         SMALL,
         &[
@@ -87,7 +89,8 @@ const ROWS: &[Row] = &[
         ],
         (1, 0, 1),
     ),
-    // A call on a descriptor that isn't open is refused; so is a read of what isn't open to read, and of a device.
+    // A call on a descriptor that isn't open is refused. So is a read by a descriptor that isn't open to read, and of
+    // a device.
     (
         Image::Tree,
         &[
@@ -147,7 +150,8 @@ const ROWS: &[Row] = &[
         ],
         (1, 0, 1),
     ),
-    // A read waits for an inode's lock, and goes on behind the other one; two opens of one file, step by step in turn, both succeed.
+    // A read waits for an inode's lock, and goes on after the other one. Two opens of one file, step by step in turn,
+    // both succeed.
     (
         Image::WithFile(400, b"hello"),
         &[
@@ -162,7 +166,7 @@ const ROWS: &[Row] = &[
         ],
         (2, 0, 2),
     ),
-    // A walk loses its way where the directory that it has reached is removed.
+    // A walk is lost if the directory that it has reached is removed.
     (
         Image::Tree,
         &[
@@ -191,7 +195,7 @@ const ROWS: &[Row] = &[
     ),
 ];
 
-/// Each row comes to what it tells, and is run again by its events.
+/// Each row has the results that it names, and is run again by its events.
 #[test]
 fn rows_are_run(rt: HostRuntime) {
     are_run(&rt, rt.alloc(), ROWS);

@@ -13,14 +13,14 @@ use std::test::Fail;
 /// More steps than a call of these runs has.
 const MANY: usize = 100000;
 
-/// A fresh image of 2000 blocks and 200 inodes, and the events that a script comes to on it.
+/// A fresh image of 2000 blocks and 200 inodes, and the events that a script makes on it.
 #[derive(Drop)]
 pub struct Play {
     pub image: Vec<u8>,
     pub events: Vec<Event>,
 }
 
-/// What the events come to: the image's tree, and the trace.
+/// What the events show: the image's tree, and the trace.
 #[derive(Drop)]
 pub struct Seen {
     pub base: Tree,
@@ -83,7 +83,7 @@ fn start(
     Ok(())
 }
 
-// Steps of a hart, until so many of a kind have run, or its call ends.
+// Steps of a hart, until `count` of a kind have run, or its call ends.
 fn go_on(
     world: &mut World<MemoryDisk>,
     events: &mut Vec<Event>,
@@ -210,7 +210,7 @@ fn outcomes_of(alloc: Global, play: &Play) -> Result<Vec<Came>, Fail> {
     }
 }
 
-/// What the events come to.
+/// What the events show.
 pub fn seen_in(alloc: Global, play: &Play) -> Result<Seen, Fail> {
     let mut disk = MemoryDisk::new(Vec::from_slice(alloc, &play.image)?);
     let Ok(base) = tree_of(alloc, &mut disk, Version::One) else {

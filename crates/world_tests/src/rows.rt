@@ -1,4 +1,4 @@
-//! Rows: what harts are told to do, line by line, and what each line comes to.
+//! Rows: what harts do, line by line, and the outcome of each line.
 use crate::images::Image;
 use crate::memory::{copied, push};
 use fs_machine::Kind;
@@ -23,14 +23,14 @@ pub const LONG: [u8; 128] = [b'a'; 128];
 /// The longest path.
 pub const LONGEST: [u8; 127] = [b'a'; 127];
 
-/// A call, with its paths or bytes as they stand in a row.
+/// A call, with its paths or bytes as a row has them.
 #[derive(Drop)]
 pub enum Ask<'a> {
     Open(&'a [u8], u32),
-    /// A read into so much memory.
+    /// A read into this many bytes of memory.
     Read(u32, usize),
     Write(u32, &'a [u8]),
-    /// A write of the pattern's bytes, from a place on, so many.
+    /// A write of the pattern's bytes: from this place on, and this number of them.
     Fill(u32, usize, usize),
     Link(&'a [u8], &'a [u8]),
     Unlink(&'a [u8]),
@@ -42,14 +42,14 @@ pub enum Ask<'a> {
     Inherit(u8),
 }
 
-/// What a line comes to.
+/// The outcome of a line.
 #[derive(Drop)]
 pub enum Says<'a> {
     Fd(u32),
     Count(u32),
     /// A read of these bytes.
     Bytes(&'a [u8]),
-    /// A read of the pattern's bytes, from a place on, so many.
+    /// A read of the pattern's bytes: from this place on, and this number of them.
     Pattern(usize, u32),
     /// The number, kind, links and size of an inode.
     State(u16, NodeType, u16, u64),
@@ -63,21 +63,21 @@ pub enum Says<'a> {
     Ran(Kind),
 }
 
-/// What a hart is told, and what that comes to.
+/// What a hart does, and the outcome.
 #[derive(Drop)]
 pub enum Line<'a> {
     /// A call from its start to its end, or to a wait.
     Do(u8, Ask<'a>, Says<'a>),
     /// A call is started.
     Start(u8, Ask<'a>),
-    /// Steps, until so many of this kind have run.
+    /// Steps, until this number of this kind have run.
     Upto(u8, Kind, u32),
     /// Steps to the call's end, or to a wait.
     End(u8, Says<'a>),
     /// Steps of the harts from 0 on in turn, until the call of each has ended.
     All(&'a [Says<'a>]),
-    /// A call of hart 0. Before each of its steps hart 1 makes a call, these in turn, so many of them before it starts; and at last all
-    /// of them once more.
+    /// A call of hart 0. Before each of its steps hart 1 makes one of these calls, in turn. The number says how many
+    /// of them come before the call starts. At the end hart 1 makes all of them once more.
     Between(&'a Ask<'a>, &'a [Ask<'a>], usize),
 }
 
@@ -141,7 +141,7 @@ pub fn call(rt: &impl Abort, alloc: Global, ask: &Ask) -> Call {
     }
 }
 
-// Whether a read's memory begins with the pattern's bytes from a place on, so many.
+// Whether a read's memory begins with `count` of the pattern's bytes, from a place on.
 fn has_pattern(call: &Call, from: usize, count: u32) -> bool {
     let Call::Read { fd: _, buf } = call else {
         return false;
@@ -201,7 +201,7 @@ fn is_outcome(outcome: &Outcome, says: &Says) -> bool {
     }
 }
 
-/// Whether an event came to what is told.
+/// Whether an event had the outcome that a row names.
 pub fn is_told(came: &Came, says: &Says) -> bool {
     match came {
         Came::Started => matches!(says, Says::Started),

@@ -42,7 +42,7 @@ fn end_of(call: &TracedCall) -> Option<u64> {
     }
 }
 
-// The event that gave the reply of a call of the trace; 0 where there is none.
+// The event that gave the reply of a call of the trace; 0 if there is none.
 fn last_of(trace: &Trace, call: usize) -> u64 {
     match trace.calls.as_slice().get(call) {
         Some(call) => end_of(call).unwrap_or(0),
@@ -50,8 +50,8 @@ fn last_of(trace: &Trace, call: usize) -> u64 {
     }
 }
 
-/// Two harts' events are made in their order: two calls are finished, one is under way, and two starts are refused. The steps' list
-/// explains that, and doesn't where one of them comes after its reply.
+/// Two harts' events are made in their order: two calls are finished, one is under way, and two starts are refused.
+/// The steps' list explains that, and doesn't if one of them comes after its reply.
 #[test]
 fn events_come_in_order(rt: HostRuntime) {
     let alloc = rt.alloc();
@@ -84,7 +84,7 @@ fn events_come_in_order(rt: HostRuntime) {
     assert!(rt; !explains(&rt, alloc, &base, &trace, &list));
 }
 
-/// A run goes on where another ended, in mid-call.
+/// A run goes on from the end of another, in the middle of a call.
 #[test]
 fn a_run_goes_on(rt: HostRuntime) {
     let alloc = rt.alloc();
@@ -115,7 +115,7 @@ fn a_run_goes_on(rt: HostRuntime) {
 
 const MANY: usize = 20_000;
 
-// A hart asks for a second descriptor of a file that isn't open, so many times.
+// A hart asks many times for a second descriptor of a file that isn't open.
 fn many_calls(rt: &impl Abort, alloc: Global) -> Made {
     let mut events = Vec::new(alloc);
     let mut outcomes = Vec::new(alloc);
@@ -147,7 +147,8 @@ fn many_calls_are_explained(rt: HostRuntime) {
     assert!(rt; list.len() == MANY);
 }
 
-/// A walk that finds the directory that it has reached removed is explained by a step behind the unlinks, and by none before them.
+/// A step after the unlinks explains a walk that finds the directory that it has reached removed, and no step before
+/// them does.
 #[test]
 fn a_lost_walk_is_explained(rt: HostRuntime) {
     let alloc = rt.alloc();
@@ -183,7 +184,7 @@ fn a_lost_walk_is_explained(rt: HostRuntime) {
     assert!(rt; !explains(&rt, alloc, &base, &trace, &list));
 }
 
-// What is asked at random.
+// What is called at random.
 const ASKS: &[Ask<'static>] = &[
     Open(b"/d/e/f", READ_AND_WRITE),
     Open(b"/d/g", READ_AND_WRITE),
@@ -235,7 +236,7 @@ fn drawn_events(rt: &impl Abort, alloc: Global) -> Vec<Event> {
     events
 }
 
-/// Eight harts start calls and step at random, 100,000 events; each call comes to its end, and the image is well formed.
+/// Eight harts start calls and step at random, 100,000 events; each call ends, and the image is well formed.
 #[test]
 fn eight_harts_at_random(rt: HostRuntime) {
     let alloc = rt.alloc();

@@ -1,5 +1,6 @@
-//! Where memory is short: `bin/short-memory` refuses each request for memory in turn that a call makes, which is made between the lines
-//! "call" and "done". Then it answers 33, what it was given is as before, and made once more it comes to what it comes to else.
+//! What calls do if memory is short. `bin/short-memory` refuses, in turn, each request for memory that a call makes
+//! between the lines "call" and "done". Then the call answers 33, and what it was given is as before. Made once more,
+//! it has its usual result.
 use crate::histories::{explains, history_of};
 use crate::images::{Image, SMALL, disk_of, tree_in};
 use crate::lists::{are_same, groups_in, mounted, play, ran, traced};
@@ -53,7 +54,7 @@ fn of_mount(rt: HostRuntime) {
     assert!(rt; disk.into_bytes().as_slice() == image.as_slice());
 }
 
-/// A world whose run is refused memory is handed back as it was: the same events come to the same on it.
+/// A world whose run is refused memory is handed back as it was: the same events have the same outcomes on it.
 #[test]
 fn of_run(rt: HostRuntime) {
     let alloc = rt.alloc();
@@ -104,7 +105,7 @@ fn is_same_trace(one: &Trace, other: &Trace) -> bool {
         && calls.map(|(a, b)| is_same_call(a, b)).all(|same| same)
 }
 
-/// A trace that was refused memory is told by the next one.
+/// If a trace was refused memory, the next one shows the same.
 #[test]
 fn of_trace(rt: HostRuntime) {
     let alloc = rt.alloc();

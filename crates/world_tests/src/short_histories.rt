@@ -1,5 +1,5 @@
-//! Where memory is short: `bin/short-memory` refuses each request for memory in turn that a call makes, which is made between the lines
-//! "call" and "done". Then it answers 33, and made once more it comes to what it comes to else.
+//! What calls do if memory is short. `bin/short-memory` refuses, in turn, each request for memory that a call makes
+//! between the lines "call" and "done". Then the call answers 33. Made once more, it has its usual result.
 use crate::play::{explains, played, seen_in};
 use explain::explain;
 use plain_tree::Placed;

@@ -1,4 +1,4 @@
-//! Where the device fails, and what a mount refuses.
+//! Stops at each failure of the device, and what a mount refuses.
 use crate::images::{Image, SMALL, disk_of, tree_in};
 use crate::lists::{Group, Made, RunEnd, groups_in, holds, play, run_over, stopped_at};
 use crate::memory::copied;
@@ -16,7 +16,7 @@ use plain_tree::NodeType;
 use std::alloc::Global;
 use std::process::Abort;
 
-// Mounts a disk that passes so many calls: the disk then, and whether it was mounted.
+// Mounts a disk that passes `calls` calls: the disk then, and whether it was mounted.
 fn try_mount(rt: &impl Abort, alloc: Global, disk: MemoryDisk, calls: u64) -> (MemoryDisk, bool) {
     match World::mount(alloc, Fused::new(disk, calls)) {
         Ok(world) => (world.unmount().into_disk(), true),
@@ -42,7 +42,7 @@ pub fn calls_of_mount(rt: &impl Abort, alloc: Global, disk: MemoryDisk) -> u64 {
     calls.saturating_add(1)
 }
 
-/// Where the device failed in a run, in which event, and the run's cut and doubt.
+/// The event of a run in which the device failed, and the run's cut and doubt.
 #[derive(Clone, Copy)]
 pub struct Stopped {
     pub event: Option<u64>,
@@ -100,7 +100,8 @@ fn copy_of(rt: &impl Abort, alloc: Global, image: &[u8]) -> MemoryDisk {
     MemoryDisk::new(copied(rt, alloc, image))
 }
 
-// What a stopped commit leaves: nothing of its group up to the head, and all of it from then on; in doubt is it where the head failed.
+// What a stopped commit leaves: nothing of its group up to the head, and all of it from then on. The group is in
+// doubt if the head's write failed.
 fn is_left(group: &Group, number: usize, stop: Stopped) -> bool {
     let leave = Some(group.leave);
     let cut = if number > group.copies() { leave } else { None };
@@ -112,8 +113,8 @@ fn is_left(group: &Group, number: usize, stop: Stopped) -> bool {
     stop.event == group.writes.get(number).copied() && stop.cut == cut && stop.doubt == doubt
 }
 
-// A row over an image, what it made, and its one commit. From the commit's head on the file has the letter A if that is written, and else
-// nothing.
+// A row over an image, what it made, and its one commit. From the commit's head on the file has the letter A if the
+// row writes that, and else nothing.
 #[derive(Drop)]
 struct Commit<'a> {
     image: &'a [u8],
@@ -122,8 +123,8 @@ struct Commit<'a> {
     is_written: bool,
 }
 
-// One write of a commit fails alone, done or not, and the device works again then. The file has what was written where the head was,
-// also where that is what failed, and was done.
+// One write of a commit fails alone, done or not, and the device works again then. The file has what was written if
+// the head was written, even if the head's write is the one that failed, and was done.
 fn fails_once(rt: &impl Abort, alloc: Global, commit: &Commit, calls: u64, number: usize) {
     let head = commit.group.copies();
     for is_done in [false, true] {
@@ -198,9 +199,10 @@ fn commits(
     stops_at_each(rt, alloc, &commit, writes);
 }
 
-/// The commit of a write to a new file writes the log's copies of the bitmap, the file's block and its inode, the header, these blocks at
-/// home, and the header again; that of an open that empties a file does so with the bitmap and the inode. Stopped before the first
-/// header the disk has the old file, and from then on the new one.
+/// The commit of a write to a new file writes the log's copies of the bitmap, the file's block and its inode, then
+/// the header. Then it writes these blocks at home, and the header again. That of an open that empties a file does so
+/// with the bitmap and the inode. Stopped before the first header the disk has the old file, and from then on the new
+/// one.
 #[test]
 fn a_commit_goes_by_the_log(rt: HostRuntime) {
     let alloc = rt.alloc();
@@ -220,8 +222,8 @@ fn a_commit_goes_by_the_log(rt: HostRuntime) {
     commits(&rt, alloc, image.as_slice(), &empty, &writes, false);
 }
 
-/// A mount that recovers three blocks is stopped at each call of the device in turn, also in the middle of that: each time the tree is
-/// the same, up to the first mount that isn't stopped.
+/// A mount that recovers three blocks is stopped at each call of the device in turn, even in the middle of a write.
+/// Each time the tree is the same, up to the first mount that isn't stopped.
 #[test]
 fn a_recovery_is_stopped(rt: HostRuntime) {
     let alloc = rt.alloc();
@@ -248,8 +250,8 @@ fn a_recovery_is_stopped(rt: HostRuntime) {
     panic!(rt; "the device is called more than a thousand times")
 }
 
-/// Three files are removed while they are open. Each call of the device that a mount makes of what is left fails in turn. The disk has its tree all
-/// the same, and is mounted again, without a node of count 0.
+/// Three files are removed while they are open. Each call of the device that a mount then makes fails in turn. The
+/// disk has its tree all the same, and is mounted again, without a node of count 0.
 #[test]
 fn mounts_that_free_three_nodes_are_stopped(rt: HostRuntime) {
     let alloc = rt.alloc();

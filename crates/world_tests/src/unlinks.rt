@@ -25,7 +25,7 @@ const ROWS: &[Row] = &[
         ],
         (3, 0, 1),
     ),
-    // What isn't there isn't unlinked, nor a dot, nor a directory with entries; and all stays as it was.
+    // A name that isn't there isn't unlinked, nor a dot, nor a directory with entries; and all stays as it was.
     (
         Image::Tree,
         &[
@@ -46,7 +46,8 @@ const ROWS: &[Row] = &[
         ],
         (6, 0, 4),
     ),
-    // A file that is open lives on without a name until it is closed; where the world ends before that, it stays on the disk.
+    // A file that is open lives on without a name until it is closed; if the world ends before that, it stays on the
+    // disk.
     (
         Image::Tree,
         &[
@@ -67,7 +68,8 @@ const ROWS: &[Row] = &[
         ],
         (5, 0, 3),
     ),
-    // In a directory that was removed nothing is found, nor are its dots; a hart that is in it has it until it goes elsewhere.
+    // In a directory that was removed nothing is found, not even its dots; a hart that is in it has it until it goes
+    // elsewhere.
     (
         Image::Tree,
         &[
@@ -103,7 +105,7 @@ const ROWS: &[Row] = &[
     ),
 ];
 
-/// Each row comes to what it tells, and is run again by its events.
+/// Each row has the results that it names, and is run again by its events.
 #[test]
 fn rows_are_run(rt: HostRuntime) {
     are_run(&rt, rt.alloc(), ROWS);

@@ -126,7 +126,7 @@ const ROWS: &[Row] = &[
     (SMALL, TWO_PIECES, (2, 0, 5)),
     (SMALL, EMPTIED, (2, 0, 1)),
     (SMALL, WALK_IS_LOST, (1, 0, 1)),
-    // The same, where others of these names are there by then.
+    // The same, if others of these names are there by then.
     (
         SMALL,
         &[
@@ -162,7 +162,7 @@ const ROWS: &[Row] = &[
     ),
     (SMALL, LINKED_AND_UNLINKED, (2, 0, 2)),
     (SMALL, RAISED_AND_LOWERED, (3, 0, 1)),
-    // A child reads on where its parent has read to.
+    // A child reads on from the offset that its parent has read to.
     (
         SMALL,
         &[
@@ -175,7 +175,7 @@ const ROWS: &[Row] = &[
         ],
         (1, 0, 1),
     ),
-    // A path that climbs finds what at no moment was there.
+    // A path that climbs finds a node that it led to at no one moment.
     (
         SMALL,
         &[
@@ -274,8 +274,8 @@ const ROWS: &[Row] = &[
     ),
 ];
 
-// How many calls of the device a list of events makes behind those of the mount: each of them fails in turn, and that step is stopped,
-// and every one after it. The disk is in order then.
+// How many calls of the device a list of events makes after those of the mount. Each of them fails in turn, and that
+// step is stopped, and each later one. The disk is in order then.
 fn count_stops(rt: &impl Abort, alloc: Global, image: Image, made: &Made) -> u64 {
     let first = calls_of_mount(rt, alloc, disk_of(rt, alloc, image));
     for more in 0..1000 {
@@ -290,7 +290,8 @@ fn count_stops(rt: &impl Abort, alloc: Global, image: Image, made: &Made) -> u64
     panic!(rt; "the device is called more than a thousand times")
 }
 
-/// Each row comes to what it tells; and over its list each call of the device fails in turn, until there is none that fails.
+/// Each row has the results that it names. Over its list each call of the device fails in turn, until there is none
+/// that fails.
 #[test]
 fn each_call_of_the_device_fails(rt: HostRuntime) {
     for (number, (image, row, left)) in ROWS.iter().enumerate() {

@@ -27,8 +27,8 @@ const ROWS: &[Row] = &[
         ],
         (2, 0, 270),
     ),
-    // A write by what isn't open to write is refused, also one of no bytes; and so is one past the end of a file that was emptied
-    // meanwhile. Of no bytes nothing else is tested.
+    // A write by a descriptor that isn't open to write is refused, even one of no bytes. So is one past the end of a
+    // file that was emptied meanwhile. Nothing else is tested with no bytes.
     (
         Image::WithFile(400, b"A"),
         &[
@@ -50,8 +50,8 @@ const ROWS: &[Row] = &[
         ],
         (2, 0, 1),
     ),
-    // With 23 blocks free a file gets 22 and an indirect block: the write answers that there is no more, what comes before the missing
-    // block is written, and the image is in order.
+    // With 23 blocks free a file gets 22 and an indirect block. The write answers that there is no more room, the
+    // bytes before the missing block are written, and the image is in order.
     (
         Image::WithFile(60, b""),
         &[
@@ -113,13 +113,13 @@ const ROWS: &[Row] = &[
     ),
 ];
 
-/// Each row comes to what it tells, and is run again by its events.
+/// Each row has the results that it names, and is run again by its events.
 #[test]
 fn rows_are_run(rt: HostRuntime) {
     are_run(&rt, rt.alloc(), ROWS);
 }
 
-// The lines of a content of so many bytes: it is written in pieces, and read in others by another hart.
+// The lines of a content of `size` bytes: one hart writes it in pieces, and another hart reads it in others.
 fn lines_of(
     rt: &impl Abort,
     alloc: Global,
@@ -150,7 +150,7 @@ fn lines_of(
     lines
 }
 
-// A count as a reply tells it.
+// A count as a reply says it.
 fn told(count: usize) -> u32 {
     count.min(u32::MAX as usize) as u32
 }

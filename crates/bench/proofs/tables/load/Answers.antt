@@ -6,7 +6,6 @@ loaded : (guard : GuardState Inode) (v : Inode) (t : TablesState) → v.number �
 unfolding IsOut
 loaded guard v t same l = record { out = l.out; entry = l.entry; there = l.there; number = l.number ∙ sym same; referenced = l.referenced }
 
--- src/tables.rt:68:13
 pub unlock-requires-clause-locked : goal.unlock-requires-clause-locked
 unlock-requires-clause-locked c =
     let number = ap (λ (v : Inode). v.number) c.set_record.ensures ∙ ap (λ (v : Inode). v.number) c.value_mut.ensures.value in

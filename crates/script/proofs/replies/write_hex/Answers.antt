@@ -1,7 +1,6 @@
 use Rattle.script.proofs.Lemmas.{rules, ◌∷◌, [], get_or, Appends, hex, hex_turn}
 use Rattle.script.proofs.replies.write_hex.Goals as goal
 
--- src/text.rt:83:5
 pub loop-byte-preserved : goal.loop-byte-preserved
 loop-byte-preserved g c =
     let wrote : Appends (g.W.Write.contents c.loop-byte.out) (g.W.Write.contents c.write_all.new.self) (hex (get_or c.args.bytes.now c.loop-byte.byte-index 0 ∷ [])) = search rules in

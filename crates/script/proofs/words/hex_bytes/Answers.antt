@@ -1,7 +1,6 @@
 use Rattle.script.proofs.Lemmas.{rules, arith, min, length, Some, ap, sym, ◌∙◌, append-nil, option_and_then, chunks_rest, with_first, pairs_in, with_front, one_pair, no_pair, push_front}
 use Rattle.script.proofs.words.hex_bytes.Goals as goal
 
--- src/words.rt:41:13
 pub returns-in_default : goal.returns-in_default
 returns-in_default c =
     let came = c.in-Some.ensures.steps.1 in
@@ -9,7 +8,6 @@ returns-in_default c =
     let read = one_pair (chunks_rest c.loop-pair.pair-iterator) c.in-Some.pair.now (chunks_rest c.next.new.self) came.0 (came.1 ∙ size) came.2 in
     sym c.loop-pair.invariant.3 ∙ ap (λ o. with_front c.loop-pair.bytes.items o) (read ∙ ap (λ o. option_and_then (λ b. with_first b (pairs_in (chunks_rest c.next.new.self))) o) (sym c.byte_of.ensures ∙ c.in_default.is))
 
--- src/words.rt:39:5
 pub loop-pair-preserved : goal.loop-pair-preserved
 loop-pair-preserved c =
     let came = c.in-Some.ensures.steps.1 in
@@ -23,7 +21,6 @@ loop-pair-preserved c =
       ap (λ bs. with_front bs (pairs_in (chunks_rest c.next.new.self))) (search rules) ∙ sym (push_front c.loop-pair.bytes.items c.in-Some-byte_of.byte (pairs_in (chunks_rest c.next.new.self))) ∙ sym (ap (λ o. with_front c.loop-pair.bytes.items o) (read ∙ byte)) ∙ c.loop-pair.invariant.3,
     )
 
--- src/words.rt:34:1
 pub returns : goal.returns
 returns c =
     sym c.loop-pair.invariant.3 ∙ ap (λ o. with_front c.loop-pair.bytes.items o) (no_pair (chunks_rest c.loop-pair.pair-iterator) c.in-None.ensures.steps.1.0) ∙ ap Some (append-nil c.loop-pair.bytes.items)
