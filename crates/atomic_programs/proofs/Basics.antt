@@ -1,4 +1,4 @@
--- The lemmas that most of this crate's other lemmas stand on.
+-- The lemmas that most of this crate's other lemmas use.
 pub use Rattle.atomic_programs.proofs.Beginnings.{append_nil, oldest_first_more}
 pub use Rattle.atomic_programs.proofs.Erased.{erase-makes, erased}
 pub use Rattle.atomic_programs.proofs.Explains.{Keeps, Some-inj, all_honest, changed_other, changed_same, changed_tells, ends_last, explained_by, explains, holds_of, inv_of, is_some-false, may_make, sound_keeps}

@@ -67,7 +67,7 @@ module _ (U : Machine) (R : LowerLayer U.World) (handler : Handlers U R) {Heard 
       → advance kind exec (with_part q p) s ≡ moved_bind kind exec (λ x. below x.carry (hears p x.answer)) r
   goes_on kind exec q p s op r asked e = advance-bind kind exec q (λ x. below x.carry (hears p x.answer)) s op asked ∙ ap (moved_bind kind exec (λ x. below x.carry (hears p x.answer))) e
 
-  -- where the part has ended, and the next one began
+  -- the part has ended here, and the next one began
   pub begins_next : {A K S : Type 0} (kind : (op : R.Op) → R.Answer op → K) (exec : (op : R.Op) → S → ExecResult (R.Answer op) S) (q q' : Part) (p p' : P U A) (s t : S) (op : R.Op) (next : U.Op) (x : Heard) (c : R.Carry) (k : K) → asks q ≡ Some op
       → advance kind exec q s ≡ WentOn k (Ret (record { answer = x; carry = c })) t → hears p x ≡ p' → asks p' ≡ Some next → IsPart c next q' → advance kind exec (with_part q p) s ≡ WentOn k (with_part q' p') t
   begins_next kind exec q q' p p' s t op next x c k asked e heard asks_next is = goes_on kind exec q p s op (WentOn k (Ret (record { answer = x; carry = c })) t) asked e ∙ (λ i. WentOn k (next_begins p p' x c next q' heard asks_next is i) t)

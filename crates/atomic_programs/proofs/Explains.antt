@@ -331,7 +331,7 @@ module _ (L : Theory) (laws : Lawful L) (base : L.M.Tree) (h : ℕ) (s : State L
   pub lone_me : (j : ℕ) (q : Run L) → all_told L ps s.running j ≡ Some q → q.start ≡ r.start → j ≡ h
   lone_me j q b e = let y = old_start j q b in k.lone j h y.0 r y.1 st.is (y.2 ∙ e)
 
-  -- where another hart's call is under way, it is so afterwards
+  -- if another hart's call was under way before, it is afterwards
   pub still_told : (new : Option (Run L)) (j : ℕ) (q : Run L) → j ≢ h → s.running j ≡ Some q → changed (all_told L ps s.running) h new j ≡ Some (record q { done = onto (own j ps) q.done })
   still_told new j q ne run = changed_other (all_told L ps s.running) h new j ne ∙ ap (told L (own j ps)) run
 
@@ -525,7 +525,7 @@ may_make L laws base s k h r y e = at r.prog ((k.going h r e).wp y)
     at (Ret reply) g = tt
     at (Do op m c) g = (g s.world [] (laws.laws.same h s.world) (inv_of L s.stopped s.world k.holds y)).1
 
--- a step waits only where it may
+-- a step waits only when it may
 module _ (L : Theory) (laws : Lawful L) (base : L.M.Tree) (s : State L) (k : Keeps L base s) (h : ℕ) (x : L.M.Outside) where
   wait_tried : (r : Run L) (op : L.M.Op) (m : L.M.Answer op → Option L.M.Mark) (c : L.M.Answer op → P L.M L.Reply) (d : ExecResult (L.M.Answer op) L.M.World)
       → s.running h ≡ Some r → r.prog ≡ Do op m c → s.stopped ≡ false → L.M.Honest h op s.world x → L.M.go h x op m s.world ≡ d
@@ -594,7 +594,7 @@ pub explains : (L : Theory) (laws : Lawful L) (w : L.M.World) (events : List (Ev
 explains L laws w events inv idle honest =
     explained_by L laws (L.M.tree w) (run L events (fresh L w)) (Keeps-run L laws (L.M.tree w) events (fresh L w) honest (Keeps-fresh L w inv idle))
 
--- where the outside may answer anything, each list of events will do
+-- if the outside may answer anything, each list of events will do
 pub all_honest : (L : Theory) → ((h : ℕ) (op : L.M.Op) (w : L.M.World) (x : L.M.Outside) → L.M.Honest h op w x) → (events : List (Event L.Call L.M.Outside)) (s : State L) → AllHonest L events s
 all_honest L any [] s = tt
 all_honest L any (Start h call ∷ es) s = (tt, all_honest L any es (next L (Start h call) s))

@@ -397,7 +397,7 @@ not_stays h j v w s ne = none_is h (w.lock j) j (s j ∙ not_mine h (v.lock j) j
 has_stays : (h i : ℕ) (v w : Above) → Locks h v w → Has h i v → Has h i w
 has_stays h i v w s p = record { lock = (still h (v.lock i) (w.lock i) i i (s i) p.lock).0; only = λ j ne. not_stays h j v w s (p.only j ne) }
 
--- what another hart has stays where a lock comes into the hart's hand, or goes from it
+-- the other harts' things stay when a lock comes into the hart's hand or goes from it
 locked : (h i : ℕ) (y : Option ℕ) (v : Above) → Ours h (v.lock i) → Ours h y → (g : ℕ) → g ≢ h → Locks g v (record v { lock = put v.lock i y }) × Kept g v (record v { lock = put v.lock i y })
 locked h i y v a b g ne = (
   λ j. elim (ours_put h v.lock i y j a b) [ inl e ↦ ap (λ (o : Option ℕ). if_held o g j) e.1 | inr o ↦ not_held h g (put v.lock i y j) j o.1 ne ∙ sym (not_held h g (v.lock j) j o.0 ne) ],

@@ -76,7 +76,7 @@ module _ (l : Labels) (laws : Laws (whole l)) (keeps : Keeps l) (h : ℕ) where
           bytes_at v fs here (v.real.valid b) refl,
         )
 
-    -- the buffer is given back as it was got: what is left is shown where the hart has none
+    -- the buffer is given back as it was got: the rest is shown when the hart has no buffer
     s-back : (b : ℕ) (k : P D A) (n : ℕ) (es : E) (w : W) → w.real.out b ≡ Some h → ((c : ℕ) → c ≢ b → w.real.out c ≢ Some h) → IsTied h w.real w.seen → G es w.seen
         → ((v : W) (fs : E) → ((c : ℕ) → v.real.out c ≢ Some h) → IsTied h v.real v.seen → ((i : ℕ) → if_held (v.real.lock i) h (at v.real.cell i) ≡ if_held (w.real.lock i) h (at w.real.cell i)) → G fs v.seen → Wp D h B Q k n fs v)
         → Wp D h B Q (Do (Put b None) unmarked (λ _. k)) (suc n) es w

@@ -32,8 +32,8 @@ grows : (L : Machine) {A : Type 0} (h : ℕ) (p : P L A) (B : List L.Step → Ty
 grows L h (Ret a) B Q n fs xs v u lasts o i g y = (lasts a fs xs v u o i g).0 y
 grows L h (Do op m k) B Q n fs xs v u lasts o i g y = (g u xs o i).0 y
 
--- What holds of a program above holds of the lowered one, in as many steps, where the program of each operation that it makes acts at one moment, and the
--- program can afford it.
+-- If the program of each operation acts at one moment, and the program can afford it, then what holds of a program
+-- above holds of the lowered one. It takes the same number of steps.
 pub lift_within : (U : Machine) (R : LowerLayer U.World) (handler : Handlers U R) (laws : Laws U) (h : ℕ) (b : Budget U) (Has : R.World → b.Spent → Type 0) {A : Type 0} (p : P U A) → Uses U (AtomicWithin U R handler b Has h) p
     → (s : b.Spent) → Affords U b s p → (c : R.Carry) → Lifts U R handler h c (λ w. Has w.real s) p
 lift_within U R handler laws h b Has (Ret a) used s affords c B Q lasts n es w has g base inv = (g, inv, (c, base))
@@ -93,12 +93,12 @@ lift_using U R handler laws h p used c B Q lasts n es w from g base inv =
     (λ op m atomic c s B C es w lasts todo base allowed has. Wp-weaker (joined U R) h (handler c op m) B B (Below U R h C) (λ r fs u. Below U R h C r fs u × Unit {0}) (suc (U.more op)) es w (λ fs e. e) (λ r fs u e. (e, tt)) (atomic c B C es w lasts todo base)) used)
     tt (affords_free U p) c B Q lasts n es w tt g base inv
 
--- a program's operations are so where all are
+-- a program's operations are so if all are
 pub uses_all : (U : Machine) (Is : (op : U.Op) → (U.Answer op → Option U.Mark) → Type 1) {A : Type 0} (p : P U A) → ((op : U.Op) (m : U.Answer op → Option U.Mark) → Is op m) → Uses U Is p
 uses_all U Is (Ret a) all = tt
 uses_all U Is (Do op m k) all = (all op m, λ a. uses_all U Is (k a) all)
 
--- any program, where all operations' programs do
+-- any program, if all operations' programs do
 pub lift : (U : Machine) (R : LowerLayer U.World) (handler : Handlers U R) (laws : Laws U) (h : ℕ) (atomic : (op : U.Op) (m : U.Answer op → Option U.Mark) → Atomic U R handler h op m) {A : Type 0} (p : P U A) (c : R.Carry) → Lifts U R handler h c (λ w. Unit {0}) p
 lift U R handler laws h atomic p c = lift_using U R handler laws h p (uses_all U (Atomic U R handler h) p atomic) c
 
@@ -113,7 +113,7 @@ module _ (U : Machine) (R : LowerLayer U.World) (above : Laws U) (below : LowerL
   abbrev pub Stable : (List U.Step → U.World → Type 0) → Type 0
   Stable G = (fs xs : List U.Step) (g u : U.World) → U.Others h g xs u → U.Inv u → G fs g → (U.Clean u → Grown B xs fs) × G (onto xs fs) u
 
-  -- what a hart knows where its next operation runs: v is the world, fs the steps so far
+  -- what a hart knows when its next operation runs: v is the world, fs the steps so far
   pub record Here (G : List U.Step → U.World → Type 0) (w v : Both R.World U.World) (fs : List U.Step) : Type 0 where
     pub same : R.Same h w.real v.real
     pub kept : R.Kept h w.seen v.seen

@@ -63,7 +63,7 @@ module _ (U : Machine) (R : LowerLayer U.World) (More : ℕ → U.World → Type
     does_too : (es : List U.Step) (w : U.World) → More h w → Wp U h B C (once op m) (suc (U.more op)) es w → Wp U h B D (once op m) (suc (U.more op)) es w
     does_too es w has todo = λ v xs o i. let g = todo v xs o i in (g.0, g.1, (λ x t. ran x v (onto xs es) (U.go h x op m v) (goes x v (stays w v xs o has)) (g.2 x t)), g.3)
 
-  -- An operation's program acts at one moment still, where the operation and the others leave the hart what it has more.
+  -- An operation's program still acts at one moment if the operation and the others leave the hart what it has more.
   pub atomic_with_more : (handler : Handlers U R) (h : ℕ) (op : U.Op) (m : U.Answer op → Option U.Mark) → ((v w : U.World) (xs : List U.Step) → U.Others h v xs w → More h v → More h w)
       → ((x : U.Outside) (v : U.World) → More h v → IfRan (More h) (U.go h x op m v)) → Atomic U R handler h op m → Atomic U (with_more R More) handler h op m
   atomic_with_more handler h op m stays goes atomic c B C es w lasts todo base =

@@ -64,9 +64,9 @@ module _ (T : Theory) (R : LowerLayer T.M.World) (handler : Handlers T.M R) (beg
   pub lowered_lawful : AllAtomic T R handler begin → Lawful (lowered_calls T R handler begin)
   lowered_lawful atomic = lifted_lawful (λ h call can B Q lasts n es w from. lift T.M R handler lawful.laws h (atomic h (call, can.0, can.1, can.2, can.3)) (T.program call) R.none B Q lasts n es w tt)
 
--- Every run below shows a run of the machine above: whole operations one after the other, which lead from what was seen of
--- the first world to what is seen of the last one; each call's own are a run of its program with its reply, or a beginning
--- of one where it is under way.
+-- Every run below shows a run of the machine above: whole operations one after the other. They lead from what was seen
+-- of the first world to what is seen of the last one. Each call's own operations are a run of its program with its
+-- reply, or the beginning of a run if the call is under way.
 pub refined : (T : Theory) (K : Core T.M) (R : LowerLayer T.M.World) (handler : Handlers T.M R) (begin : Starts T R) (lawful : Lawful T) (below : LowerLaws T.M R) (core : IsCore T K) (starts : StartsBoth T R begin)
     → AllAtomic (operations_of T K) R handler begin
     → (w : Both R.World T.M.World) (events : List (Event T.Call R.Outside)) → R.Shows w.real w.seen → T.M.Inv w.seen → ((h : ℕ) → R.Base h w.real w.seen R.none) → ((h : ℕ) → T.M.Idle h w.seen)

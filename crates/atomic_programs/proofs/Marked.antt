@@ -53,7 +53,7 @@ pub carrying_bind : {Op : Type 0} {Answer : Op → Type 0} {M A B : Type 0} (p :
 carrying_bind (Ret a) f = refl
 carrying_bind (Do op m k) f = λ i. Do (op, λ x. is_some (m x)) m (λ x. carrying_bind (k x) f i)
 
--- what tells the marks of a lowered call is told by its handlers
+-- what gives the marks of a lowered call is given by its handlers
 pub lowered_so : (U : Machine) (R : LowerLayer U.World) (handler : Handlers U R) {A : Type 0} (c : R.Carry) (p : P U A) → carrying (lowered U R handler c p) ≡ lowered U (lower_with_marks R) (handlers_with_marks U R handler) c p
 lowered_so U R handler c (Ret a) = refl
 lowered_so U R handler {A} c (Do op m k) =

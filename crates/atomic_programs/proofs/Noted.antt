@@ -165,7 +165,7 @@ module _ (U : Machine) (K : Core U) (R : LowerLayer U.World) (handler : Handlers
       let x = some_after J some_below (k (some_below op)) (Then b) tail in
       (Runs (op, some_below op) ∷ Places (entry b) ∷ x.0, (some_below op, refl, inr (b, refl, x.1)))
 
-  -- what a program comes to by some answers, whatever is in hand
+  -- what a program results in by some answers, whatever is in hand
   abbrev some_reply : {A : Type 0} → P U A → A
   some_reply (Ret a) = a
   some_reply (Do op m k) = some_reply (k (some op))

@@ -31,7 +31,7 @@ pub operations_places_one : (L : Machine) (K : Core L) → PlacesOne (operations
 operations_places_one L K h op a m w inv = rw (own_one {A = OpWithAnswer L} h (op, a)) (omega arith)
 
 module _ (L : Machine) (K : Core L) {A : Type 0} (whole : P L A) where
-  -- after these operations, the newest first, p is what is left of the whole
+  -- after these operations, the newest first, p is the rest of the whole
   abbrev pub OnWay : P L A → List (OpWithAnswer L) → Type 0
   OnWay p fs = (rest : List (OpWithAnswer L)) (r : A) → IsRun L p rest r → IsRun L whole (onto fs rest) r
 

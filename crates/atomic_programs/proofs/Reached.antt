@@ -100,7 +100,7 @@ module _ (L : Theory) (C : Code L) (is : IsCode L C) where
   pub came_none : (s : State L) (p : Plain L C) → erase L C s ≡ p → CameTo L C s [] [] p
   came_none s p e = record { events = []; are = refl; honest = tt; outcomes_are = refl; after = e }
 
-  -- what a run from a world at rest came to is explained
+  -- the result of a run from a world at rest is explained
   pub came_shown : (laws : Lawful L) (w : L.M.World) (asks : List (Event L.Call (Unit {0}))) (came : List (Outcome C.Kind L.Reply L.Refusal)) (p : Plain L C)
       → L.M.Inv w → ((h : ℕ) → L.M.Idle h w) → CameTo L C (fresh L w) asks came p → Shown L C w asks came p
   came_shown laws w asks came p inv idle c = record { to = c; explained = explains L laws w c.events inv idle c.honest; traced = traced L w c.events }

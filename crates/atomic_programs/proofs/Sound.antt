@@ -116,7 +116,7 @@ pub s-assoc : {L : Machine} {A C D : Type 0} {h : ℕ} (p : P L A) (f : A → P 
     → Safe L h B Q (bind p (λ a. bind (f a) g)) n es w → Safe L h B Q (bind (bind p f) g) n es w
 s-assoc {L} {A} {C} {D} {h} p f g {B} {Q} {n} {es} {w} s = subst (λ (x : P L D). Safe L h B Q x n es w) (sym (bind-assoc p f g)) s
 
--- An operation of a hart for which nobody places steps: what is left to show is that the operation may be made, and the
+-- An operation of a hart for which nobody places steps. It is enough to show that the operation may be made, and the
 -- operation alone, in a world that the others may have changed, at any answer from outside.
 pub s-op : {L : Machine} {A : Type 0} {h : ℕ} {op : L.Op} {m : L.Answer op → Option L.Mark} {k : L.Answer op → P L A} {B : List L.Step → Type 0} {Q : A → List L.Step → L.World → Type 0} {n : ℕ} {es : List L.Step} {w : L.World}
     → L.more op < n

@@ -2,7 +2,7 @@
 use Rattle.atomic_programs.proofs.Vocabulary.{◌≡◌, ℕ, List, refl, Ret, Do, bind, ExecResult, Waits, Ran, Stops, Machine, P, own, onto, placed_with, Good, Wp, Tracks}
 
 module _ (L : Machine) (h : ℕ) {S : Type 0} (Has : L.World → S → Type 0) where
-  -- where the program begins with more
+  -- the same if the program begins with more
   pub tracks_from : {A : Type 0} (p : P L A) (s t u : S) → ((w : L.World) → Has w s → Has w t) → Tracks L h Has t p u → Tracks L h Has s p u
   tracks_from (Ret a) s t u less tracks = λ w has. tracks w (less w has)
   tracks_from (Do op m k) s t u less tracks = λ a. let step = tracks a in (step.0, (λ x v w inv may honest e has. step.1 x v w inv may honest e (less v has)), step.2)

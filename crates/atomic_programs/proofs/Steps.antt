@@ -106,7 +106,7 @@ did_buffer h b y z v a c slots =
       txns = λ g ne. refl;
     }
 
--- the same where the block stays
+-- the same if the block stays
 pub did_hand : (h b : ℕ) (y : Option ℕ) (v : World) → Ours h (v.out b) → Ours h y → LowerStep h v (record v { out = put v.out b y })
 did_hand h b y v a c =
     record { inodes = λ i. inl (refl, refl, refl); buffers = λ j. elim (ours_put h v.out b y j a c) [ inl e ↦ inl (e.1, refl, refl) | inr o ↦ inr o ]; txns = λ g ne. refl }

@@ -71,7 +71,7 @@ s-take {A} {h} {k} {B} {Q} {n} {es} {w} none few then_ = s-owned few (λ v o inv
         }
     at v inv own (Some g) e = (g, out_of g h (v.cell.count, v.value) (ap (λ (z : Option ℕ). if_held z h (v.cell.count, v.value)) (sym e) ∙ own), e)
 
--- where the device fails in the lock's hand, the world stops with one byte or another
+-- if the device fails in the lock's hand, the world stops with one byte or another
 broke : {h : ℕ} {v : World} → Inv v → v.cell.holder ≡ Some h → (k : ℕ) → k < 256 → Halts machine h v (record { cell = failed v.cell k; value = v.value })
 broke {h} {v} inv is k small =
     record {
@@ -104,7 +104,7 @@ s-fetch {A} {h} {k} {B} {Q} {n} {x} {es} {w} mine few then_ =
           next = subst (λ (z : ℕ). Wp machine h B Q (k z) (n - 1) es v) (ap (λ (p : ℕ × ℕ). p.0) (sym is.1)) (then_ (n - 1) v (omega (arith, few)) o).wp;
         }
 
--- the same, where the number is seen
+-- the same, when the number is seen
 pub s-see : {A : Type 0} {h : ℕ} {k : ℕ → P A} {B : List Step → Type 0} {Q : A → List Step → World → Type 0} {n x : ℕ} {es : List Step} {w : World}
     → own_of h w ≡ Some (x, x) → 0 < n → B (Saw x ∷ es) → ((l : ℕ) (u : World) → l + 1 ≡ n → own_of h u ≡ Some (x, x) → Safe machine h B Q (k x) l (Saw x ∷ es) u)
     → Safe machine h B Q (Do Fetch (λ y. Some (Saw y)) k) n es w

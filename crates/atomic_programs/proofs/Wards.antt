@@ -217,7 +217,7 @@ starts_both h j busy r s g holds inv idle free e =
           ];
         }
 
-    -- the new ward's purse is as it was, where nobody had it
+    -- the new ward's purse is as it was, if nobody had it
     based : r.ward j ≡ None → (other : ℕ) → Base other r g → ((k : ℕ) → g.ward k ≢ Some other) → Base other (reserved h j r) (reserved h j g)
     based none other base idle_ k e = elim (same_or k j) [
       | inl q ↦ (ap (put g.ward j (Some h)) q ∙ put_same g.ward j (Some h) ∙ sym (put_same r.ward j (Some h)) ∙ ap (put r.ward j (Some h)) (sym q) ∙ e, ap g.purse q ∙ (agree holds).purses j none ∙ ap r.purse (sym q))

@@ -1,4 +1,4 @@
--- The words that most of this crate's other definitions stand on.
+-- The words that most of this crate's other definitions use.
 pub use Rattle.atomic_programs.specs.Calls.{AllHonest, Began, Begins, BeginsWhole, EventOutcome, DidEnd, DidRun, DidStop, DidWait, Event, FinishedCall, IsBeginning, IsHonest, Outcome, PlacedStep, Refused, Refuses, Run, Start, Started, State, Step, Theory, WasIdle, WasStopped, all_asked, changed, fresh, makes, next, outcomes, run, unchanged}
 pub use Rattle.atomic_programs.specs.Faults.{one_more_fault}
 pub use Rattle.atomic_programs.specs.Joined.{Act, ActOf, AtEnd, Below, Both, Handlers, Handover, Lasts, LowerLayer, holding, joined, lowered}

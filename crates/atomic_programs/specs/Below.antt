@@ -1,4 +1,4 @@
--- What is left of a call over operations above, while one of them runs below.
+-- The rest of a call over operations above, while one of them runs below.
 use Rattle.std.specs.Prelude.{◌≡◌, Option, Some}
 use Rattle.atomic_programs.specs.Basics.{Prog, Ret, Do, bind, plain, asks, Machine, P, ActOf, LowerLayer, Handover, Handlers, lowered}
 use Rattle.atomic_programs.specs.declared.machines.Stepped.{Stepped}
@@ -27,7 +27,7 @@ module _ (U : Machine) (R : LowerLayer U.World) (handler : Handlers U R) {Heard 
   abbrev pub IsPart : R.Carry → U.Op → Part → Type 0
   IsPart c op q = (m : U.Answer op → Option U.Mark) → plain (handler c op m) ≡ bind q (λ r. Ret (handed op r))
 
-  -- what is left of a call while this part of its next operation is left
+  -- the rest of a call, if this part of its next operation is left
   abbrev pub with_part : {A : Type 0} → Part → P U A → Prog R.Op R.Answer ⊥ A
   with_part q p = bind q (λ r. below r.carry (hears p r.answer))
 
@@ -43,7 +43,7 @@ module _ (U : Machine) (R : LowerLayer U.World) (handler : Handlers U R) {Heard 
 
   module _ {Control PartOf Handed A B K : Type 0} (program_of : Control → P U A) (part_of : PartOf → Part)
       (handed_as : Handed → Handover Heard R.Carry) (reply_of : B → A) where
-    -- the control has heard what the part came to: it asks, and the next part has begun; or the call has ended
+    -- the control has heard the part's result: it asks, and the next part has begun; or the call has ended
     abbrev pub GoesOn : Control → Handed → Stepped (Running Control PartOf) B K → K → Type 0
     GoesOn c x (Waits r) kind = ⊥
     GoesOn c x (Ran r kind') kind =

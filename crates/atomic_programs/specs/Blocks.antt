@@ -13,7 +13,7 @@ Block = ℕ → Dinode
 
 pub record World : Type 0 where
   pub lock : ℕ → Option ℕ
-  -- the record in memory, where it has been loaded
+  -- the record in memory, if it has been loaded
   pub mem : ℕ → Option Dinode
   -- who has the buffer of a block
   pub out : ℕ → Option ℕ
@@ -81,7 +81,7 @@ exec h x Leave w = Ran tt (record w { txn = put w.txn h false })
 exec h x (PutPart i k z) w = Ran tt (record w { part = put w.part i (put (w.part i) k z) })
 exec h x (GetPart i k) w = Ran (w.part i k) w
 
--- a block is changed where it was read, and in a transaction
+-- a hart changes a block that it has read, and in a transaction
 abbrev pub MayPut : ℕ → ℕ → Option Block → World → Type 0
 MayPut h b None w = w.out b ≡ Some h
 MayPut h b (Some z) w = (w.out b ≡ Some h) × (w.valid b ≡ true) × (w.txn h ≡ true)
@@ -206,7 +206,7 @@ module _ (M : Type 0) where
   abbrev pub with_record : Carry → ℕ → Dinode → Handover Dinode Carry
   with_record hand i d = record { answer = d; carry = put hand i (Some d) }
 
-  -- the record in hand; where there is none, the hart hasn't the inode
+  -- the record in hand; if there is none, the hart hasn't the inode
   abbrev pub record_of : Option Dinode → Dinode
   record_of (Some d) = d
   record_of None = record { kind = 0; size = 0 }

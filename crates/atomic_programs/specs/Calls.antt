@@ -3,7 +3,7 @@ use Rattle.std.specs.Prelude.{◌≡◌, ◌≢◌, ◌⊎◌, ℕ, suc, Bool, t
 use Rattle.atomic_programs.specs.Prog.{Prog, Ret, Do, ExecResult, Waits, Ran, Stops, asks, OfNext}
 use Rattle.atomic_programs.specs.Logic.{Machine, P, OpWithAnswer, own, onto, oldest_first, Wp, Laws}
 
--- what the start of a call comes to: it is refused, or begun in a world where what the call needs is reserved for it
+-- the result of a call's start: it is refused, or begun in a world that reserves what the call needs
 pub data Began (Refusal World : Type 0) : Type 0 where
   Refuses : Refusal → Began Refusal World
   Begins : World → Began Refusal World
@@ -34,7 +34,7 @@ BeginsWhole {Call} {Step} {Reply} Written call es = (rest : List Step) × (reply
 abbrev pub IsBeginning : (L : Theory) → L.Call → List L.M.Step → Type 0
 IsBeginning L call es = L.WrittenSoFar call es
 
--- the same of steps that stand the newest first
+-- the same of steps in a list with the newest first
 abbrev pub Begun : (L : Theory) → L.Call → List L.M.Step → Type 0
 Begun L call es = IsBeginning L call (oldest_first es)
 
@@ -42,7 +42,7 @@ Begun L call es = IsBeginning L call (oldest_first es)
 abbrev pub Ends : (L : Theory) → ℕ → L.Call → L.Reply → List L.M.Step → L.M.World → Type 0
 Ends L h call reply es w = (L.M.Clean w → L.Written call (oldest_first es) reply) × L.M.Idle h w
 
--- hart h's call is right, begun in w where its start made u of it; these are the harts that have calls
+-- hart h's call is right, begun in w, of which its start made u; these are the harts that have calls
 pub record Right (L : Theory) (h : ℕ) (call : L.Call) (busy : ℕ → Bool) (w u : L.M.World) : Type 0 where
   pub inv : L.M.Inv w → L.M.Inv u
   pub halted : L.M.Halted w → L.M.Halted u
@@ -119,7 +119,7 @@ abbrev pub all_asked : {Call Outside : Type 0} → List (Event Call Outside) →
 all_asked [] = []
 all_asked (e ∷ es) = asked e ∷ all_asked es
 
--- what an event came to
+-- the outcome of an event
 pub data Outcome (What Reply Refusal : Type 0) : Type 0 where
   Started : Outcome What Reply Refusal
   Refused : Refusal → Outcome What Reply Refusal
@@ -202,7 +202,7 @@ moved L h s r did ps (Do op m k) w =
           };
     }
 
--- the operation came to this
+-- the result of the operation
 abbrev pub tried : (L : Theory) → ℕ → State L → Run L → (op : L.M.Op) → (L.M.Answer op → List (ℕ × L.M.Step))
     → (L.M.Answer op → P L.M L.Reply) → ExecResult (L.M.Answer op) L.M.World → Made L
 tried L h s r op ps k Waits = record { came = DidWait; after = unchanged L s }
@@ -284,7 +284,7 @@ outcomes L (e ∷ es) s = (makes L e s).came ∷ outcomes L es (next L e s)
 abbrev pub fresh : (L : Theory) → L.M.World → State L
 fresh L w = record { world = w; stopped = false; running = λ h. None; list = []; finished = []; now = 0 }
 
--- A state that events make of a world that holds and where every hart is idle, where the outside answers what it may.
+-- A state that events make of a world that holds, with every hart idle at first, if the outside answers what it may.
 pub record Sound (L : Theory) (s : State L) : Type 0 where
   pub first : L.M.World
   pub inv : L.M.Inv first

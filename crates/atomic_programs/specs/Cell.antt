@@ -1,4 +1,4 @@
--- An example: one number behind a lock, on a device that may fail. The number is a byte.
+-- An example: one number that a lock guards, on a device that may fail. The number is a byte.
 use Rattle.std.specs.Prelude.{◌≡◌, ◌≢◌, ◌⊎◌, ◌<◌, ℕ, Bool, true, false, nat_eq, nat_lt, if◌then◌else◌, Option, Some, None, List, [], ◌∷◌}
 use Rattle.atomic_programs.specs.Basics.{Prog, Ret, Do, bind, once, unmarked, marked, ExecResult, Waits, Ran, Stops, Machine, one_more_fault, Theory, Began, Refuses, Begins, BeginsWhole}
 
@@ -64,7 +64,7 @@ abbrev pub store_if : ℕ → Cell → Outside → ExecResult (Unit {0}) Cell
 store_if n c Passes = Ran tt (record c { count = n })
 store_if n c (Fails k) = Stops (failed c k)
 
--- what an operation makes of the cell in hart h's hand, where the device answers so
+-- what an operation makes of the cell in hart h's hand, if the device answers so
 abbrev pub exec : ℕ → Outside → (op : Op) → Cell → ExecResult (Answer op) Cell
 exec h x Take c = take_if h c c.holder
 exec h x Fetch c = fetch_if c x
@@ -106,11 +106,11 @@ abbrev pub if_held : {A : Type 0} → Option ℕ → ℕ → A → Option A
 if_held None h x = None
 if_held (Some g) h x = if nat_eq g h then Some x else None
 
--- all that is a hart's: both numbers, where it has the lock
+-- all that is a hart's: both numbers, if it has the lock
 abbrev pub own_of : ℕ → World → Option (ℕ × ℕ)
 own_of h w = if_held w.cell.holder h (w.cell.count, w.value)
 
--- the number is a byte, and what the steps have made where nobody has the lock
+-- the number is a byte, and if nobody has the lock it is what the steps have made
 abbrev pub Inv : World → Type 0
 Inv w = (w.cell.count < 256) × (w.cell.holder ≡ None → w.value ≡ w.cell.count)
 

@@ -1,4 +1,4 @@
--- The programs that the example's machines stand for, what its world is as programs, and what it keeps.
+-- The programs that the example's machines represent, what its world is as programs, and what it keeps.
 use Rattle.std.specs.Prelude.{◌≡◌, ℕ, zero, suc, Bool, Option, Some, None, List, [], ◌∷◌, nat_lt}
 use Rattle.atomic_programs.specs.Basics.{Prog, bind, once, unmarked, plain, Event as EventOf, Start as StartOf, Step as StepOf, Outcome as OutcomeOf, Started as WasStarted, Refused as WasRefused, WasIdle, DidWait, DidRun, DidEnd, DidStop, WasStopped, Code, Plain, answered}
 use Rattle.atomic_programs.specs.Tables.{PlaceFits, plain_at, IsKept}
@@ -20,7 +20,7 @@ use Rattle.atomic_programs.specs.declared.cell.Event.TheVariants as EventIs
 use Rattle.atomic_programs.specs.declared.cell.Outcome.{Outcome}
 use Rattle.atomic_programs.specs.declared.cell.Outcome.TheVariants as OutcomeIs
 
--- a fetch is told by its answer: of zero or of another number
+-- the kind of a fetch is given by its answer: of zero or of another number
 abbrev pub kind_fetched : ℕ → CellKind
 kind_fetched zero = KindIs.FetchZero
 kind_fetched (suc n) = KindIs.Fetch
@@ -64,7 +64,7 @@ HartFits = PlaceFits MachineFits
 abbrev pub said_in : {M R K : Type 0} → Stepped M R K → Cell → Outside
 said_in r c = answered (Fails c.count) Passes r
 
--- the same, by what a call of the device came to
+-- the same, by the result of a call of the device
 abbrev pub said_by : {A : Type 0} → Option A → Cell → Outside
 said_by None c = Fails c.count
 said_by (Some a) c = Passes

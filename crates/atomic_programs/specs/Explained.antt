@@ -41,7 +41,7 @@ pub record IsBlocked (L : Theory) (h : ℕ) (s : State L) : Type 0 where
   pub asks : call.prog ≡ Do op mark rest
   pub may : L.M.MayWait h op s.world
 
--- the invariant, or what is left of it once the world has stopped
+-- the invariant, or the part of it that holds once the world has stopped
 abbrev pub Holds : (L : Theory) → Bool → L.M.World → Type 0
 Holds L true w = L.M.Halted w
 Holds L false w = L.M.Inv w
@@ -56,7 +56,7 @@ pub record IsExplained (L : Theory) (base : L.M.Tree) (s : State L) : Type 0 whe
   pub begun : L.M.Clean s.world → (h : ℕ) (r : Run L) → s.running h ≡ Some r → IsBeginning L r.call (steps_of L r.start (history L s))
   -- no entry belongs to anything else
   pub owned : (e : PlacedStep L) → In e (history L s) → IsOfCall L s e
-  -- each is placed between its call's start and its return, or the last event where the call is under way
+  -- each is placed between its call's start and its return, or the last event if the call is under way
   pub within : (f : FinishedCall L) → In f s.finished → (e : PlacedStep L) → In e (history L s) → e.call ≡ f.start
       → (f.start < e.number) × (e.number ≤ f.number)
   pub after : (h : ℕ) (r : Run L) → s.running h ≡ Some r → (e : PlacedStep L) → In e (history L s) → e.call ≡ r.start
@@ -66,7 +66,7 @@ pub record IsExplained (L : Theory) (base : L.M.Tree) (s : State L) : Type 0 whe
   -- no call takes more steps than its bound
   pub bounded : (f : FinishedCall L) → In f s.finished → f.count ≤ L.limit f.call
   pub bounded_yet : (h : ℕ) (r : Run L) → s.running h ≡ Some r → r.count ≤ L.limit r.call
-  -- a step waits only where it may
+  -- a step waits only when it may
   pub waits : (h : ℕ) (x : L.M.Outside) → IsHonest L (Step h x) s → (makes L (Step h x) s).came ≡ DidWait → IsBlocked L h s
   -- each hart's next operation may be made
   pub may : (h : ℕ) (r : Run L) → s.stopped ≡ false → s.running h ≡ Some r → OfNext (L.M.May h) (asks r.prog) s.world
@@ -85,8 +85,8 @@ abbrev pub of_hart : (L : Theory) → ℕ → List (PlacedStep L) → List (Plac
 of_hart L h [] = []
 of_hart L h (e ∷ es) = if nat_eq e.hart h then e ∷ of_hart L h es else of_hart L h es
 
--- An event of hart h that led from s to u: what it placed leads the sequential object from where it was to where it is,
--- and at most one step of it is the hart's own.
+-- An event of hart h that led from s to u. What it placed leads the sequential object from its old state to its new
+-- one, and at most one step of it is the hart's own.
 pub record Leads (L : Theory) (h : ℕ) (s u : State L) : Type 0 where
   pub more : List (PlacedStep L)
   pub is : history L u ≡ history L s ++ more

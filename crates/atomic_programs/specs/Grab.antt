@@ -23,7 +23,7 @@ may h (Hold i) w = w.lock i ≢ Some h
 may h (Grab i) w = w.lock i ≡ Some h
 may h (Drop i) w = w.lock i ≡ Some h
 
--- which block is taken is not said above: any that is free; none where none of the eight is
+-- above, any free block may be taken; none is if none of the eight is free
 abbrev pub Picks : Above → Option ℕ → Type 0
 Picks w None = (c : ℕ) → c < 8 → w.owner c ≢ None
 Picks w (Some c) = w.owner c ≡ None

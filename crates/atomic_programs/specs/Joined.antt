@@ -1,5 +1,5 @@
--- Two machines as one: the operations of the machine below run, and beside its world stands, for the proof alone, the world
--- of the machine above, which goes on where an operation is marked to act.
+-- Two machines as one: the operations of the machine below run. Beside its world there is, for the proof alone, the
+-- world of the machine above. That world goes on when an operation is marked to act.
 use Rattle.std.specs.Prelude.{ℕ, suc, Option, Some, None, List, []}
 use Rattle.atomic_programs.specs.Prog.{Prog, Ret, Do, bind, once, ExecResult, Waits, Ran, Stops}
 use Rattle.atomic_programs.specs.Logic.{Machine, P, onto, placed_with, Grown, Wp}
@@ -43,7 +43,7 @@ pub record Both (R S : Type 0) : Type 0 where
   pub real : R
   pub seen : S
 
--- where an operation led, and what it placed
+-- the world to which an operation led, and what it placed
 abbrev pub ran_to : {A S : Type 0} → S → ExecResult A S → S
 ran_to g Waits = g
 ran_to g (Ran b u) = u
@@ -140,8 +140,8 @@ Lasts L {A} h B C =
     → (L.Clean u → Grown B xs fs) × C a (onto xs fs) u
 
 -- An operation's program below acts at one moment: whatever the operation alone is shown to do above, its program does
--- below, though others step before and after that moment, and in as many steps as it counts for. It does so whatever the
--- hart has in hand, and what it hands on is again what Base is of.
+-- below. Others may step before and after that moment, and it takes as many steps as it counts for. It does so
+-- whatever the hart has in hand, and what it hands on is again what Base is of.
 abbrev pub Atomic : (U : Machine) (R : LowerLayer U.World) → Handlers U R → ℕ → (op : U.Op) → (U.Answer op → Option U.Mark) → Type 1
 Atomic U R handler h op m =
     (c : R.Carry) (B : List U.Step → Type 0) (C : U.Answer op → List U.Step → U.World → Type 0) (es : List U.Step)

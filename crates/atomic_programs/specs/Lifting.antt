@@ -20,8 +20,8 @@ Lifts U R handler h c From {A} p =
 abbrev pub BeginsSome : (T : Theory) (R : LowerLayer T.M.World) → Starts T R → ℕ → T.Call → Type 0
 BeginsSome T R begin h call = (busy : ℕ → Bool) × (r : R.World) × (s : R.World) × (begin h call busy r ≡ Begins s)
 
--- Where a hart's call was started, and none of its operations was made: the hart was idle above before, and the start made this of that
--- world.
+-- A hart's call was started, and none of its operations was made: the hart was idle above before, and the start made
+-- this of that world.
 pub record IsStarted (T : Theory) (R : LowerLayer T.M.World) (h : ℕ) (call : T.Call) (w : Both R.World T.M.World) : Type 0 where
   pub shows : R.Shows w.real w.seen
   pub busy : ℕ → Bool
@@ -38,7 +38,7 @@ AllLift T R handler begin =
 abbrev pub with_more : {Above : Type 0} → LowerLayer Above → (ℕ → Above → Type 0) → LowerLayer Above
 with_more R More = record R { Base = λ h r w c. R.Base h r w c × More h w }
 
--- what holds of the world after an operation, where it ran
+-- what holds of the world after an operation, if it ran
 abbrev pub IfRan : {A S : Type 0} → (S → Type 0) → ExecResult A S → Type 0
 IfRan Is Waits = Unit {0}
 IfRan Is (Ran a s) = Is s

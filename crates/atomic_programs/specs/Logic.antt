@@ -18,11 +18,11 @@ pub record Machine : Type 1 where
   pub Outside : Type 0
   -- what it may answer to this one
   pub Honest : ℕ → Op → World → Outside → Type 0
-  -- what an operation asks of the world in this hart's hand: it is never made where this does not hold
+  -- what an operation asks of the world in this hart's hand: it is never made unless this holds
   pub May : ℕ → Op → World → Type 0
   -- what the operation makes of the world in this hart's hand, at this answer
   pub go : ℕ → Outside → (op : Op) → (Answer op → Option Mark) → World → ExecResult (Answer op) World
-  -- the steps that are placed where it runs with this answer and this mark, each with its hart; an operation may place
+  -- the steps that are placed when it runs with this answer and this mark, each with its hart; an operation may place
   -- steps of other harts' calls
   pub places : ℕ → (op : Op) → Answer op → Option Mark → World → List (ℕ × Step)
   pub tree : World → Tree
@@ -36,7 +36,7 @@ pub record Machine : Type 1 where
   pub Others : ℕ → World → List Step → World → Type 0
   -- the hart owns nothing
   pub Idle : ℕ → World → Type 0
-  -- where this operation may wait
+  -- when this operation may wait
   pub MayWait : ℕ → Op → World → Type 0
   -- the premise under which one list of steps explains the run still holds
   pub Clean : World → Type 0
@@ -71,7 +71,7 @@ Goes L t (p ∷ ps) u = (mid : L.Tree) × L.Takes t p.0 p.1 mid × Goes L mid ps
 abbrev pub placed_with : (L : Machine) → ℕ → (op : L.Op) → (L.Answer op → Option L.Mark) → L.World → L.Answer op → List (ℕ × L.Step)
 placed_with L h op m v a = L.places h op a (m a) v
 
--- where these steps came onto es, the newest first, what is there now is B
+-- if these steps came onto es, the newest first, what is there then is B
 abbrev pub Grown : {A : Type 0} → (List A → Type 0) → List A → List A → Type 0
 Grown B xs es = (xs ≡ []) ⊎ B (onto xs es)
 
@@ -102,8 +102,9 @@ Good L A h ps more n B es v wait Waits Next = wait
 Good L A h ps more n B es v wait (Ran a w) Next = Fine L h (ps a) more n B es v w (λ l. Next l a w)
 Good L A h ps more n B es v wait (Stops w) Next = Halts L h v w
 
--- From w on hart h's program does as it should whatever the others do and the outside answers, in at most n steps, and ends
--- with Q; each operation is made where it may be. es are the steps so far, the newest first, and are B whenever they have grown.
+-- From w on hart h's program does as it should whatever the others do and the outside answers. It takes at most n
+-- steps, ends with Q, and makes each operation only when it may be made. The list es has the steps so far, the newest
+-- first, and is B whenever it has grown.
 abbrev pub Wp : (L : Machine) {A : Type 0} → ℕ → (List L.Step → Type 0) → (A → List L.Step → L.World → Type 0) → P L A → ℕ → List L.Step
     → L.World → Type 0
 Wp L h B Q (Ret a) n es w = Q a es w
@@ -121,7 +122,7 @@ pub record Safe (L : Machine) {A : Type 0} (h : ℕ) (B : List L.Step → Type 0
     (es : List L.Step) (w : L.World) : Type 0 where
   pub wp : Wp L h B Q p n es w
 
--- where an operation runs, at most one of the steps that are placed is its own hart's
+-- when an operation runs, at most one of the steps that are placed is its own hart's
 abbrev pub PlacesOne : Machine → Type 0
 PlacesOne L = (h : ℕ) (op : L.Op) (a : L.Answer op) (m : Option L.Mark) (w : L.World) → L.Inv w → length (own h (L.places h op a m w)) ≤ 1
 

@@ -14,7 +14,7 @@ abbrev pub began_to : {Refusal G : Type 0} → G → Began Refusal G → G
 began_to g (Refuses why) = g
 began_to g (Begins u) = u
 
--- what a start comes to below, with this world above
+-- the result of a start below, with this world above
 abbrev pub began_both : {Refusal S G : Type 0} → G → Began Refusal S → Began Refusal (Both S G)
 began_both g (Refuses why) = Refuses why
 began_both g (Begins r) = Begins (record { real = r; seen = g })
@@ -34,7 +34,7 @@ lowered_calls T R handler begin =
       limit = T.limit;
     }
 
--- A start that made s of r below begins above too, where it made u of g: what it reserves, it reserves in both.
+-- A start that made s of r below begins above too, and made u of g there: what it reserves, it reserves in both.
 pub record BeginsBoth (T : Theory) (R : LowerLayer T.M.World) (h : ℕ) (call : T.Call) (busy : ℕ → Bool) (r s : R.World)
     (g : T.M.World) : Type 0 where
   pub above : T.M.World
@@ -62,8 +62,8 @@ abbrev pub AllAtomic : (T : Theory) (R : LowerLayer T.M.World) → Handlers T.M 
 AllAtomic T R handler begin =
     (h : ℕ) → CanBegin T R begin h → (op : T.M.Op) (m : T.M.Answer op → Option T.M.Mark) → Atomic T.M R handler h op m
 
--- What the code has of the world below, where that has parts for the proof alone besides; and what operations and starts make
--- of it.
+-- What the code has of the world below, if that has more parts for the proof alone; and what operations and starts
+-- make of it.
 pub record Part (T : Theory) (R : LowerLayer T.M.World) : Type 1 where
   pub Shared : Type 0
   pub of : R.World → Shared
@@ -80,7 +80,7 @@ pub record IsPart (T : Theory) (R : LowerLayer T.M.World) (begin : Starts T R) (
   pub starts : (h : ℕ) (call : T.Call) (busy : ℕ → Bool) (w : R.World)
       → part.begin h call busy (part.of w) ≡ began_in part.of (begin h call busy w)
 
--- the code of the lowered calls; the kind of a step is told by the operation below, with its answer
+-- the code of the lowered calls; the operation below, with its answer, gives the kind of a step
 abbrev pub code_part : (T : Theory) (R : LowerLayer T.M.World) (handler : Handlers T.M R) (begin : Starts T R) (part : Part T R)
     (Kind : Type 0) → ((op : R.Op) → R.Answer op → Kind) → Code (lowered_calls T R handler begin)
 code_part T R handler begin part Kind kind =

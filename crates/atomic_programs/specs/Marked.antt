@@ -1,5 +1,5 @@
--- A theory whose operations tell at which answers they are marked: so code knows of a program, once its marks are left out, where they
--- were.
+-- A theory whose operations tell at which answers they are marked. So code knows the places of a program's marks after
+-- they are left out.
 use Rattle.std.specs.Prelude.{Bool, is_some}
 use Rattle.atomic_programs.specs.Basics.{Prog, Ret, Do, Machine, Handlers, LowerLayer, Theory, Code}
 

@@ -20,8 +20,8 @@ abbrev pub TakesNoted : (L : Machine) → L.Tree → ℕ → Note (OpWithAnswer 
 TakesNoted L t h (Runs e) u = u ≡ t
 TakesNoted L t h (Places x) u = L.Takes t h x u
 
--- A machine where a hart's steps are placed at its own events alone: each operation that runs is noted, right before what it
--- places, at the same event.
+-- A machine that places a hart's steps at its own events alone: each operation that runs is noted, right before what
+-- it places, at the same event.
 abbrev pub noted : Machine → Machine
 noted L =
     record {
@@ -58,18 +58,18 @@ abbrev pub Now : (L : Machine) → {A B : Type 0} → (B → L.Step) → P L A �
 Now L {A} {B} entry p [] Then = ⊥
 Now L {A} {B} entry p (e ∷ es) Then = (b : B) × (e ≡ Places (entry b)) × After L p es (Then b)
 
--- First the program's operations, and right after one of them one step of the form `entry`: it is placed at that operation's
--- event, so neither before the first one nor after the last. Then what is Then.
+-- First the program's operations, and right after one of them one step of the form `entry`. It is placed at that
+-- operation's event, so neither before the first one nor after the last. Then what is Then.
 abbrev pub Within : (L : Machine) → {A B : Type 0} → (B → L.Step) → P L A → Notes L → (B → A → Notes L → Type 0) → Type 0
 Within L entry (Ret a) es Then = ⊥
 Within L entry (Do op m k) [] Then = ⊥
 Within L entry (Do op m k) (e ∷ es) Then =
     (a : L.Answer op) × (e ≡ Runs (op, a)) × (Within L entry (k a) es Then ⊎ Now L entry (k a) es Then)
 
--- The notes, the oldest first, of a run of the program above that ends with r: for each of its operations, one after the
--- other, a whole run of the operation's program below, and within it the operation with its answer, once. By that answer the
--- program above goes on; the one that the program below ends with isn't compared. What it ends with in hand is what the next
--- operation's program has in hand: c, for the first one.
+-- The notes, the oldest first, of a run of the program above that ends with r. For each of its operations, one after
+-- the other, they have a whole run of the operation's program below. Within that run they have the operation with its
+-- answer, once. By that answer the program above goes on; the one that the program below ends with isn't compared.
+-- What it ends with in hand is what the next operation's program has in hand: c, for the first one.
 abbrev pub IsWhole : (U : Machine) (K : Core U) (R : LowerLayer U.World) → Handlers U R → {A : Type 0} → R.Carry → P U A
     → Notes (joined (operations U K) R) → A → Type 0
 IsWhole U K R handler c (Ret a) [] r = a ≡ r
@@ -97,8 +97,8 @@ abbrev pub entries_of : (L : Theory) (Written : L.Call → Notes L.M → L.Reply
 entries_of L Written [] = []
 entries_of L Written (e ∷ es) = entry_of L e.number e.hart e.call e.step (entries_of L Written es)
 
--- A list of events comes to the same with the notes and without, and the notes leave each entry where it was: at its event, in
--- its call.
+-- A list of events has the same result with the notes and without. The notes leave each entry at its event, in its
+-- call.
 pub record SameRuns (L : Theory) (Written : L.Call → Notes L.M → L.Reply → Type 0) (w : L.M.World) : Type 0 where
   pub honest : (events : List (Event L.Call L.M.Outside)) → AllHonest L events (fresh L w)
       → AllHonest (with_notes L Written) events (fresh (with_notes L Written) w)

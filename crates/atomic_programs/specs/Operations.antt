@@ -4,8 +4,7 @@ use Rattle.atomic_programs.specs.Prog.{Ret, Do, ExecResult, Ran, Stops, exec_res
 use Rattle.atomic_programs.specs.Logic.{Machine, P, OpWithAnswer}
 use Rattle.atomic_programs.specs.Calls.{Theory, Begins, BeginsWhole}
 
--- What is left of a machine's world where all that starts reserve, and that marks change, is left out; and what the
--- operations make of it.
+-- A machine's world without all that starts reserve and that marks change; and what the operations make of it.
 pub record Core (L : Machine) : Type 1 where
   pub World : Type 0
   pub of : L.World → World
@@ -13,7 +12,7 @@ pub record Core (L : Machine) : Type 1 where
   pub Honest : ℕ → L.Op → World → L.Outside → Type 0
   pub go : ℕ → L.Outside → (op : L.Op) → World → ExecResult (L.Answer op) World
 
--- all of the world, where no start reserves anything and no mark changes it
+-- all of the world, if no start reserves anything and no mark changes it
 abbrev pub all_of : (L : Machine) → (ℕ → L.Outside → (op : L.Op) → L.World → ExecResult (L.Answer op) L.World) → Core L
 all_of L exec = record { World = L.World; of = λ w. w; May = L.May; Honest = L.Honest; go = exec }
 
@@ -30,7 +29,7 @@ pub record IsCore (T : Theory) (K : Core T.M) : Type 0 where
   -- each operation has some answer
   pub some : (op : T.M.Op) → T.M.Answer op
 
--- the operation was made here by this hart, where it may be, and answered so
+-- the operation was made here by this hart, which may make it, and answered so
 abbrev pub Makes : (L : Machine) (K : Core L) → K.World → ℕ → OpWithAnswer L → K.World → Type 0
 Makes L K t h e u = (x : L.Outside) × K.May h e.0 t × K.Honest h e.0 t x × (K.go h x e.0 t ≡ Ran e.1 u)
 
@@ -86,8 +85,8 @@ operations_of T K =
 abbrev pub bare : Machine → Machine
 bare L = record L { Clean = λ w. ⊥ }
 
--- The same calls, of which no history is claimed: that they are lawful says only that each makes its operations where it may,
--- leaves to the others what is theirs, and ends in time with nothing owned.
+-- The same calls, without a claim about their history. That they are lawful says only that each makes its operations
+-- when it may, leaves to the others what is theirs, and ends in time with nothing owned.
 abbrev pub bare_calls : Theory → Theory
 bare_calls T =
     record {

@@ -15,7 +15,7 @@ pub record Code (L : Theory) : Type 1 where
   pub shared : L.M.World → Shared
   pub kind : (op : L.M.Op) → L.M.Answer op → Kind
   pub exec : ℕ → L.M.Outside → (op : L.M.Op) → Shared → ExecResult (L.M.Answer op) Shared
-  -- what the code asks where it makes the operation, and what it says of the answer from outside
+  -- what the code asks when it makes the operation, and what it says of the answer from outside
   pub may : ℕ → L.M.Op → Shared → Type 0
   pub honest : ℕ → L.M.Op → Shared → L.M.Outside → Type 0
   pub begin : ℕ → L.Call → (ℕ → Bool) → Shared → Began L.Refusal Shared
@@ -130,7 +130,7 @@ module _ (L : Theory) (C : Code L) where
   PlainHonest (Start h call) s = Unit {0}
   PlainHonest (Step h x) s = PlainHonestStep h x s.shared s.stopped (s.running h)
 
-  -- what the code asks of the state, where this is the hart's program
+  -- what the code asks of the state, if this is the hart's program
   abbrev pub MayOf : ℕ → C.Shared → Option (UnmarkedProgram L) → Type 0
   MayOf h t None = Unit {0}
   MayOf h t (Some p) = OfNext (C.may h) (asks p) t

@@ -8,14 +8,13 @@ pub record Budget (U : Machine) : Type 1 where
   pub after : U.Op → Spent → Spent
   pub Allowed : Spent → Type 0
 
--- Where so much was spent before, the program spends no more than it may, whatever its operations answer.
+-- If so much was spent before, the program spends no more than it may, whatever its operations answer.
 abbrev pub Affords : (U : Machine) (b : Budget U) → {A : Type 0} → b.Spent → P U A → Type 0
 Affords U b s (Ret a) = Unit {0}
 Affords U b s (Do op m k) = b.Allowed (b.after op s) × ((a : U.Answer op) → Affords U b (b.after op s) (k a))
 
--- An operation's program below acts at one moment, as Atomic says, where the operation may be paid for; and then no more is spent. Has:
--- the hart has spent no
--- more than this below.
+-- An operation's program below acts at one moment, as Atomic says, if the operation may be paid for; and then no more
+-- is spent. Has: the hart has spent no more than this below.
 abbrev pub AtomicWithin : (U : Machine) (R : LowerLayer U.World) → Handlers U R → (b : Budget U) → (R.World → b.Spent → Type 0) → ℕ
     → (op : U.Op) → (U.Answer op → Option U.Mark) → Type 1
 AtomicWithin U R handler b Has h op m =

@@ -1,4 +1,4 @@
--- What the events of a list came to, and what a state says of them.
+-- The outcomes of a list's events, and what a state says of them.
 use Rattle.std.specs.Prelude.{◌≡◌, ℕ, Some, List, [], ◌∷◌}
 use Rattle.atomic_programs.specs.Basics.{Theory, Run, FinishedCall, State, Event, Start, Step, EventOutcome, Started, DidEnd, makes, next}
 use Rattle.atomic_programs.specs.Explained.{In}

@@ -33,7 +33,7 @@ abbrev pub more : Op → ℕ
 more (Give j) = 1
 more (Free j) = 0
 
--- The others leave a hart its wards with their purses, and, where nobody has reserved it, its own.
+-- The others leave a hart its wards with their purses, and, if nobody has reserved it, its own.
 pub record Mine (h : ℕ) (v w : World) : Type 0 where
   pub wards : (j : ℕ) → if_held (w.ward j) h (w.purse j) ≡ if_held (v.ward j) h (v.purse j)
   pub self : v.ward h ≡ None → (w.ward h ≡ None) × (w.purse h ≡ v.purse h)
@@ -135,7 +135,7 @@ low_exec h x Peek w = Ran (w.purse h) w
 low_exec h x (Fill j y) w = Ran tt (record w { purse = put w.purse j y })
 low_exec h x (Release j) w = Ran tt (record w { ward = put w.ward j None })
 
--- a ward's purse may lag behind until it is free
+-- a ward's purse may be out of date until it is free
 pub record Shows (r g : World) : Type 0 where
   pub wards : (j : ℕ) → g.ward j ≡ r.ward j
   pub purses : (j : ℕ) → r.ward j ≡ None → g.purse j ≡ r.purse j

@@ -1,4 +1,4 @@
--- The machine above: whole inodes, each behind its lock.
+-- The machine above: whole inodes, each under its lock.
 use Rattle.std.specs.Prelude.{◌≡◌, ◌≢◌, ℕ, Bool, true, false, nat_eq, if◌then◌else◌, Option, Some, None, suc, List, [], ◌∷◌, length}
 use Rattle.atomic_programs.specs.Prog.{ExecResult, Waits, Ran}
 use Rattle.atomic_programs.specs.Logic.{Machine}

@@ -1,4 +1,4 @@
-//! An example: eight harts that swap one number behind a lock, on a device that may fail.
+//! An example: eight harts that swap one number under a lock, on a device that may fail.
 
 ghost use Rattle.std.specs.Prelude.{◌≡◌, ℕ, ◌<◌, ◌⊎◌, ◌∷◌, [], Bool, true, false, Option, Some, None, IfSome, IfNone, IfOk, IfErr, slice_get, slice_set, get_or};
 ghost use Rattle.atomic_programs.specs.Prog.{plain, advance, asks, OfNext, Ran as ItRan};
@@ -80,7 +80,7 @@ impl<D: Device> Register<D> {
         Some(Key { hart })
     }
 
-    /// The number, a byte; None where the device fails, which stops the world.
+    /// The number, a byte; None if the device fails, which stops the world.
     pub fn fetch(&mut self, key: &Key) -> Option<u8>
         requires { may key.now FetchOp self.old }
         ensures fetches { exec key.now (said_by result self.new) FetchOp self.old ≡ or_stops result self.new }
@@ -92,7 +92,7 @@ impl<D: Device> Register<D> {
         }
     }
 
-    /// Writes the number; None where the device fails, which stops the world.
+    /// Writes the number; None if the device fails, which stops the world.
     pub fn store(&mut self, key: &Key, number: u32) -> Option<()>
         requires { may key.now (StoreOp number) self.old }
         ensures stores { exec key.now (said_by result self.new) (StoreOp number) self.old ≡ or_stops result self.new }
@@ -113,7 +113,7 @@ impl<D: Device> Register<D> {
         self.holder = None;
     }
 
-    /// Its device, where no more steps are made.
+    /// Its device, when no more steps are made.
     pub fn end(self) -> (D, Retired)
         ensures number { D.number result.0 ≡ self.count }
         ensures faults { D.failures result.0 ≡ self.faults }
@@ -303,7 +303,7 @@ pub enum Refusal {
     TooLarge,
 }
 
-/// What an event came to.
+/// The outcome of an event.
 #[derive(Clone, Copy)]
 pub enum Outcome {
     Started,
@@ -436,7 +436,7 @@ impl<D: Device> Model for World<D> {
 }
 
 impl<D: Device> World<D> {
-    /// Eight idle harts over this device; it is given back where it fails, or its number is no byte.
+    /// Eight idle harts over this device; it is given back if it fails, or if its number is no byte.
     pub fn new(device: D) -> Result<World<D>, D>
         ensures byte { IfOk result (λ w. D.number device < 256) }
         ensures rests { IfOk result (λ w. plain_of w ≡ erase swaps code (fresh swaps (rest (D.number device) (D.failures device)))) }
@@ -517,8 +517,8 @@ impl<D: Device> World<D> {
     }
 }
 
-/// These events, one after the other, and what they came to. With its history, the world is what the run makes of it, where
-/// the device answers as it may; from a world at rest, one list of steps explains the replies.
+/// These events, one after the other, and their outcomes. With its history, the world is what the run makes of it, if
+/// the device answers as it may. From a world at rest, one list of steps explains the replies.
 pub fn run<D: Device>(
     world: &mut World<D>,
     alloc: Global,
@@ -543,8 +543,9 @@ pub fn run<D: Device>(
     Ok(came)
 }
 
-/// A world over this device, and these events: whatever the harts do and wherever the device fails, one list of steps explains
-/// the replies. The device is given back where its number is no byte, where it fails at once, or where memory is refused.
+/// A world over this device, and these events: whatever the harts do and whenever the device fails, one list of steps
+/// explains the replies. The device is given back if its number is no byte, if it fails at once, or if memory is
+/// refused.
 pub fn show<D: Device>(
     device: D,
     alloc: Global,
@@ -579,7 +580,7 @@ mod tests {
         }
     }
 
-    // These events, once more where memory was refused.
+    // These events, once more if memory was refused.
     fn ran(
         rt: &impl Abort,
         alloc: Global,

@@ -8,7 +8,6 @@ pub struct Fault;
 
 /// A device that holds one number.
 pub trait Device {
-    // The number, as it stands there.
     ghost number: { Self → ℕ };
 
     // How often a call has failed, up to the greatest u32.
@@ -41,7 +40,7 @@ impl Device for Fused {
 
     ghost failures = { λ d. d.faults };
 
-    /// Fails where a call has failed before.
+    /// Fails if a call has failed before.
     fn get(&mut self) -> Result<u32, Fault>
         ensures ok { IfOk result (λ n. n ≡ self.old.number) }
         ensures same { self.new.number ≡ self.old.number }

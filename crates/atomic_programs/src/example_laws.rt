@@ -19,8 +19,8 @@ ghost use Rattle.atomic_programs.specs.Grab as grab;
 ghost use Rattle.atomic_programs.specs.Grab.{grabs_above, grabs_code};
 ghost use Rattle.atomic_programs.specs.Swap.{Swap, Swapped, swaps, swaps_above, blocks_below, look, code, code_above, rest};
 
-/// Over every list of events the replies at the desk are explained, where a hart's step may be placed by another hart, and a start may
-/// reserve an idle one.
+/// Over every list of events the replies at the desk are explained. There, another hart may place a hart's step, and a
+/// start may reserve an idle hart.
 pub fn desk_explained()
     ensures { (w : desk.World) (events : List (Event desk.Call (Unit {0}))) → ((h : ℕ) → desk.Idle h w)
         → IsExplained desk.desk w.book (run desk.desk events (fresh desk.desk w)) }
@@ -65,7 +65,7 @@ pub fn desk_unclean()
         (fresh desk.desk (desk.rest 5 (λ h. 0)))) ≡ record { number = 5; hart = 0; call = 2; step = desk.Swapped 7 0 } ∷ [] }
 {}
 
-/// Swaps of inodes' records, which were shown right over whole inodes, are explained where they run on blocks.
+/// Swaps of inodes' records, which were shown right over whole inodes, are explained when they run on blocks.
 pub fn swaps_explained()
     ensures { (events : List (Event Swap blocks.Outside)) → AllHonest swaps events (fresh swaps rest)
         → IsExplained swaps rest.seen.dino (run swaps events (fresh swaps rest)) }
@@ -113,8 +113,8 @@ pub fn swaps_are_of_eight()
         ∷ Start 8 (record { inode = 17; to = record { kind = 7; size = 7 } }) ∷ []) (fresh swaps rest) ≡ Started ∷ Refused tt ∷ [] }
 {}
 
-/// An inode that is taken and given back is unlocked with the record that was loaded, and no other: what the program of the one
-/// operation has loaded is handed on to that of the other.
+/// An inode that is taken and given back is unlocked with exactly the record that was loaded. What the program of the
+/// one operation has loaded is handed on to that of the other.
 pub fn looks_hand_on()
     ensures runs { (z : blocks.Block)
         → IsRun blocks_below (look 17)
@@ -151,7 +151,8 @@ pub fn grabs_act()
         ∷ record { number = 5; hart = 0; call = 0; step = (grab.Drop 3, tt) } ∷ [] }
 {}
 
-/// Which inode has a block stands below for the proof alone: the code has the locks, the bitmap and the blocks, and runs the same.
+/// Which inode has a block is kept below for the proof alone: the code has the locks, the bitmap and the blocks, and
+/// runs the same.
 pub fn grabs_are_code()
     ensures { IsCode grabs_above grabs_code }
 {}
@@ -183,8 +184,8 @@ pub fn gifts_act_once()
         (λ a fs u. (fs ≡ (wards.Give j, tt) ∷ []) × wards.Base h u.real u.seen) (wards.handler tt (wards.Give j) m) 2 [] w }
 {}
 
-/// In each run of swaps on blocks every operation above acts within the run of its own program below, once: it is placed at an
-/// event of its hart that isn't before that program's first step, nor after its last.
+/// In each run of swaps on blocks every operation above acts within the run of its own program below, once. It is
+/// placed at an event of its hart that isn't before that program's first step, nor after its last.
 pub fn swaps_act_within()
     ensures same { SameRuns swaps_above SwapIsWhole rest }
     ensures explained { (events : List (Event Swap blocks.Outside)) → AllHonest swaps_above events (fresh swaps_above rest)

@@ -1,5 +1,5 @@
-//! The theorems, at the examples: a contract can't speak of every theory, so the general lemmas stand in `proofs`, for a
-//! project to use at its own theory, and each function here carries one of them at an example of this crate.
+//! The theorems, at the examples: a contract can't speak of every theory. So the general lemmas are in `proofs`, for a
+//! project to use at its own theory. Each function here carries one of them at an example of this crate.
 
 ghost use Rattle.std.specs.Prelude.{◌≡◌, ℕ, ◌∷◌, [], List, Option, None, true, false};
 ghost use Rattle.atomic_programs.specs.Calls.{Event, Start, Step, FinishedCall, PlacedStep, Outcome, Started, Refused, WasIdle, DidWait, DidRun, DidEnd, DidStop, WasStopped, State, next, run, outcomes, fresh, hart_of, IsHonest, AllHonest, Sound};
@@ -7,8 +7,8 @@ ghost use Rattle.atomic_programs.specs.Explained.{IsExplained, Leads, Steady, In
 ghost use Rattle.atomic_programs.specs.Trace.{IsTraced, happened};
 ghost use Rattle.atomic_programs.specs.Cell as cell;
 
-/// Over every list of events, from any world that holds and where every hart is idle, the cell's replies are explained by
-/// one list of steps.
+/// Over every list of events, from any world that holds and has every hart idle, one list of steps explains the cell's
+/// replies.
 pub fn cell_explained()
     ensures { (w : cell.World) (events : List (Event cell.Call cell.Outside)) → cell.Inv w → ((h : ℕ) → cell.own_of h w ≡ None)
         → AllHonest cell.swaps events (fresh cell.swaps w) → IsExplained cell.swaps w.value (run cell.swaps events (fresh cell.swaps w)) }
@@ -20,8 +20,8 @@ pub fn cell_steady()
     ensures { Steady cell.swaps }
 {}
 
-/// The calls that have finished or are under way are just those that the events with their outcomes show: each reply that was
-/// given is a finished call's, and each of these was started and gave its reply.
+/// The calls that have finished or are under way are just those that the events with their outcomes show. Each reply
+/// that was given is a finished call's, and each of these was started and gave its reply.
 pub fn cell_traced()
     ensures { (w : cell.World) (events : List (Event cell.Call cell.Outside))
         → IsTraced cell.swaps (λ x. In x (happened cell.swaps events (fresh cell.swaps w))) (run cell.swaps events (fresh cell.swaps w)) }
@@ -34,7 +34,7 @@ pub fn cell_leads()
         → Leads cell.swaps (hart_of e) s (next cell.swaps e s) }
 {}
 
-/// There are worlds that hold and where every hart is idle: any byte, on a device that has failed so often.
+/// There are worlds that hold and have every hart idle: any byte, on a device that has failed so often.
 pub fn cell_rests(count: u8, faults: u32)
     ensures holds { cell.Inv (cell.rest count faults) }
     ensures idle { (h : ℕ) → cell.own_of h (cell.rest count faults) ≡ None }

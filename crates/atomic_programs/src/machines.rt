@@ -1,10 +1,10 @@
-//! What a step of a machine comes to.
+//! The result of a machine's step.
 ghost use Rattle.std.specs.Prelude.{◌≡◌, Some, None};
 
 use std::mem;
 
-/// A machine is a value that `step` consumes and hands on. Its contract says which program it stands for. The kind of a
-/// step is decided in the very step, by what the operation answers.
+/// A machine is a value that `step` consumes and hands on. Its contract says which program it represents. The
+/// operation's answer decides the kind of a step, in that very step.
 #[derive(Drop)]
 pub enum Stepped<M, R, K> {
     /// It waits, and nothing has changed.
@@ -13,11 +13,12 @@ pub enum Stepped<M, R, K> {
     Ran(M, K),
     /// The last operation ran, of this kind, and this is the result.
     Done(R, K),
-    /// The operation stopped the world; the machine stands where it stood.
+    /// The operation stopped the world; the machine represents the same program as before.
     Stopped(M),
 }
 
-/// What a step of a machine in its place comes to. What is left of the machine stands there, so that a machine within others isn't moved.
+/// The result of a step of a machine in its place. The rest of the machine stays there, so that a machine within
+/// others isn't moved.
 #[derive(Drop)]
 pub enum SteppedInPlace<R, K> {
     /// It waits, and nothing has changed.
@@ -26,11 +27,11 @@ pub enum SteppedInPlace<R, K> {
     Ran(K),
     /// The last operation ran, of this kind, and this is the result. Nothing is left of the machine.
     Done(R, K),
-    /// The operation stopped the world; the machine stands where it stood.
+    /// The operation stopped the world; the machine represents the same program as before.
     Stopped,
 }
 
-/// Has a machine stand in a place that is empty.
+/// Puts a machine in an empty place.
 pub fn put<M>(place: &mut Option<M>, machine: M)
     requires { place.old ≡ None }
     ensures { place.new ≡ Some machine }

@@ -1,4 +1,4 @@
--- Lists of numbers, and what stands in them.
+-- Lists of numbers, and their elements.
 use Rattle.image_tree.proofs.Vocabulary.{All, Bool, Contains, Contains-append_left, Contains-push, Dinode, IsData, IsLayout, List, None, Some, Super, Version, [], ap, arith, cond, drop, eq-eqb, eqb, false, false≢true, filter, filter-append, filter_more, flat_map, get_or, get_or_append_left, get_or_default, inode_of, is_block, is_free, length, length-append, log_head_of, magic_of, numbers_by, numbers_of, numbers_per_block, refl, sizes_of, subst, super_fields, super_of, sym, take, take-append-drop, true, u32_at, u32s_at, ℕ, ◌+◌, ◌++◌, ◌<◌, ◌∙◌, ◌∷◌, ◌≡◌, ◌≢◌, ◌≤◌}
 use Rattle.image_tree.specs.declared.disk.Layout.{Layout}
 use Rattle.std.proofs.Common.{leb, le-leb}

@@ -92,7 +92,7 @@ Precedes m n = (m.inode < n.inode) ⊎ ((m.inode ≡ n.inode) × (m.place < n.pl
 abbrev pub named_before : List (List ℕ) → Naming → List ℕ
 named_before disk n = gathered (named_by disk) (n.inode - 1) ++ filter is_block (take n.place (numbers_by disk n.inode))
 
--- at this place of these numbers stands the first that is one of them or of those before
+-- the first of these numbers that repeats an earlier one, or one of those before, is at this place
 pub record IsSecond (before numbers : List ℕ) (k : ℕ) : Type 0 where
   pub within : k < length numbers
   pub block : slice_index numbers k ≢ 0
@@ -160,7 +160,7 @@ IsNameFault slots (faults.NameTwice first slot name) =
     × (slot_name (slice_index_or slots slot None) ≡ name.items ∷ []) × IsOnce (slot_names (take slot slots))
 IsNameFault slots _ = ⊥
 
--- of the slots of directory i, where these numbers are those of nodes
+-- of the slots of directory i, if these numbers are those of nodes
 abbrev pub IsSlotFault : (ℕ → Bool) → ℕ → List (Option Dirent) → InodeFault → Type 0
 IsSlotFault is_node i slots fault =
     IsFormFault i slots fault

@@ -4,7 +4,7 @@ use Rattle.damage_places.specs.Vocabulary.{most_faults}
 use Rattle.damage_places.specs.declared.search_fault.SearchFault.{SearchFault}
 use Rattle.damage_places.specs.declared.search_fault.SearchFault.TheVariants.{DeviceFault, NoMemory}
 
--- once more where its failure is the answer
+-- once more if its failure is the answer
 abbrev pub faults_of_search : SearchFault → ℕ → ℕ
 faults_of_search DeviceFault n = min (n + 1) most_faults
 faults_of_search NoMemory n = n

@@ -1,4 +1,4 @@
--- What the tables of an image stand for.
+-- The meaning of an image's tables.
 use Rattle.std.specs.Prelude.{◌≡◌, ℕ, List, length}
 use Rattle.damage_places.specs.Vocabulary.{Version, HasGoodNumbers, IsUpTable, Tallies, gathered, last, named_in, further_in, proper_in, parent_of, sizes_of}
 use Rattle.damage_places.specs.declared.links.Links.{Links}

@@ -107,8 +107,9 @@ fn find_in_tree<D: Device>(
     Ok(counts)
 }
 
-/// The first place at which the first failing check of an image of this version fails; `None` where the image is well formed. It
-/// only reads. Of one inode it is the first thing that its check asks about; the table of checks in docs/FORMATS.md has the order.
+/// The first place at which the first failing check of an image of this version fails; `None` if the image is well
+/// formed. It only reads. Of one inode it is the first thing that its check asks about; the table of checks in
+/// docs/FORMATS.md has the order.
 pub fn find_place<D: Device>(
     alloc: Global,
     device: &mut D,

@@ -1,4 +1,4 @@
-//! Where an image is damaged: the first place, in the order of its checks, at which one of them fails.
+//! The place of an image's damage: the first, in the order of its checks, at which one of them fails.
 #![tactic(auto)]
 
 mod counts;

@@ -22,7 +22,7 @@ pub struct Links {
     pub names: Vec<u16>,
     /// How many slots past the first two do.
     pub further: Vec<u16>,
-    /// How many of those stand in its "..".
+    /// How many of those are in the directory of its "..".
     pub proper: Vec<u16>,
     /// Of how many other directories it is the "..".
     pub children: Vec<u16>,

@@ -14,7 +14,7 @@ use fs_layout::widths::BITS_PER_BLOCK;
 use image_tree::{Layout, numbers_at};
 use std::alloc::Global;
 
-/// Marks a number that isn't 0, where it isn't marked yet.
+/// Marks a number that isn't 0, if it isn't marked yet.
 fn mark(seen: &mut [bool], b: u32) -> bool
     requires length { length seen.old ≡ 8192 }
     requires small { b < 8192 }
@@ -51,7 +51,7 @@ fn mark_all(seen: &mut [bool], numbers: &[u32]) -> Option<usize>
     None
 }
 
-/// A block that is named a second time, and where.
+/// A block that is named a second time, and the place of that.
 #[derive(Clone, Copy)]
 pub struct Repeat {
     pub block: u32,
@@ -87,7 +87,7 @@ fn first_repeat<D: Device>(
     Ok(None)
 }
 
-/// Where an inode below `end` names this block.
+/// The place at which an inode below `end` names this block.
 fn naming_below<D: Device>(
     device: &mut D,
     layout: &Layout,
@@ -112,7 +112,7 @@ fn naming_below<D: Device>(
     Ok(None)
 }
 
-/// Where the block that is named a second time was named before.
+/// The place at which the block that is named a second time was named before.
 fn first_naming<D: Device>(
     device: &mut D,
     layout: &Layout,

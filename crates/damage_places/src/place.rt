@@ -155,7 +155,7 @@ pub enum InodeFault {
     },
 }
 
-/// Where an image is damaged.
+/// The place of an image's damage.
 #[derive(Drop, Debug)]
 pub enum Place {
     /// The device has too few blocks.

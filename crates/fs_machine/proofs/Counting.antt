@@ -16,7 +16,7 @@ at_set {X} xs k j y x e =
         let within : k < length xs = subst (λ (m : ℕ). k < m) (length-set xs k y) (slice_get_within (slice_set xs k y) k x e') in
         same_Some _ _ (sym e' ∙ slice_get-set_same xs k y within)
 
--- a place's entry changed, where its inode is the same
+-- a place's entry changed, if its inode is the same
 pub entry_set : (entries : List Entry) (locks : List (SlotState Inode)) (k : ℕ) (e f : Entry) → slice_get entries k ≡ Some e → f.number ≡ e.number → (0 < f.references → 0 < e.references)
     → ((s : SlotState Inode) → slice_get locks k ≡ Some s → PlaceFits k e s → PlaceFits k f s)
     → IsSoundInodes entries locks → IsSoundInodes (slice_set entries k f) locks
@@ -56,7 +56,7 @@ counted_good n k entries locks f sound =
     subst (λ (l : List Entry). IsSoundInodes l locks) (sym (change_set k one_more entries f.entry f.there))
     (entry_set entries locks k f.entry (one_more f.entry) f.there refl (λ _. f.referenced) (λ s es fit. more_fits k f.entry s.number s.inside s.holder f.referenced fit) sound)
 
--- the lock isn't out where the reference is the last one
+-- the lock isn't out if the reference is the last one
 less_fits : (k : ℕ) (e : Entry) (n : ℕ) (inside : Option Inode) (holder : Option ℕ) → 0 < e.references → (e.references ≡ 1 → holder ≡ None) → PlaceFits k e (record { number = n; inside = inside; holder = holder })
     → PlaceFits k (one_less e) (record { number = n; inside = inside; holder = holder })
 less_fits k e n None (Some h) lt last fits = (fits.0, (fits.1.0, more))
@@ -111,14 +111,14 @@ uncounted_locked n k t f last =
           | inr ne ↦ let a = f.referenced in let b = ne in omega (arith, a, b)
         ]
 
--- how many references stand to an inode, at its place
+-- the count of references to an inode, at its place
 pub references_there : (n k : ℕ) (t : TablesState) (f : Found n t.entries k) → place_of n t.entries ≡ Some k → references_of n t ≡ f.entry.references
 references_there n k t f e = ap (references_in t.entries) e ∙ ap references_at f.there
 
 pub holder_there : (n k : ℕ) (t : TablesState) (s : SlotState Inode) → place_of n t.entries ≡ Some k → slice_get t.locks k ≡ Some s → holder_of n t ≡ s.holder
 holder_there n k t s e there = ap (holder_in t.locks) e ∙ ap holder_at there
 
--- nobody has the lock where the reference is the last one
+-- nobody has the lock if the reference is the last one
 pub last_free : (n k : ℕ) (t : TablesState) (f : Found n t.entries k) → place_of n t.entries ≡ Some k → (references_of n t ≡ 1 → holder_of n t ≡ None)
     → (s : SlotState Inode) → slice_get t.locks k ≡ Some s → f.entry.references ≡ 1 → s.holder ≡ None
 last_free n k t f e last s there one = sym (holder_there n k t s e there) ∙ last (references_there n k t f e ∙ one)

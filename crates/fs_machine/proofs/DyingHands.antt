@@ -1,4 +1,4 @@
--- An inode that dies where a reference is dropped is loaded.
+-- An inode that dies when a reference is dropped is loaded.
 use Rattle.fs_machine.proofs.Vocabulary.{◌≡◌, ℕ, Option, Some, None, refl, subst, IsSome, slice_get, Loaded, Ran, Dies, drop_at, drop_dying, drop_inode, dying, place_of, Outside, State, exec, in_tables}
 use Rattle.fs_machine.specs.Steps as steps
 

@@ -261,7 +261,7 @@ module _ (hart : ℕ) (s : State) (h : Hand) (f : HandFits hart s h) where
     inodes = stay (λ v. v.number) (IsOwnInode hart) (λ q. inode_at q h) (λ q. inode_at q (with_txn t h)) s s f.inodes (inode-beside_txn t h) (λ _ _ own. own);
   }
 
--- what is aside comes to a seat
+-- what is aside is put into a seat
 pub seats-aside : (hart : ℕ) (s : State) (h : Hand) → HandFits hart s h → (k : InodePlace) → HandFits hart s (with_seated k h)
 seats-aside hart s h f k = refers hart s (with_aside None h) (puts-aside hart s h f None) k h.aside
 

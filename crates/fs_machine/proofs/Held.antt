@@ -1,4 +1,4 @@
--- What a call of the tables comes to, in the whole.
+-- The result of a call of the tables, in the whole.
 use Rattle.fs_machine.proofs.Vocabulary.{◌≡◌, ◌≢◌, ◌∙◌, ℕ, List, [], ◌∷◌, Bool, true, false, cond, refl, sym, ap, Option, Some, None, same_Some, none-some, IfNone, IfSome, find, is_none, GuardState, LogState, Inode, Dropped, Ran, OpenFile, Want, Refused, TablesState, file_named, place_of, references_of, references_in, lock_file, lock_unless, with_file, lock_inode, refusal_of, Refuses, first_free, is_unreferenced, IsLocked, IfDying, Core, LogPart, join_log, State, RefusesJoin, in_log, joins, join_unless, with_open, lock_open, IsOwnInode, HasNone}
 use Rattle.fs_machine.specs.declared.entries.Dropped.TheVariants as dropped
 use Rattle.fs_machine.specs.declared.files.Want.TheVariants as want
@@ -55,7 +55,7 @@ join_refused h s o why e = ap (join_unless h s o) e ∙ at o
 pub join_tried : (h : ℕ) (s : State) (o : Option OpenFile) (f : OpenFile) → refusal_of want.Write o ≡ None → o ≡ Some f → join_unless h s o (refusal_of want.Write o) ≡ joins f (in_log s (join_log h s.log))
 join_tried h s o f e is = ap (join_unless h s o) e ∙ ap (λ (q : Option OpenFile). join_unless h s q None) is
 
--- to what is found no reference stands
+-- there is no reference to what is found
 found_passes : {X : Type 0} (p : X → Bool) (xs : List X) (x : X) → find p xs ≡ Some x → p x ≡ true
 found_passes p [] x e = absurd (none-some x e)
 found_passes {X} p (y ∷ ys) x e = at (p y) refl e (λ f. found_passes p ys x f)

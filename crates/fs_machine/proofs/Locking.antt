@@ -173,7 +173,7 @@ unlock_frees g t new sound l is =
     ap (holder_in new) (placed g.value.number t.entries g.number sound.once (found_locked g t l))
     ∙ (ap (λ (z : List (SlotState Inode)). holder_at (slice_get z g.number)) is ∙ ap holder_at there)
 
--- what is out of other inodes stays so where a lock is given back
+-- what is out of other inodes stays so when a lock is given back
 pub unlock_leaves : (g : GuardState Inode) (t : TablesState) (new : List (SlotState Inode)) → IsLocked g t → new ≡ unlocked t.locks g
     → (o : GuardState Inode) → o.value.number ≢ g.value.number → IsLocked o t → IsLocked o (record t { locks = new })
 unfolding unlocked IsOut

@@ -20,7 +20,7 @@ at p o = cond (is_at p o) 1 0
 abbrev names_of : ℕ → Desk → ℕ
 names_of p d = count_by (is_at p) d.descriptors
 
--- a descriptor that comes to name another place
+-- a descriptor that names another place than before
 named_set : (p hart fd : ℕ) (n : Option ℕ) (desks : List Desk) → hart < length desks → fd < length (get_or desks hart no_desk).descriptors
     → named p (change_at hart (with_descriptor fd n) desks) + at p (get_or (get_or desks hart no_desk).descriptors fd None) ≡ named p desks + at p n
 named_set p hart fd n desks lt within =

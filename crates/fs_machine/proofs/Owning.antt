@@ -54,7 +54,7 @@ same_with g b f ss block same = record {
     here None e = refl
     here (Some s) e = (same s e).1
 
--- a giving back of what isn't this hart's
+-- a giving back of other harts' blocks
 pub same_back : (g b : ℕ) (ss : List SeatState) → count_of (has_block b) ss ≤ 1 → ((s : SeatState) → seat_of b ss ≡ Some s → is_held_by g s ≡ false) → SameFor g ss (given_back b ss)
 same_back g b ss once isnt = record {
   count = count_end (is_held_by g) (has_block b) without_holder ss (λ s first. sym (isnt s first));

@@ -1,4 +1,4 @@
--- What a call of a part comes to, in the whole.
+-- The result of a call of a part, in the whole.
 use Rattle.fs_machine.proofs.Vocabulary.{◌≡◌, ℕ, Option, Some, None, Result, Ok, Err, refl, GuardState, BufferState, Got, Progress, exec_result_in, Inode, Dropped, locked_as, dropped_as, joined_as, got_as, read_as, committed_as}
 use Rattle.buffer_cache.specs.declared.got.Got.TheVariants as got
 use Rattle.group_log.specs.declared.commit.Progress.TheVariants as progress

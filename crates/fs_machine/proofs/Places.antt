@@ -1,4 +1,4 @@
--- Where an inode has its place.
+-- The place of an inode.
 use Rattle.fs_machine.proofs.Vocabulary.{◌≡◌, ℕ, zero, suc, ◌+◌, ◌<◌, ◌≤◌, ◌==◌, List, [], ◌∷◌, length, get_or, set, length-set, Bool, true, false, cond, not, refl, sym, ◌∙◌, ap, subst, arith, Option, Some, None, nat_lt, inl, inr, slice_get, slice_set, ◌&&◌, cases_eq, nat_tests, position, position_or_len, slice_get_within, slice_get-get_or, get_or_from_slice_get, same_Some, none-some, position-Some, SlotState, slice_get-set_same, slice_get-set_other, Entry, Inode, change_at, is_for, place_of, IsOnce, AllPlaced, PlaceFits}
 
 -- ---- lists
@@ -8,7 +8,7 @@ set_change k f [] d lt = absurd (omega (arith, lt))
 set_change zero f (x ∷ xs) d lt = refl
 set_change (suc k) f (x ∷ xs) d lt = ap (λ ys. x ∷ ys) (set_change k f xs d (omega (arith, lt)))
 
--- what stands there is x
+-- the element there is x
 pub change_set : {X : Type 0} (k : ℕ) (f : X → X) (xs : List X) (x : X) → slice_get xs k ≡ Some x → change_at k f xs ≡ set xs k (f x)
 change_set k f xs x e =
     sym (set_change k f xs x (slice_get_within xs k x e)) ∙ ap (λ y. set xs k (f y)) (get_or_from_slice_get xs k x x e)
@@ -39,7 +39,7 @@ none_passes {X} p (y ∷ ys) k x le e = found (p y) refl le k e (λ l j f. none_
 nothing : Entry
 nothing = record { number = 0; references = 0 }
 
--- what stands at the place that was found
+-- the entry at the place that was found
 pub record Found (n : ℕ) (entries : List Entry) (k : ℕ) : Type 0 where
   pub entry : Entry
   pub there : slice_get entries k ≡ Some entry

@@ -67,7 +67,7 @@ pub read_honest : {T E : Type 0} (old new : List (List ℕ)) (r : Result T E) �
 read_honest old new (Ok _) e = tt
 read_honest old new (Err _) e = e
 
--- where a get waits nothing changes
+-- if a get waits nothing changes
 pub get_still : {D : Type 0} (h b : ℕ) (old new : LogState D) (t : TablesState) (r : Got) → (new.cache.seats, r) ≡ get_of h b old.cache.seats
     → new ≡ record old { cache = record old.cache { seats = new.cache.seats } } → IfGotNone r (◌≡◌ {A = Core D} (record { log = new; tables = t }) (record { log = old; tables = t }))
 get_still h b old new t (got.Held guard) gives rest = tt

@@ -16,7 +16,7 @@ first_used p (e ∷ es) (suc n) le lt = by_test (p e) lt (first_used p es n (ome
     by_test true lt more = refl
     by_test false lt more = let same = more (omega (arith, lt)) in omega (arith, same)
 
--- where a free one doesn't pass, and none of the others does
+-- if a free one doesn't pass, and none of the others does
 none_free : (p : Entry → Bool) (es : List Entry) → ((e : Entry) → e.references ≡ 0 → p e ≡ false) → AreFreeFrom 0 es → position_or_len p es ≡ length es
 none_free p [] fails are = refl
 none_free p (e ∷ es) fails are =
@@ -34,7 +34,7 @@ none_used p (e ∷ es) (suc n) fails are le ge = by_test (p e) ge (none_used p e
     by_test true ge more = absurd (omega (arith, ge))
     by_test false ge more = let all = more (omega (arith, ge)) in omega (arith, all)
 
--- the first free one, where all others are used
+-- the first free one, if all others are used
 past_used : (es : List Entry) (n : ℕ) → AreFreeFrom n es → n < length es → n ≤ position_or_len is_unused (take n es) → position_or_len is_unused es ≡ n
 past_used [] n are lt ge = absurd (omega (arith, lt))
 past_used (e ∷ es) zero are lt ge = ap (λ (r : ℕ). cond (not (r == 0)) (1 + position_or_len is_unused es) 0) are.0
@@ -88,7 +88,7 @@ found_none i n e = grind (arith, nat_tests)
 some_at : (j m k : ℕ) → j ≡ k → k < m → Some k ≡ cond (nat_lt j m) (Some j) None
 some_at j m k is lt = grind (arith, nat_tests)
 
--- the first free one: among the others, or right behind them
+-- the first free one: among the others, or right after them
 pub free_used : (es : List Entry) (n k : ℕ) → n ≤ length es → position is_unused (take n es) ≡ Some k → Some k ≡ position is_unused es
 free_used es n k le e =
     let at = found_at (position_or_len is_unused (take n es)) (length (take n es)) k e in
@@ -126,7 +126,7 @@ free_set (e ∷ es) zero k y lt are = absurd (omega (arith, lt))
 free_set (e ∷ es) (suc n) zero y lt are = are
 free_set (e ∷ es) (suc n) (suc k) y lt are = free_set es n k y (omega (arith, lt)) are
 
--- a place where there is a reference
+-- a place with a reference
 pub used_below : (es : List Entry) (n k : ℕ) (e : Entry) → AreFreeFrom n es → slice_get es k ≡ Some e → 0 < e.references → k < n
 used_below [] n k e are at some = absurd (none-some e at)
 used_below (d ∷ es) zero zero e are at some = let none : e.references ≡ 0 = ap (λ (x : Entry). x.references) (sym (same_Some d e at)) ∙ are.0 in absurd (omega (arith, none, some))

@@ -1,4 +1,4 @@
--- Where an operation waits, it may.
+-- An operation waits only when it may.
 use Rattle.fs_machine.proofs.Vocabulary.{◌≡◌, ◌≢◌, ◌+◌, ◌<◌, ◌≤◌, ◌==◌, ℕ, zero, suc, Bool, true, false, List, [], ◌∷◌, Option, Some, None, length, refl, sym, subst, ap, ◌∙◌, arith, MatchOption, IsSome, cond, count_by, slice_get, nat_tests, is_count_by, SlotState, GuardState, guard_of, lock_of, get_of, SeatState, holder_of, Got, get_laws, joined, pick, limit_of, turn_is_out, join_waits, ExecResult, Waits, Ran, Stops, exec_result_in, Loaded, Entry, Inode, FilePlace, Free, Taken, NewFile, OpenFile, Refused, Want, IsSoundInodes, InsideFits, TablesState, is_unused, place_of, place_named, references_of, references_in, file_named, file_in, open_at, is_file_of, lock_holder, refusal_of, lock_inode, lock_at, lock_file, lock_unless, with_file, settle_inode, up_inode, up_by, up_new, up_directory, drop_inode, drop_at, drop_dying, dying, drop_walked, walked_at, walked_dying, drop_freed, freed_at as uncounted_freed, first_free, take_place, take_at, open_file, open_in, open_by, double_descriptor, double_at, double_to, shut_descriptor, shut_at, freed_if, give_next, give_by, give_at, given_directory, is_free, hand_of, descriptors_of, first_empty, next_full, LogPart, Outside, Passes, Fails, join_if, got_by as block_got, read_block, commit_if, write_log, State, Join, JoinToWrite, Leave, Get, Read, Put, Commit, Lock, LockFile, LockOpen, Unlock, SetDirectory, Up, Claim, Down, CheckFile, TakePlace, TakeDescriptor, Double, Close, GiveDescriptor, Reply, Whom, Number, Directory, Drop, Held, Walked, Freed, exec, in_log, in_tables, joins, join_unless, with_open, lock_open, claims, claim_first, up_whom, drop_which, May, MayLockFile, MayLockOpen, MayWait, IsElsewhere, JoinWaits, IsCounted, WaitsWhereItMay}
 use Rattle.std.specs.Prelude.{position}
 use Rattle.buffer_cache.specs.declared.got.Got.TheVariants as got
@@ -13,7 +13,7 @@ elsewhere : (h : ℕ) (o : Option ℕ) → IsSome o → o ≢ Some h → IsElsew
 elsewhere h None some ne = absurd (cc some)
 elsewhere h (Some g) some ne = (g, λ e. ne (ap (λ n. Some n) e), refl)
 
--- a part's operation waits where the whole's does
+-- a part's operation waits if the whole's does
 within_waits : {A S T : Type 0} (into : S → T) (d : ExecResult A S) → exec_result_in into d ≡ Waits → d ≡ Waits
 within_waits into Waits e = refl
 within_waits into (Ran a s) e = absurd (cc e)

@@ -1,4 +1,4 @@
--- What a claim stands for.
+-- The meaning of a claim.
 use Rattle.fs_machine.specs.Vocabulary.{GuardState, BufferState, ExecResult, Ran}
 use Rattle.fs_machine.specs.Steps.{ClaimResult as ClaimedState, Claims, NoPlace as HasNoPlace, NoInode as HasNoInode}
 use Rattle.fs_machine.specs.declared.inodes.Claim.{Claim}

@@ -1,4 +1,4 @@
--- Controls: what is left of a program, and how it goes on.
+-- Controls: the rest of a program, and how it goes on.
 use Rattle.std.specs.Prelude.{◌≡◌, ℕ, [], Option, Some, None}
 use Rattle.fs_machine.specs.Vocabulary.{option_map, Ret, Do, asks, Ran as ItRan, GuardState, SteppedInPlace}
 use Rattle.atomic_programs.specs.declared.machines.SteppedInPlace.TheVariants.{Waits, Ran, Done, Stopped}

@@ -60,7 +60,8 @@ abbrev pub open_in : ℕ → ℕ → NewFile → TablesState → Option ℕ → 
 open_in h n f t None = Ran None t
 open_in h n f t (Some k) = open_by h n f k t (first_empty (descriptors_of (slice_get t.desks h)))
 
--- the lowest free descriptor names the file that is opened at the place in hand; where there is none the place is given back
+-- the lowest free descriptor names the file that is opened at the place in hand; if there is none the place is given
+-- back
 unfoldable pub open_file : ℕ → ℕ → NewFile → TablesState → ExecResult (Option ℕ) TablesState
 open_file h n f t = open_in h n f t (hand_of (slice_get t.desks h))
 
@@ -124,7 +125,7 @@ abbrev pub give_by : ℕ → ℕ → TablesState → Option ℕ → ExecResult G
 give_by h child t None = given_directory h child t (place_of (directory_of (slice_get t.desks h)) t.entries)
 give_by h child t (Some fd) = give_at h child fd t (place_named h fd t)
 
--- the child has the hart's next descriptor too; where none is left its directory becomes the hart's
+-- the child has the hart's next descriptor too; if none is left its directory becomes the hart's
 unfoldable pub give_next : ℕ → ℕ → ℕ → TablesState → ExecResult Given TablesState
 give_next h child from t = give_by h child t (next_full from (descriptors_of (slice_get t.desks h)))
 

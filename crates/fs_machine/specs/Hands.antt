@@ -66,7 +66,7 @@ with_reference Two o h = record h { to_two = o }
 abbrev pub with_aside : Option ℕ → Hand → Hand
 with_aside r h = record h { aside = r }
 
--- it comes to a seat
+-- it is put into a seat
 abbrev pub with_seated : InodePlace → Hand → Hand
 with_seated k h = with_reference k h.aside (with_aside None h)
 
@@ -81,7 +81,7 @@ first_in (n ∷ ns) = n
 abbrev pub first_listed : Hand → ℕ
 first_listed h = first_in h.listed
 
--- it comes to a seat
+-- it is put into a seat
 abbrev pub with_first : InodePlace → Hand → Hand
 with_first k h = with_reference k (Some (first_listed h)) (with_listed (drop 1 h.listed) h)
 

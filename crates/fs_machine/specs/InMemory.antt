@@ -11,7 +11,7 @@ pub record IndexState : Type 0 where
 abbrev pub no_index : IndexState
 no_index = record { blocks = 0; slots = [] }
 
--- what stands on the disk of an inode, and an index of its names
+-- an inode's record on the disk, and an index of its names
 pub record Loaded : Type 0 where
   pub inode : Dinode
   pub index : IndexState
@@ -29,11 +29,11 @@ pub record Inode : Type 0 where
 abbrev pub content_of : Option Dinode → IndexState → Option Loaded
 content_of d x = option_map (λ (e : Dinode). record { inode = e; index = x }) d
 
--- what stands on the disk
+-- its record on the disk
 abbrev pub dinode_of : Inode → Option Dinode
 dinode_of v = option_map (λ (l : Loaded). l.inode) v.content
 
--- it stands so from now on, and its names are as they were
+-- this is its record from this step on, and its names are as they were
 abbrev pub with_inode_of : Dinode → Option Loaded → Loaded
 with_inode_of d None = unindexed d
 with_inode_of d (Some l) = record l { inode = d }

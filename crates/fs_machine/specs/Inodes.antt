@@ -24,7 +24,7 @@ abbrev pub lock_at : ℕ → TablesState → Option ℕ → ExecResult (Option L
 lock_at h t None = Waits
 lock_at h t (Some k) = got_by t (lock_of t.locks k h)
 
--- the lock of a referenced inode is taken, and what is loaded of it answered; it waits where that is out
+-- the lock of a referenced inode is taken, and what is loaded of it answered; the hart waits if that is out
 unfoldable pub lock_inode : ℕ → ℕ → TablesState → ExecResult (Option Loaded) TablesState
 lock_inode h n t = lock_at h t (place_of n t.entries)
 
@@ -108,7 +108,7 @@ abbrev pub up_by : ℕ → TablesState → Option ℕ → ExecResult (Option ℕ
 up_by n t None = up_new n t (position is_unused t.entries)
 up_by n t (Some k) = Ran (Some n) (counted_at k t)
 
--- one reference more to an inode; None where each of the fifty places is referred to
+-- one reference more to an inode; None if each of the fifty places is referred to
 unfoldable pub up_inode : ℕ → TablesState → ExecResult (Option ℕ) TablesState
 up_inode n t = up_by n t (place_of n t.entries)
 
@@ -134,13 +134,14 @@ abbrev pub dead_in : Option Inode → Option Loaded
 dead_in None = None
 dead_in (Some v) = dead_of v.content
 
--- what dies where a reference is dropped: it is the last one
+-- what dies when a reference is dropped: it is the last one
 abbrev pub dying : Option Entry → Option (SlotState Inode) → Option Loaded
 dying None s = None
 dying (Some e) None = None
 dying (Some e) (Some s) = if e.references == 1 then dead_in s.inside else None
 
--- what a drop comes to: the reference was counted down; or it is the last one to a dead inode, which is kept to be freed later, or locked
+-- the result of a drop: the reference was counted down; or it is the last one to a dead inode, which is kept to be
+-- freed later, or locked
 pub data DroppedState : Type 0 where
   Counts : DroppedState
   Keeps : DroppedState
@@ -196,6 +197,6 @@ settle_inode h v t = settled h v.number (unlock_inode h v None t)
 abbrev pub is_unreferenced : List Entry → ℕ → Bool
 is_unreferenced entries n = is_none (place_of n entries)
 
--- the first of these to which no reference stands
+-- the first of these to which there is no reference
 abbrev pub first_free : List Entry → List ℕ → Option ℕ
 first_free entries candidates = find (is_unreferenced entries) candidates

@@ -1,4 +1,4 @@
--- What a join for a descriptor stands for.
+-- The meaning of a join for a descriptor.
 use Rattle.std.specs.Prelude.{ℕ}
 use Rattle.fs_machine.specs.Vocabulary.{ExecResult, Waits as ItWaits, Ran}
 use Rattle.fs_machine.specs.Steps.{JoinResult as JoinedState, RefusesJoin, Joins}

@@ -11,14 +11,14 @@ use Rattle.fs_machine.specs.contracts.entries.Inode.{the_row}
 use Rattle.fs_machine.specs.contracts.name_index.NameIndex as lent
 use Rattle.fs_machine.specs.contracts.hand.Hand as hands
 
--- the inode ends with the last index behind r
+-- the inode ends with the last index of r
 abbrev pub LendsIndex : MutBor Inode → MutBor IndexState → Fml
 LendsIndex b r = Lends the_row lent.the_row b r (λ x. with_index_of x b.now)
 
--- the buffer at a place ends with the last bytes behind r
+-- the buffer at a place ends with the last bytes of r
 abbrev pub LendsBlock : MutBor Hand → Place → MutBor (List ℕ) → Fml
 LendsBlock h p r = Lends hands.the_row (Array u8 1024) h r (λ bytes. with_bytes p bytes h.now)
 
--- the inode at a seat ends with the last index behind r
+-- the inode at a seat ends with the last index of r
 abbrev pub LendsIndexAt : MutBor Hand → InodePlace → MutBor IndexState → Fml
 LendsIndexAt h k r = Lends hands.the_row lent.the_row h r (λ x. with_index k x h.now)

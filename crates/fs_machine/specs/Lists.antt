@@ -2,7 +2,7 @@
 use Rattle.std.specs.Prelude.{ℕ, zero, suc, ◌+◌, List, [], ◌∷◌, drop, Option, position, is_some, is_none}
 use Rattle.fs_machine.specs.Vocabulary.{option_map}
 
--- the list with what stands at a place changed
+-- the list with the element at a place changed
 abbrev pub change_at : {X : Type 0} → ℕ → (X → X) → List X → List X
 change_at k f [] = []
 change_at zero f (x ∷ xs) = f x ∷ xs

@@ -1,4 +1,4 @@
--- What the lock of a descriptor's inode stands for.
+-- The meaning of the lock of a descriptor's inode.
 use Rattle.std.specs.Prelude.{Option, Some, None}
 use Rattle.fs_machine.specs.Vocabulary.{GuardState, ExecResult, Waits as ItWaits, Ran}
 use Rattle.fs_machine.specs.InMemory.{Inode, Loaded}

@@ -98,7 +98,7 @@ commit_if x l false = write_log x l
 abbrev pub commit_log : Outside → LogPart → ExecResult Bool LogPart
 commit_log x l = commit_if x l (turn_is_out l.seats l.group l.phase)
 
--- how the blocks may stand after a failure: as before, or with this write
+-- how the blocks may be after a failure: as before, or with this write
 abbrev pub LeavesIt : List (List ℕ) → Outside → Type 0
 LeavesIt old Passes = Unit {0}
 LeavesIt old (Fails after) = after ≡ old

@@ -7,7 +7,7 @@ use Rattle.fs_machine.specs.LogPart.{Outside, Passes, Fails}
 use Rattle.fs_machine.specs.Steps.{State, Op, Answer, exec, kind_of}
 use Rattle.fs_machine.specs.Premises.{May, Honest}
 
--- what a machine stands for: a program of operations without marks
+-- what a machine represents: a program of operations without marks
 abbrev pub P : Type 0 → Type 0
 P A = Prog Op Answer ⊥ A
 
@@ -32,7 +32,7 @@ Answers program hart self result old new = OfNext (λ op s. Honest hart op s (sa
 abbrev pub CallsOnce : {D : Type 0} → (D → D → Type 0) → D → D → Type 0
 CallsOnce Called old new = (new ≡ old) ⊎ Called old new
 
--- a nested machine's step, as one of the machine that it stands in: by its states there, and where it is done
+-- a nested machine's step, as one of the machine that contains it: by its states there, and when it is done
 abbrev pub within : {M R N S K : Type 0} → (M → N) → (R → N) → Stepped M R K → Stepped N S K
 within f g (Waits m) = Waits (f m)
 within f g (Ran m kind) = Ran (f m) kind

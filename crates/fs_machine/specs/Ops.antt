@@ -1,4 +1,4 @@
--- What the operations of code stand for, what each asks of the hand and leaves of it, and its answer.
+-- What the operations of code represent, what each asks of the hand and leaves of it, and its answer.
 use Rattle.std.specs.Prelude.{◌≡◌, ◌≢◌, ◌<◌, ◌≤◌, ◌∷◌, ◌++◌, [], length, take, ◌^◌, ℕ, pos, List, Bool, true, false, Option, Some, None, IsSome, IfSome}
 use Rattle.fs_machine.specs.Vocabulary.{MatchOption, option_map_or, GuardState, BufferState, AfterLeave, Free, Commits}
 use Rattle.fs_machine.specs.Limits.{descriptor_count, listed_places}
@@ -89,7 +89,7 @@ CanDo (GiveTo k child from) h = reference_at k h ≡ None
 CanDo (Claim p k) h = IsSome (buffer_at p h) × ((q : Place) → q ≢ p → buffer_at q h ≡ None) × (reference_at k h ≡ None) × (h.count ≤ 16)
 CanDo Reply h = Unit {0}
 
--- what its control has done in hand right before: bytes to be recorded stand in the buffer
+-- what its control has done in hand right before: bytes to be recorded are in the buffer
 abbrev pub Prepared : Op → Hand → Hand → Type 0
 Prepared (Record p) before h =
     MatchOption (buffer_at p before) ⊥ (λ g. IsSome g.value.content) × ((bytes : List ℕ) × (h ≡ with_bytes p bytes before))
@@ -119,7 +119,7 @@ abbrev pub IsOpenLocked : InodePlace → Answer → Hand → Hand → Type 0
 IsOpenLocked k (File f) before h = IsLocked k (File f) before h
 IsOpenLocked k a before h = ⊥
 
--- the last reference to a dead inode is listed; one that is aside comes to the seat
+-- the last reference to a dead inode is listed; one that is aside is put into the seat
 abbrev pub IsKept : InodePlace → Answer → Hand → Hand → Type 0
 IsKept k (Is true) before h = h ≡ with_listed (before.listed ++ number_at k before ∷ []) (with_seated k before)
 IsKept k a before h = h ≡ with_seated k before

@@ -1,4 +1,4 @@
--- What the answers of the log and the tables stand for.
+-- The meaning of the answers of the log and the tables.
 use Rattle.std.specs.Prelude.{ℕ, List, Bool, true, false, Option, Some, None, Result, Ok, Err}
 use Rattle.fs_machine.specs.Vocabulary.{GuardState, BufferState, Got, Progress, ExecResult, Waits, Ran, Stops}
 use Rattle.buffer_cache.specs.declared.got.Got.TheVariants as got
@@ -32,7 +32,7 @@ committed_as progress.Wrote s = Ran false s
 committed_as progress.Ended s = Ran true s
 committed_as progress.Failed s = Stops s
 
--- what the device answered, by what a call of it came to and the blocks that it left
+-- what the device answered, by the result of its call and the blocks that it left
 abbrev pub said_read : {T E : Type 0} → Result T E → List (List ℕ) → Outside
 said_read (Ok _) after = Passes
 said_read (Err _) after = Fails after

@@ -23,7 +23,7 @@ said Waits s = Passes
 said (Ran kind) s = Passes
 said Stopped s = Fails s.log.contents
 
--- what it came to
+-- its result
 abbrev pub did_as : Op → Hand → (o : steps.Op) → Answer → Performed → State → ExecResult (steps.Answer o) State
 did_as op h o told Waits s = ItWaits
 did_as op h o told (Ran kind) s = ItRan (answer_in op told h o) s

@@ -9,8 +9,8 @@ use Rattle.fs_machine.specs.declared.kind.Kind.{Kind}
 use Rattle.fs_machine.specs.declared.shared.Core.{Core}
 
 module _ {D : Type 0} (contents : D → List (List ℕ)) (failures : D → ℕ) (Called : D → D → Type 0) where
-  -- the step of a machine m is the next operation of its program, and leaves this in its place, or nothing once it is done; what is left
-  -- goes with the state, and the result is one of those with which it ends
+  -- the step of a machine m is the next operation of its program, and leaves this in its place, or nothing once it is
+  -- done. The rest goes with the state, and the result is one of those with which it ends
   pub record StepsAt {M R A : Type 0} (program : M → P A) (value : R → A) (MachineFits : ℕ → State → M → Type 0) (Ends : R → Type 0)
       (nothing : M) (hart : ℕ) (m left : M) (result : SteppedInPlace R Kind) (old new : Core D) : Type 0 where
     pub moves : Moves program value hart m (stepped_at left result) (state_of contents failures old) (state_of contents failures new)

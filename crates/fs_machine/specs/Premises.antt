@@ -1,4 +1,4 @@
--- Where an operation may be made, what the device may answer to it, and where it may wait.
+-- When an operation may be made, what the device may answer to it, and when it may wait.
 use Rattle.std.specs.Prelude.{◌≡◌, ◌≢◌, ℕ, ◌+◌, ◌^◌, ◌<◌, ◌≤◌, List, length, false, Option, Some, None, IsSome, IsTrue, IfSome, slice_get}
 use Rattle.fs_machine.specs.Vocabulary.{MatchOption, IsOutsideLog, count_of, is_held_by, holder_of, kept, hart_count, Open, Halted, joined, has, HasRoom, IsMember, IsHome, limit_of, turn_is_out, join_waits}
 use Rattle.fs_machine.specs.declared.files.OpenFile.{OpenFile}
@@ -23,7 +23,7 @@ MayRecord h b l (Some bytes) = IsSome (kept b l.seats) × IsMember l.members h �
 abbrev pub MayPut : ℕ → ℕ → Option (List ℕ) → LogPart → Type 0
 MayPut h b change l = (holder_of b l.seats ≡ Some h) × IsOutsideLog l.sizes b × MayRecord h b l change
 
--- an inode's lock may be tried by a hart that hasn't got it, where a reference stands
+-- an inode's lock may be tried by a hart that hasn't got it, if there is a reference
 abbrev pub MayLock : ℕ → ℕ → TablesState → Type 0
 MayLock h n t = (0 < references_of n t) × (lock_holder n t ≢ Some h)
 
@@ -116,7 +116,7 @@ Honest h (Close fd) s x = Unit {0}
 Honest h (GiveDescriptor child from) s x = Unit {0}
 Honest h Reply s x = Unit {0}
 
--- ---- where it may wait: for what is in another hart's hand, for the log, and for nothing else
+-- ---- when it may wait: for what is in another hart's hand, for the log, and for nothing else
 
 abbrev pub IsElsewhere : ℕ → Option ℕ → Type 0
 IsElsewhere h o = (g : ℕ) × (g ≢ h) × (o ≡ Some g)

@@ -29,6 +29,6 @@ abbrev pub after_leave : {M : Type 0} → AfterLeave → Prog Op Answer M (Unit 
 after_leave Free = Ret tt
 after_leave Commits = commits most_writes
 
--- the transaction is left, with the commit where one begins
+-- the transaction is left, with the commit if one begins
 abbrev pub finish : {M : Type 0} → Prog Op Answer M (Unit {0})
 finish = Do Leave unmarked after_leave

@@ -1,4 +1,4 @@
--- What the answers of the tables stand for.
+-- The meaning of the answers of the tables.
 use Rattle.std.specs.Prelude.{ℕ, Option, Some, None, Result, Ok, Err}
 use Rattle.fs_machine.specs.Vocabulary.{GuardState, ExecResult, Waits, Ran}
 use Rattle.fs_machine.specs.InMemory.{Inode, Loaded}

@@ -19,7 +19,7 @@ abbrev pub seen_after : Op → (ℕ → List ℕ) → ℕ → List ℕ
 seen_after (Put b change) seen = seen_with b change seen
 seen_after op seen = seen
 
--- Nothing else that an operation makes is seen outside the log, also where the device fails.
+-- Nothing else that an operation makes is seen outside the log, also if the device fails.
 abbrev pub ShowsItsPuts : Type 0
 ShowsItsPuts = (h : ℕ) (x : Outside) (op : Op) (s : State) → IsWholeLog s.log → May h op s → Honest h op s x
     → After (λ t. (k : ℕ) → IsOutsideLog s.log.sizes k → seen_of t.log k ≡ seen_after op (seen_of s.log) k) (exec h x op s)

@@ -48,7 +48,7 @@ pub data Drop : Type 0 where
 pub data Op : Type 0 where
   -- joins a transaction
   Join : Op
-  -- the same where this descriptor may be written
+  -- the same if this descriptor may be written
   JoinToWrite : ℕ → Op
   -- leaves it
   Leave : Op
@@ -60,7 +60,7 @@ pub data Op : Type 0 where
   Put : ℕ → Option (List ℕ) → Op
   -- one write of the commit
   Commit : Op
-  -- takes an inode's lock; or that of what a descriptor names, where it may be had for this
+  -- takes an inode's lock; or that of what a descriptor names, if it may be had for this
   Lock : ℕ → Op
   LockFile : Want → ℕ → Op
   -- that of what a descriptor names that is known to be open
@@ -71,7 +71,7 @@ pub data Op : Type 0 where
   SetDirectory : Inode → Op
   -- one reference more
   Up : Whom → Op
-  -- one to the first of these inodes to which none stands; where there is no such one this block's buffer is given back
+  -- one to the first of these inodes to which there is none; if there is no such one this block's buffer is given back
   Claim : ℕ → List ℕ → Op
   -- one reference less
   Down : Drop → Op
@@ -85,7 +85,7 @@ pub data Op : Type 0 where
   Double : ℕ → Op
   -- a descriptor goes
   Close : ℕ → Op
-  -- to this child the next descriptor from this one on; where there is none the directory
+  -- to this child the next descriptor from this one on; if there is none the directory
   GiveDescriptor : ℕ → ℕ → Op
   -- gives the reply
   Reply : Op
@@ -107,7 +107,7 @@ Answer Join = Unit {0}
 Answer (JoinToWrite fd) = JoinResult
 -- whether a commit begins
 Answer Leave = AfterLeave
--- the bytes where the buffer is valid
+-- the bytes if the buffer is valid
 Answer (Get b) = Option (List ℕ)
 Answer (Read b) = List ℕ
 Answer (Put b change) = Unit {0}
@@ -120,7 +120,7 @@ Answer (LockOpen fd) = OpenFile × Option Loaded
 Answer (Unlock v moved) = Unit {0}
 -- the old directory, to which the reference is in hand now
 Answer (SetDirectory v) = ℕ
--- the inode's number; None where each of the fifty places is referred to
+-- the inode's number; None if each of the fifty places is referred to
 Answer (Up whom) = Option ℕ
 Answer (Claim b candidates) = ClaimResult
 Answer (Down drop) = DroppedState
@@ -128,7 +128,7 @@ Answer (Down drop) = DroppedState
 Answer (CheckFile w fd) = Option Refused
 -- whether there was one
 Answer TakePlace = Bool
--- the descriptor; None where all are open, and then the place was given back
+-- the descriptor; None if all are open, and then the place was given back
 Answer (TakeDescriptor n file) = Option ℕ
 Answer (Double fd) = Doubled
 Answer (Close fd) = Shut
@@ -179,7 +179,7 @@ drop_which h (Held n) t = drop_inode h n t
 drop_which h (Walked n) t = drop_walked n t
 drop_which h (Freed n) t = drop_freed n t
 
--- what an operation makes of the state in hart h's hand, where the device answers x
+-- what an operation makes of the state in hart h's hand, if the device answers x
 unfoldable pub exec : ℕ → Outside → (op : Op) → State → ExecResult (Answer op) State
 exec h x Join s = in_log s (join_log h s.log)
 exec h x (JoinToWrite fd) s = join_unless h s (file_named h fd s.tables) (refusal_of want.Write (file_named h fd s.tables))

@@ -30,7 +30,7 @@ AreFreeFrom n [] = Unit {0}
 AreFreeFrom zero (e ∷ es) = (e.references ≡ 0) × AreFreeFrom zero es
 AreFreeFrom (suc n) (e ∷ es) = AreFreeFrom n es
 
--- the places that are in use stand below this one: from it on all are free
+-- the places that are in use are below this one: from it on all are free
 pub record AreUsedBelow (n : ℕ) (entries : List Entry) : Type 0 where
   pub places : length entries ≡ inode_places
   pub within : n ≤ inode_places
@@ -47,7 +47,7 @@ abbrev pub references_in : List Entry → Option ℕ → ℕ
 references_in entries None = 0
 references_in entries (Some k) = references_at (slice_get entries k)
 
--- how many references stand to an inode
+-- the count of references to an inode
 abbrev pub references_of : ℕ → TablesState → ℕ
 references_of n t = references_in t.entries (place_of n t.entries)
 

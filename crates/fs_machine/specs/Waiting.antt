@@ -1,4 +1,4 @@
--- Where an operation waits, it may.
+-- An operation waits only when it may.
 use Rattle.std.specs.Prelude.{◌≡◌, ◌≤◌, ℕ}
 use Rattle.fs_machine.specs.Vocabulary.{Waits}
 use Rattle.fs_machine.specs.Soundness.{IsSoundTables}

@@ -15,7 +15,7 @@ After P Waits = Unit {0}
 After P (Ran a s) = P s
 After P (Stops s) = P s
 
--- every operation keeps it, where it may be made, also where the device fails at it
+-- every operation keeps it, if it may be made, also if the device fails at it
 abbrev pub KeepsWhole : Type 0
 KeepsWhole = (h : ℕ) (x : Outside) (op : Op) (s : State) → IsWholeLog s.log → May h op s → Honest h op s x
     → After (λ t. IsWholeLog t.log) (exec h x op s)

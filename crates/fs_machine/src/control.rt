@@ -22,10 +22,10 @@ use buffer_cache::HARTS;
 pub trait Control: Drop {
     type Out: Drop;
 
-    // What its program comes to ..
+    // The result of its program ..
     ghost Value: { Type 0 };
 
-    // .. where it ends so, standing so, with this in hand.
+    // .. if it ends so in this state, with this in hand.
     ghost value: { Self → Self.Out → HandState → Value };
 
     // The program that is left.
@@ -39,7 +39,8 @@ pub trait Control: Drop {
 
     ghost Ends: { Self.Out → HandState → Type 0 };
 
-    // What it tells of a step besides: standing so with this in hand it was answered so, and ended, or stands so with that in hand.
+    // What else it says of a step: in this state, with this in hand, it was answered so. Then it ended, or is in that
+    // state with that in hand.
     ghost Tells: { Self → HandState → ((o : StepOp) → StepAnswer o) → Option Self.Out → Self → HandState → Type 0 };
 
     /// The next operation. Bytes to be recorded are written in their buffer.
@@ -161,7 +162,7 @@ pub trait Routine: Drop {
 pub struct Machine<C: Control> {
     pub control: C,
     pub hand: Hand,
-    /// What the last operation was told.
+    /// The answer to the last operation.
     pub told: Answer,
 }
 

@@ -23,7 +23,7 @@ impl<D: Device> Core<D> {
         self.tables.check(hart, want, fd)
     }
 
-    /// Takes a place for an open file (xv6: `filealloc`). False where each of the hundred is taken.
+    /// Takes a place for an open file (xv6: `filealloc`). False if each of the hundred is taken.
     pub fn take_place(&mut self, hart: u8) -> bool
         requires may { May hart TakePlace (state_of D.contents D.failures self.old) }
         ensures ran { (x : Outside)
@@ -35,8 +35,8 @@ impl<D: Device> Core<D> {
         self.tables.take_place(hart)
     }
 
-    /// Opens a file at that place, by the lowest free descriptor (xv6: `fdalloc`). Where all are open the place is given back, and the
-    /// reference.
+    /// Opens a file at that place, by the lowest free descriptor (xv6: `fdalloc`). If all are open the place is given
+    /// back, and the reference.
     pub fn take_descriptor(
         &mut self,
         hart: u8,
@@ -80,8 +80,8 @@ impl<D: Device> Core<D> {
         self.tables.shut(hart, fd)
     }
 
-    /// To the child the hart's next descriptor from this one on, and whether there are more. Where there is none the child's
-    /// directory becomes the hart's, and the reference to its old one is handed out.
+    /// To the child the hart's next descriptor from this one on, and whether there are more. If there is none the
+    /// child's directory becomes the hart's, and the reference to its old one is handed out.
     pub fn give(&mut self, hart: u8, child: u8, from: u32) -> Given
         requires may { May hart (GiveDescriptor child from) (state_of D.contents D.failures self.old) }
         ensures ran { (x : Outside)

@@ -74,7 +74,8 @@ impl Tables {
         }
     }
 
-    /// Takes a place for an open file into the hart's hand (xv6: `filealloc`). False where all are taken, and then nothing changes.
+    /// Takes a place for an open file into the hart's hand (xv6: `filealloc`). False if all are taken, and then
+    /// nothing changes.
     pub fn take_place(&mut self, hart: u8) -> bool
         requires { hart < HARTS }
         ensures ran { take_place hart self.old ≡ Ran result self.new }
@@ -90,8 +91,8 @@ impl Tables {
         }
     }
 
-    /// Opens a file at the place in hand, by the lowest free descriptor (xv6: `fdalloc`). Where all are open the place is given back, and
-    /// the reference.
+    /// Opens a file at the place in hand, by the lowest free descriptor (xv6: `fdalloc`). If all are open the place is
+    /// given back, and the reference.
     #[inline(always)]
     pub fn open(&mut self, hart: u8, reference: Reference, file: NewFile) -> Result<u8, Reference>
         requires { hart < HARTS }

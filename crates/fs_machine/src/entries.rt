@@ -11,8 +11,8 @@ use sleep_lock::{Guard, RetiredSlots};
 use std::alloc::{AllocError, Global};
 use std::marker::Model;
 
-/// An inode in memory, as the holder of its lock has it: its number, and what stands on the disk once it was loaded, with an index of its
-/// names where it is a directory. A contract sees the index only where the inode is loaded.
+/// An inode in memory, as the holder of its lock has it. It has its number and, once it was loaded, its record on the
+/// disk, with an index of its names if it is a directory. A contract sees the index only if the inode is loaded.
 #[derive(Drop)]
 pub struct Inode {
     number: u32,
@@ -66,7 +66,7 @@ impl Inode {
         self.dinode.is_some()
     }
 
-    /// What stands on the disk of one that is loaded.
+    /// The record on the disk of one that is loaded.
     pub fn record(&self) -> &Dinode
         requires { IsSome self.now.content }
         ensures { dinode_of self.now ≡ Some result.now }
@@ -77,7 +77,7 @@ impl Inode {
         }
     }
 
-    /// It stands so from now on. Where it wasn't loaded none of its names is indexed.
+    /// This is its record from this call on. If it wasn't loaded none of its names is indexed.
     pub fn set_record(&mut self, inode: Dinode)
         ensures { self.new ≡ stands_so inode self.old }
     {
@@ -122,7 +122,8 @@ impl Inode {
     }
 }
 
-/// A place for an inode in memory: the inode's number, and how many references stand to it. Without one the place is free.
+/// A place for an inode in memory: the inode's number, and the count of references to it. Without one the place is
+/// free.
 #[derive(Clone, Copy)]
 pub struct Entry {
     pub number: u32,
@@ -171,7 +172,7 @@ impl Reference {
     }
 }
 
-/// What a drop came to.
+/// The result of a drop.
 pub enum Dropped {
     /// The reference was counted down.
     Counted,
@@ -234,7 +235,7 @@ impl Entries {
         }
     }
 
-    /// How many references stand to the inode at a place.
+    /// The count of references to the inode at a place.
     pub fn references(&self, place: usize) -> u32
         requires { place < MEMORY_INODES }
         ensures { IfSome (slice_get self.now place) (λ e. result ≡ e.references) }
@@ -242,7 +243,7 @@ impl Entries {
         self.entries[place].references
     }
 
-    /// A place comes to be an inode's, with one reference.
+    /// A place becomes an inode's, with one reference.
     pub fn begin(&mut self, place: usize, number: u32)
         requires { place < MEMORY_INODES }
         ensures { self.new ≡ slice_set self.old place (record { number = number; references = 1 }) }
@@ -254,7 +255,7 @@ impl Entries {
         self.used = self.used.max(place + 1);
     }
 
-    /// One reference more at a place where there is one.
+    /// One reference more at a place that has one.
     pub fn count_up(&mut self, place: usize)
         requires some { IfSome (slice_get self.old place) (λ e. (0 < e.references) × (e.references + 1 < 2 ^ 32)) }
         requires within { place < MEMORY_INODES }

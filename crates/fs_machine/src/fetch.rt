@@ -11,14 +11,14 @@ use crate::control::Part;
 use crate::hand::{Hand, Place};
 use crate::op::{Answer, Op};
 
-/// Takes a block's buffer, and reads the block where it isn't valid.
+/// Takes a block's buffer, and reads the block if it isn't valid.
 #[derive(Clone, Copy, Drop)]
 pub enum Fetch {
     Get(Place, u32),
     Read(Place, u32),
 }
 
-/// Where the buffer is, and of which block.
+/// The buffer's place, and its block.
 #[derive(Clone, Copy, Drop)]
 pub struct Fetched {
     pub place: Place,

@@ -15,7 +15,7 @@ pub struct OpenFile {
     pub offset: u32,
 }
 
-/// What is told of a file when it is opened.
+/// What the opener says of a file.
 #[derive(Clone, Copy)]
 pub struct NewFile {
     pub kind: i16,

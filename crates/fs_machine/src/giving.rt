@@ -14,8 +14,8 @@ impl Tables {
     ghost use Rattle.fs_machine.specs.Locks.{LeavesLocked};
     ghost use Rattle.fs_machine.specs.Files.{give_next, give_at, given_directory, IsDirectory};
 
-    /// To the child the hart's next descriptor from this one on; where there is none its directory becomes the hart's, and the
-    /// reference to its old one is handed out.
+    /// To the child the hart's next descriptor from this one on; if there is none its directory becomes the hart's,
+    /// and the reference to its old one is handed out.
     #[tactic(auto, unfolding(crate::specs::Files::give_next))]
     pub fn give(&mut self, hart: u8, child: u8, from: u32) -> Given
         requires hart { hart < HARTS }

@@ -71,7 +71,7 @@ impl Hand {
         })
     }
 
-    /// A transaction, where there is none.
+    /// A transaction, if there is none.
     pub(crate) fn hold_txn(&mut self, txn: Txn)
         requires { self.old.txn ≡ None }
         ensures { self.new ≡ with_txn (Some txn) self.old }
@@ -203,7 +203,7 @@ impl Hand {
         put(&mut self.aside, reference);
     }
 
-    /// What is aside comes to a seat that is empty.
+    /// What is aside is put into an empty seat.
     pub(crate) fn seat_aside(&mut self, seat: InodePlace)
         requires { reference_at seat self.old ≡ None }
         ensures { self.new ≡ with_seated seat self.old }
@@ -265,7 +265,7 @@ impl Hand {
         }
     }
 
-    /// The inode at a seat stands so.
+    /// Sets the record of the inode at a seat.
     pub fn set_record(&mut self, seat: InodePlace, inode: Dinode)
         requires { IsSome (inode_at seat self.old) }
         ensures { self.new ≡ with_record seat inode self.old }
@@ -382,7 +382,7 @@ fn set_record(place: &mut Option<Guard<Inode>>, inode: Dinode)
     }
 }
 
-// Nothing stands in a place.
+// A place is empty.
 fn end_none<T>(place: Option<T>)
     requires { place ≡ None }
 {

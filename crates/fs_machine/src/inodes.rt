@@ -18,7 +18,7 @@ use buffer_cache::{Buffer, HARTS};
 use sleep_lock::Guard;
 
 impl<D: Device> Core<D> {
-    /// Takes the lock of an inode (xv6: the `acquiresleep` of `ilock`). None where it waits.
+    /// Takes the lock of an inode (xv6: the `acquiresleep` of `ilock`). None if it waits.
     pub fn lock(&mut self, hart: u8, reference: &Reference) -> Option<Guard<Inode>>
         requires may { May hart (Lock reference.now) (state_of D.contents D.failures self.old) }
         ensures ran { (x : Outside)
@@ -49,7 +49,7 @@ impl<D: Device> Core<D> {
         self.tables.unlock(hart, guard);
     }
 
-    /// One reference more to an inode (xv6: `iget`, `idup`). None where each of the fifty places is referred to.
+    /// One reference more to an inode (xv6: `iget`, `idup`). None if each of the fifty places is referred to.
     #[tactic(auto, unfolding(crate::specs::Premises::May))]
     #[inline(always)]
     pub fn up(&mut self, hart: u8, number: u32) -> Option<Reference>
@@ -65,8 +65,8 @@ impl<D: Device> Core<D> {
         self.tables.up(number)
     }
 
-    /// A reference to the first of these inodes to which none stands. Where there is no such one the buffer is given back as
-    /// it was, and else kept.
+    /// A reference to the first of these inodes to which there is none. If there is no such one the buffer is given
+    /// back as it was, and else kept.
     #[tactic(auto, unfolding(crate::specs::Premises::May))]
     pub fn claim(&mut self, hart: u8, guard: Guard<Buffer>, candidates: &[u32]) -> Claim
         requires own { IsOwn hart guard.value.block guard (state_of D.contents D.failures self.old) }
@@ -92,8 +92,8 @@ impl<D: Device> Core<D> {
         }
     }
 
-    /// Drops a reference (xv6: `iput`, up to where it frees). Where it is the last one to a dead inode the inode's lock is taken in its
-    /// place.
+    /// Drops a reference (xv6: `iput`, up to its freeing). If it is the last one to a dead inode the inode's lock is
+    /// taken in its place.
     pub fn drop_reference(&mut self, hart: u8, reference: Reference) -> Dropped
         requires may { May hart (Down (Held reference)) (state_of D.contents D.failures self.old) }
         ensures ran { (x : Outside)
@@ -109,7 +109,7 @@ impl<D: Device> Core<D> {
         self.tables.drop_reference(hart, reference)
     }
 
-    /// Takes the lock of the inode that a descriptor names, where it may be had for this.
+    /// Takes the lock of the inode that a descriptor names, if it may be had for this.
     #[tactic(auto, unfolding(crate::specs::Premises::May))]
     pub fn lock_file(&mut self, hart: u8, want: Want, fd: u32) -> LockedFile
         requires may { May hart (LockFile want fd) (state_of D.contents D.failures self.old) }
@@ -136,7 +136,7 @@ impl<D: Device> Core<D> {
         }
     }
 
-    /// Takes the lock of the inode that a descriptor names which is known to be open. None where it waits.
+    /// Takes the lock of the inode that a descriptor names which is known to be open. None if it waits.
     #[tactic(auto, unfolding(crate::specs::Premises::May))]
     pub fn lock_open(&mut self, hart: u8, fd: u32) -> Option<(OpenFile, Guard<Inode>)>
         requires may { May hart (LockOpen fd) (state_of D.contents D.failures self.old) }
@@ -197,7 +197,7 @@ impl<D: Device> Core<D> {
         self.tables.set_directory(hart, reference)
     }
 
-    /// One reference more to the hart's current directory. It is never None, since one stands to it.
+    /// One reference more to the hart's current directory. It is never None, because there is one to it.
     #[tactic(auto, unfolding(crate::specs::Premises::May))]
     pub fn up_directory(&mut self, hart: u8) -> Option<Reference>
         requires may { May hart (Up Directory) (state_of D.contents D.failures self.old) }
@@ -247,7 +247,7 @@ pub enum Claim {
     Claimed(Reference, Guard<Buffer>),
     /// Each of the fifty places is referred to.
     NoPlace(Guard<Buffer>),
-    /// To each of them a reference stands, and the buffer was given back.
+    /// There is a reference to each of them, and the buffer was given back.
     NoInode,
 }
 

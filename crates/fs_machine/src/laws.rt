@@ -15,7 +15,8 @@ pub fn leaves_own()
     ensures { LeavesOwn }
 {}
 
-/// Outside the log blocks are seen as before each operation, but for one that is put with its bytes, also where the device fails.
+/// Outside the log blocks are seen as before each operation, but for one that is put with its bytes, also if the
+/// device fails.
 pub fn shows_its_puts()
     ensures { ShowsItsPuts }
 {}

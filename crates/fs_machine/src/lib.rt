@@ -1,8 +1,8 @@
 //! The one state that all harts share, each kind of step on it as one operation, and what each hart owns of it.
 //!
-//! `specs/Steps` says what each operation makes of the state, `specs/Premises` where it may be made and where it may wait. A
-//! function of `Core` is one operation. Of the state `Tables` has the inodes in memory with their locks and references, the open
-//! files, and for each hart its descriptors and its current directory.
+//! `specs/Steps` says what each operation makes of the state, `specs/Premises` when it may be made and when it may
+//! wait. A function of `Core` is one operation. Of the state `Tables` has the inodes in memory with their locks and
+//! references, the open files, and for each hart its descriptors and its current directory.
 //!
 //! `Hand` has all that a hart holds between two operations, and `Hand::perform` makes one. A `Control` has none of it: it says which
 //! operation is next, and how it goes on after the answer. `Machine::step` is proved once for every control.

@@ -18,5 +18,5 @@ pub const ROOT: u32 = 1;
 /// The type of a device.
 pub(crate) const DEVICE: i16 = 3;
 
-/// How many references stand to an inode where the last one is dropped.
+/// The count of references to an inode when the last one is dropped.
 pub(crate) const LAST_REFERENCE: u32 = 1;

@@ -34,7 +34,7 @@ impl Listed {
         Ok(Listed { numbers })
     }
 
-    /// One more, behind the others.
+    /// One more, after the others.
     pub fn push(&mut self, reference: Reference)
         requires { length self.old < MOST_LISTED }
         ensures { self.new ≡ self.old ++ reference ∷ [] }

@@ -13,14 +13,14 @@ pub const INDEXED_SLOTS: usize = 64;
 /// A used slot of a directory.
 #[derive(Clone, Copy, Default)]
 pub struct IndexedSlot {
-    /// Where it stands, counted from the directory's first slot.
+    /// Its place, counted from the directory's first slot.
     pub place: u32,
-    /// Its bytes, as they stand on the disk.
+    /// Its bytes, as they are on the disk.
     pub bytes: [u8; DIRENT_LEN],
 }
 
-/// The used slots of a directory's first blocks, in their order. It has memory of its own, so that who has it moves no more than where
-/// that is.
+/// The used slots of a directory's first blocks, in their order. It has memory of its own, so that its owner moves
+/// only that memory's address.
 #[derive(Drop)]
 pub struct NameIndex {
     blocks: usize,
@@ -76,7 +76,7 @@ impl NameIndex {
         self.slots.remove(at);
     }
 
-    /// One slot more, behind the others.
+    /// One slot more, after the others.
     pub fn push(&mut self, slot: IndexedSlot)
         requires { length self.old.slots < INDEXED_SLOTS }
         ensures { self.new ≡ record self.old { slots = self.old.slots ++ slot ∷ [] } }
@@ -91,7 +91,7 @@ impl NameIndex {
         self.blocks = blocks;
     }
 
-    /// The slots behind the first so many go.
+    /// The slots after the first `count` go.
     pub fn truncate(&mut self, count: usize)
         ensures { self.new ≡ record self.old { slots = take count self.old.slots } }
     {

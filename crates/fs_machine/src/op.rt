@@ -5,7 +5,7 @@ ghost use Rattle.fs_machine.specs.Ops.{yes_in};
 use crate::hand::{InodePlace, Place};
 use crate::{Doubled, Kind, NewFile, OpenFile, Refused, Want};
 
-/// The next operation. What it is about lies at a place of the hand.
+/// The next operation. Its object is at a place of the hand.
 #[derive(Clone, Copy)]
 pub enum Op {
     /// Joins a transaction.
@@ -28,13 +28,13 @@ pub enum Op {
     Unlock(InodePlace),
     /// A reference to the inode of this number.
     Up(InodePlace, u32),
-    /// The same where no seat is free: it is aside.
+    /// The same if no seat is free: it is aside.
     UpAside(u32),
     /// Drops the reference at this seat; where it is the last one to a dead inode the inode's lock is taken in its place.
     Down(InodePlace),
-    /// Joins a transaction, where this descriptor may be written.
+    /// Joins a transaction, if this descriptor may be written.
     JoinToWrite(u32),
-    /// Takes the lock of what a descriptor names, where it may be had for this.
+    /// Takes the lock of what a descriptor names, if it may be had for this.
     LockFile(InodePlace, Want, u32),
     /// That of what a descriptor names that is known to be open.
     LockOpen(InodePlace, u32),
@@ -45,8 +45,8 @@ pub enum Op {
     SetDirectory(InodePlace),
     /// A reference to the hart's current directory.
     UpDirectory(InodePlace),
-    /// Drops a reference within a walk; the last one to a dead inode is listed, behind the others. A reference that is aside comes to the
-    /// seat.
+    /// Drops a reference within a walk; the last one to a dead inode is listed, after the others. A reference that is
+    /// aside is put into the seat.
     DownWalked(InodePlace),
     /// Takes the first listed reference, and the lock of its inode.
     LockListed(InodePlace),
@@ -56,16 +56,17 @@ pub enum Op {
     CheckFile(Want, u32),
     /// Takes a place for an open file.
     TakePlace,
-    /// Opens a file there; where no descriptor is free the reference stays.
+    /// Opens a file there; if no descriptor is free the reference stays.
     TakeDescriptor(InodePlace, NewFile),
     /// One descriptor more for what this one names.
     Double(u32),
-    /// A descriptor goes; where it was the last one the file's reference is there then.
+    /// A descriptor goes; if it was the last one the file's reference is there then.
     Close(InodePlace, u32),
-    /// To this child the next descriptor from this one on; where there is none the directory, and the reference to the child's old one
-    /// is there then.
+    /// To this child the next descriptor from this one on; if there is none the directory, and the reference to the
+    /// child's old one is there then.
     GiveTo(InodePlace, u8, u32),
-    /// A reference to the first of the numbers in hand to which none stands; where there is no such one the buffer is given back.
+    /// A reference to the first of the numbers in hand to which there is none; if there is no such one the buffer is
+    /// given back.
     Claim(Place, InodePlace),
     /// Gives the reply.
     Reply,
@@ -75,8 +76,9 @@ pub enum Op {
 #[derive(Clone, Copy)]
 pub enum Answer {
     Nothing,
-    /// A commit begins, or has ended; a dropped reference was the last one to a dead inode; there was a place for an open file; a
-    /// descriptor was its file's last; the directory was handed on. Of a claim: no place in memory was left.
+    /// A commit begins, or has ended; a dropped reference was the last one to a dead inode; there was a place for an
+    /// open file. Or a descriptor was its file's last; the directory was handed on. Of a claim: no place in memory was
+    /// left.
     Is(bool),
     Refused(Refused),
     Number(u32),
@@ -98,7 +100,7 @@ impl Answer {
     }
 }
 
-/// What an operation came to.
+/// The result of an operation.
 #[derive(Clone, Copy)]
 pub enum Performed {
     Waits,

@@ -86,7 +86,7 @@ impl Hand {
         Performed::Ran(Kind::Up)
     }
 
-    // The same where no seat is free.
+    // The same if no seat is free.
     pub(crate) fn up_aside<D: Device>(
         &mut self,
         hart: u8,
@@ -136,7 +136,7 @@ impl Hand {
         }
     }
 
-    // Joins where a descriptor may be written.
+    // Joins if a descriptor may be written.
     pub(crate) fn join_to_write<D: Device>(
         &mut self,
         hart: u8,
@@ -532,7 +532,7 @@ impl Hand {
         }
     }
 
-    // A reference to the first of the numbers in hand to which none stands.
+    // A reference to the first of the numbers in hand to which there is none.
     pub(crate) fn claim<D: Device>(
         &mut self,
         hart: u8,
@@ -582,8 +582,8 @@ impl Hand {
         Performed::Ran(Kind::Reply)
     }
 
-    /// One operation. It is made of what is in hand, and leaves in hand what it gives; what the hand doesn't show of its answer is told. An
-    /// operation whose answer is all in hand leaves what was told before.
+    /// One operation. It is made of what is in hand, and leaves in hand what it gives. It records in `told` what the
+    /// hand doesn't show of its answer. An operation whose answer is all in hand leaves `told` as before.
     pub fn perform<D: Device>(
         &mut self,
         hart: u8,

@@ -37,7 +37,7 @@ impl Queue {
         })
     }
 
-    /// One more, behind the others.
+    /// One more, after the others.
     pub(crate) fn push(&mut self, reference: Reference)
         requires { length self.old < MOST_LISTED }
         ensures { self.new ≡ self.old ++ reference ∷ [] }

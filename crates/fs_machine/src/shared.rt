@@ -31,7 +31,7 @@ pub enum JoinedToWrite {
 }
 
 impl<D: Device> Core<D> {
-    /// Joins a transaction (xv6: `begin_op`). None where it waits.
+    /// Joins a transaction (xv6: `begin_op`). None if it waits.
     #[tactic(auto, unfolding(crate::specs::Premises::May, crate::specs::Premises::Honest))]
     pub fn join(&mut self, hart: u8) -> Option<Txn>
         requires may { May hart Join (state_of D.contents D.failures self.old) }
@@ -47,7 +47,7 @@ impl<D: Device> Core<D> {
         self.log.join(hart)
     }
 
-    /// Joins a transaction, where this descriptor may be written.
+    /// Joins a transaction, if this descriptor may be written.
     #[tactic(auto, unfolding(crate::specs::Premises::May))]
     pub fn join_to_write(&mut self, hart: u8, fd: u32) -> JoinedToWrite
         requires may { May hart (JoinToWrite fd) (state_of D.contents D.failures self.old) }

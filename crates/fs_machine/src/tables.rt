@@ -69,7 +69,7 @@ impl Tables {
         locks.retire()
     }
 
-    /// Takes the lock of an inode (xv6: the `acquiresleep` of `ilock`). None where it waits.
+    /// Takes the lock of an inode (xv6: the `acquiresleep` of `ilock`). None if it waits.
     pub fn lock(&mut self, hart: u8, number: u32) -> Option<Guard<Inode>>
         ensures ran { lock_inode hart number self.old ≡ locked_as result self.new }
         ensures still { IfNone result (self.new ≡ self.old) }
@@ -96,7 +96,7 @@ impl Tables {
         self.locks.unlock(guard);
     }
 
-    /// How many references stand to an inode.
+    /// The count of references to an inode.
     pub fn references(&self, number: u32) -> u32
         ensures { result ≡ references_of number self.now }
     {
@@ -106,7 +106,8 @@ impl Tables {
         }
     }
 
-    /// One reference more to an inode (xv6: `iget`, `idup`). None where each place is referred to, and then nothing changes.
+    /// One reference more to an inode (xv6: `iget`, `idup`). None if each place is referred to, and then nothing
+    /// changes.
     #[inline(always)]
     pub fn up(&mut self, number: u32) -> Option<Reference>
         requires room { references_of number self.old + 1 < 2 ^ 32 }
@@ -129,8 +130,8 @@ impl Tables {
         }
     }
 
-    /// Drops a reference (xv6: `iput`, up to where it frees). Where it is the last one to a dead inode the inode's lock is taken in its
-    /// place.
+    /// Drops a reference (xv6: `iput`, up to its freeing). If it is the last one to a dead inode the inode's lock is
+    /// taken in its place.
     pub fn drop_reference(&mut self, hart: u8, reference: Reference) -> Dropped
         requires some { 0 < references_of reference self.old }
         requires last { references_of reference self.old ≡ 1 → holder_of reference self.old ≡ None }
@@ -198,7 +199,7 @@ impl Tables {
         }
     }
 
-    /// The first of these inodes to which no reference stands.
+    /// The first of these inodes to which there is no reference.
     pub fn first_free(&self, candidates: &[u32]) -> Option<u32>
         ensures { result ≡ first_free self.now.entries candidates.now }
     {
@@ -261,7 +262,7 @@ fn begin(entries: &mut Entries, locks: &mut Slots<Inode>, place: usize, number: 
     entries.begin(place, number);
 }
 
-// The lock of a dead inode, where the last reference to it is dropped.
+// The lock of a dead inode, when the last reference to it is dropped.
 fn take_dying(
     entries: &Entries,
     locks: &mut Slots<Inode>,

@@ -18,7 +18,7 @@ pub record Fits (h : ℕ) (v : World) (all : Tree) (p : Option ℕ) (alone : ℕ
   pub well : IsWellFormed all
   pub size : all.ninodes ≡ v.all.ninodes
   pub rows : (g : ℕ) → g ≢ h → row_of all g ≡ row_of v.all g
-  -- nodes change where the hart keeps them, and their types where it keeps them alone
+  -- the hart keeps each node that changes, and keeps it alone if its type changes
   pub nodes : (j : ℕ) → ((all.nodes j ≡ v.all.nodes j) × (alone j ≡ v.alone j)) ⊎ (v.keeper j ≡ Some h)
   pub inode_type : (j : ℕ) → (type_of (all.nodes j) ≡ type_of (v.all.nodes j)) ⊎ ((v.keeper j ≡ Some h) × (v.alone j ≡ true))
   pub noted : (m : Note) → (D h).noted ≡ Some m → (0 < (v.harts h).refs m.number) ⊎ (p ≡ Some m.number) → alone m.number ≡ false → type_of (all.nodes m.number) ≡ m.inode_type
@@ -92,7 +92,7 @@ acts_gone version b h s res par new id goes = rw goes refl
 abbrev pub told_step : ℕ → Action → StepAnswer → Step
 told_step new s a = record { move = Look new; told = Some (record { act = record { step = s; answer = a }; new = new }) }
 
--- what a walk that stands at its last name asks for stays where the tree settles
+-- what a walk at its last name asks for stays when the tree settles
 asks : (t : Tree) (d : ℕ) (e : Name) (f : Option ℕ) → IsWellFormed t → live_directory (t.nodes d) ≡ true → look t.nodes d e ≡ f → AsksForWhatStays t f (Some (d, e))
 asks t d e f well live is = record {
   node = λ n q. settle_alive t n (look_live t d n e well (is ∙ q));
@@ -100,7 +100,8 @@ asks t d e f well live is = record {
   child = λ q n r l. let s : (d, e) ≡ q = cc in settle_alive t n (look_live t d n e well (subst (λ (p : ℕ × Name). look t.nodes p.0 p.1 ≡ Some n) (sym s) l));
 }
 
--- The step acts at the last lookup, where the walk stands at d. u: the world once the disk is changed; x: what the move makes; T: the tree after the step.
+-- The step acts at the last lookup, when the walk is at d. u: the world once the disk is changed; x: what the move
+-- makes; T: the tree after the step.
 pub act_good_to : (version : Version) {A : Type 0} (h more n : ℕ) (B : List Step → Type 0) (Q : A → List Step → World → Type 0) (es : List Step) (v u : World) (s : Action) (d new : ℕ) (range : IsOfRange (stage_of v) (Look new)) (e : Name) (f : Option ℕ) (a : StepAnswer) (x : Made) (T : Tree) (p : P (machine version) A)
     → h < hart_count → Inv v → (v.harts h).walk ≡ Some (record { step = s; at = d; next = e; rest = [] }) → live_directory (v.all.nodes d) ≡ true → look v.all.nodes d e ≡ f → ((g : ℕ) → s ≡ Inherit g → ⊥)
     → acts version v.all h s f (Some (d, e)) new (new_id v) ≡ x → x.told ≡ Some (record { act = record { step = s; answer = a }; new = new })

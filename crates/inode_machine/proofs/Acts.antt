@@ -1,4 +1,4 @@
--- A step that acts where its walk ends: at the last lookup, or at the start of a path without elements.
+-- A step that acts at the end of its walk: at the last lookup, or at the start of a path without elements.
 use Rattle.image_versions.specs.declared.version.Version.{Version}
 use Rattle.inode_machine.proofs.Vocabulary.{◌≡◌, inl, inr, ℕ, ◌<◌, true, false, List, [], Option, Some, None, refl, sym, ◌∙◌, ap, subst, Cause, Node, Action, Inherit, StepAnswer, Failed, AsksForWhatStays, hart_count, root, Name, Tree, put, look, live_directory, is_absolute, start_of, elements, settle, path_of, follows_path, makes_node, refusal_with, IsInPlace, StepWith, settle_alive, settle_live, settle_named, settled_step, IsWellFormed, look_live, cwd_named, look_same, either, put_same, Walk, Acts, LookupLeadsTo, PlaysStep, Begin, Look, Desk, Note, World, stage_of, type_of, with_walk, found_by, acts, looked, look_made, begun, Own, Held, own_of, Inv}
 use Rattle.tree_laws.specs.Moves.{StartLeadsTo}
@@ -72,7 +72,7 @@ last_takes version h d v u O x y j a id T finder ov inv walks at isd live rest f
           subst (λ (z : ℕ). (settle v.all).nodes z ≡ v.all.nodes z) g stays;
     }
 
--- the start stays where the tree settles
+-- the start stays when the tree settles
 start_stays : (t : Tree) (h : ℕ) (path : List ℕ) → IsWellFormed t → h < hart_count → (settle t).nodes (start_of t h path) ≡ t.nodes (start_of t h path)
 start_stays t h path well lt = elim (either (is_absolute path)) [
   | inl y ↦ rw y (settle_alive t root (root_live t well))
@@ -95,7 +95,7 @@ start_takes version h v u s a id T finder lt inv rests path place step same afte
       }) step same after);
 }
 
--- What was found is noted, and stands to be counted up.
+-- What was found is noted, and waits to be counted up.
 
 abbrev pub found_world : ℕ → ℕ → World → World
 found_world h j v = record v { desks = put v.desks h (record (v.desks h) { noted = Some (note_of v.all j) }); harts = with_walk v.harts h None (Some j) }

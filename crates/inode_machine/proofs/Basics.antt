@@ -1,4 +1,4 @@
--- The lemmas that most of this crate's other lemmas stand on.
+-- The lemmas that most of this crate's other lemmas use.
 pub use Rattle.inode_machine.proofs.Acting.{Fits, act_good, act_good_to, acts_did, acts_gone, no_walk, told_step, two_put}
 pub use Rattle.inode_machine.proofs.Acts.{Finder, Finding, finding, found_world, last_made, last_takes, refused_made, start_made, start_takes}
 pub use Rattle.inode_machine.proofs.Both.{Serves, both, both_world, row_same}

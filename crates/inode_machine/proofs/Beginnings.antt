@@ -20,7 +20,7 @@ root_type t well = elim (either (live_directory (t.nodes root))) [
   | inr y ↦ absurd (well.forest.rooted (folder_dead (t.nodes root) y))
 ]
 
--- Where a reference was counted to the start, i. O: what the hart had before.
+-- A reference was counted to the start, i. O: what the hart had before.
 pub record Begun (h i : ℕ) (s : Action) (base : ℕ → ℕ) (ns : List ℕ) (O : Own) (v : World) : Type 0 where
   pub up : Ups h i O v
   pub start : i ≡ start_of v.all h (path_of s)

@@ -183,11 +183,11 @@ right version kind h call busy w u idle free begins first runs =
       runs = λ i. (runs i (subst (λ (x : World). Idle h x) is (idle h free))).wp;
     }
 
--- Where each call of some is right.
+-- Each call of some is right.
 abbrev pub IsRight : Version → (Call → Bool) → (Call → Bool) → Type 0
 IsRight version kind these = (h : ℕ) (call : Call) (busy : ℕ → Bool) (w u : World) → h < hart_count → these call ≡ true → (u.desks h).lender ≡ None → ((other : ℕ) → busy other ≡ false → Idle other w) → busy h ≡ false → begin_call h call busy w ≡ Begins u → Right (calls_that version kind) h call busy w u
 
--- where each call of the kind is right, all of them are
+-- if each call of the kind is right, all of them are
 pub lawful_that : (version : Version) (kind : Call → Bool) → IsRight version kind kind → Lawful (calls_that version kind)
 lawful_that version kind calls = record {
   laws = laws version;

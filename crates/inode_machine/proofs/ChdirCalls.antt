@@ -7,7 +7,7 @@ use Rattle.inode_machine.proofs.Beginnings.{Begun as StartsAt, s-begin, s-start}
 use Rattle.inode_machine.proofs.Chdirs.{Leaving, kind_directory, chdir_made, chdir_refused_step, chdir_step, leaving, left_world, mends_left, s-settle}
 use Rattle.inode_machine.proofs.Endings.{Follows, s-give-up}
 
--- What the call is told.
+-- What the call hears.
 
 chdir_follows : (path : List ℕ) → Follows (calls.Chdir path) (Chdir path)
 unfolding next_of reply_of had_room

@@ -35,7 +35,7 @@ kind_directory (Some v) e = at v.kind e
     at (File bytes) q = absurd cc
     at (Device major minor size) q = absurd cc
 
--- The tree's current directory changes, where the one that the hart refers to is the one that it leaves.
+-- The tree's current directory changes, if the hart refers to the directory that it leaves.
 cwd_did : Version → (h x k : ℕ) (v : World) → (v.desks h).lender ≡ None → h < hart_count → Inv v → (v.desks h).left ≡ Some k → type_of (v.all.nodes x) ≡ Some OfDirectory → IsReached v h x → HartStep h v (record v { all = record (v.all) { cwd = put v.all.cwd h x } })
 cwd_did version h x k v free lt inv left inode_type reached = record {
   hart = lt;
@@ -123,7 +123,7 @@ leaving version h j v O ov free lt inv none inode_type reached = record {
               ∙ sym (λ z. (v.all.cwd h == i) || (hold_names (v.all.holds h) i || (key_names (key_in (row_of v.all h).keys (v.desks h).opening) i || y z))) ∙ q
         ]
 
--- Where the call finds no room after that, the hart is in its old directory again. k: that directory.
+-- If the call finds no room after that, the hart is in its old directory again. k: that directory.
 pub mends_left : Version → (h k : ℕ) (v : World) (O : Own) → own_of h v ≡ O → O.desk.lender ≡ None → h < hart_count → Inv v → O.desk.opening ≡ None → O.desk.left ≡ Some k → KeepsHold O.row.hold → ((i : ℕ) → own_names (record (O.row) { cwd = k }) (record (O.desk) { left = None }) i ≡ true → 0 < O.mine.refs i)
     → Mending h v (mended h v) (record O { row = record (O.row) { cwd = k }; desk = record (O.desk) { opening = None; left = None; full = true }; mine = record { refs = O.mine.refs; walk = None; pending = None } })
 mends_left version h k v O ov free lt inv opening left hold names = subst (λ (z : World). Mending h v z M) (sym is) (record {

@@ -1,4 +1,4 @@
--- A new inode: claimed, and its count and its entries stored; and what a call takes back where it finds no room.
+-- A new inode: claimed, and its count and its entries stored; and what a call takes back if it finds no room.
 use Rattle.image_versions.specs.declared.version.Version.{Version}
 use Rattle.inode_machine.proofs.Vocabulary.{◌≡◌, ◌≢◌, ◌⊎◌, inl, inr, ℕ, ◌+◌, ◌<◌, ◌≤◌, Bool, true, false, ◌==◌, nat_lt, List, [], Option, Some, None, refl, sym, ◌∙◌, ap, subst, arith, if◌then◌else◌, Do, Ran, unmarked, P, own, onto, Good, Fine, Safe, Wp, Node, Directory, count_limit, hart_count, put, settle, node_or, sum_below, eq_is, same_or, put_same, put_other, and_true, Walk, Step, Mine, World, ClaimResult, New, NoInode, NoPlace, Outside, Room, RoomFor, Picks, Claim, Store, Fill, InodeType, is_nothing, blank, claimed, claim_if, is_free, place_count, referenced, with_count, with_dots, fill_if, with_mark, mended, places, Own, file_tables_of, own_names, Held, view, is_hart, own_of, IsReferredTo, Inv, machine, IsReached, HonestClaim, mends_if_full, mends_unless_new}
 use Rattle.inode_machine.proofs.Frame.{file_tables_same, put_elim, ours_none, ours_some, kept_here, HartStep, Fair, fair, own_inodes, has_inode, found_more, one_refs, refers_put}
@@ -7,7 +7,7 @@ use Rattle.inode_machine.proofs.Counting.{writes}
 use Rattle.inode_machine.proofs.Rows.{unlive}
 use Rattle.inode_machine.proofs.Looks.{spoilt, KeepsHold, mends}
 
--- Where a call finds no room, and the tree has nothing that the tables have not.
+-- A call finds no room, and the tree has nothing that the tables have not.
 
 pub record Mendable (O : Own) : Type 0 where
   pub opening : O.desk.opening ≡ None

@@ -1,4 +1,5 @@
--- An open that may make its file is right, whatever the other harts do: what is there is opened, what isn't is made.
+-- An open that may make its file is right, whatever the other harts do: it opens a file that is there, and makes one
+-- if none is.
 use Rattle.image_versions.specs.declared.version.Version.{Version}
 use Rattle.inode_machine.proofs.Vocabulary.{◌≡◌, ◌≢◌, ◌⊎◌, inl, inr, ℕ, ◌+◌, ◌*◌, ◌<◌, ◌≤◌, Bool, true, false, ◌==◌, nat_lt, List, [], ◌∷◌, length, Option, Some, None, refl, sym, ◌∙◌, ap, subst, arith, if◌then◌else◌, own, onto, Fine, Safe, Wp, Begun, Ends, Cause, NoEntry, Full, Descriptors, DiskInodes, MemInodes, Reply, Call, Node, Action, Opened, Failed, NoRoom, next_of, Key, Row, key_is, IsLeastUnused, creates, has_room, is_file, lowest, makes_node, node_at, node_or, open_kind, refusal_with, refusal_by, effect_by, answer_by, StepWith, Name, Tree, put, look, elements, is_live, live_directory, settle, hart_count, descriptor_count, settle_again, one_if, look_live, either, eq_not, same_or, put_same, put_other, live_some, look_same, Stage, Step, Look, GiveUpWalk, Desk, Mark, Note, World, stage_of, Take, OfFile, InodeType, AtName, face_of, seen_in, is_live_face, open_refusal, type_of, type_of_kind, with_walk, acts, marked, mended, new_id, places, Held, Own, own_names, own_of, nothing, Idle, Inv, machine, ThisP as P, failed, full, give_up, is_some, is_there, looks_if, looks_where, makes, tail, create_found, create_in, file_for, open_at, open_new, open_old, open_program, in_parent, path_cost, rest_cost, covered_calls, look_cost}
 use Rattle.plain_tree.specs.declared.call.Call.TheVariants as calls
@@ -12,7 +13,7 @@ use Rattle.inode_machine.proofs.Pairs.{pair_new}
 use Rattle.inode_machine.proofs.Makings.{makes_file, names_opened}
 use Rattle.inode_machine.proofs.Namings.{s-naming}
 
--- What the step asks of its tree, where the name is there.
+-- What the step asks of its tree, if the name is there.
 
 there_kind : (version : Version) (t : Tree) (h j : ℕ) (path : List ℕ) (flags d : ℕ) (e : Name) (res : Option ℕ) → creates flags ≡ true → look t.nodes d e ≡ Some j → refusal_with version t h (steps.Open path flags) res (Some (d, e)) ≡ open_kind flags (node_at t j).kind
 unfolding refusal_by
@@ -107,7 +108,8 @@ module _ (version : Version) (h : ℕ) (path : List ℕ) (flags : ℕ) (w : Worl
   abbrev at_one : ℕ → Option Node → ℕ → Option Held
   at_one d x = put nothing d (Some (locked_held x))
 
-  -- What was found is referred to, and the directory given up. P0: what the call began with, or that with a descriptor more; M: what the hart has where no place is left.
+  -- What was found is referred to, and the directory given up. P0: what the call began with, or that with a descriptor
+  -- more; M: what the hart has if no place is left.
   reaches : (d j : ℕ) (e : Name) (ns : List ℕ) (x : Option Node) (t : Note) (n : ℕ) (fs : List Step) (v : World) (P0 O2 M : Own) → 3000 + 971 * length ns ≤ n → own_of h v ≡ O2 → P0.desk.lender ≡ None → P0.desk.joined ≡ true → (own_names P0.row P0.desk d ≡ true → (d ≡ j) ⊎ (0 < base d))
       → Holding base ns P0 O2 (at_one d x) (λ i. 0 + one_if (d == i)) → O2.mine.walk ≡ None → O2.mine.pending ≡ Some j → O2.desk.noted ≡ Some t → times j ns ≡ 0
       → ((v2 : World) → Inv v2 → own_of h v2 ≡ O2 → Mending h v2 (mended h v2) M) → Holding base ns O0 M (at_one d x) (λ i. 0 + one_if (d == i)) → M.mine.walk ≡ None → M.mine.pending ≡ None → M.desk.full ≡ true

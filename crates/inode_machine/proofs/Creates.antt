@@ -1,4 +1,5 @@
--- The act of an open that makes its file: at the entry's put the file is there, under its name, and open; or the hart has no descriptor left, and the file stays.
+-- The act of an open that makes its file. At the entry's put the file is there, under its name, and open; or the hart
+-- has no descriptor left, and the file stays.
 use Rattle.image_versions.specs.declared.version.Version.{Version}
 use Rattle.inode_machine.proofs.Vocabulary.{◌≡◌, ◌≢◌, inl, ℕ, ◌+◌, ◌<◌, ◌≤◌, Bool, true, false, ◌&&◌, nat_lt, List, [], ◌∷◌, Option, Some, None, refl, sym, ◌∙◌, ap, subst, arith, if◌then◌else◌, nat_tests, Do, P, Safe, Descriptors, Node, Open, Opened, NoRoom, hart_count, descriptor_count, Name, Tree, put, look, live_directory, settle, node_or, with_nodes, new_file, IsNewNode, creates, has_room, lowest, refusal_with, refusal_by, effect_with, effect_by, answer_with, answer_by, is_absent, place_of, IsInPlace, key_is, IsWellFormed, look_same, well_file, absent_slot, Step, Look, Note, World, Mark, EntryResult, InPlace, NoBlock, NoSlot, Enter, Mends, with_entry, Made, new_id, file_for, Own, Held, own_of, Inv, machine, IsName, makes, enter_cost}
 use Rattle.inode_machine.proofs.Basics.{fair, fair_then, has_node, my_refs, refs_walk, stage_walk, Mendable, mended_own, acts_gone, act_good, no_walk, of_range, told_step, lowest_same, not_at, Fresh, fresh_id, Opening, opened_row, opened_tree, opened_world, opening}
@@ -92,7 +93,7 @@ s-enter-file version {A} {h} d i {x} {z} X e path flags {m} {k} {B} {Q} {n} {es}
     goes : (v : World) → own_of h v ≡ O → refusal_with version v.all h (Open path flags) None (Some (d, e)) ≡ None
     goes v ov = open_goes version v.all h d flags e path flag (look_is v ov)
 
-    -- the table has a descriptor where the tree has
+    -- the table has a descriptor if the tree has
     low_is : (v : World) → Inv v → own_of h v ≡ O → lowest O.desk.fds ≡ lowest (v.all.fds h)
     low_is v inv ov = ap (λ (p : Own). lowest p.desk.fds) (sym ov) ∙ sym (lowest_same (v.desks h).fds (v.all.fds h) v.ids (λ j l. inv.tied.fds h j lt l (not_at v h j (ap (λ (p : Own). p.desk.opening) ov ∙ can.opening))))
 

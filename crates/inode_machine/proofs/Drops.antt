@@ -1,4 +1,4 @@
--- A reference is dropped, and its inode freed where it was the last one.
+-- A reference is dropped, and its inode freed if it was the last one.
 use Rattle.image_versions.specs.declared.version.Version.{Version}
 use Rattle.inode_machine.proofs.Vocabulary.{◌≡◌, ◌⊎◌, inl, inr, ℕ, ◌+◌, ◌-◌, ◌<◌, ◌≤◌, true, false, List, Some, None, sym, ◌∙◌, ap, arith, Safe, hart_count, put, same_or, put_same, put_other, Step, World, ThisP, drop, Own, own_names, own_of, machine}
 use Rattle.inode_machine.proofs.Counting.{s-down}

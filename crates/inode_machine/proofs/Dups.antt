@@ -8,7 +8,7 @@ use Rattle.inode_machine.proofs.Walking.{refs_walk, walk_did, own_walk, stage_wa
 use Rattle.inode_machine.proofs.Tables.{with_fd, users_put, lowest_same, lowest_free, changes}
 use Rattle.inode_machine.proofs.FileTablesSteps.{Sells, sells_did, own_takes, names_less}
 
--- What stands behind a descriptor.
+-- What a descriptor names.
 pub record Behind (h fd s : ℕ) (e : Entry) (v : World) : Type 0 where
   pub below : fd < descriptor_count
   pub is : (v.desks h).fds fd ≡ Some s
@@ -174,7 +174,7 @@ desk_changes h v O new d c ov free lt inv is same names stands home stays unlent
       ];
     }
 
--- the same, where it leaves no directory and opens nothing else
+-- the same, if it leaves no directory and opens nothing else
 pub flagging : (h : ℕ) (v : World) (O : Own) (new d : Desk) (c : Bool) → own_of h v ≡ O → O.desk.lender ≡ None → h < hart_count → Inv v → new ≡ d → SameTable new (v.desks h) → new.lender ≡ None
     → (new.joined ≡ false → (j : ℕ) → v.keeper j ≡ Some h → v.disk j ≡ v.all.nodes j) → (holds_raised true (v.all.holds h) ≡ true → new.joined ≡ true)
     → ((m : Note) → new.noted ≡ Some m → IsReached v h m.number → v.alone m.number ≡ false → type_of (v.all.nodes m.number) ≡ m.inode_type)
@@ -263,7 +263,7 @@ renewed_at files k e f j d at same q = elim (same_or j k) [
   | inr ne ↦ (d, put_other files k (Some f) j ne ∙ q, refl)
 ]
 
--- and the same open file, where the change keeps it
+-- and the same open file, if the change keeps it
 pub renewed_same : (files : ℕ → Option Entry) (k : ℕ) (e f : Entry) (j : ℕ) (d : Entry) → files k ≡ Some e → f.file ≡ e.file → f.inode_type ≡ e.inode_type → files j ≡ Some d → (x : Entry) × (put files k (Some f) j ≡ Some x) × (x.inode_type ≡ d.inode_type) × (x.file ≡ d.file)
 renewed_same files k e f j d at same inode_type q = elim (same_or j k) [
   | inl t ↦
@@ -273,7 +273,7 @@ renewed_same files k e f j d at same inode_type q = elim (same_or j k) [
   | inr ne ↦ (d, put_other files k (Some f) j ne ∙ q, refl, refl)
 ]
 
--- what a hart's row keeps where a descriptor changes
+-- what a hart's row keeps when a descriptor changes
 pub record SameRow (r s : Row) : Type 0 where
   pub cwd : r.cwd ≡ s.cwd
   pub hold : r.hold ≡ s.hold

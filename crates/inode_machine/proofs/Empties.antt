@@ -1,4 +1,4 @@
--- A file that the hart keeps is emptied, behind a descriptor of its own.
+-- A file that the hart keeps is emptied, which a descriptor of its own names.
 use Rattle.image_versions.specs.declared.version.Version.{Version}
 use Rattle.inode_machine.proofs.Vocabulary.{◌≡◌, ℕ, ◌+◌, ◌<◌, true, List, [], ◌∷◌, Option, Some, None, refl, sym, ◌∙◌, ap, subst, Do, P, own, onto, Fine, Safe, Wp, Node, NodeKind, Directory, File, Device, OpenFile, Truncate, Done, hart_count, Name, Tree, put, is_live, settle, resolve, parent, answer_by, effect_with, effect_by, emptied, file_at, is_file, node_at, node_or, place_of, refusal_with, refusal_by, with_nodes, IsInPlace, StepWith, Key, Behind, behind, settle_again, settled_step, IsWellFormed, effect_well, Stage, Step, OwnMove, World, Empty, type_of, type_of_kind, changed_record, with_no_bytes, with_walk, acts, made_by, own_made, marked, new_id, places, Own, own_of, Inv, machine, own_step, emptying_cost}
 use Rattle.inode_machine.proofs.Basics.{fair, fair_then, s-owned, has_disk, has_node, locked_held, locks_it, below_is, moves_good, own_walk, stage_walk, walk_did, own_takes}

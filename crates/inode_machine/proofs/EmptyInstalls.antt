@@ -1,4 +1,4 @@
--- The descriptor of a file that an open made: where the file is to be emptied, it is empty.
+-- The descriptor of a file that an open made: if the file must be emptied, it is empty.
 use Rattle.image_versions.specs.declared.version.Version.{Version}
 use Rattle.inode_machine.proofs.Vocabulary.{◌≡◌, ◌≢◌, ◌⊎◌, inl, inr, ℕ, ◌+◌, ◌-◌, ◌<◌, true, false, List, [], ◌∷◌, Option, Some, None, refl, sym, ◌∙◌, ap, subst, Do, ExecResult, Ran, P, own, onto, Good, Fine, Safe, Wp, Node, NodeKind, Directory, File, Device, OpenFile, Truncate, Done, hart_count, Tree, put, settle, resolve, parent, effect_with, is_file, lowest, has_room, place_of, with_nodes, StepWith, Key, key_is, Behind, behind, settle_again, put_self, Stage, Step, OwnMove, Mark, World, Install, InodeType, OfDirectory, type_of, type_of_kind, install_if, installed, with_walk, made_by, marked, new_id, places, with_mark, own_names, own_of, Own, Inv, machine, own_step}
 use Rattle.inode_machine.proofs.Basics.{fair, fair_then, s-owned, has_node, locked_held, walks_refs, not_home, spares, below_is, moves_good, own_walk, stage_walk, walk_did, own_takes}

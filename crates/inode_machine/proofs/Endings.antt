@@ -1,4 +1,4 @@
--- How a call on a path ends: what it was told, what it gives up, and what it has then.
+-- How a call on a path ends: what it heard, what it gives up, and what it has then.
 use Rattle.image_versions.specs.declared.version.Version.{Version}
 use Rattle.inode_machine.proofs.Vocabulary.{◌≡◌, ◌≢◌, ◌⊎◌, inl, inr, ℕ, ◌+◌, ◌-◌, ◌*◌, ◌<◌, ◌≤◌, Bool, true, false, ◌==◌, ◌||◌, List, [], ◌∷◌, ◌++◌, length, Option, Some, None, refl, sym, ◌∙◌, ap, subst, arith, onto, oldest_first, Safe, Begun, Ends, onto_is, NoEntry, Reply, Call, Node, Action, Failed, Act, next_of, hart_count, put, hold_names, Row, key_names, Hold, holds_raised, one_if, one_yes, either, same_or, put_same, put_other, Deed, Step, Move, begins, fail, IsNext, MayEnd, IsPlayed, IsWholeCall, Begin, Look, GiveUpWalk, Desk, World, InodeType, type_of, face_of, is_directory_face, is_directory_type, is_at, Own, Held, key_in, nothing, own_names, own_of, Idle, Inv, Rests, left_or, machine, ThisP as P, WalkStop, NotThere, NoMemory, failed, give_up, stopped, tail, covered_calls}
 use Rattle.inode_machine.proofs.Rules.{locked_held}
@@ -9,9 +9,10 @@ use Rattle.inode_machine.proofs.Listing.{times, one_at, one_else, Listed, listed
 use Rattle.inode_machine.proofs.Looks.{KeepsHold}
 use Rattle.inode_machine.proofs.Walks.{Stays, Gone, Ready, Lost}
 
--- What a call was told.
+-- What a call heard.
 
--- these moves were made, the newest first, and told the call these acts: what may come after the acts comes after the moves
+-- these moves were made, the newest first, and reported these acts to the call: what may come after the acts comes
+-- after the moves
 abbrev pub Walked : Call → List Act → List Step → Type 0
 Walked c acts es = (xs : List Step) (r : Reply) → IsPlayed c acts xs r → IsPlayed c [] (onto es xs) r
 
@@ -30,14 +31,14 @@ walked_begin c acts s es next w = λ xs r p. w (looks (Begin s 0) ∷ xs) r (nex
 pub walked_tells : (c : Call) (acts : List Act) (v : Move) (d : Deed) (es : List Step) → IsNext c acts (begins v) → Walked c acts es → Walked c (acts ++ d.act ∷ []) (tells v d ∷ es)
 walked_tells c acts v d es next w = λ xs r p. w (tells v d ∷ xs) r (next, p)
 
--- they begin the call, where something may come after them
+-- they begin the call, if something may come after them
 pub walked_begun : (version : Version) (c : Call) (acts : List Act) (es xs : List Step) (r : Reply) → Walked c acts es → IsPlayed c acts xs r → Begun (covered_calls version) c es
 walked_begun version c acts es xs r w p = played_so_far c [] (oldest_first es) xs r (subst (λ (z : List Step). IsPlayed c [] z r) (onto_is es xs) (w xs r p))
 
 abbrev pub missed : Action → Act
 missed s = record { step = s; answer = Failed NoEntry }
 
--- A call whose path is one step's; it ends where nothing is found for it.
+-- A call whose path is one step's; it ends if nothing is found for it.
 pub record Follows (c : Call) (s : Action) : Type 0 where
   pub first : next_of c [] ≡ Some s
   pub missing : MayEnd c (missed s ∷ []) (failed c NoEntry)
@@ -100,7 +101,7 @@ s-ends version h c r base ns n es w O owns free lt few joined listed refs walk p
       subst (λ (o : Own). Rests o) (sym own) (rests_through O R base t may),
     ))
 
--- Where its walk was lost.
+-- Its walk was lost.
 pub s-lost : (version : Version) (h : ℕ) (c : Call) (s : Action) (K : ℕ) (base : ℕ → ℕ) (O0 : Own) → h < hart_count → Ready base O0 → MayRest O0 base → Follows c s → 64 ≤ K → (why : WalkStop) (ms : List ℕ) (l : ℕ) (es : List Step) (u : World) (R : Own) → 971 * length ms + K ≤ l → Gone h base ms O0 R u
     → Lost (λ xs. Walked c (missed s ∷ []) xs) why es R → Safe (machine version) h (Begun (covered_calls version) c) (Ends (covered_calls version) h c) (tail ms (stopped c why)) l es u
 s-lost version h c s K base O0 lt ready may f enough why ms l es u R few g told =
@@ -191,7 +192,7 @@ joined_own O = record O { desk = record (O.desk) { joined = true } }
 abbrev pub home : Own → ℕ → ℕ
 home O i = one_if (O.desk.directory == i)
 
--- what a hart names without hold, and where it opens nothing
+-- what a hart names without a hold, if it opens nothing
 pub names_plain : (r : Row) (d : Desk) (i : ℕ) → r.hold ≡ None → d.opening ≡ None → own_names r d i ≡ ((r.cwd == i) || is_at d.left i)
 names_plain r d i hold opening = λ z. (r.cwd == i) || (hold_names (hold z) i || (key_names (key_in r.keys (opening z)) i || is_at d.left i))
 

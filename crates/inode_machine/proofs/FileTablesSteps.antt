@@ -76,7 +76,7 @@ own_takes version h v u s a follows path walk makes inherits step walks = record
   };
 }
 
--- what a hart names itself, where what it is opening is nothing
+-- what a hart names itself, if it is opening nothing
 pub names_less : (r s : Row) (d e : Desk) (n : ℕ) → r.cwd ≡ s.cwd → r.hold ≡ s.hold → d.opening ≡ None → e.opening ≡ None → d.left ≡ e.left → own_names r d n ≡ own_names s e n
 names_less r s d e n cwd hold od oe left =
     (λ i. (r.cwd == n) || (hold_names r.hold n || (key_names (key_in r.keys (od i)) n || is_at d.left n)))

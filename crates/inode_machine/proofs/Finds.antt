@@ -1,4 +1,5 @@
--- Link's first step: what its old path leads to is found and held; and what is taken back of that where the call finds no room.
+-- Link's first step: what its old path leads to is found and held; and what is taken back of that if the call finds no
+-- room.
 use Rattle.image_versions.specs.declared.version.Version.{Version}
 use Rattle.inode_machine.proofs.Vocabulary.{◌≡◌, ℕ, ◌<◌, true, false, not, Option, Some, None, List, refl, sym, ◌∙◌, ap, subst, IsDirectory, NoEntry, Hold, Find, Done, Failed, hart_count, Name, Tree, is_directory, settle, answer_by, effect_by, holds_raised, node_at, place_of, refusal_with, refusal_by, IsInPlace, StepWith, raised_at, put_same, not_raised, well_hold, World, acts, mended, unheld, unmoved, unopened, Own, own_names, own_of, Inv}
 use Rattle.inode_machine.proofs.Basics.{fair_then, below_is, MendingOf, mends, Mending, Finder, Rehold, held_tree, held_world, low, reholds}
@@ -34,7 +35,7 @@ find_step version t h j id path par lt none e = (find_goes version t h j path pa
 pub find_refused_step : (version : Version) (t : Tree) (h j id : ℕ) (path : List ℕ) (par : Option (ℕ × Name)) → h < hart_count → t.holds h ≡ None → is_directory (node_at t j).kind ≡ true → StepWith version t h (Find path) (Some j) par (Failed IsDirectory) 0 id t
 find_refused_step version t h j id path par lt none e = (find_refused version t h j path par e, refl, find_place t h path lt none)
 
--- Where the call finds no room after that, the hart holds nothing.
+-- If the call finds no room after that, the hart holds nothing.
 pub mends_held : (h j : ℕ) (v : World) (O : Own) → own_of h v ≡ O → O.desk.lender ≡ None → O.desk.joined ≡ true → h < hart_count → Inv v → O.desk.opening ≡ None → O.desk.left ≡ None → O.row.hold ≡ Some (low j) → ((i : ℕ) → own_names (record (O.row) { hold = None }) O.desk i ≡ true → 0 < O.mine.refs i)
     → Mending h v (mended h v) (record O { row = record (O.row) { hold = None }; desk = record (O.desk) { opening = None; left = None; full = true }; mine = record { refs = O.mine.refs; walk = None; pending = None } })
 mends_held h j v O ov free joined lt inv opening left holds names = subst (λ (z : World). Mending h v z M) (sym is) (record { fair = fair_then r.fair m.fair; bad = m.bad; owned = m.owned })

@@ -95,7 +95,7 @@ pub record FilesStep (h : ℕ) (Mine : ℕ → Type 0) (v u : FileTables) : Type
 pub file_tables_same : {Mine : ℕ → Type 0} (h : ℕ) (s : FileTables) → IsTied s → FilesStep h Mine s s
 file_tables_same h s tied = record { tied = tied; desks = λ g ne. refl; numbers = λ g i k e lt ne li is at. (e, at, refl, inl refl); clean = λ c. c; bond = refl; stays = inl refl }
 
--- a step of hart h: of the invariant's parts only what isn't the others'
+-- a step of hart h: only its own parts of the invariant, without the others'
 pub record HartStep (h : ℕ) (v u : World) : Type 0 where
   pub hart : h < hart_count
   pub inodes : (j : ℕ) → Kept j v u ⊎ Changed h j v u
@@ -181,15 +181,15 @@ resting_names r d n hold opening left q = eq_is r.cwd n (at (r.cwd == n) refl)
     at true e = e
     at false e = absurd (let a : own_names r d n ≡ false = (λ z. e z || (hold_names (hold z) n || (key_names (key_in r.keys (opening z)) n || is_at (left z) n))) in cc (a, q))
 
--- it stays where the desk's other things change
+-- it stays when the desk's other things change
 pub stands_on : (d e : Desk) (cwd : ℕ) (nodes : ℕ → Option Node) → d.lender ≡ None → e.directory ≡ d.directory → e.left ≡ d.left → Stands d cwd nodes → Stands e cwd nodes
 stands_on d e cwd nodes free same left s = record { at = λ _. same ∙ s.at free ∙ (λ z. left_or (sym left z) cwd); inode_type = ap (λ (n : ℕ). type_of (nodes n)) same ∙ s.inode_type }
 
--- and where its type does
+-- and when its type stays
 pub stands_in : (d : Desk) (cwd : ℕ) (nodes ns : ℕ → Option Node) → type_of (ns d.directory) ≡ type_of (nodes d.directory) → Stands d cwd nodes → Stands d cwd ns
 stands_in d cwd nodes ns same s = record { at = s.at; inode_type = same ∙ s.inode_type }
 
--- an open file's type stays where its inode's does
+-- an open file's type stays if its inode's does
 pub type_on : (nodes ns : ℕ → Option Node) (e : Entry) → type_of (ns e.file.number) ≡ type_of (nodes e.file.number) → HasType nodes e → HasType ns e
 type_on nodes ns e same t = record { inode_type = same ∙ t.inode_type; written = t.written }
 
@@ -235,7 +235,7 @@ files_then g u v w same first then_ i k e lt below is at =
           b.3 (ap (λ (z : OpenFile). v.keeper z.number) (a.3 keeps) ∙ kept) ∙ a.3 keeps),
     )
 
--- what a hart has of its lender's stays where nothing of it changes
+-- what a hart has of its lender's stays if nothing of it changes
 has_on : (a b : Option ℕ) (fds : ℕ → Option ℕ) (cwd there mine lenders his : ℕ) → a ≡ b → cwd ≡ there → lenders ≡ his → Has a fds cwd mine lenders → Has b fds there mine his
 has_on a b fds cwd there mine lenders his ab c l x =
     subst (λ (z : ℕ). Has b fds there mine z) l (subst (λ (z : ℕ). Has b fds z mine lenders) c (subst (λ (z : Option ℕ). Has z fds cwd mine lenders) ab x))
@@ -398,7 +398,7 @@ fair_then {h} {v} {u} {w} a b = record { inv = b.inv; others = λ g ne. b.others
 pub fair_same : {h : ℕ} {v : World} → Inv v → Fair h v v
 fair_same inv = record { inv = inv; others = λ g ne. refl; opens = λ g ne i k e lt below is at. (e, at, refl, (λ keeps. refl)); clean = λ c. c }
 
--- what the hart owns, where one inode changed
+-- what the hart owns, when one inode changed
 pub own_inodes : (h i : ℕ) (v u : World) (O : Own) (y : Option Held) → own_of h v ≡ O → if_kept (u.keeper i) h (view u h i) ≡ y
     → ((j : ℕ) → j ≢ i → (u.keeper j ≡ v.keeper j) × (view u h j ≡ view v h j)) → (own_of h u).inodes ≡ put O.inodes i y
 own_inodes h i v u O y ov here there =

@@ -1,10 +1,10 @@
--- The open-file table where a hart hands its descriptors to the one that it serves.
+-- The open-file table when a hart hands its descriptors to the one that it serves.
 use Rattle.inode_machine.proofs.Vocabulary.{◌≡◌, ◌≢◌, ◌⊎◌, inl, inr, ℕ, ◌+◌, ◌-◌, ◌<◌, ◌≤◌, true, false, ◌==◌, not, Option, Some, None, refl, sym, ◌∙◌, ap, arith, hart_count, descriptor_count, put, sum_below, one_if, eq_self, either, same_or, put_same, put_other, sum_changed, sum_same, sum_none, one_yes, one_no, Entry, Desk, is_at, is_nothing, next_used, id_at, uses, users, FileTables, IsTied}
 use Rattle.inode_machine.proofs.Frame.{put_elim}
 use Rattle.inode_machine.proofs.Dups.{Renews, renewed, renewed_slots, not_one}
 use Rattle.inode_machine.proofs.Openings.{first_is, first_some}
 
--- a sum where two numbers of the list change
+-- a sum when two numbers of the list change
 pub sum_twice : (n h c : ℕ) (f g : ℕ → ℕ) → h < n → c < n → c ≢ h → ((k : ℕ) → k ≢ h → k ≢ c → g k ≡ f k) → sum_below n g + f h + f c ≡ sum_below n f + g h + g c
 sum_twice n h c f g lh lc ne same =
     let mid : ℕ → ℕ = put f h (g h) in

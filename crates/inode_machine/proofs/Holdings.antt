@@ -72,7 +72,7 @@ holding_same {O0 = O0} {O = O} R k inodes stays refs = record {
   only = λ i x q. k.only i x (sym (ap (λ (f : ℕ → Option Held). f i) inodes) ∙ q);
 }
 
--- The same beside another beginning, where what is listed is named no more than before.
+-- The same beside another beginning, if what is listed is named no more than before.
 pub holding_to : {base : ℕ → ℕ} {ns : List ℕ} {O0 O : Own} {E : ℕ → Option Held} {more : ℕ → ℕ} (O1 R : Own) → Holding base ns O0 O E more → R.inodes ≡ O.inodes → Stays R O1 → R.mine.refs ≡ O.mine.refs → ((i : ℕ) → 0 < times i ns → own_names O.row O.desk i ≡ false → own_names R.row R.desk i ≡ false) → Holding base ns O1 R E more
 holding_to {O0 = O0} {O = O} O1 R k inodes stays refs names = record {
   stays = stays;
@@ -141,7 +141,7 @@ s-end version h c r {base} {O0} ns E more n es w O lt joins owns few k empty no_
     (record { all = k.all; only = λ i x q. elim (k.only i x q) [ inl t ↦ t | inr e ↦ absurd (let a = empty i in cc (a, e)) ]; once = k.once })
     (λ i. let a = k.refs i in let z = no_more i in omega (arith, a, z)) walk none (may_stay O O0 base k.stays joins.may) told
 
--- Where a walk has come to its last name's directory, of which the hart has a reference and no lock.
+-- A walk has come to its last name's directory, of which the hart has a reference and no lock.
 pub holding_on : (version : Version) (h : ℕ) (s : Action) (d : ℕ) (e : Name) (r : List Name) (base : ℕ → ℕ) (ns : List ℕ) (O0 O : Own) (w : World) → On version h s d e r base ns O0 O w → Holding base ns O0 O nothing (λ i. 0 + one_if (d == i))
 holding_on version h s d e r base ns O0 O w on = record {
   stays = on.stays;

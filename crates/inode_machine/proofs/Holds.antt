@@ -20,7 +20,7 @@ held_tree t ns h o = record t { nodes = ns; holds = put t.holds h o }
 abbrev pub held_world : (ℕ → Option Node) → ℕ → Option Hold → World → World
 held_world ns h o v = record v { all = held_tree v.all ns h o }
 
--- What such a change asks: nodes change where the hart keeps them, and what its hold names it refers to.
+-- What such a change asks: the hart keeps the nodes that change, and refers to what its hold names.
 pub record Turns (h : ℕ) (v : World) (ns : ℕ → Option Node) (o : Option Hold) : Type 0 where
   pub well : IsWellFormed (held_tree v.all ns h o)
   pub nodes : (j : ℕ) → (ns j ≡ v.all.nodes j) ⊎ ((v.keeper j ≡ Some h) × (v.alone j ≡ false))

@@ -32,7 +32,7 @@ lent_own i s O = record O { desk = record (O.desk) { lent = put O.desk.lent i (S
 abbrev pub all_own : ℕ → Own → Own
 all_own c O = record O { mine = record { refs = O.mine.refs; walk = None; pending = None }; desk = record (O.desk) { lent = serving c (Some 0) } }
 
--- A descriptor is handed on; with the last one, or where there is none, the tree's step is made.
+-- A descriptor is handed on; with the last one, or if there is none, the tree's step is made.
 pub s-lend : (version : Version) {A : Type 0} {h c from : ℕ} {k : LoanResult → P (machine version) A} {B : List Step → Type 0} {Q : A → List Step → World → Type 0} {n : ℕ} {es : List Step} {w : World} {O : Own}
     → own_of h w ≡ O → 0 < n → Server h c O → OnTheWay from O → from ≤ descriptor_count → (next_used from O.desk.fds ≡ None → from ≡ 0) → B (inherited c ∷ es)
     → ((l old : ℕ) (u : World) → l + 1 ≡ n → own_of h u ≡ moved_own version c old O → Safe (machine version) h B Q (k (Moved old)) l (inherited c ∷ es) u)

@@ -176,7 +176,7 @@ pub record Installing (h fd s : ℕ) (f : OpenFile) (inode_type : InodeType) (O 
   pub lands : Fair h v (installed h v f inode_type s fd)
   pub owned : own_of h (installed h v f inode_type s fd) ≡ own_installed O f.number fd s
 
--- The descriptor is taken: the open file stands in the slot, and has the hart's reference.
+-- The descriptor is taken: the open file is in the slot, and has the hart's reference.
 pub installing : Version → (h fd s : ℕ) (f : OpenFile) (inode_type : InodeType) (x : Held) (v : World) (O : Own) → own_of h v ≡ O → O.desk.lender ≡ None → h < hart_count → Inv v → O.desk.opening ≡ Some fd → O.desk.hand ≡ Some s → O.row.keys fd ≡ Some (key_is f) → f.offset ≡ 0
     → O.mine.walk ≡ None → O.mine.pending ≡ None → O.inodes f.number ≡ Some x → x.alone ≡ false → type_of x.node ≡ Some inode_type → (f.writable ≡ true → inode_type ≢ OfDirectory) → 0 < O.mine.refs f.number → ((1 < O.mine.refs f.number) ⊎ (own_names O.row (record (O.desk) { opening = None }) f.number ≡ false))
     → Installing h fd s f inode_type O v

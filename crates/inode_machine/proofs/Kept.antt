@@ -13,14 +13,15 @@ module _ (version : Version) (N : MoveMachine) (moving : IsMoving version N) whe
   abbrev P : Type 0 → Type 0
   P A = Prog N.Op N.Answer N.Mark A
 
-  -- The calls of a state as they stand beside a history of moves.
+  -- The calls of a state as they are beside a history of moves.
   pub record Beside (s : State L) (t : Told) : Type 0 where
     pub stage : t.stage ≡ N.tree s.world
     pub free : (h : ℕ) → s.running h ≡ None → t.history.calls h ≡ Free
     pub busy : (h : ℕ) (r : Run L) → s.running h ≡ Some r → (id : ℕ) × (t.history.calls h ≡ Busy id r.call (told_by [] (oldest_first r.done)))
     pub harts : (h : ℕ) (r : Run L) → s.running h ≡ Some r → h < hart_count
 
-  -- what hart h's event places is one move at most, its own, and is made; where it places none the tree and all walks stay
+  -- what hart h's event places is one move at most, its own, and is made; if it places none the tree and all walks
+  -- stay
   abbrev pub Places : ℕ → Stage → List (ℕ × MoveStep) → Stage → Type 0
   Places h m [] m' = m' ≡ m
   Places h m (p ∷ ps) m' = (ps ≡ []) × (p.0 ≡ h) × (h < hart_count) × TakesMove version m h p.1 m'
@@ -105,7 +106,7 @@ module _ (version : Version) (N : MoveMachine) (moving : IsMoving version N) whe
       at ps (inl e) = subst (λ (z : List (ℕ × MoveStep)). length (own h z) ≤ 1) (sym e) (omega arith)
       at ps (inr e) = subst (λ (z : List (ℕ × MoveStep)). length (own h z) ≤ 1) (sym e.1) (rw (eq_self h) (omega arith))
 
-  -- another hart's call is told nothing by it
+  -- it reports nothing to another hart's call
   told_other : (h j : ℕ) (ps : List (ℕ × MoveStep)) → PlacesAny h ps → j ≢ h → (o : Option (Run L)) → told L (own j ps) o ≡ o
   told_other h j ps (inl e) ne o = ap (λ (z : List (ℕ × MoveStep)). told L (own j z) o) e ∙ same o
     where
@@ -169,7 +170,7 @@ module _ (version : Version) (N : MoveMachine) (moving : IsMoving version N) whe
         | inr b ↦ next_so_far r.call [] (oldest_first r.done) e (subst (λ (z : List MoveStep). IsPlayedSoFar r.call [] z) (oldest_first_more e r.done) b)
       ]
 
-  -- where the program ends, the call's moves are written, and its hart walks no more
+  -- when the program ends, the call's moves are written, and its hart walks no more
   abbrev EndsSo : ℕ → Run L → List (ℕ × MoveStep) → P Reply → N.World → Type 0
   EndsSo h r ps (Ret reply) w = IsWholeCall r.call (oldest_first (onto (own h ps) r.done)) reply × ((N.tree w).walk h ≡ None)
   EndsSo h r ps (Do op m k) w = Unit {0}
@@ -346,11 +347,11 @@ module _ (version : Version) (N : MoveMachine) (moving : IsMoving version N) whe
       same : x.end.history.list ≡ history_of version N w events
       same = ap (λ (z : History). z.list) x.written
 
-  -- Where no path climbs, one list of tree steps explains the run.
+  -- If no path climbs, one list of tree steps explains the run.
   pub the_history : (base : TreeData) (w : N.World) (events : List (Event Call N.Outside)) → RunsFrom version N base w events → NoneClimbs events → IsTheHistory version N base w events
   the_history base w events r calm = let x = turned base w events r in history NeverClimbs base w events r apart_calm x (starts_calm x.more (x.calm calm))
 
-  -- And where one hart alone makes calls.
+  -- And if one hart alone makes calls.
   pub the_history_alone : (base : TreeData) (w : N.World) (h : ℕ) (events : List (Event Call N.Outside)) → RunsFrom version N base w events → Alone h events → IsTheHistory version N base w events
   the_history_alone base w h events r alone = let x = turned base w events r in history (IsHart h) base w events r (apart_alone h) x (starts_alone h x.more (x.alone h alone))
 

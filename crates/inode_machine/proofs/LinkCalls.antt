@@ -12,7 +12,7 @@ use Rattle.inode_machine.proofs.Raises.{Plain, bump_stopped, done_step, s-store-
 use Rattle.inode_machine.proofs.LinkNames.{bumped, enter_follows, follows, found, more_base, names_but, names_fewer}
 use Rattle.inode_machine.proofs.ChdirCalls.{type_directory}
 
--- What the call is told.
+-- What the call hears.
 
 link_follows : (old new : List ℕ) → Follows (calls.Link old new) (steps.Find old)
 unfolding next_of reply_of had_room first_cause
@@ -49,7 +49,7 @@ type_is (Directory slots) = refl
 type_is (File bytes) = refl
 type_is (Device major minor size) = refl
 
--- what the call has once its hold stands, which isn't raised
+-- what the call has once it has its hold, which isn't raised
 abbrev low_own : ℕ → Own → Own
 low_own j O = record O { row = record (O.row) { hold = Some (low j) } }
 
@@ -100,7 +100,7 @@ module _ (version : Version) (h : ℕ) (old new : List ℕ) (w : World) (free : 
     left = ap (λ (z : Desk). z.left) desk ∙ st.left;
   }
 
-  -- What is done where the inode is seen: of a directory (b), or of one that may have a link more (m).
+  -- What is done when the inode is seen: of a directory (b), or of one that may have a link more (m).
   abbrev mark : Bool → Bool → Option Mark
   mark b m = if b then None else (if is_refused (if m then None else Some TooManyLinks) then own_step steps.Bump else None)
 

@@ -1,4 +1,4 @@
--- Link's name is entered: at this moment its hold goes, and the link stands.
+-- Link's name is entered: at this moment its hold goes, and the link is there.
 use Rattle.image_versions.specs.declared.version.Version.{Version}
 use Rattle.inode_machine.proofs.Vocabulary.{◌≡◌, ℕ, ◌+◌, ◌<◌, ◌≤◌, true, false, List, [], ◌∷◌, Option, Some, None, refl, sym, ◌∙◌, ap, subst, Do, P, Safe, Exists, NoEntry, Node, EnterStep, Done, hart_count, Name, Tree, put, live_directory, look, settle, answer_with, answer_by, drop_hold, effect_with, effect_by, enter_hold, holds_raised, name_taken, node_or, place_of, refusal_with, refusal_by, IsInPlace, Row, IsWellFormed, put_same, look_same, effect_well, Step, Look, World, EntryResult, InPlace, NoBlock, NoSlot, Enter, InodeType, type_of, with_entry, with_walk, Made, new_id, Own, Held, own_of, Inv, machine, IsName, makes, enters, enter_cost}
 use Rattle.inode_machine.proofs.Basics.{Fair, fair, fair_then, has_node, below_is, Writes, writes, own_walk, stage_walk, walk_did, Mendable, mended_own, act_good, told_step, Turned, gone_made, held_tree, held_world, high, turned}

@@ -133,7 +133,7 @@ module _ (version : Version) (h : ℕ) (old new : List ℕ) (lt : h < hart_count
         left = ap (λ (z : Desk). z.left) desk ∙ k.stays.left;
       }) refs (λ i t q. (λ z. own_names (row z) (desk z) i) ∙ names_fewer R.row R.desk i q)
 
-  -- what it holds isn't listed, nor kept where nothing is but the list
+  -- what it holds isn't listed, nor kept if nothing is but the list
   out_of : {ms : List ℕ} {R : Own} {E : ℕ → Option Held} {more : ℕ → ℕ} → Holding (more_base base j) ms (high_own j O0) R E more → E j ≡ None → (times j ms ≡ 0) × (R.inodes j ≡ None)
   out_of {ms} {R} {E} {more} k empty = (zero, go (R.inodes j) refl)
     where
@@ -356,7 +356,7 @@ module _ (version : Version) (h : ℕ) (old new : List ℕ) (lt : h < hart_count
       told : Walked (calls.Link old new) (found old ∷ bumped ∷ not_entered new NoEntry ∷ []) (begin_refused (steps.Enter new) ∷ es)
       told rest r p = walking (begin_refused (steps.Enter new) ∷ rest) r (enters_next old new, p)
 
-      -- where its walk ended
+      -- its walk has ended here
       after : (why : WalkStop) (fs : List Step) (M : Own) → Lost (Walked (calls.Link old new) (found old ∷ bumped ∷ not_entered new NoEntry ∷ [])) why fs M → Lowers old new (stopped (calls.Link old new) why) fs M
       after NotThere fs M t = inr (NoEntry, refl, t)
       after NoMemory fs M t = inl t

@@ -5,7 +5,7 @@ use Rattle.inode_machine.proofs.Rules.{UnlocksAll}
 use Rattle.inode_machine.proofs.Freeing.{s-take-kept, s-free-all}
 use Rattle.inode_machine.proofs.Dups.{s-join, s-leave, s-say}
 
--- how often a number stands in the list
+-- how often a number is in the list
 unfoldable pub times : ℕ → List ℕ → ℕ
 times i [] = 0
 times i (n ∷ ns) = one_if (n == i) + times i ns
@@ -49,7 +49,7 @@ listed_whole O base ns l i x is = let a = l.all i (l.only i x is) in let q : Som
 pub listed_free : (O : Own) (base : ℕ → ℕ) (ns : List ℕ) → Listed O base ns → UnlocksAll O
 listed_free O base ns l i x is = let a = l.all i (l.only i x is) in let q : Some (listed_held a.node) ≡ Some x = sym a.is ∙ is in let e : listed_held a.node ≡ x = cc in ap (λ (z : Held). z.locked) (sym e)
 
--- the same, where the rest changed
+-- the same, if the rest changed
 pub listed_among : (O P : Own) (base : ℕ → ℕ) (ns : List ℕ) → Listed O base ns → ((i : ℕ) → P.inodes i ≡ O.inodes i) → ((i : ℕ) → 0 < times i ns → P.mine.refs i ≡ O.mine.refs i) → ((i : ℕ) → 0 < times i ns → own_names O.row O.desk i ≡ false → own_names P.row P.desk i ≡ false) → Listed P base ns
 listed_among O P base ns l inodes refs names = record {
   all = λ i t. let a = l.all i t in record { node = a.node; there = a.there; is = inodes i ∙ a.is; dead = a.dead; one = refs i t ∙ a.one; unnamed = names i t a.unnamed };

@@ -86,7 +86,7 @@ record StepsSo (version : Version) (t : Tree) (h : ℕ) (s : Action) (res : Opti
   pub answer : a ≡ act_answer version (refusal_with version t h s res par) t h s res par id
   pub tree : t' ≡ left_by version (refusal_with version t h s res par) t h s res par new id
 
--- the id is the least unused where the step opens a file
+-- the id is the least unused if the step opens a file
 abbrev pub Takes : Version → Tree → ℕ → Action → Option ℕ → Option (ℕ × Name) → ℕ → Type 0
 Takes version t h s res par id = act_entered (refusal_with version t h s res par) (opens_one t h s) id ≡ Some id → IsLeastUnused t id
 
@@ -155,7 +155,7 @@ refused_stays t h (steps.Inherit child) f = absurd cc
 
 -- ---- a move
 
--- the stage and what is told are those that were made
+-- the stage and what is reported are those that were made
 pub record IsSo (m : Stage) (h : ℕ) (x : Made) (told : Option Deed) (m' : Stage) : Type 0 where
   pub stage : m' ≡ record { tree = settle x.all; walk = put m.walk h x.walk }
   pub tells : told ≡ x.told

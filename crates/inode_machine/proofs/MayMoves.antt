@@ -18,7 +18,7 @@ step_place version t t' h s res par (NewFd fd) new id x = x.4
 step_place version t t' h s res par Done new id x = x.4
 step_place version t t' h s res par (NoRoom f) new id x = x.4
 
--- what it takes where it isn't refused
+-- what it takes if it isn't refused
 step_choice : (version : Version) (t t' : Tree) (h : ℕ) (s : Action) (res : Option ℕ) (par : Option (ℕ × Name)) (a : StepAnswer) (new id : ℕ) → StepWith version t h s res par a new id t' → refusal_with version t h s res par ≡ None → MayChoose t h s par new id
 step_choice version t t' h s res par (Failed k) new id x none = absurd (let some : refusal_with version t h s res par ≡ Some k = x.0 in cc (some, none))
 step_choice version t t' h s res par (Opened fd j f) new id x none = x.2

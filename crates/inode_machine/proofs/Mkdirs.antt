@@ -51,7 +51,7 @@ refused_not : (o : Option Cause) → is_refused o ≡ false → o ≡ None
 refused_not None q = refl
 refused_not (Some k) q = absurd cc
 
--- it isn't refused where the name isn't there, and the directory may have a link more
+-- it isn't refused if the name isn't there, and the directory may have a link more
 goes_on : (f : Option ℕ) (g : Face) → mkdir_refused f g ≡ None → (f ≡ None) × (nat_lt g.count count_limit ≡ true)
 goes_on (Some n) g q = absurd cc
 goes_on None g q = (refl, by_count (nat_lt g.count count_limit) q)

@@ -12,7 +12,8 @@ moved_mine_own version o O = record { refs = put O.mine.refs o (O.mine.refs o + 
 abbrev pub moved_own : Version → ℕ → ℕ → Own → Own
 moved_own version c o O = record O { mine = moved_mine_own version o O; desk = record (O.desk) { lent = serving c (Some 1) } }
 
--- Both ways to get there: after the descriptors, or with the tree's step where there are none. H, X, C: the walks and the tree then.
+-- Both ways to get there: after the descriptors, or with the tree's step if there are none. H, X, C: the walks and the
+-- tree then.
 module _ (version : Version) (h c : ℕ) (v : World) (O : Own) (inv : Inv v) (ov : own_of h v ≡ O) (srv : Server h c O) (unlent : (j : ℕ) → j < descriptor_count → (v.desks h).lent j ≡ None) where
   k : Kid h c v
   k = kid h c v O inv ov srv
@@ -129,7 +130,7 @@ module _ (version : Version) (h c : ℕ) (v : World) (O : Own) (inv : Inv v) (ov
     pub moved_stage : stage_of (moved_in v h c) ≡ stage_of v
     moved_stage = λ z. record { tree = settle v.all; walk = moved_walks v.harts h c home old k.apart z }
 
-  -- with the tree's step, where the hart has no descriptors
+  -- with the tree's step, if the hart has no descriptors
   module _ (none : (j : ℕ) → j < descriptor_count → (v.desks h).fds j ≡ None) (his : (j : ℕ) → j < descriptor_count → (v.desks c).fds j ≡ None) where
     abbrev X : ℕ → ℕ → Option ℕ
     X = put v.all.fds c (v.all.fds h)

@@ -78,12 +78,12 @@ s-join-begin version {h = h} s {k} {B} {Q} {n} {es} {O = O} O0 owns free lt pos 
       fine_after version f.fair refl (begin_good version h 0 n B Q es (with_joined v h true) (record O { desk = record (O.desk) { joined = true } }) O0 s (k tt) f.owned free lt f.fair.inv walks pending row leads path b pos rest)),
 ))
 
--- Calls that may end once their step is told.
+-- Calls that may end once their step has answered.
 pub record EndsAfter (c : Call) (s : Action) : Type 0 where
   pub follows : Follows c [] s
   pub ends : MayEnd c (record { step = s; answer = Failed NoEntry } ∷ []) (failed c NoEntry)
 
--- The call ends where its walk was lost.
+-- The call ends when its walk is lost.
 s-lost : (version : Version) (h : ℕ) (c : Call) (s : Action) {base : ℕ → ℕ} {O0 : Own} (why : WalkStop) (ms : List ℕ) (l : ℕ) (fs : List Step) (u : World) (R : Own) → h < hart_count → HasJoined base O0 → EndsAfter c s → 971 * length ms + 63 < l → Gone h base ms O0 R u → Lost (Walked c (record { step = s; answer = Failed NoEntry } ∷ [])) why fs R
     → Safe (machine version) h (Begun (covered_calls version) c) (Ends (covered_calls version) h c) (tail ms (stopped c why)) l fs u
 s-lost version h c s {base} {O0} why ms l fs u R lt joins ends few gone lost =

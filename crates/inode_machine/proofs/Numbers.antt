@@ -1,4 +1,4 @@
--- What stands of an inode that is counted up, for the layer below: its number is one, and its count has room.
+-- What the layer below must know of an inode that is counted up: its number is one, and its count has room.
 use Rattle.inode_machine.proofs.Vocabulary.{◌≡◌, inl, inr, ℕ, zero, suc, ◌+◌, ◌*◌, ◌^◌, ◌<◌, ◌≤◌, Bool, true, false, ◌==◌, Option, Some, None, refl, ◌∙◌, ap, arith, nat_tests, Node, hart_count, root, is_live, sum_below, look_live, Entry, World, OfDirectory, type_of, file_count, is_dead, start_number, number_is, Found, Inv}
 use Rattle.inode_machine.proofs.Basics.{one_refs, opens_slots, root_live, one_most}
 
@@ -20,7 +20,7 @@ refs_room w i inv =
     let d = sum_most hart_count 8 (λ g. (w.harts g).refs i) (λ g l. (inv.refers g l).few i) in
     omega (arith, a, b, c, d)
 
--- An inode that is there, and has links where nothing refers to it.
+-- An inode that is there, and has links if nothing refers to it.
 pub record Number (n : ℕ) (w : World) : Type 0 where
   pub low : 1 ≤ n
   pub size : n < w.all.ninodes

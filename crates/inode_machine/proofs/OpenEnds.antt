@@ -20,7 +20,7 @@ writes_no_directory flags n s goes writes is = at (flags == 0) refl (subst (λ (
     at true e q = absurd (let a : (file_for n 0).writable ≡ true = subst (λ (z : ℕ). (file_for n z).writable ≡ true) (eq_is flags 0 e) writes in cc)
     at false e q = absurd cc
 
--- What the call is told.
+-- What the call hears.
 
 pub open_follows : (path : List ℕ) (flags : ℕ) → Follows (calls.Open path flags) (steps.Open path flags)
 unfolding next_of reply_of had_room
@@ -183,7 +183,7 @@ module _ (version : Version) (h : ℕ) (path : List ℕ) (flags : ℕ) (w : Worl
         | inr ne ↦ (let a = put_other R.mine.refs j (R.mine.refs j - 1) i ne in let o = one_else j i ne in omega (arith, r, a, o))
       ]
 
-  -- A file is emptied, where that is asked for.
+  -- A file is emptied, if that is asked for.
   s-open-then : (j fd s id : ℕ) (is_file : Bool) (ns : List ℕ) (t : Option Note) (inode_type : InodeType) (x : Option Node) (n : ℕ) (es : List Step) (u u0 : World) (R : Own) → 1950 + 971 * length ns ≤ n → At h j base ns None t (went fd id (key_is (file_for j flags))) R u0 → type_of x ≡ Some inode_type
       → own_of h u ≡ record (own_installed R j fd s) { inodes = put R.inodes j (Some (locked_held x)) } → is_file ≡ is_file_type inode_type → Walked c (opened_act path flags fd id is_file ∷ []) es
       → Safe (machine version) h B Q (if empties flags inode_type then Do (Empty j) (λ _. own_step (steps.Truncate fd)) (λ _. open_end path flags j ns fd) else open_end path flags j ns fd) n es u

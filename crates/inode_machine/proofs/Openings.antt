@@ -132,7 +132,7 @@ first_is (suc more) from p i e = at (p from) refl e (first_is more (from + 1) p 
       least = λ j a b. elim (same_or j from) [ inl s ↦ ap p s ∙ q | inr ne ↦ f.least j (omega (arith, a, ne)) b ];
     }
 
--- one is found where there is one
+-- one is found if there is one
 pub first_some : (more from : ℕ) (p : ℕ → Bool) (k : ℕ) → from ≤ k → k < from + more → p k ≡ true → (i : ℕ) × (first_from more from p ≡ Some i)
 unfolding first_from
 first_some zero from p k a b q = absurd (omega (arith, a, b))

@@ -1,4 +1,4 @@
--- The tree's step of an open without CREATE, and what it leaves where it acts.
+-- The tree's step of an open without CREATE, and what it leaves if it acts.
 use Rattle.image_versions.specs.declared.version.Version.{Version}
 use Rattle.inode_machine.proofs.Vocabulary.{◌≡◌, ℕ, ◌+◌, ◌-◌, ◌<◌, true, false, ◌==◌, List, [], ◌∷◌, Option, Some, None, refl, sym, ◌∙◌, ap, subst, arith, P, own, onto, Fine, Wp, Cause, NoEntry, Descriptors, Node, NodeKind, Directory, File, Device, Open, Failed, Opened, NoRoom, hart_count, Name, Tree, settle, IsLeastUnused, answer_by, creates, effect_by, has_room, is_file, lowest, makes_node, node_at, node_or, open_kind, place_of, refusal_with, refusal_by, IsInPlace, StepWith, eq_not, eq_self, Step, Move, World, InodeType, face_of, face_or, is_file_type, open_refusal, type_of, type_of_kind, Made, acts, with_made, Others, machine}
 use Rattle.inode_machine.proofs.Basics.{Fair, others, below_is, Finder, opened_tree}

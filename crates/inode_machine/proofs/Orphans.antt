@@ -3,7 +3,7 @@ use Rattle.image_versions.specs.declared.version.Version.{Version}
 use Rattle.inode_machine.proofs.Vocabulary.{◌≡◌, ◌≢◌, inl, inr, ℕ, ◌+◌, ◌<◌, ◌≤◌, true, false, List, [], Option, Some, None, refl, sym, ◌∙◌, ap, subst, arith, Do, P, Fine, Safe, Wp, Node, hart_count, Tree, put, is_live, is_named, settle, row_of, node_or, settle_nodes, links_of, folders_of, links_in, raises, Folders, IsForest, IsWellFormed, same_or, put_same, put_other, folder_dead, dead_links, no_node, cwd_named, hold_named, file_named, folders_put, put_self, map_put, Step, with_count, type_of, Note, World, Orphans, Store, Own, file_tables_of, own_names, Held, view, is_hart, own_of, Inv, machine}
 use Rattle.inode_machine.proofs.Basics.{file_tables_same, ours_some, kept_here, HartStep, fair, fair_then, own_inodes, has_inode, stands_in, directory_named, type_on, s-owned, quiet, has_disk, has_node, locks_it, locked_held, Writes, writes, lone_file, unnamed}
 
--- A dead node that nothing names may stand in the tree before it settles.
+-- A dead node that nothing names may be in the tree before it settles.
 well_orphan : (t : Tree) (i : ℕ) (v : Node) → IsWellFormed t → t.nodes i ≡ None → is_live (Some v) ≡ false → 1 ≤ i → i < t.ninodes → is_named t i ≡ false → IsWellFormed (record t { nodes = put t.nodes i (Some v) })
 well_orphan t i v k none dead low below unnamed = record {
   range = λ n w is. elim (same_or n i) [

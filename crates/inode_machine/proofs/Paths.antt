@@ -29,7 +29,7 @@ walking_begun c acts s es f w rest r p = w (record { move = Begin s 0; told = No
 pub walking_on : (c : Call) (acts : List Act) (es : List Step) → Walked c acts es → Walked c acts (record { move = Look 0; told = None } ∷ es)
 walking_on c acts es w rest r p = w (record { move = Look 0; told = None } ∷ rest) r (tt, p)
 
--- its step is told
+-- its step has answered
 pub walking_told : (c : Call) (acts : List Act) (s : Action) (a : StepAnswer) (new : ℕ) (es : List Step) → Walked c acts es → Walked c (acts ++ record { step = s; answer = a } ∷ []) (told_step new s a ∷ es)
 walking_told c acts s a new es w rest r p = w (told_step new s a ∷ rest) r (tt, p)
 
@@ -50,7 +50,8 @@ begun_walking version c acts s es f w = begun_by version c acts es (told_step 0 
 pub agrees_look : (b : Tree) (d : ℕ) (e : Name) (x : Option Node) (O : Own) → live_directory x ≡ true → Agrees (record O { inodes = put O.inodes d (Some (locked_held x)) }) b → (b.nodes d ≡ x) × (look b.nodes d e ≡ look (λ j. x) d e)
 agrees_look b d e x O live agrees = let q = agrees d (locked_held x) (put_same O.inodes d (Some (locked_held x))) (live_is x live) in (q, look_same (λ j. x) b.nodes d e q)
 
--- The lock of the last name's directory is taken, and what is seen decides: its walk is lost where it has no links, its step is refused, or nothing is told yet.
+-- The lock of the last name's directory is taken, and what is seen decides. Its walk is lost if the directory has no
+-- links, its step is refused, or nothing is decided yet.
 pub s-see : (version : Version) {h : ℕ} (c : Call) (acts : List Act) (s : Action) {looking : Query} (refuses : Sight → Bool) {k : Sight → P (machine version) Reply} {Q : Reply → List Step → World → Type 0} {base : ℕ → ℕ} {O0 : Own} (d : ℕ) (e : Name) {ns : List ℕ} {n : ℕ} {es : List Step} {w : World} {O : Own}
     → h < hart_count → Ready base O0 → On version h s d e [] base ns O0 O w → looking_cost looking < n → Sought version looking → Follows c acts s → Walked c acts es
     → ((t : Tree) → row_of t h ≡ O.row → IsInPlace t h s) → ((b : Tree) → refused b h s ≡ b) → ((g : ℕ) → s ≡ Inherit g → ⊥) → ((f : Option ℕ) → found_by s f ≡ None)

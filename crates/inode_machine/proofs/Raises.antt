@@ -1,4 +1,5 @@
--- A link's count is raised at its record's put, and lowered again where its name can't be entered; or it has all the links that it may have.
+-- A link's count is raised at its record's put, and lowered again if its name can't be entered; or it has all the
+-- links that it may have.
 use Rattle.image_versions.specs.declared.version.Version.{Version}
 use Rattle.inode_machine.proofs.Vocabulary.{◌≡◌, ◌⊎◌, inl, inr, ℕ, ◌+◌, ◌<◌, ◌≤◌, true, false, nat_lt, List, [], ◌∷◌, Option, Some, None, refl, sym, ◌∙◌, ap, subst, arith, Do, P, own, onto, Fine, Safe, Wp, TooManyLinks, Node, Hold, Action, Bump, Inherit, Done, Failed, count_limit, hart_count, Name, Tree, put, hold_names, settle, resolve, parent, follows_path, makes_node, node_or, path_of, put_same, Stage, Step, PlaysStep, OwnMove, World, stage_of, Store, type_of, with_count, with_walk, Made, made_by, marked, new_id, places, Own, Held, own_of, Inv, machine, own_step}
 use Rattle.inode_machine.proofs.Basics.{Fair, fair, fair_then, s-owned, has_disk, has_node, locks_it, my_refs, Writes, writes, moves_good, own_walk, stage_walk, walk_did, own_takes, fails, MoveFine, Moves, Rehold, Turned, bump_stops, held_tree, held_world, low, reholds, turned}
@@ -15,7 +16,8 @@ pub record Plain (s : Action) : Type 0 where
   pub makes : (t : Tree) (q : Option (ℕ × Name)) → makes_node t s q ≡ false
   pub inherits : (g : ℕ) → s ≡ Inherit g → ⊥
 
--- A count is stored, and with it the hart's hold changes in the tree. told: the call found no room before, or the step comes next in it.
+-- A count is stored, and with it the hart's hold changes in the tree. `told`: the call found no room before, or the
+-- step comes next in it.
 pub s-store-move : (version : Version) {A : Type 0} {h : ℕ} (i c : ℕ) (s : Action) (o : Option Hold) {x : Held} (y : Node) {k : Unit {0} → P (machine version) A} {B : List Step → Type 0} {Q : A → List Step → World → Type 0} {n : ℕ} {es : List Step} {w : World} {O : Own}
     → own_of h w ≡ O → O.desk.lender ≡ None → h < hart_count → 2 < n → O.desk.joined ≡ true → O.mine.walk ≡ None → O.mine.pending ≡ None → O.inodes i ≡ Some x → x.locked ≡ true → x.alone ≡ false → x.disk ≡ Some y → x.node ≡ Some y → ((c ≤ count_limit) ⊎ (c ≤ y.count)) → Plain s
     → ((v : World) → Inv v → own_of h v ≡ O → Moves version h v s Done (put v.all.nodes i (Some (with_count c y))) o) → ((j : ℕ) → hold_names o j ≡ true → 0 < O.mine.refs j) → ((O.desk.full ≡ true) ⊎ B (done_step s ∷ es))

@@ -204,7 +204,7 @@ moving h fd s by e v O ov free lt inv none hit ours = record { fair = fair inv (
       desk = ap (λ (o : Own). o.desk) ov z;
     }
 
--- The part is read in a world where the inode's record is its node.
+-- The part is read in a world in which the inode's record is its node.
 pub part_good : (version : Version) {A : Type 0} (h more n : ℕ) (B : List Step → Type 0) (Q : A → List Step → World → Type 0) (es : List Step) (v : World) (O : Own) (fd count s : ℕ) (e : Entry) (b : List ℕ) (p : P (machine version) A)
     → own_of h v ≡ O → O.desk.lender ≡ None → h < hart_count → Inv v → O.mine.walk ≡ None → O.mine.pending ≡ None → Behind h fd s e v → Ours h (v.keeper e.file.number) → v.disk e.file.number ≡ v.all.nodes e.file.number → b ≡ part_of version (v.disk e.file.number) e.file.offset count
     → ((t : Tree) → file_at t h fd ≡ Some e.file → t.nodes e.file.number ≡ v.all.nodes e.file.number → (res : Option ℕ) (par : Option (ℕ × Name)) → refusal_with version t h (Read fd count) res par ≡ None)
@@ -299,7 +299,7 @@ open_from h fd s e v O inv ov lt hit = record {
   number = refl;
 }
 
--- The file behind it stands at this offset.
+-- The file that it names is at this offset.
 pub record StandsBy (w : World) (slot n offset : ℕ) : Type 0 where
   pub entry : Entry
   pub at : w.files slot ≡ Some entry
@@ -312,7 +312,7 @@ stands_still h fd n offset x w v O k ow ov lt isn keeps s =
     let y = keeps fd k.slot s.entry lt k.below (ap (λ (o : Own). o.desk.fds fd) ow ∙ k.is) s.at in
     (λ r. offset_of (entry_at v.files (slot_is h fd n v O k ov r))) ∙ ap offset_of y.1 ∙ ap (λ (f : OpenFile). f.offset) (y.3 (ap w.keeper s.number ∙ (has_inode h n w O x ow isn).0)) ∙ s.offset_is
 
--- That is open for reading, where its inode has this node.
+-- That is open for reading, if its inode has this node.
 pub record IsReadable (O : Own) (fd n : ℕ) (x : Option Node) : Type 0 where
   pub opened : IsOpenAt O fd n
   pub readable : opened.key.readable ≡ true

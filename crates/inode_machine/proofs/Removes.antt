@@ -3,7 +3,7 @@ use Rattle.image_versions.specs.declared.version.Version.{Version}
 use Rattle.inode_machine.proofs.Vocabulary.{◌≡◌, ◌≢◌, inl, inr, ℕ, ◌+◌, ◌-◌, ◌<◌, true, false, List, [], ◌∷◌, Option, Some, None, IsSome, refl, sym, ◌∙◌, ap, subst, arith, if◌then◌else◌, nat_tests, Do, P, own, onto, Fine, Safe, Wp, Node, NodeKind, Directory, File, Device, Unlink, Done, hart_count, Name, Tree, put, look, same_name, dot, dotdot, is_directory, slots_of, is_live, live_directory, settle, node_or, node_at, with_nodes, cleared, lowered, not_empty, refusal_with, refusal_by, effect_with, effect_by, answer_with, answer_by, place_of, IsInPlace, IsWellFormed, same_or, put_same, put_other, and_true, live_some, look_same, look_in, look_live, can_go, effect_well, Step, Look, World, Clear, InodeType, OfDirectory, type_of, type_of_kind, with_walk, without_entry, Made, new_id, marked, places, Own, Held, view, is_hart, if_kept, own_of, file_tables_of, Inv, machine, makes, clear_cost}
 use Rattle.inode_machine.proofs.Basics.{file_tables_same, stands_in, kept_here, fair, fair_then, has_inode, s-owned, locks_it, has_disk, has_node, Writes, writes, stage_walk, Fits, acts_did, acts_gone, act_good, told_step, two_put}
 
--- The directory x without the name, and one link less where that was a directory's: z is what the name stood for.
+-- The directory x without the name, and one link less if that was a directory's: z is what the name led to.
 abbrev pub less : Node → Node → Name → Node
 less x z e = record x { kind = Directory (cleared (slots_of x.kind) e); count = if is_directory z.kind then x.count - 1 else x.count }
 

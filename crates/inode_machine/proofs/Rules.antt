@@ -187,7 +187,7 @@ noted_type h j R m is number out refers lt v inv ov =
 abbrev pub locked_held : Option Node → Held
 locked_held s = record { disk = s; node = s; alone = false; locked = true }
 
--- The lock of an inode that nobody else keeps, to which a reference stands.
+-- The lock of an inode that nobody else keeps, to which there is a reference.
 pub record Locking (h i : ℕ) (v : World) (O : Own) : Type 0 where
   pub fair : Fair h v (locked h i v)
   pub whole : v.disk i ≡ v.all.nodes i
@@ -307,7 +307,7 @@ pub found_at : (h i : ℕ) (v : World) (O : Own) → Inv v → own_of h v ≡ O 
 found_at h i v O inv ov lt (inl p) = inv.pending h i lt (ap (λ (o : Own). o.mine.pending) ov ∙ p)
 found_at h i v O inv ov lt (inr (d, x, e, is, f)) = record { directory = d; name = e; keeps = (has_inode h d v O x ov is).0; finds = look_same (λ j. x.node) v.all.nodes d e (has_node h d v O x ov is) ∙ f }
 
--- a reference more, where one's own stands, or something was found
+-- a reference more, if the hart has one of its own, or something was found
 abbrev pub MayRefer : Own → ℕ → Type 0
 MayRefer O i = (0 < O.mine.refs i) ⊎ ((i ≡ root) ⊎ HasFound O i)
 
@@ -450,7 +450,7 @@ ups version h i O v0 inv0 ov0 free0 lt may only notes room = record { fair = fai
       desk = ap (λ (o : Own). o.desk) ov z;
     }
 
--- a reference more, where there is a place in memory
+-- a reference more, if there is a place in memory
 pub s-up : (version : Version) {A : Type 0} {h i : ℕ} {m : Bool → Option Mark} {k : Bool → P (machine version) A} {B : List Step → Type 0} {Q : A → List Step → World → Type 0} {n : ℕ} {es : List Step} {w : World} {O : Own}
     → own_of h w ≡ O → O.desk.lender ≡ None → h < hart_count → 0 < n → m true ≡ None → HasFound O i → ((O.mine.pending ≡ None) ⊎ (O.mine.pending ≡ Some i)) → NotesOwn O i → O.mine.refs i < reference_limit
     → ((l : ℕ) (u : World) → l + 1 ≡ n → own_of h u ≡ record O { mine = record { refs = put O.mine.refs i (O.mine.refs i + 1); walk = O.mine.walk; pending = None } } → Safe (machine version) h B Q (k true) l es u)

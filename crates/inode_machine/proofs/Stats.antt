@@ -1,9 +1,9 @@
--- Fstat: a descriptor's inode is locked, and its state told.
+-- Fstat: a descriptor's inode is locked, and its state reported.
 use Rattle.image_versions.specs.declared.version.Version.{Version}
 use Rattle.inode_machine.proofs.Vocabulary.{◌≡◌, inl, inr, ℕ, ◌+◌, ◌<◌, List, [], ◌∷◌, Option, Some, None, refl, sym, ◌∙◌, ap, subst, arith, nat_tests, Do, ExecResult, P, own, onto, Good, Safe, Wp, BadDescriptor, Node, NodeKind, Directory, File, Device, OpenFile, Fstat, Status, hart_count, Name, Tree, put, settle, resolve, parent, node_or, node_at, stat_of, file_at, refusal_with, refusal_by, effect_with, effect_by, answer_with, answer_by, place_of, IsInPlace, file_settled, settle_or, settle_again, file_named, Deed, Stage, Step, OwnMove, World, Entry, Mark, Face, face_of, face_or, type_of, stat_of_face, Own, Opens, EntryOut, Inv, machine, own_of, own_step, entry_at, entry_of, lock_if, locked, slot_at, stat_at, with_walk, made_by, new_id, places, with_mark, StatFile}
 use Rattle.inode_machine.proofs.Basics.{Locking, fine_after, is_out, locked_held, locking, locks_none, s-owned, moves_good, own_walk, stage_walk, walk_did, Behind, behind, behind_none, fails, refused_good, Refused, fair}
 
--- an open file of the hart keeps its node where the tree settles
+-- an open file of the hart keeps its node when the tree settles
 pub node_settled : (h fd : ℕ) (v : World) (e : Entry) (s : ℕ) → Inv v → h < hart_count → Behind h fd s e v → (settle v.all).nodes e.file.number ≡ v.all.nodes e.file.number
 node_settled h fd v e s inv lt hit = elim (settle_or v.all e.file.number) [
   | inl q ↦ q
@@ -64,7 +64,7 @@ node_there v s e inv at = go (v.all.nodes e.file.number) refl
     go None q = absurd (let a = (inv.inode_types s e at).inode_type in let b : type_of (v.all.nodes e.file.number) ≡ None = ap (λ (z : Option Node). type_of z) q in cc (a, b))
     go (Some x) q = (x, q)
 
--- what stands behind a descriptor has the hart's reference
+-- what a descriptor names has the hart's reference
 pub behind_opens : (h fd s : ℕ) (e : Entry) (v : World) → Behind h fd s e v → Opens (v.desks h).fds v.files e.file.number
 behind_opens h fd s e v hit = record { fd = fd; below = hit.below; slot = s; is = hit.is; entry = e; at = hit.at; number = refl }
 

@@ -1,4 +1,4 @@
--- The open-file table beside the tree's open files, where one descriptor changes.
+-- The open-file table beside the tree's open files, when one descriptor changes.
 use Rattle.inode_machine.proofs.Vocabulary.{◌≡◌, ◌≢◌, inl, inr, ℕ, zero, suc, ◌+◌, ◌<◌, true, false, ◌==◌, nat_lt, Option, Some, None, refl, sym, ◌∙◌, ap, subst, arith, nat_tests, OpenFile, hart_count, descriptor_count, Tree, put, lowest, lowest_from, has_room, closed, sum_below, one_if, eq_self, either, same_or, put_same, put_other, sum_changed, sum_part, one_yes, one_no, is_at, file_count, Entry, Desk, id_at, number_is, uses, users, FileTables, IsTied}
 use Rattle.inode_machine.proofs.Frame.{put_elim}
 use Rattle.inode_machine.proofs.Rows.{is_at_some}

@@ -152,7 +152,7 @@ module _ (h c : ℕ) (v : World) (O : Own) (F : ℕ → Option Entry) (D : ℕ �
     desk = (t.mine ∙ ap (λ (o : Own). record (o.desk) { lent = L }) ov) z;
   }
 
--- References, where a hart hands on its directory d, and takes the child's, o.
+-- References, when a hart hands on its directory d, and takes the child's, o.
 
 put_one : (f : ℕ → ℕ) (n i : ℕ) → put f n (f n + 1) i ≡ f i + one_if (n == i)
 put_one f n i = put_elim f n (f n + 1) i (λ z. z ≡ f i + one_if (n == i))
@@ -243,7 +243,7 @@ moved_apart v h d i g inv lt refers ne kept counts = elim (same_or i d) [
       )
 ]
 
--- What stands on its way is nothing.
+-- Nothing is on its way.
 
 pub serving_child : (c : ℕ) (g : Option ℕ) → serving c g descriptor_count ≡ Some c
 serving_child c g = put_other (put (λ i. None) descriptor_count (Some c)) (descriptor_count + 1) g descriptor_count (λ e. absurd (omega (arith, e))) ∙ put_same (λ i. None) descriptor_count (Some c)

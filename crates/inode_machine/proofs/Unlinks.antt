@@ -121,7 +121,7 @@ module _ (version : Version) (h : ℕ) (path : List ℕ) (lt : h < hart_count) {
       (λ i nd. elim (same_or i n) [ inl q ↦ ap (put (both d X Z n) n None) q ∙ put_same (both d X Z n) n None | inr nn ↦ put_other (both d X Z n) n None i nn ∙ put_other (put nothing d (Some (locked_held (Some X)))) n (Some (locked_held (Some Z))) i nn ∙ else_one (Some (locked_held (Some X))) i nd ]) walk2 none2
       (elim told [ inl f ↦ inl (ap (λ (z : Desk). z.full) desk ∙ f) | inr a ↦ inr a ]))
 
-  -- the counts are stored, the directory's where the name was a directory's
+  -- the counts are stored, the directory's if the name was a directory's
   lowered_end : (X Z : Node) (n l : ℕ) (es : List Step) (w : World) (R : Own) → n ≢ d → 971 * length ns + 1900 < l → own_of h w ≡ R → R.mine.walk ≡ None → R.mine.pending ≡ None → IsAnswerable (calls.Unlink path) (done (calls.Unlink path)) es R
       → Holding base ns O0 R (put (put (both d X Z n) d (Some (record (locked_held (Some X)) { disk = Some (without_entry e X); node = Some (less X Z e) }))) n (Some (record (locked_held (Some Z)) { node = Some (lowered Z) }))) (λ i. (0 + one_if (n == i)) + one_if (d == i))
       → Goes version h path (lower_parent d (face_or (face_of version (Some X))) (face_or (face_of version (Some Z))) (give_up d (Do (Store n (Z.count - 1)) unmarked (λ _. give_up n (tail ns (done (calls.Unlink path))))))) l es w
@@ -269,7 +269,7 @@ module _ (version : Version) (h : ℕ) (path : List ℕ) (lt : h < hart_count) {
   none_found None q = refl
   none_found (Some n) q = absurd cc
 
-  -- The name is looked up, and what it stands for referred to.
+  -- The name is looked up, and what it leads to is referred to.
   named : (n : ℕ) (fs : List Step) (w : World) (O : Own) → (same_name e dot || same_name e dotdot) ≡ false → 971 * length ns + 24000 ≤ n → On version h (Unlink path) d e [] base ns O0 O w → Walked (calls.Unlink path) [] fs → Goes version h path (unlink_named path d e ns) n fs w
   named n fs w O plain few on walking =
       s-see version (calls.Unlink path) [] (Unlink path) is_missing d e lt joins.ready on (omega (arith, few)) on.names.0 (follows path) walking (λ t q. unlink_place t h path lt) (λ b. refl) (λ g q. absurd cc) (λ f. refl)

@@ -59,7 +59,7 @@ walk_named_did h k p v free lt inv names notes lands finds =
     pin j (inl a) = inl a
     pin j (inr a) = inr (grow j a)
 
--- the same, where nothing that was found is left to be counted up
+-- the same, if nothing that was found is left to be counted up
 pub walk_did : (h : ℕ) (k : Option Walk) (p : Option ℕ) (v : World) → (v.desks h).lender ≡ None → h < hart_count → Inv v → (v.harts h).pending ≡ None → ((m : Note) → (v.desks h).noted ≡ Some m → p ≡ Some m.number → type_of (v.all.nodes m.number) ≡ m.inode_type) → ((x : Walk) → k ≡ Some x → (0 < (v.harts h).refs x.at) ⊎ (p ≡ Some x.at))
     → ((i : ℕ) → p ≡ Some i → Found v.keeper v.all.nodes h i) → HartStep h v (record v { harts = with_walk v.harts h k p })
 walk_did h k p v free lt inv none notes lands finds = walk_named_did h k p v free lt inv (λ j is. elim (inv.named h j lt free is) [ inl a ↦ a | inr a ↦ absurd (cc (a, none)) ]) notes lands finds
@@ -82,7 +82,7 @@ own_walk h k p v O ov = λ z. record {
   desk = ap (λ (o : Own). o.desk) ov z;
 }
 
--- a number below the tree's is of its range, also where that has settled
+-- a number below the tree's is of its range, also after that has settled
 pub of_range : (v : World) (n : ℕ) → n < v.all.ninodes → IsOfRange (stage_of v) (Look n)
 unfolding settle
 of_range v zero below = tt

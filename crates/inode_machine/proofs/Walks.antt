@@ -82,7 +82,7 @@ known_there h d v O inv ov lt out refers (inr (inl q)) e =
     cc (a, c)
 known_there h d v O inv ov lt out refers (inr (inr p)) e = p.3 (sym (noted_type h d O p.0 p.1 p.2 out refers lt v inv ov) ∙ ap (λ (z : Option Node). type_of z) e)
 
--- Where a call walks. O0: what it had of its own at the beginning; base: its references then.
+-- A call walks. O0: what it had of its own at the beginning; base: its references then.
 pub record On (version : Version) (h : ℕ) (s : Action) (d : ℕ) (e : Name) (r : List Name) (base : ℕ → ℕ) (ns : List ℕ) (O0 O : Own) (w : World) : Type 0 where
   pub owns : own_of h w ≡ O
   pub stays : Stays O O0
@@ -99,7 +99,7 @@ pub record On (version : Version) (h : ℕ) (s : Action) (d : ℕ) (e : Name) (r
 pub on_refers : (version : Version) {h : ℕ} {s : Action} {d : ℕ} {e : Name} {r : List Name} {base : ℕ → ℕ} {ns : List ℕ} {O0 O : Own} {w : World} → On version h s d e r base ns O0 O w → 0 < O.mine.refs d
 on_refers version {d = d} on = let f = on.refs d in let o = one_at d in omega (arith, f, o)
 
--- Where it has come to j: its walk goes on from there, or has led there; t: what it noted.
+-- It has come to j: its walk goes on from there, or has led there; t: what it noted.
 pub record At (h j : ℕ) (base : ℕ → ℕ) (ns : List ℕ) (k : Option Walk) (t : Option Note) (O0 O : Own) (w : World) : Type 0 where
   pub owns : own_of h w ≡ O
   pub stays : Stays O O0
@@ -110,7 +110,8 @@ pub record At (h j : ℕ) (base : ℕ → ℕ) (ns : List ℕ) (k : Option Walk)
   pub listed : Listed O base ns
   pub out : O.inodes j ≡ None
 
--- What a lookup in directory d, whose lock the hart has taken, leaves where it found j. O: what the hart had before the lock.
+-- What a lookup in directory d, whose lock the hart has taken, leaves if it found j. O: what the hart had before the
+-- lock.
 pub record Finds (d j : ℕ) (c : Option Node) (k : Option Walk) (O O2 : Own) : Type 0 where
   pub inodes : O2.inodes ≡ put O.inodes d (Some (locked_held c))
   pub refs : O2.mine.refs ≡ O.mine.refs
@@ -149,7 +150,7 @@ stays_same R O1 O0 row ninodes desk s = record {
   left = ap (λ (z : Desk). z.left) desk ∙ s.left;
 }
 
--- Where its walk was lost.
+-- Its walk was lost.
 pub record Gone (h : ℕ) (base : ℕ → ℕ) (ns : List ℕ) (O0 O : Own) (w : World) : Type 0 where
   pub owns : own_of h w ≡ O
   pub stays : Stays O O0
@@ -187,7 +188,7 @@ module _ (version : Version) (h : ℕ) (s : Action) (B : List Step → Type 0) (
     (look_lost : (es : List Step) → W es → V (record { move = Look 0; told = Some (fail s) } ∷ es) × B (record { move = Look 0; told = Some (fail s) } ∷ es))
     (quit_lost : (es : List Step) → W es → V (record { move = GiveUpWalk s; told = Some (fail s) } ∷ es) × B (record { move = GiveUpWalk s; told = Some (fail s) } ∷ es))
     (none_refused : (b : Tree) → refusal_with version b h s None None ≡ Some NoEntry) (stays : (b : Tree) → refused b h s ≡ b) (place : (t : Tree) → row_of t h ≡ O0.row → IsInPlace t h s) (other : (g : ℕ) → s ≡ Inherit g → ⊥) (finds_none : found_by s None ≡ None) where
-  -- the directory where it was lost is given up
+  -- the directory at which it was lost is given up
   pub s-lose : (why : WalkStop) (d : ℕ) (ns : List ℕ) (c : Option Node) (n : ℕ) (es : List Step) (w : World) (O O1 : Own) → own_of h w ≡ O1 → Stays O1 O0 → Stays O O0 → 973 + 971 * length ns + K ≤ n → O1.inodes ≡ put O.inodes d (Some (locked_held c)) → O.inodes d ≡ None → Listed O base ns → O1.mine.pending ≡ None → O1.mine.walk ≡ None
       → ((i : ℕ) → O1.mine.refs i ≡ base i + times i ns + one_if (d == i)) → ((i : ℕ) → 0 < times i ns → O1.mine.refs i ≡ O.mine.refs i) → Lost V why es O1
       → Safe (machine version) h B Q (leave_directory d ns (lost why)) n es w
@@ -256,7 +257,8 @@ module _ (version : Version) (h : ℕ) (s : Action) (B : List Step → Type 0) (
               s-lose NotThere d ns c l2 (record { move = Look 0; told = Some (fail s) } ∷ es) u2 O _ own2 (stays_on c) on.stays (omega (arith, q2, few)) refl on.out on.listed refl refl on.refs (λ i t. refl) (look_lost es told).0)
           found u c inv own1 live (Some j) is = finds u c j inv own1 live is
 
-  -- What was found is referred to, and the directory let go. P0: what the hart has since the lookup; M: where there is no room for the reference.
+  -- What was found is referred to, and the directory let go. P0: what the hart has since the lookup; M: what it has if
+  -- there is no room for the reference.
   pub s-arrive : (C d j : ℕ) (c : Option Node) (k : Option Walk) (ns : List ℕ) (n : ℕ) (es : List Step) (u : World) (O O2 P0 M : Own) (go : ℕ → List ℕ → P Reply) → own_of h u ≡ O2 → 980 + C + 971 * length ns + K ≤ n
       → Stays O O0 → Listed O base ns → O.inodes d ≡ None → ((i : ℕ) → O.mine.refs i ≡ base i + times i ns + one_if (d == i)) → Finds d j c k O O2 → Stays O2 P0 → P0.desk.lender ≡ None
       → ((v : World) → Inv v → own_of h v ≡ O2 → Mending h v (mended h v) M) → Back O0 O2 M
@@ -360,7 +362,7 @@ module _ (version : Version) (h : ℕ) (s : Action) (B : List Step → Type 0) (
       stays_on : (c : Option Node) (j : ℕ) (t : Option Note) → Stays (O2 c j t) O0
       stays_on c j t = record { row = on.stays.row; ninodes = on.stays.ninodes; fds = on.stays.fds; hand = on.stays.hand; joined = on.stays.joined; directory = on.stays.directory; lent = on.stays.lent; lender = on.stays.lender; opening = on.stays.opening; left = on.stays.left }
 
-  -- A walk through all its elements. The step acts at the last one, where that is found.
+  -- A walk through all its elements. The step acts at the last one, if that is found.
   pub s-walk : (r : List Name) (d : ℕ) (e : Name) (ns : List ℕ) (n : ℕ) (es : List Step) (w : World) (O : Own) (found : ℕ → List ℕ → P Reply) → 2600 * length r + 2600 + 971 * length ns + K ≤ n → On version h s d e r base ns O0 O w → W es → ((b : Tree) (q : ℕ × Name) → refusal_with version b h s None (Some q) ≡ Some NoEntry)
       → ((d : ℕ) (e : Name) (ns : List ℕ) (n : ℕ) (es : List Step) (w : World) (O : Own) → 2600 + 971 * length ns + K ≤ n → On version h s d e [] base ns O0 O w → W es
       → (u : World) (c : Option Node) (j : ℕ) → Inv u → own_of h u ≡ record O { inodes = put O.inodes d (Some (locked_held c)) } → live_directory c ≡ true → look (λ i. c) d e ≡ Some j → MoveFine version h look_cost n B Q es u (Look 0) (walk_step d ns found lost (Some j)))

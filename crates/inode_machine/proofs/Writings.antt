@@ -179,7 +179,7 @@ pub record OpensFile (w : World) (slot : ℕ) : Type 0 where
   pub at : w.files slot ≡ Some entry
   pub inode_type : entry.inode_type ≡ OfFile
 
--- which stays so behind a descriptor of the hart
+-- which stays so of a descriptor of the hart
 pub file_stays : (h fd s : ℕ) (w v : World) → h < hart_count → fd < descriptor_count → (w.desks h).fds fd ≡ Some s → KeepsFiles h w v → OpensFile w s → OpensFile v s
 file_stays h fd s w v lt below is keeps f = let y = keeps fd s f.entry lt below is f.at in record { entry = y.0; at = y.1; inode_type = y.2 ∙ f.inode_type }
 
@@ -199,7 +199,7 @@ is_file_kind (Directory slots) e = absurd cc
 is_file_kind (File bytes) e = refl
 is_file_kind (Device major minor size) e = absurd cc
 
--- so the inode behind it is one
+-- so the inode that it names is one
 file_node : (s i : ℕ) (e : Entry) (y : Node) (v : World) → Inv v → v.files s ≡ Some e → e.file.number ≡ i → v.all.nodes i ≡ Some y → OpensFile v s → is_file y.kind ≡ true
 file_node s i e y v inv at num node f = is_file_kind y.kind (
     let a : Some e ≡ Some f.entry = sym at ∙ f.at in

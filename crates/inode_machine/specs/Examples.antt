@@ -141,7 +141,7 @@ LinkBelowNothing = LinkRefused (codes "/x/b") NoEntry 19
 abbrev pub LinkToNoName : Type 0
 LinkToNoName = LinkRefused (codes "/") NoEntry 15
 
--- what isn't there, and what is a directory
+-- links of a missing file, and of a directory
 abbrev pub LinkOfNothing : Type 0
 LinkOfNothing = Finishes (makes 0 (calls.Link (codes "/x") (codes "/b")) 7) (refused (calls.Link (codes "/x") (codes "/b")) NoEntry ∷ [])
 
@@ -171,15 +171,15 @@ InheritMoves =
     (record { answer = answers.Stat (record { device = 1; inode = 2; kind = types.Directory; nlink = 1; size = 32 }); call = calls.Fstat 0 }
     ∷ record { answer = answers.Fd 0; call = open_here } ∷ done (calls.Inherit 1) ∷ done (calls.Chdir (codes "/d")) ∷ done make_d ∷ [])
 
--- Where the child was the last one in a removed directory, that is freed.
+-- If the child was the last one in a removed directory, that is freed.
 abbrev pub InheritFrees : Type 0
 InheritFrees =
     Finishes (makes_d ++ makes 1 (calls.Chdir (codes "/d")) 11 ++ makes 0 (calls.Unlink (codes "/d")) 16 ++ makes 0 (calls.Inherit 1) 8)
     (done (calls.Inherit 1) ∷ done (calls.Unlink (codes "/d")) ∷ done (calls.Chdir (codes "/d")) ∷ done make_d ∷ [])
 
--- Starts that are refused: of no hart; of a child that is none, or is the caller, or has descriptors; of a path that is too long, or has a
--- zero; of a child
--- while another hands its own to it, and of it by a third one; of a child that has a call.
+-- Starts that are refused: of no hart; of a child that is none, or is the caller, or has descriptors. Of a path that
+-- is too long, or has a zero. Of a child while another hands its own to it, and of it by a third one; of a child that
+-- has a call.
 abbrev pub refusals : List (EventOutcome (covered_calls One)) → List Refusal
 refusals [] = []
 refusals (Refused why ∷ cs) = why ∷ refusals cs
@@ -275,8 +275,8 @@ abbrev pub NoDescriptorToOpen : Type 0
 NoDescriptorToOpen =
     NoRoom (opens ++ doubles 15 ++ makes 0 open_root 9) (record { answer = answers.Full Descriptors; call = open_root } ∷ doubled_to 15)
 
--- A file has all the links that it may have. Of these names the tree has one, so it is none that a run comes to: the program alone is seen
--- here.
+-- A file has all the links that it may have. Of these names the tree has one, so no run leads to it: the program alone
+-- is seen here.
 
 abbrev pub much_linked : Tree
 much_linked = let t : Tree = tree_of (fresh_tree One 10) in

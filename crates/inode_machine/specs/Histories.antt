@@ -43,7 +43,7 @@ pub record OneHistory (version : Version) (base : TreeData) (w : World) (events 
   pub explains : Explains version base (trace_of (shows version (covered version) events (fresh (covered_calls version) w))) list
   pub leads : Chain version (tree_of base) list (settle (run (covered_calls version) events (fresh (covered_calls version) w)).world.all)
 
--- From a world where every hart rests, on this tree, where no step found no room.
+-- From a world in which every hart rests, on this tree, if no step found no room.
 pub record Runs (version : Version) (base : TreeData) (w : World) (events : List (Event Call Outside)) : Type 0 where
   pub holds : Inv w
   pub idle : (h : ℕ) → Idle h w

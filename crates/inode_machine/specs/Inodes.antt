@@ -35,7 +35,7 @@ no_driver_for OfDirectory = None
 no_driver_for OfFile = None
 no_driver_for (OfDevice major) = Some NoDriver
 
--- a directory opens without flags alone, a device where it has a driver
+-- a directory opens without flags alone, a device if it has a driver
 abbrev pub open_refusal : Bool → InodeType → Option Cause
 open_refusal plain OfDirectory = if plain then None else Some IsDirectory
 open_refusal plain OfFile = None
@@ -99,7 +99,7 @@ found_in n v AtNothing = None
 found_in n v (AtName e) = look (λ j. v) n e
 found_in n v AtEntries = None
 
--- told where it was looked for, and taken for empty elsewhere
+-- known if it was looked for, and otherwise taken for empty
 abbrev pub empty_in : Option Node → Query → Bool
 empty_in v AtNothing = true
 empty_in v (AtName e) = true

@@ -31,8 +31,8 @@ module _ (m : MoveMachine) where
   told_of [] = None
   told_of (p ∷ ps) = p.1.told
 
-  -- an event that came to this, and led from this stage to that one, with what it tells: a step that ran is written, with the walks that
-  -- are lost by it
+  -- an event that had this outcome, and led from this stage to that one, with what it reports: a step that ran is
+  -- written, with the walks lost by it
   abbrev pub kept_start : {What Refusal : Type 0} → ℕ → Call → Outcome What Reply Refusal → History → History
   kept_start h call Started b = starts b h call
   kept_start h call (Refused why) b = passes b
@@ -86,7 +86,7 @@ module _ (version : Version) (m : MoveMachine) where
     pub leads : Chain version (tree_of base) (history_of w events)
         (m.tree (run (theory_of version m) events (fresh (theory_of version m) w)).world).tree
 
-  -- where no path climbs
+  -- no path climbs
   abbrev pub RunsHaveTheHistory : Type 0
   RunsHaveTheHistory =
       (base : TreeData) (w : m.World) (events : List (Event Call m.Outside)) → RunsFrom version m base w events → NoneClimbs events

@@ -7,8 +7,8 @@ use Rattle.inode_machine.specs.Marks.{made_by}
 use Rattle.inode_machine.specs.Kept.{placed, stage_by, told_by_move}
 use Rattle.inode_machine.specs.Basics.{MoveMachine, RunsFrom, theory_of}
 
--- The step may act by what was found for its path, its node (res) and its directory with its last element (par): it has its place, and
--- where these don't have it refused a node that it makes takes a number that is free.
+-- The step may act by what was found for its path, its node (res) and its directory with its last element (par). It
+-- has its place, and if these don't have it refused, a node that it makes takes a number that is free.
 pub record ActsSo (version : Version) (t : Tree) (h : ℕ) (s : Action) (res : Option ℕ) (par : Option (ℕ × Name)) (new : ℕ) : Type 0 where
   pub place : IsInPlace t h s
   pub node : refusal_with version t h s res par ≡ None → makes_node t s par ≡ true → IsNewNode t new
@@ -39,7 +39,7 @@ pub record MayMake (version : Version) (m : Stage) (h : ℕ) (v : Move) : Type 0
   pub settled : settle m.tree ≡ m.tree
   pub move : MayMove version m h v
 
--- where the move opens a file, that takes the least id that is unused
+-- if the move opens a file, that takes the least id that is unused
 abbrev pub OpensLeast : Version → Stage → ℕ → ℕ → Move → Type 0
 OpensLeast version m h id v = (made_by version m.tree h id (m.walk h) v).opened ≡ Some id → IsLeastUnused m.tree id
 
@@ -52,7 +52,8 @@ pub record IsMade (version : Version) (m : Stage) (h : ℕ) (e : MoveStep) (m' :
   pub stage : (id : ℕ) → OpensLeast version m h id e.move → m' ≡ stage_by version m h id e.move
   pub told : (id : ℕ) → OpensLeast version m h id e.move → e.told ≡ told_by_move version m h id e.move
 
--- what the hart's event places is one move at most, its own, and is made; and where it places none the tree and all walks stay
+-- what the hart's event places is one move at most, its own, and is made; and if it places none the tree and all walks
+-- stay
 abbrev pub MakesPlaced : Version → ℕ → Stage → List (ℕ × MoveStep) → Stage → Type 0
 MakesPlaced version h m [] m' = m' ≡ m
 MakesPlaced version h m (p ∷ ps) m' = (ps ≡ []) × (p.0 ≡ h) × IsMade version m h p.1 m'

@@ -67,8 +67,9 @@ machine_of version m =
       Clean = m.Clean;
     }
 
--- These moves, after the acts that were told so far, are as the call makes them: each step that is begun is the next one of its written
--- sequence. The last one may have found no room: such a call has no whole sequence, but it is in the list until it says so.
+-- These moves, after the acts so far, are as the call makes them: each step that is begun is the next one of its
+-- written sequence. The last one may have found no room: such a call has no whole sequence, but it is in the list
+-- until it says so.
 abbrev pub IsPlayedSoFar : Call → List Act → List MoveStep → Type 0
 IsPlayedSoFar c acts [] = Unit {0}
 IsPlayedSoFar c acts (e ∷ es) = IsNext c acts (begins e.move) × IsPlayedSoFar c (after e.told acts) es
@@ -90,7 +91,7 @@ theory_of version m =
 
 -- ---- what events show of calls
 
--- by what an event came to
+-- by the outcome of an event
 abbrev pub shown_start : {What Refusal : Type 0} → ℕ → Call → Outcome What Reply Refusal → Shown
 shown_start h call Started = Begun h call
 shown_start h call (Refused why) = Other
@@ -138,8 +139,8 @@ module _ (version : Version) (m : MoveMachine) where
   shows [] s = []
   shows (e ∷ es) s = shown_by e (makes (theory_of version m) e s).came ∷ shows es (next (theory_of version m) e s)
 
-  -- what is shown of the machine and its calls: an operation places no move, or one of its own hart; a start is of one of eight harts and
-  -- leaves the tree; a hart that is idle walks nowhere; and the tree has settled
+  -- what is shown of the machine and its calls. An operation places no move, or one of its own hart. A start is of one
+  -- of eight harts and leaves the tree. A hart that is idle walks nowhere; and the tree has settled
   pub record IsMoving : Type 0 where
     pub lawful : Lawful (theory_of version m)
     pub one : (h : ℕ) (op : m.Op) (a : m.Answer op) (mark : Option m.Mark) (w : m.World)
@@ -155,7 +156,7 @@ module _ (version : Version) (m : MoveMachine) where
     pub explains : Explains version base (trace_of (shows events (fresh (theory_of version m) w))) list
     pub leads : Chain version (tree_of base) list (m.tree (run (theory_of version m) events (fresh (theory_of version m) w)).world).tree
 
-  -- From a world where every hart rests, on this tree, where no step found no room.
+  -- From a world in which every hart rests, on this tree, if no step found no room.
   pub record RunsFrom (base : TreeData) (w : m.World) (events : List (Event Call m.Outside)) : Type 0 where
     pub holds : m.Inv w
     pub idle : (h : ℕ) → m.Idle h w

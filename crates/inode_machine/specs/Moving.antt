@@ -25,7 +25,7 @@ chdir_program version path =
 
 -- inherit: each descriptor in turn, then the directory; the child's old one is dropped
 
--- the child has all with the last descriptor, or with the directory where there is none
+-- the child has all with the last descriptor, or with the directory if there is none
 abbrev pub lends : ℕ → LoanResult → Option Mark
 lends child (Lent i true) = None
 lends child (Lent i false) = own_step (steps.Inherit child)

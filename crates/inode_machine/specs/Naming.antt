@@ -127,7 +127,7 @@ mkdir_in path d e ns =
 abbrev pub mkdir_program : Version → List ℕ → P Reply
 mkdir_program version path = in_parent (calls.Mkdir path) (steps.Mkdir path) path (mkdir_in path) (elements version path)
 
--- Link. The count goes up first, and down again where the name can't be entered.
+-- Link. The count goes up first, and down again if the name can't be entered.
 
 abbrev pub lower : List ℕ → List ℕ → ℕ → Reply → List ℕ → P Reply
 lower old new n r ns =
@@ -166,7 +166,7 @@ link_name old new n ns (e ∷ es) =
     walk_parent (steps.Enter new) d e es ns (link_in old new n) (λ why ms. lower old new n (stopped (calls.Link old new) why) ms))
     (λ why ms. lower old new n (stopped (calls.Link old new) why) ms))
 
--- why a link isn't raised: it is to a directory, as was decided where that was found, or there are too many
+-- why a link isn't raised: it is to a directory, as was decided when that was found, or there are too many
 abbrev pub bump_refused : Face → Option Cause
 bump_refused f = if nat_lt f.count count_limit then None else Some TooManyLinks
 

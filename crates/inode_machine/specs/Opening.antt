@@ -37,7 +37,7 @@ take_descriptor path flags n inode_type ns mark k =
     then Do (Install (file_for n flags) inode_type) (installs mark) (installed_on path flags n ns k)
     else give_up n (tail ns (full (calls.Open path flags) OpenFiles)))
 
--- What is there is opened. It may be refused by its type, as was decided where it was found.
+-- What is there is opened. Its type may refuse it, as was decided when it was found.
 
 abbrev pub open_end : List ℕ → ℕ → ℕ → List ℕ → ℕ → P Reply
 open_end path flags n ns fd = Do (UnlockInode n) unmarked (λ _. tail ns (opened_reply path flags fd))

@@ -17,7 +17,7 @@ makes v = Some (Makes v)
 abbrev pub own_step : Action → Option Mark
 own_step s = makes (Own s 0)
 
--- what stands where there was no room is taken back
+-- what there is is taken back if there was no room
 abbrev pub mends_if_full : Bool → Option Mark
 mends_if_full true = None
 mends_if_full false = Some Mends
@@ -79,7 +79,7 @@ with_last ns d false = ns
 abbrev pub leave_directory : {A : Type 0} → ℕ → List ℕ → (List ℕ → P A) → P A
 leave_directory d ns k = Do (UnlockInode d) unmarked (λ _. Do (WalkDown d) unmarked (λ last. k (with_last ns d last)))
 
--- the lookup is a move of the walk; where the directory has no links, or is none, the walk is lost
+-- the lookup is a move of the walk; if the directory has no links, or is none, the walk is lost
 abbrev pub looks_or_quits : Action → Sight → Option Mark
 looks_or_quits s a = if is_live_face a.face then makes (Look 0) else makes (GiveUpWalk s)
 

@@ -21,9 +21,8 @@ program version (Fstat fd) = stat_program fd
 program version (Close fd) = close_program fd
 program version (Inherit child) = inherit_program child
 
--- The most steps below. An element is looked up, and what its directory leaves may be freed after the call; what else a call does is a few
--- of the longest
--- operations; a write's piece has its commit.
+-- The most steps below. An element is looked up, and what its directory leaves may be freed after the call. Else a
+-- call makes a few of the longest operations; a write's piece has its commit.
 
 abbrev pub element_cost : ℕ
 element_cost = 2600

@@ -23,8 +23,8 @@ is_no_descriptor None = false
 is_no_descriptor (Some None) = true
 is_no_descriptor (Some (Some fd)) = false
 
--- The operation's answer says that there is no room: no place in memory for an inode, no inode free, no block, no slot of a directory,
--- no place for an open file, no descriptor, or a piece written in part.
+-- The operation's answer says that there is no room. There is no place in memory for an inode, no inode free, no block
+-- or no slot of a directory. Or there is no place for an open file, no descriptor, or a piece was written in part.
 abbrev pub says_no_room : (op : Op) → Answer op → Bool
 says_no_room (UpStart absolute) start = is_nothing start
 says_no_room (Up n) there = not there

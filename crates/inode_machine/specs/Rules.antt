@@ -72,8 +72,8 @@ pub record Rests (O : Own) : Type 0 where
 abbrev pub Idle : ℕ → World → Type 0
 Idle h w = Rests (own_of h w)
 
--- what is open by a descriptor of the hart has the type that it had; and of an inode that it keeps it is the same open file, with its
--- offset
+-- a descriptor of the hart keeps the type of what is open by it. If the hart keeps the inode, it is the same open
+-- file, with its offset
 abbrev pub KeepsFiles : ℕ → World → World → Type 0
 KeepsFiles h v w =
     (i k : ℕ) (e : Entry) → h < hart_count → i < descriptor_count → (v.desks h).fds i ≡ Some k → v.files k ≡ Some e
@@ -104,7 +104,7 @@ pub record Opens (fds : ℕ → Option ℕ) (files : ℕ → Option Entry) (n : 
   pub at : files slot ≡ Some entry
   pub number : entry.file.number ≡ n
 
--- a reference stands: of a descriptor of the hart, or of the hart itself
+-- there is a reference: of a descriptor of the hart, or of the hart itself
 abbrev pub IsReferredTo : (desks : ℕ → Desk) (files : ℕ → Option Entry) (harts : ℕ → Mine) (g n : ℕ) → Type 0
 IsReferredTo desks files harts g n = Opens (desks g).fds files n ⊎ (0 < (harts g).refs n)
 
@@ -203,9 +203,8 @@ pub record References (m : Mine) (d : Desk) : Type 0 where
   pub few : (i : ℕ) → m.refs i ≤ reference_limit
   pub home : 0 < m.refs d.directory
 
--- What a hart has of its lender's by now: no descriptor yet, and its own directory; or the descriptors, and in the tree the lender's
--- directory, to which only
--- that refers; or its directory too.
+-- What a hart has of its lender's by this moment. It has no descriptor yet, and its own directory. Or it has the
+-- descriptors, and in the tree the lender's directory, to which only that refers; or its directory too.
 abbrev pub Has : (given : Option ℕ) (fds : ℕ → Option ℕ) (cwd mine lenders : ℕ) → Type 0
 Has None fds cwd mine lenders = ((i : ℕ) → i < descriptor_count → fds i ≡ None) × (cwd ≡ mine)
 Has (Some zero) fds cwd mine lenders = cwd ≡ lenders
@@ -228,9 +227,9 @@ pub record Inv (w : World) : Type 0 where
   -- the tree before it settles is well formed
   pub well : IsWellFormed w.all
   pub ids : (k : ℕ) → w.next ≤ k → w.all.files k ≡ None
-  -- where nobody keeps an inode its record is its node
+  -- if nobody keeps an inode its record is its node
   pub whole : (i : ℕ) → w.keeper i ≡ None → w.disk i ≡ w.all.nodes i
-  -- and where its keeper is in no transaction
+  -- and if its keeper is in no transaction
   pub quiet : (i g : ℕ) → w.keeper i ≡ Some g → (w.desks g).joined ≡ false → w.disk i ≡ w.all.nodes i
   -- who has the lock keeps it
   pub keeps : (i g : ℕ) → w.lock i ≡ Some g → w.keeper i ≡ Some g
@@ -244,7 +243,8 @@ pub record Inv (w : World) : Type 0 where
   pub refers : (g : ℕ) → g < hart_count → References (w.harts g) (w.desks g)
   pub tied : IsTied (file_tables_of w)
   pub inode_types : (k : ℕ) (e : Entry) → w.files k ≡ Some e → HasType w.all.nodes e
-  -- what a hart itself names it refers to, or it stands in a directory that the hart keeps; unless it gets another's
+  -- a hart refers to each inode that it names itself, or that inode is in a directory that the hart keeps; unless it
+  -- gets another's
   pub named : (g i : ℕ) → g < hart_count → (w.desks g).lender ≡ None → own_names (row_of w.all g) (w.desks g) i ≡ true → IsReached w g i
   pub pending : (g i : ℕ) → g < hart_count → (w.harts g).pending ≡ Some i → Found w.keeper w.all.nodes g i
   pub walks : (g : ℕ) (k : Walk) → g < hart_count → (w.harts g).walk ≡ Some k → IsReached w g k.at
@@ -261,7 +261,7 @@ pub record Inv (w : World) : Type 0 where
 abbrev pub IsOut : ℕ → Option ℕ → Type 0
 IsOut h o = (g : ℕ) × (g ≢ h) × (o ≡ Some g)
 
--- An operation waits only where the lock that it takes is another hart's.
+-- An operation waits only if the lock that it takes is another hart's.
 
 abbrev pub EntryOut : ℕ → World → Option Entry → Type 0
 EntryOut h w None = ⊥
@@ -295,19 +295,16 @@ Sought version AtNothing = Unit {0}
 Sought version (AtName e) = IsName version e
 Sought version AtEntries = Unit {0}
 
--- What an operation asks. Who locks an inode refers to it, and hasn't locked it, and where its lock is free it has a record, and what is
--- looked for in it is a
--- name; who refers to one more has found it in a directory that it keeps; who gives a reference up, to none or to a table, has one besides
--- its current directory's,
--- and keeps none that it drops;
--- who frees an inode has the one reference to it, and it has no links; who forgets it has freed it, and keeps it;
--- who changes an inode has its lock and has joined; who joins, leaves, opens by a descriptor or replies has no lock, and who leaves has
--- raised no count that no
--- name stands for yet; who hands a descriptor on has handed on none
--- from there, and where it has none hands the directory on at once; who hands that on, or lets a child go, has no descriptor on its way.
--- A record is changed that is there, and of the operation's kind, and a name is entered in a directory with links; as much is read as a
--- call may ask for, of the inode that its descriptor has, from where its file stands, and a piece is written there to a file; who shuts a
--- descriptor hands none on.
+-- What an operation asks. Who locks an inode refers to it, and hasn't locked it. If its lock is free it has a record,
+-- and what is looked for in it is a name. Who refers to one more has found it in a directory that it keeps. Who gives
+-- a reference up, to none or to a table, has one besides its current directory's, and keeps none that it drops. Who
+-- frees an inode has the one reference to it, and it has no links; who forgets it has freed it, and keeps it. Who
+-- changes an inode has its lock and has joined. Who joins, leaves, opens by a descriptor or replies has no lock. Who
+-- leaves has raised no count for which there is no name yet. Who hands a descriptor on has handed on none from there,
+-- and if it has none hands the directory on at once. Who hands that on, or lets a child go, has no descriptor on its
+-- way. A record is changed that is there, and of the operation's kind, and a name is entered in a directory with
+-- links. As much is read as a call may ask for, of the inode that its descriptor has, from the file's offset on. A
+-- piece is written there to a file. Who shuts a descriptor hands none on.
 
 abbrev pub Locks : ℕ → ℕ → World → Type 0
 Locks h n w = w.lock n ≡ Some h
@@ -343,7 +340,7 @@ pub record HasRecord (n : ℕ) (w : World) (P : Node → Type 0) : Type 0 where
 abbrev pub IsNumber : ℕ → World → Type 0
 IsNumber n w = (1 ≤ n) × (n < w.all.ninodes)
 
--- the file that a descriptor names stands there
+-- the file that a descriptor names is at this offset
 abbrev pub StandsAt : ℕ → ℕ → ℕ → World → Type 0
 StandsAt h fd offset w = offset_of (entry_of w h fd) ≡ offset
 
@@ -411,9 +408,8 @@ Asks version h Say w = LocksNone h w × ((w.desks h).joined ≡ false)
 abbrev pub May : Version → ℕ → Op → World → Type 0
 May version h op w = ((w.desks h).lender ≡ None) × Asks version h op w
 
--- What may lie outside: an inode that is found is free, and one has no place only where all are taken; of a piece a part is left over; all
--- else may be short of
--- room at any time.
+-- What may be so outside: an inode that is found is free, and one has no place only if all are taken; of a piece a
+-- part is left over. All else may be short of room at any time.
 
 abbrev pub HonestClaim : World → Outside → Type 0
 HonestClaim w Room = Unit {0}
@@ -430,8 +426,8 @@ Honest h (Claim inode_type) w x = HonestClaim w x
 Honest h (WriteFile fd n offset bytes) w x = HonestPiece bytes x
 Honest h op w x = Unit {0}
 
--- The most steps below that an operation takes beyond one, with 3 to a touch: get, read, put. Each block of a content stands behind its
--- table.
+-- The most steps below that an operation takes beyond one, with 3 to a touch: get, read, put. Each block of a content
+-- has its table before it.
 
 abbrev pub load_cost : ℕ
 load_cost = 3

@@ -29,9 +29,8 @@ unfoldable pub opened_for : (ℕ → ℕ → Call) → ℕ → List Reply → Li
 opened_for call zero rs = rs
 opened_for call (suc h) rs = opened_by call h descriptor_count (opened_for call h rs)
 
--- What stands, told in numbers: of each inode its record, the tree's node, its lock, and its references, of all and of each hart; each
--- open file, of the table
--- and of the tree; and each hart's descriptors, slot in hand and current directory.
+-- The state in numbers. Of each inode: its record, the tree's node, its lock, and its references, of all and of each
+-- hart. Each open file, of the table and of the tree. And each hart's descriptors, slot in hand and current directory.
 
 abbrev pub number_of : Option ℕ → ℕ
 number_of None = 0
@@ -71,8 +70,8 @@ abbrev pub overview : World → List ℕ
 overview w = each w.all.ninodes (told_inode w) ++ each file_count (λ k. told_entry (w.files k))
     ++ each (file_count + hart_count) (λ id. told_file (w.all.files id)) ++ each hart_count (told_hart w)
 
--- from a state where each step found room these events give these replies, the newest first, of which some found none; and what stands is
--- as it was
+-- from a state in which each step found room these events give these replies, the newest first, of which some found
+-- none; and the state is as it was
 abbrev pub ChangesNothing : State (covered_calls One) → List (Event Call Outside) → List Reply → Type 0
 ChangesNothing s events rs =
     (s.world.clean ≡ true) × (replies One (run (covered_calls One) events s).finished ≡ rs)

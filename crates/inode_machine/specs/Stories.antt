@@ -51,7 +51,7 @@ removed_replies = done (calls.Unlink (codes "/d")) ∷ done (calls.Unlink (codes
 abbrev pub WalkFails : Type 0
 WalkFails = Finishes (removed_on_the_way ++ steps 0 12) (failed open_f NoEntry ∷ removed_replies)
 
--- and also where both names are made anew meanwhile: its directory is the old one still
+-- and also if both names are made anew meanwhile: its directory is still the old one
 abbrev pub WalkFailsStill : Type 0
 WalkFailsStill =
     Finishes (removed_on_the_way ++ creates_as 1 (mkdir (codes "/d")) 5 3 11 ++ creates_as 1 make_f 9 4 10 ++ steps 0 12)

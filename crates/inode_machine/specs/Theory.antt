@@ -6,9 +6,8 @@ use Rattle.inode_machine.specs.Basics.{IsPlayedSoFar, Mine, Desk, World, Outside
 use Rattle.inode_machine.specs.Rules.{Inv, Idle, machine, asked_limit}
 use Rattle.inode_machine.specs.Programs.{program, limit}
 
--- why a start is refused: there is no such hart; it has a call, or takes part in another's; a path is too long, or has a zero; too much is
--- to be read or written;
--- a child has descriptors; or the call is none of these
+-- why a start is refused: there is no such hart; it has a call, or takes part in another's; a path is too long, or has
+-- a zero. Or too much is to be read or written; a child has descriptors; or the call is none of these
 pub data Refusal : Type 0 where
   NoSuchHart : Refusal
   Busy : Refusal
@@ -127,7 +126,8 @@ calls_that version kind =
       limit = limit version;
     }
 
--- Every list of events, of any harts, from a world that holds and where every hart rests, is explained by one list of tree steps.
+-- Every list of events, of any harts, from a world that holds and in which every hart rests, is explained by one list
+-- of tree steps.
 abbrev pub AreExplained : Version → (Call → Bool) → Type 0
 AreExplained version kind = (w : World) (events : List (Event Call Outside)) → Inv w → ((h : ℕ) → Idle h w)
     → AllHonest (calls_that version kind) events (fresh (calls_that version kind) w)
@@ -136,7 +136,7 @@ AreExplained version kind = (w : World) (events : List (Event Call Outside)) →
 abbrev pub descriptor_calls : Version → Theory
 descriptor_calls version = calls_that version on_descriptors
 
--- all eleven, where nothing is wrong with the call itself
+-- all eleven, if nothing is wrong with the call itself
 abbrev pub is_covered : Call → Bool
 is_covered call = is_nothing (call_wrong call)
 
@@ -146,9 +146,8 @@ covered_calls version = calls_that version is_covered
 abbrev pub CallsAreExplained : Version → Type 0
 CallsAreExplained version = AreExplained version is_covered
 
--- Whatever has happened, also where a step found no room: the tree before it settles is well formed, what no hart keeps is on disk as the
--- tree has it, and so
--- is what is kept by a hart in no transaction.
+-- Whatever has happened, also if a step found no room: the tree before it settles is well formed. What no hart keeps
+-- is on disk as the tree has it, and so is what is kept by a hart in no transaction.
 pub record StaysInOrder (w : World) : Type 0 where
   pub well : IsWellFormed w.all
   pub whole : (i : ℕ) → w.keeper i ≡ None → w.disk i ≡ w.all.nodes i
@@ -207,7 +206,7 @@ open_at_rest t f inode_type = record (at_rest t) {
   next = 1;
 }
 
--- a tree whose one open file, with id 0, is behind hart 0's descriptor 0, and is no directory that is open to write
+-- a tree whose one open file has id 0, is open by hart 0's descriptor 0, and is no directory that is open to write
 pub record HasOneOpen (t : Tree) (f : OpenFile) (v : Node) : Type 0 where
   pub file : t.files 0 ≡ Some f
   pub files : (id : ℕ) → id ≢ 0 → t.files id ≡ None

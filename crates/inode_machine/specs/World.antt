@@ -28,13 +28,12 @@ pub record Desk : Type 0 where
   pub hand : Option ℕ
   pub joined : Bool
   pub directory : ℕ
-  -- descriptors that it is about to hand to a hart, and past them all which hart that is, and how much it has; and the hart that hands its
-  -- own to this one,
-  -- which starts nothing until then
+  -- descriptors that it is about to hand to a hart, and past them all which hart that is, and how much it has. And the
+  -- hart that hands its own to this one, which starts nothing until then
   pub lent : ℕ → Option ℕ
   pub lender : Option ℕ
-  -- for the proof: the descriptor that the tree has and the table has not yet, the directory that the tree has left and the hart has not
-  -- yet, the type of what it found last, and whether its call found no room
+  -- for the proof: the descriptor that the tree has and the table has not yet; the directory that the tree has left
+  -- and the hart has not yet. Also the type of what it found last, and whether its call found no room
   pub opening : Option ℕ
   pub left : Option ℕ
   pub noted : Option Note
@@ -61,7 +60,7 @@ pub record World : Type 0 where
 abbrev pub stage_of : World → Stage
 stage_of w = record { tree = settle w.all; walk = λ h. (w.harts h).walk }
 
--- Each operation is one step of a hart. One that takes a lock waits where that is out, and no other waits.
+-- Each operation is one step of a hart. One that takes a lock waits while that is out, and no other waits.
 pub data Op : Type 0 where
   -- an inode's lock is taken, and the inode looked at; given up
   Take : ℕ → Query → Op
@@ -79,7 +78,7 @@ pub data Op : Type 0 where
   Claim : InodeType → Op
   -- an inode's count
   Store : ℕ → ℕ → Op
-  -- the two entries of a new directory, which is the first and stands in the second
+  -- the two entries of a new directory, which is the first, in the second
   Fill : ℕ → ℕ → Op
   -- a directory's name with its number; a name's slot is cleared; a file has no bytes
   Enter : ℕ → Name → ℕ → Op
@@ -91,13 +90,14 @@ pub data Op : Type 0 where
   -- the lock of a descriptor's inode is taken, to tell its state; or to read of it
   StatFile : ℕ → Op
   LockFile : ℕ → Op
-  -- of that inode so many bytes are read from this offset on, where the file stands; the offset moves, and the lock is given up
+  -- of that inode this number of bytes is read from this offset on, the file's; the offset moves, and the lock is
+  -- given up
   ReadFile : ℕ → ℕ → ℕ → ℕ → Op
   -- a descriptor to write to is looked up: for no bytes; to join a transaction
   CheckFile : ℕ → Op
   JoinFile : ℕ → Op
-  -- the lock of the inode behind it is taken: its number, and where the file stands; a piece is written, the offset moves, and the lock is
-  -- given up
+  -- the lock of its inode is taken: its number, and the file's offset; a piece is written, the offset moves, and the
+  -- lock is given up
   LockOpen : ℕ → ℕ → Op
   WriteFile : ℕ → ℕ → ℕ → List ℕ → Op
   -- one more descriptor for a descriptor's open file; a descriptor is free
@@ -126,7 +126,7 @@ pub data EntryResult : Type 0 where
   NoBlock : EntryResult
   NoSlot : EntryResult
 
--- the lock was taken of this inode, and the file stands at this offset; or the descriptor isn't for that
+-- the lock was taken of this inode, and the file is at this offset; or the descriptor isn't for that
 pub data LockResult : Type 0 where
   NotLocked : Cause → LockResult
   LocksIt : ℕ → ℕ → LockResult
@@ -181,19 +181,17 @@ Answer Join = Unit {0}
 Answer Leave = Unit {0}
 Answer Say = Unit {0}
 
--- What lies outside: whether there is a block for each byte asked for, or for so many; and which inode of those without a type is found,
--- or that it has no
--- place in memory.
+-- What is decided outside: whether there is a block for each byte asked for, or for this number of them. And which
+-- inode of those without a type is found, or that it has no place in memory.
 pub data Outside : Type 0 where
   Room : Outside
   RoomFor : ℕ → Outside
   Picks : ℕ → Outside
 
--- What an operation is marked with. It makes a move of the tree; it frees an inode's node; a new inode stays without a name, and its node
--- is one of the tree
--- before that settles, as any other that is dead; or it finds no room, and from then on no one list explains the run: nothing was taken in
--- the tree, or what
--- the call's steps took is given back, or a step acts as far as there was room.
+-- The mark of an operation. It makes a move of the tree. Or it frees an inode's node. Or a new inode stays without a
+-- name, and its node is one of the tree before that settles, as any other that is dead. Or it finds no room, and from
+-- then on no one list explains the run. Then nothing was taken in the tree, or what the call's steps took is given
+-- back, or a step acts as far as there was room.
 pub data Mark : Type 0 where
   Makes : Move → Mark
   Frees : ℕ → Mark

@@ -1,5 +1,6 @@
-//! The machine of whole inodes, and the eleven calls as programs over it: each operation is one step of a hart, and each
-//! call is right whatever the other harts do. The history of a run is kept beside it. The functions do nothing: each carries a law.
+//! The machine of whole inodes, and the eleven calls as programs over it. Each operation is one step of a hart, and
+//! each call is right whatever the other harts do. The history of a run is kept beside it. The functions do nothing:
+//! each carries a law.
 #![tactic(auto)]
 
 ghost use Rattle.image_versions.specs.declared.version.Version.{Version};
@@ -12,32 +13,33 @@ ghost use Rattle.inode_machine.specs.Kept.{RunsHaveTheHistory};
 ghost use Rattle.inode_machine.specs.Making.{RunsMakeMoves};
 ghost use Rattle.inode_machine.specs.Histories.{covered};
 
-/// For every list of events of any harts, the replies of all eleven calls, with any flags, of pieces and paths of any length,
-/// are those of one list of moves on the tree, each made between its call's start and return, as long as no step found no
-/// room. A move of a call on descriptors, or of an inherit, is a tree step; those of a path are its walk's beginning, its
-/// lookups and the step that acts at the last one, as in the crate tree_laws. At every moment each hart's next operation may
-/// be made, an operation waits only for a lock that another hart has, no call takes more steps than its bound, and a hart
-/// without a call has no lock, no transaction, and the references of its descriptors and current directory alone. A hart that
-/// gets another's descriptors starts nothing until it has them all and the directory.
+/// For every list of events of any harts, the replies of all eleven calls are those of one list of moves on the tree.
+/// The calls may have any flags, and pieces and paths of any length. Each move is made between its call's start and
+/// return, as long as no step found no room. A move of a call on descriptors, or of an inherit, is a tree step. Those
+/// of a path are its walk's beginning, its lookups and the step that acts at the last one, as in the crate tree_laws.
+/// At every moment each hart's next operation may be made. An operation waits only for a lock that another hart has,
+/// and no call takes more steps than its bound. A hart without a call has no lock, no transaction, and the references
+/// of its descriptors and current directory alone. A hart that gets another's descriptors starts nothing until it has
+/// them all and the directory.
 pub fn calls_are_explained()
     ensures { (version : Version) → CallsAreExplained version }
 {}
 
-/// For every list of events of any harts one list of tree steps explains all calls that were started: each finished call's
-/// entries are its written sequence and make its reply, each is placed between its call's start and return, and the list
-/// leads from the tree at the beginning to the tree as the world has it at the end; as long as no step found no room and
-/// no path has the element "..".
+/// For every list of events of any harts one list of tree steps explains all calls that were started. Each finished
+/// call's entries are its written sequence and make its reply. Each entry is placed between its call's start and
+/// return. The list leads from the tree at the beginning to the tree as the world has it at the end. This holds as
+/// long as no step found no room and no path has the element "..".
 pub fn calls_have_one_history()
     ensures { (version : Version) → CallsHaveOneHistory version }
 {}
 
-/// Where one hart alone makes calls the same holds for any paths.
+/// If one hart alone makes calls the same holds for any paths.
 pub fn one_hart_has_one_history()
     ensures { (version : Version) → OneHartHasOneHistory version }
 {}
 
-/// Also once a step found no room, and where paths climb: the tree before it settles stays well formed, and what no hart
-/// keeps, or one in no transaction does, is on disk as that tree has it.
+/// Also once a step found no room, and if paths climb, the tree before it settles stays well formed. What no hart
+/// keeps is on disk as that tree has it, and so is what a hart in no transaction keeps.
 pub fn worlds_stay_in_order()
     ensures { (version : Version) → WorldsStayInOrder version }
 {}
@@ -47,15 +49,15 @@ pub fn worlds_rest()
     ensures { WorldsRest }
 {}
 
-/// And such with an open file: hart 0 has it behind its first descriptor, at any offset, of any node.
+/// And such with an open file: hart 0 has it by its first descriptor, at any offset, of any node.
 pub fn worlds_with_a_file_rest()
     ensures { WorldsWithAFileRest }
 {}
 
-/// There are runs, computed from a fresh tree, in which calls finish; one in which a hart's directory is removed under it
-/// and it frees that itself; some in which no room is found; and starts that are refused. Where all hundred open files are
-/// taken, or all fifty places for inodes in memory are, calls change nothing. Names that agree in fourteen bytes are told apart in
-/// version 2.
+/// There are runs, computed from a fresh tree, in which calls finish. In one, a hart's directory is removed under it
+/// and it frees that itself; in some no room is found; and some starts are refused. If all hundred open files are
+/// taken, or all fifty places for inodes in memory are, calls change nothing. Names that agree in fourteen bytes
+/// differ in version 2.
 pub fn calls_finish()
     ensures open { OpenFinishes }
     ensures stat { StatFinishes }
@@ -97,10 +99,10 @@ pub fn calls_finish()
     ensures long_names { LongNamesAreTold }
 {}
 
-/// And runs in which two harts meet, event by event: a walk to a directory that is removed under it, also where both names
-/// are made anew; a hart that stays in its removed directory; a link whose old name is unlinked meanwhile; a raise that is
-/// seen before it is taken back; an offset that a child shares; and a path that climbs, which resolves to a file that it
-/// names at no moment.
+/// And runs in which two harts meet, event by event. A walk to a directory that is removed under it, also if both
+/// names are made anew; a hart that stays in its removed directory. A link whose old name is unlinked meanwhile; a
+/// raise that is seen before it is taken back; an offset that a child shares. And a path that climbs, which resolves
+/// to a file that it names at no moment.
 pub fn harts_meet()
     ensures on_the_way { WalkFails }
     ensures made_anew { WalkFailsStill }
@@ -116,8 +118,8 @@ pub fn runs_have_the_history()
     ensures { (version : Version) → RunsHaveTheHistory version (covered version) }
 {}
 
-/// Each event of a run, whatever its paths, makes the move that it places as code makes it (`MayMake`, `stage_by`, `told_by_move`),
-/// and where it places none the tree and all walks stay; as long as no step found no room.
+/// Each event of a run, whatever its paths, makes the move that it places as code makes it (`MayMake`, `stage_by`,
+/// `told_by_move`). If it places none the tree and all walks stay. This holds as long as no step found no room.
 pub fn runs_make_moves()
     ensures { (version : Version) → RunsMakeMoves version (covered version) }
 {}

@@ -3,7 +3,7 @@ use Rattle.atomic_programs.specs.Blocks.{handler}
 use Rattle.atomic_programs.specs.Swap.{Step}
 use Rattle.atomic_programs.proofs.example_laws.looks_hand_on.Goals as goal
 
--- a run goes on by the answer that stands in it
+-- a run goes on by the answer in it
 runs_on : (L : Machine) {A : Type 0} (op : L.Op) (k : L.Answer op → P L A) (said : OpWithAnswer L → L.Answer op) → ((a : L.Answer op) → said (op, a) ≡ a) → (a : L.Answer op) (es : List (OpWithAnswer L)) (r : A)
     → IsRun L (Do op unmarked k) ((op, a) ∷ es) r → IsRun L (k a) es r
 runs_on L op k said is a es r run = subst (λ (b : L.Answer op). IsRun L (k b) es r) (sym (is run.0) ∙ ap said (sym run.1) ∙ is a) run.2
@@ -25,7 +25,7 @@ abbrev unlocked_with : Dinode → OpWithAnswer blocks_below → Dinode
 unlocked_with d (Unlock i e, a) = e
 unlocked_with d (op, a) = d
 
--- what is left of the program where this loads the record
+-- the rest of the program after it loads the record
 abbrev loads : P blocks_below Dinode → P blocks_below Dinode
 loads p = bind (bind p (λ d. Ret (with_record Step blocks.none 17 d))) gives
   where
