@@ -1,4 +1,4 @@
--- An element that stands in a path.
+-- An element of a path, in its place there.
 use Rattle.image_versions.specs.declared.version.Version.{Version}
 use Rattle.image_versions.specs.Versions.{name_len_of}
 use Rattle.image_versions.proofs.Places.{in_range}

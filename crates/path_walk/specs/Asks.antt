@@ -92,7 +92,7 @@ IsNamed path (ask.ReadFile fd n offset count) = ⊥
 IsNamed path (ask.WriteFile fd n offset i) = ⊥
 IsNamed path a = Unit {0}
 
--- of two texts, the first of which is this, such a name stands in one
+-- of two texts, the first of which is this, such a name is in one
 abbrev pub IsSoughtInOne : List ℕ → Query → Type 0
 IsSoughtInOne first query.Nothing = Unit {0}
 IsSoughtInOne first (query.Name e) = IsInOne first e
@@ -220,7 +220,7 @@ abbrev pub number_in : Heard → ℕ
 number_in (heard.Old n) = n
 number_in x = 0
 
--- an operation's answer; text: the call's buffer, where what is read stands at the front
+-- an operation's answer; text: the call's buffer, with what is read at its front
 abbrev pub answer_to : List ℕ → (op : Op) → Heard → Answer op
 answer_to text (world.Take n looking) x = sight_in x
 answer_to text (world.UnlockInode n) x = tt
@@ -275,7 +275,7 @@ mark_at (Do op m k) x = m (answer_to [] op x)
 abbrev pub reply_to : Call → CallAnswer → Reply
 reply_to call a = record { answer = a; call = call }
 
--- of a call that is stepped in its place, and whose answer stands in another where it has ended
+-- of a call that is stepped in its place, and whose answer is left in another when it has ended
 abbrev pub stepped : P Reply → Call → CallAnswer → Bool → P Reply
 stepped p call a false = p
 stepped p call a true = Ret (reply_to call a)

@@ -1,4 +1,4 @@
--- The elements of a path, where they stand in it.
+-- The elements of a path, in their places there.
 use Rattle.std.specs.Prelude.{ℕ, ◌+◌, ◌≤◌, ◌⊎◌, List, [], ◌∷◌, length, slice_range, Option, Some, None}
 use Rattle.image_versions.specs.declared.version.Version.{Version}
 use Rattle.path_walk.specs.Names.{IsName}
@@ -15,11 +15,11 @@ pub record IsElement (version : Version) (path : List ℕ) (e : Element) : Type 
   pub rest : e.rest ≤ length path
   pub name : IsName version (name_in path e)
 
--- the same where so many bytes stand before its path
+-- the same with this number of bytes before its path
 abbrev pub shifted : ℕ → Element → Element
 shifted by e = record { start = by + e.start; end = by + e.end; rest = by + e.rest }
 
--- of two texts, the first of which is this, it stands in one
+-- of two texts, the first of which is this, it is in one
 abbrev pub IsInOne : List ℕ → Element → Type 0
 IsInOne first e = (e.end ≤ length first) ⊎ (length first ≤ e.start)
 

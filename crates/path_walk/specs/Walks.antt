@@ -1,4 +1,4 @@
--- What is left of a walk.
+-- The rest of a walk.
 use Rattle.std.specs.Prelude.{◌≤◌, ℕ, ◌+◌, List, [], ◌∷◌, drop, length, Option, Some, None, IfSome}
 use Rattle.path_walk.specs.Vocabulary.{option_map, Name, elements, Reply, Action, Do, unmarked, AtName, Take, UnlockInode, WalkDown, P, leave_directory, looks_or_quits, see_parent, start, walk, walk_parent, walk_step, with_last}
 use Rattle.path_walk.specs.Elements.{name_in}
@@ -46,7 +46,7 @@ module _ (s : Action) (path : List ℕ) (after : After) where
   walk_of to ns (walking.Down d then_) = Do (WalkDown d) unmarked (λ last. next_of to then_ (with_last ns d last))
   walk_of to ns (walking.Leave d e) = Do (UnlockInode d) unmarked (λ _. after.found d (Some (name_in path e)) ns)
 
-  -- after a step, where the walk stands so
+  -- after a step, with the walk as the step left it
   abbrev pub walked_to : Goal → List ℕ → Walk → Walked → P Reply
   walked_to to ns w walked.Walks = walk_of to ns w
   walked_to to ns w (walked.Reached d e) = after.found d (option_map (name_in path) e) ns

@@ -5,7 +5,7 @@ ghost use Rattle.path_walk.specs.Asks.{at_in, bool_in, checked_in, claimed_in, c
 use crate::elements::Element;
 use plain_tree::Cause;
 
-/// What is looked for in an inode whose lock is taken. A name stands in the call's path.
+/// What is looked for in an inode whose lock is taken. A name is in the call's path.
 #[derive(Clone, Copy)]
 pub enum Query {
     Nothing,
@@ -71,7 +71,7 @@ pub enum Ask {
 }
 
 impl Ask {
-    /// The same where so many bytes stand before the path in which a name is sought.
+    /// The same with this number of bytes before the path in which a name is sought.
     pub fn shifted(self, by: usize) -> Ask
         ensures op { (front path : List ℕ) → length front ≡ by → length front + length path < 2 ^ 64 → OnlySeeks self → IsNamed path self
             → op_in (front ++ path) result ≡ op_in path self }
@@ -127,7 +127,7 @@ pub enum Entered {
     NoSlot,
 }
 
-/// The inode that is locked, and where the file stands; or the descriptor isn't for that.
+/// The inode that is locked, and the file's offset; or the descriptor isn't for that.
 #[derive(Clone, Copy)]
 pub enum Locked {
     Refused(Cause),
@@ -342,7 +342,7 @@ impl Heard {
 /// call says.
 #[derive(Clone, Copy)]
 pub enum Mark {
-    /// A path's walk stands at its start.
+    /// A path's walk is at its start.
     Begin,
     /// The next element is looked up; a node that is made there has this number.
     Look(u32),

@@ -10,7 +10,8 @@ use image_versions::Version;
 
 const SLASH: u8 = b'/';
 
-/// An element of a path: where its name stands, cut to the longest name of the version, and where the path goes on.
+/// An element of a path: the place of its name, cut to the longest name of the version, and the place at which the
+/// path goes on.
 #[derive(Clone, Copy)]
 pub struct Element {
     pub start: usize,
@@ -19,7 +20,7 @@ pub struct Element {
 }
 
 impl Element {
-    /// The same element where so many bytes stand before its path.
+    /// The same element with this number of bytes before its path.
     pub fn shifted(self, by: usize) -> Element
         ensures { by + self.start < 2 ^ 64 → by + self.end < 2 ^ 64 → by + self.rest < 2 ^ 64 → result ≡ shifted by self }
     {

@@ -1,7 +1,8 @@
 //! Walks along paths over whole inodes (xv6's `skipelem` and `namex` of fs.c), and what calls over whole inodes ask and hear.
 //!
-//! A control says what it asks next, and goes on with what it hears. `Walk` leads along a path's elements, which are places in the
-//! path's bytes, to what the path names or to its parent (`Goal`); the inodes that are to be freed behind the call stand on its list.
+//! A control says what it asks next, and goes on with what it hears. `Walk` leads along a path's elements, which are
+//! places in the path's bytes. It leads to what the path names or to its parent (`Goal`). The inodes that must be
+//! freed after the call are on its list.
 #![tactic(auto)]
 
 mod asks;

@@ -38,7 +38,7 @@ impl Numbers {
         self.numbers.clear();
     }
 
-    /// One more, behind the others.
+    /// One more, after the others.
     pub fn push(&mut self, number: u32)
         requires { length self.old < MOST_LISTED }
         ensures { self.new ≡ self.old ++ number ∷ [] }

@@ -24,7 +24,7 @@ pub enum Lost {
     NoMemory,
 }
 
-/// What comes after a directory was left: the next one, where the path goes on at a place; or nothing.
+/// What comes after a directory was left: the next one, if the path goes on at a place; or nothing.
 #[derive(Clone, Copy)]
 pub enum Next {
     Go(u32, usize),

@@ -35,13 +35,13 @@ module _ (t : Tree) (s : TreeStep) (R : Option ℕ) (Q : Option (ℕ × Name)) w
   answer_of id a t' place is =
       sym (ap (λ (z : Outcome). z.answer) is.is) ∙ (ap (λ (z : Outcome). z.answer) (applied_place t s R Q id place) ∙ answer_in id (refusal_with t s.hart s.action R Q))
 
--- what an own step tells is told where it is refused, too
+-- what an own step reports is reported if it is refused, too
 pub own_told : (t : Tree) (h : ℕ) (s : Action) (o : Option Cause) (m : Made) → (own_made o t h s m).told ≡ m.told
 own_told t h s None m = refl
 own_told t h s (Some k) m = refl
 
--- the tree after a step and what is told are those of what a move makes, by the id of a new open file, the least that is unused; and its
--- walk is over
+-- the tree after a step and what it reports are those of what a move makes. The id of a new open file is the least
+-- that is unused; and its walk is over
 pub record EndsAs (t : Tree) (x : ℕ → Made) (d : Option Deed) (t' : Tree) : Type 0 where
   pub id : ℕ
   pub least : (x id).opened ≡ Some id → IsLeastUnused t id

@@ -88,7 +88,7 @@ pub book_written : (k : KeptTree) (b : History) (h : ℕ) (d : Deed) (u : Under)
 book_written k b h d u lt is B =
     subst (λ (o : Option Under). IsBook (written_by k h d o) (writes_any (Some d) h b)) (sym is) (book_writes k b h d u lt B is)
 
--- what a call is told is no entry
+-- what is reported to a call is no entry
 tells_by : (k : KeptTree) (b : History) (h : ℕ) (d : Deed) (s : HartStanding) → b.calls h ≡ s → h < hart_count → IsBook k b → IsBook k (tells s b h d)
 tells_by k b h d Free q lt B = B
 tells_by k b h d (Busy id c told) q lt B = record {

@@ -16,7 +16,7 @@ follows_front c before (b ∷ bs) rest f = (f.0, follows_front c (before ++ b �
 pub some_not : {A : Type 0} (o : Option A) (x : A) → o ≡ None → o ≡ Some x → ⊥
 some_not o x e f = cc
 
--- where nothing comes next, nothing follows
+-- if nothing comes next, nothing follows
 pub follows_end : (c : Call) (acts rest : List Act) → Follows c [] (acts ++ rest) → next_of c acts ≡ None → rest ≡ []
 follows_end c acts [] f n = refl
 follows_end c acts (a ∷ rest) f n = absurd (some_not (next_of c acts) a.step n (follows_at c [] acts a rest f))
@@ -116,7 +116,7 @@ reply_front (Link p q) acts a r f new k = absurd (some_not (next_of (Link p q) a
 reply_front c [] a r f new k = absurd cc
 reply_front c (b ∷ bs) a r f new k = new refl
 
--- where nothing comes next the reply is known
+-- if nothing comes next the reply is known
 pub through_knows : (c : Call) (acts : List Act) → next_of c acts ≡ None → knows c acts ≡ true
 unfolding next_of
 through_knows (Write fd bytes) acts n = nothing_was (next_of (Write fd bytes) acts) n
@@ -196,7 +196,7 @@ pub written_fits : (f : Option (ℕ × Reply)) (c : Call) (acts : List Act) (a :
 written_fits None c acts a rest s s' e e' w = tt
 written_fits (Some r) c acts a rest s s' e e' w = (room_of acts a rest w.3, reply_told c acts a rest s s' r.1 e (e' ∙ (ap (λ (x : Stand). after x a.answer) e ∙ sym (stand_push start acts a))) w)
 
--- a call that is as it is to be, where nothing has to come
+-- a call that is as it must be, if nothing must come
 pub written_end : (c : TracedCall) (acts : List Act) (s : Stand) → IsOfCall c acts s None → IsWritten c.call acts c.finished
 written_end c acts s is = go c.finished is.end is.agrees where
   go : (f : Option (ℕ × Reply)) → None ≡ end_of (record c { finished = f }) (is_nothing (next_of c.call acts)) → AgreesWith f c.call acts → IsWritten c.call acts f

@@ -57,7 +57,7 @@ can_swap trace t u list x y lo rest c a e can = record {
 pub first_written : (trace : Trace) (t : Tree) (list : List Placed) (lo : ℕ) (x : Placed) (rest : List Placed) (c : TracedCall) → slice_get trace.calls x.call ≡ Some c → CanEnd trace t list lo (x ∷ rest) → IsWritten c.call (acts_of x.call list ++ act_of x ∷ acts_of x.call rest) c.finished
 first_written trace t list lo x rest c is can = subst (λ acts. IsWritten c.call (acts_of x.call list ++ acts) c.finished) (acts_own x.call x rest refl) (can.written x.call c is)
 
--- where the rest has something of a finished call, it begins by the call's end
+-- if the rest has something of a finished call, it begins by the call's end
 comes_by : (trace : Trace) (lo : ℕ) (rest : List Placed) (id : ℕ) (c : TracedCall) (r : ℕ × Reply) → slice_get trace.calls id ≡ Some c → c.finished ≡ Some r → Rises lo rest → AllBelong trace rest → acts_of id rest ≢ [] → lo ≤ r.0
 comes_by trace lo [] id c r is fin rise belong some = absurd (some (acts_none id))
 comes_by trace lo (x ∷ rest) id c r is fin rise belong some = elim (cases_eq x.call id) [

@@ -63,7 +63,7 @@ taken_back base t p q r s id new limit at made earliest kept hopeless undone =
       made.ruled_out earliest hopeless,
     )
 
--- zero stands for every number
+-- what is dead with zero is dead with every number
 pub dead_zero : (t : Trace) (p : Position) (id : ℕ) → IsDeadWith t p id 0 → IsDead t p id
 dead_zero t p id dead lo x rest low own can = dead lo x rest low own (λ ne. absurd (ne refl)) can
 

@@ -1,4 +1,4 @@
--- The steps of a list, as a search is told of them.
+-- The steps of a list, as a search hears of them.
 use Rattle.tree_histories.proofs.Vocabulary.{◌≡◌, ℕ, ◌+◌, ◌<◌, List, [], ◌∷◌, ◌++◌, append-nil, append_assoc, get_or, length, take, take_more, refl, sym, ◌∙◌, ap, arith, Placed, acts_of, Act, Hint, hint_of, hints_after, hints_of, Stand, stand_of, start}
 use Rattle.tree_histories.proofs.StandLemmas.{stand_count}
 

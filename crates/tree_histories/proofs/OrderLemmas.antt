@@ -43,7 +43,7 @@ in_order ends n pushed order all has same rises = record {
 
 -- ---- the first of it
 
--- none stands in the order between
+-- none is in the order between
 abbrev pub NoneStands : List (Option ℕ) → List Due → ℕ → ℕ → Type 0
 NoneStands ends order from n = (k : ℕ) (d : Due) → from ≤ k → k < n → get_or order k d ≡ d → get_or ends d.id None ≡ Some d.limit → ⊥
 

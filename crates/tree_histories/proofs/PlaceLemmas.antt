@@ -42,7 +42,7 @@ limit_of : (f : Option (ℕ × Reply)) (event limit events : ℕ) → IsTimely f
 limit_of None event limit events w = w.0
 limit_of (Some r) event limit events w = w
 
--- the call's end after the step, where it has one, is its end
+-- the call's end after the step, if it has one, is its end
 end_some : (c : TracedCall) (through : Bool) (e : ℕ) → end_of c through ≡ Some e → (r : ℕ × Reply) × (c.finished ≡ Some r) × (r.0 ≡ e)
 end_some c true e h = absurd cc
 end_some c false e h = go c.finished refl h where

@@ -49,7 +49,7 @@ pub calls_back : (calls : List TracedCall) (list : List Placed) (stands : List S
     → AreOfCalls calls list (set stands id s) (set ends id e)
 calls_back calls list stands ends id x c s e all is own lts lte new k d at = back_at calls list stands ends id x c s e k d all is own lts lte new at
 
--- the call that stands at an end
+-- the call at an end
 pub record Ended (t : Trace) (ends : List (Option ℕ)) (id e : ℕ) : Type 0 where
   pub call : TracedCall
   pub is : slice_get t.calls id ≡ Some call

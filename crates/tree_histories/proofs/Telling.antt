@@ -150,7 +150,7 @@ module _ (k : KeptTree) (h : ℕ) (u : Under) (is : hart_in k h ≡ Some u) wher
         live : (stage_of k).walk h ≡ Some W → MayLookOn (tree_of k.tree) h ((stage_of k).walk h) new → live_directory ((tree_of k.tree).nodes w.directory) ≡ true
         live q z = (subst (λ (o : Option moves.Walk). MayLookOn (tree_of k.tree) h o new) q z).0
 
-    -- and where that isn't, it is known that there was no room
+    -- and if that isn't, it is known that there was no room
     pub tells_lost : live_directory ((tree_of k.tree).nodes w.directory) ≡ false → (k' : KeptTree) → k' ≡ record k { full = true } → TellsMove k h (Look new) None k'
     tells_lost dead k' kept = λ may. absurd (let live : live_directory ((tree_of k.tree).nodes w.directory) ≡ true = looks_live may in cc (live, dead))
 

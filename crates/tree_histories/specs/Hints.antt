@@ -1,9 +1,9 @@
--- What a search is told of a list.
+-- What a search hears of a list.
 use Rattle.std.specs.Prelude.{List, [], ◌∷◌, ◌++◌, length}
 use Rattle.tree_histories.specs.Vocabulary.{Placed, acts_of}
 use Rattle.tree_histories.specs.declared.explore.Hint.{Hint}
 
--- an entry behind these: its call, how many steps of the call come before it, its new node, its event
+-- an entry after these: its call, how many steps of the call come before it, its new node, its event
 abbrev pub hint_of : List Placed → Placed → Hint
 hint_of before e = record { call = e.call; step = length (acts_of e.call before); new = e.step.new; event = e.event }
 

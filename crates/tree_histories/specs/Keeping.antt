@@ -7,8 +7,8 @@ use Rattle.whole_calls.specs.declared.whole.Whole.TheVariants as calling
 use Rattle.tree_histories.specs.declared.standing.Walk.{Walk}
 use Rattle.tree_histories.specs.Walks.{walk_of}
 
--- A call under way: its place in the trace, how far it has come, the inodes that it has listed, its walk, if it is on one, and whether a
--- step of its present operation has run.
+-- A call under way: its place in the trace, how far it has come, the inodes that it has listed, and its walk, if it is
+-- on one. Also whether a step of its present operation has run.
 pub record Under : Type 0 where
   pub id : ℕ
   pub whole : Whole
@@ -71,7 +71,7 @@ walking w u = record u { walk = w }
 abbrev pub with_walk : KeptTree → ℕ → Option Walk → KeptTree
 with_walk k h w = with_hart k h (option_map (walking w) (hart_in k h))
 
--- the run has ended, and its world says whether a call found no room that wasn't told so yet
+-- the run has ended, and its world says whether a call found no room and hasn't heard so yet
 abbrev pub ended : Bool → KeptTree → KeptTree
 ended lacks k = record k { full = k.full || lacks }
 
@@ -86,7 +86,7 @@ walk_under (Some u) = option_map (walk_of (call_in u.whole)) u.walk
 abbrev pub stage_of : KeptTree → moves.Stage
 stage_of k = record { tree = tree_of k.tree; walk = λ h. walk_under (hart_in k h) }
 
--- the hart's walk stands in no live directory
+-- the hart's walk is in no live directory
 abbrev pub is_lost : moves.Stage → ℕ → Bool
 is_lost m h = not (is_nothing (lost_of m h))
 

@@ -1,4 +1,4 @@
--- What is kept where a call makes a move.
+-- What is kept when a call makes a move.
 use Rattle.std.specs.Prelude.{◌≡◌, ℕ, ◌<◌, Bool, true, false, ◌||◌, List, length, Option, Some, None, Result, Ok, Err, slice_index_or}
 use Rattle.plain_tree.specs.declared.refused.ApplyRefused.{ApplyRefused}
 use Rattle.plain_tree.specs.declared.refused.ApplyRefused.TheVariants.{BadChoice}
@@ -27,7 +27,7 @@ spoils m = false
 abbrev pub tree_step : ℕ → ℕ → Action → TreeStep
 tree_step h new s = record { hart = h; new = new; action = s }
 
--- what is told of a step that the tree answered so, or refused
+-- what is reported of a step that the tree answered so, or refused
 abbrev pub IsDeedOf : TreeStep → Result StepAnswer ApplyRefused → Option Deed → Type 0
 IsDeedOf s (Ok a) d = d ≡ Some (record { act = record { step = s.action; answer = a }; new = s.new })
 IsDeedOf s (Err why) d = (d ≡ None) × (why ≡ BadChoice)
@@ -62,7 +62,8 @@ pub record OnlyMoves (k k' : KeptTree) : Type 0 where
   pub grows : k.full ≡ true → k'.full ≡ true
   pub harts : SameCalls k k'
 
--- the stage is that of the move, where a file that it opens has the least id that is unused, and what is told is what the move tells
+-- the stage is that of the move, in which a file that it opens has the least unused id; and what is reported is what
+-- the move reports
 pub record Tells (k : KeptTree) (h : ℕ) (v : Move) (d : Option Deed) (k' : KeptTree) : Type 0 where
   pub id : ℕ
   pub least : OpensLeast (stage_of k) h id v
@@ -70,11 +71,11 @@ pub record Tells (k : KeptTree) (h : ℕ) (v : Move) (d : Option Deed) (k' : Kep
   pub told : d ≡ told_by_move (stage_of k) h id v
   pub full : k'.full ≡ k.full
 
--- the move is told, if the hart may make it
+-- the move is reported, if the hart may make it
 abbrev pub TellsMove : KeptTree → ℕ → Move → Option Deed → KeptTree → Type 0
 TellsMove k h v d k' = MayMake (stage_of k) h v → Tells k h v d k'
 
--- .. where the mark of the hart's call makes a move
+-- .. if the mark of the hart's call makes a move
 abbrev pub TellsOf : KeptTree → ℕ → Mark → Option Deed → KeptTree → Type 0
 TellsOf k h m d k' = (u : Under) (v : Move) → hart_in k h ≡ Some u → mark_in (action_in u.whole) m ≡ Makes v → TellsMove k h v d k'
 
@@ -82,7 +83,7 @@ TellsOf k h m d k' = (u : Under) (v : Move) → hart_in k h ≡ Some u → mark_
 abbrev pub StaysFor : KeptTree → Mark → Option Deed → KeptTree → Type 0
 StaysFor k m d k' = makes_none m ≡ true → (d ≡ None) × (k' ≡ k)
 
--- what is told is written, unless that was done as the hart's walk was lost
+-- what is reported is written, unless that was done as the hart's walk was lost
 abbrev pub written_unless : KeptTree → ℕ → Option Deed → Bool → KeptTree
 written_unless k h None was_lost = k
 written_unless k h (Some d) true = k
@@ -104,12 +105,12 @@ HaveFallen before k k' = (m : Stage) (b : History) → WereLost before m → IsB
 abbrev pub KeepsRest : KeptTree → KeptTree → Type 0
 KeepsRest k k' = (k'.harts ≡ k.harts) × (k'.full ≡ k.full)
 
--- where none is lost that wasn't, nothing has changed
+-- if none is lost that wasn't, nothing has changed
 abbrev pub NoneFalls : List Bool → KeptTree → KeptTree → Type 0
 NoneFalls before k k' = WereLost before (stage_of k) → k' ≡ k
 
--- Kept is what the theory keeps: the stage of the move, where a file that it opens has the least id that is unused, and the history with
--- what it tells and with the walks that it loses.
+-- Kept is what the theory keeps: the stage of the move, in which a file that it opens has the least unused id; and the
+-- history. The history has what the move reports and the walks that it loses.
 pub record IsMoved (k : KeptTree) (h : ℕ) (v : Move) (k' : KeptTree) : Type 0 where
   pub id : ℕ
   pub least : OpensLeast (stage_of k) h id v
@@ -133,8 +134,8 @@ abbrev pub MovesByAny : KeptTree → ℕ → Option Mark → KeptTree → Type 0
 MovesByAny k h None k' = k' ≡ k
 MovesByAny k h (Some m) k' = MovesBy k h m k'
 
--- A step of the hart's call has run: its operation has this mark there, if it acts; the move of that is made, and the call goes on by what
--- it heard.
+-- A step of the hart's call has run: its operation has this mark there, if it acts. The move of that is made, and the
+-- call goes on by what it heard.
 pub record HasRun (k : KeptTree) (h : ℕ) (heard : Option Heard) (k' : KeptTree) : Type 0 where
   pub marked : Option Mark
   pub marks : MarksBy (tree_of k.tree) (hart_in k h) heard marked

@@ -8,7 +8,7 @@ pub record IsDue (ends : List (Option ℕ)) (d : Due) : Type 0 where
   pub end : slice_index_or ends d.id None ≡ Some d.limit
   pub least : (id e : ℕ) → slice_index_or ends id None ≡ Some e → d.limit ≤ e
 
--- it stands in the list at this place or behind it
+-- it is in the list at this place or after it
 abbrev pub StandsFrom : ℕ → List Due → Due → Type 0
 StandsFrom from order d = (place : ℕ) × (from ≤ place) × (place < length order) × (slice_index_or order place d ≡ d)
 

@@ -1,4 +1,4 @@
--- What the kept tree shows of an inode whose lock is taken, and the mark of an operation where it acts.
+-- What the kept tree shows of an inode whose lock is taken, and the mark of an operation when it acts.
 use Rattle.std.specs.Prelude.{◌≡◌, ℕ, ◌*◌, ◌<◌, ◌^◌, Bool, true, false, List, ◌++◌, length, Option, Some, None}
 use Rattle.tree_histories.specs.Vocabulary.{NodeKind, Directory, File, Device, Node, Tree, seen_in, Op, Take, StatFile, LockFile, LockOpen, asks, mark_at, marked_as, query_in, sight_in, sight_of, IsSought, IsSoughtInOne, Heard, Mark, Query, Sight, WholeFits, action_in, whole_of}
 use Rattle.path_walk.specs.declared.asks.Heard.TheVariants as heard
@@ -26,7 +26,7 @@ SeenFor t (Some (Take n looking)) x = n < 2 ^ 16 → FewSlotsIn (t.nodes n) → 
 SeenFor t (Some (LockFile fd)) x = x ≡ heard.Locked (locked.Locks 0 0)
 SeenFor t o x = Unit {0}
 
--- the operation acts where it takes a lock, in its first step; the others act in their last one
+-- an operation that takes a lock acts in its first step; the others act in their last one
 abbrev pub acts_first : Op → Bool
 acts_first (Take n looking) = true
 acts_first (StatFile fd) = true

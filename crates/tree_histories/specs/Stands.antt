@@ -89,7 +89,7 @@ handed_at c a = c
 abbrev pub reply_at : Call → Option Cause → StepAnswer → Reply
 reply_at c cause a = record { answer = answer_at c cause a; call = handed_at c a }
 
--- with the step from one stand to the other the reply is known: of most calls with the first step
+-- with the step from one `Stand` to the other the reply is known: of most calls with the first step
 abbrev pub is_told : Call → Stand → Stand → Bool
 is_told (Write fd bytes) s s' = is_nothing (next_from (Write fd bytes) s')
 is_told (Link old new) s s' = is_nothing (next_from (Link old new) s')

@@ -75,7 +75,7 @@ abbrev pub are_none : List Name → Bool
 are_none [] = true
 are_none (e ∷ es) = false
 
--- what a walk's step acts by where it doesn't go on: with no elements left what was found, else nothing
+-- what a walk's step acts by if it doesn't go on: with no elements left what was found, else nothing
 abbrev pub LeadsBy : Lead → Walk → List Name → Option ℕ → Type 0
 LeadsBy lead w [] found = (lead.node ≡ found) × (lead.parent ≡ Some w.directory) × (lead.from ≡ w.from)
 LeadsBy lead w (e ∷ es) found = (lead.node ≡ None) × (lead.parent ≡ None)

@@ -11,8 +11,8 @@ use crate::position::{Placing, Position, stand_in};
 use plain_tree::{NoMemory, Placed, Trace, Tree};
 use std::alloc::Global;
 
-/// A step to be tried before others: the step of the call at place `call` of the trace that comes after `step` of them, with this
-/// number for a node that it makes. It is placed at this event, where it may stand there.
+/// A step to be tried before others, with this number for a node that it makes. It is the step of the call at place
+/// `call` of the trace that comes after `step` of them. It is placed at this event, if it may be there.
 #[derive(Clone, Copy)]
 pub struct Hint {
     pub call: usize,

@@ -36,7 +36,7 @@ impl Position {
         Ok(false)
     }
 
-    /// Places the next step of the call, where it fits.
+    /// Places the next step of the call, if it fits.
     fn step_on_call(
         &mut self,
         alloc: Global,
@@ -89,7 +89,7 @@ impl Position {
         Ok(false)
     }
 
-    /// Places the steps of calls that haven't replied, to which hints lead, where no call has to go on.
+    /// Places the steps of calls that haven't replied, to which hints lead, if no call has to go on.
     fn append(&mut self, alloc: Global, base: &Tree, trace: &Trace, hints: &[Hint]) -> Attempt<()>
         requires { IsAt base.now trace.now self.old }
         ensures { IfOk result (λ _. IsAt base.now trace.now self.new) }
@@ -113,7 +113,7 @@ impl Position {
         Ok(())
     }
 
-    /// Places steps as long as one fits; and, where no call has to go on any more, those that hints tell of others.
+    /// Places steps as long as one fits; and, when no call has to go on any more, those that hints tell of others.
     pub(crate) fn follow(
         &mut self,
         alloc: Global,

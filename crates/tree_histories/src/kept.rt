@@ -49,9 +49,10 @@ impl Model for Deed {
 
 /// The tree, the calls under way with their walks in it, and the list of steps, each with its answer, its call and its event.
 ///
-/// It is told of each event of a run: a start, what a call heard in a step that ran, a reply, or that the event shows nothing. A step
-/// of the tree is appended at the event at which the operation acts that makes it, and behind it, in order of hart, the failing steps
-/// of the walks that it loses, whose directory it removes. So a list is that of the events before, with what is appended.
+/// It hears of each event of a run: a start, what a call heard in a step that ran, a reply, or that the event shows
+/// nothing. A step of the tree is appended at the event at which the operation acts that makes it. After it, in order
+/// of hart, come the failing steps of the walks that it loses, whose directory it removes. So a list is that of the
+/// events before, with what is appended.
 ///
 /// A contract sees the tree with the walks in it as the theory's stage, and the list as that of the theory's history (`IsBook`): a start, a
 /// move, a reply and an event that shows nothing take both on as they take the theory's, where the hart may make the move (`MayMake`).
@@ -92,7 +93,7 @@ fn seen(tree: &Tree, standing: &Standing) -> Heard
     }
 }
 
-// The operation acts where it takes a lock, in its first step; the others act in their last one.
+// An operation that takes a lock acts in its first step; the others act in their last one.
 fn acts_first(ask: &Ask) -> bool
     ensures { (text : List ℕ) → result ≡ acts_first (op_in text ask.now) }
 {
@@ -188,7 +189,7 @@ impl Kept {
         Ok(())
     }
 
-    /// A step of the hart's call runs in this event; `heard` is what the call heard, where an operation ended there.
+    /// A step of the hart's call runs in this event; `heard` is what the call heard, if an operation ended there.
     pub fn runs(&mut self, alloc: Global, hart: u8, heard: Option<Heard>) -> Result<(), NoMemory>
         ensures { IfOk result (λ _. HasRun self.old hart heard self.new) }
     {
@@ -210,15 +211,17 @@ impl Kept {
         self.passes();
     }
 
-    /// The run has ended. `lacks_place`: a call under way has found no place for an inode that it claims, and wasn't told so yet.
+    /// The run has ended. `lacks_place`: a call under way has found no place for an inode that it claims, and hasn't
+    /// heard so yet.
     pub fn ends(&mut self, lacks_place: bool)
         ensures { self.new ≡ ended lacks_place self.old }
     {
         self.full = self.full || lacks_place;
     }
 
-    /// Whether a step of a call found no room: an operation was answered so, or a call makes a move that can't be made in the tree, as
-    /// none does in a run in which each step found room. From then on no list of steps need explain the run.
+    /// Whether a step of a call found no room: an operation was answered so, or a call makes a move that can't be made
+    /// in the tree. No call makes such a move in a run in which each step found room. From then on no list of steps
+    /// need explain the run.
     pub fn is_full(&self) -> bool
         ensures { result ≡ self.now.full }
     {
@@ -323,7 +326,7 @@ impl Kept {
         }
     }
 
-    // Whether the hart's walk stands in no live directory.
+    // Whether the hart's walk is in no live directory.
     fn is_lost(&self, hart: u8) -> bool
         ensures { result ≡ is_lost (stage_of self.now) hart }
     {
@@ -357,7 +360,7 @@ impl Kept {
         self.fall(&before)
     }
 
-    // What is told is written, unless the walk was lost before; and whether the mark says that there was no room.
+    // What is reported is written, unless the walk was lost before; and whether the mark says that there was no room.
     fn tell(
         &mut self,
         hart: u8,
@@ -404,7 +407,8 @@ impl Kept {
         Ok(())
     }
 
-    // What is told of a tree step where this move is made. Where there is no room, no list explains the run, and nothing is told.
+    // What is reported of a tree step when this move is made. If there is no room, no list explains the run, and
+    // nothing is reported.
     fn told(&mut self, alloc: Global, hart: u8, mark: Mark) -> Result<Option<Deed>, NoMemory>
         ensures only { IfOk result (λ _. OnlyMoves self.old self.new) }
         ensures tells { IfOk result (λ d. TellsOf self.old hart mark d self.new) }
@@ -427,7 +431,7 @@ impl Kept {
         }
     }
 
-    // The tree can't make this move: some step found no room. Nothing is told of it.
+    // The tree can't make this move: some step found no room. Nothing is reported of it.
     fn cannot_move(&mut self) -> Option<Deed>
         ensures none { result ≡ None }
         ensures full { self.new ≡ record self.old { full = true } }
@@ -493,7 +497,7 @@ impl Kept {
         self.deed_of(step, answer)
     }
 
-    // A walk stands at the start of its path; a path without elements is found there.
+    // A walk is at the start of its path; a path without elements is found there.
     fn begins(&mut self, alloc: Global, hart: u8) -> Result<Option<Deed>, NoMemory>
         ensures only { IfOk result (λ _. OnlyMoves self.old self.new) }
         ensures tells { IfOk result (λ d. TellsOf self.old hart Mark.Begin d self.new) }
@@ -523,14 +527,14 @@ impl Kept {
         }
     }
 
-    // The walk stands in a live directory.
+    // The walk is in a live directory.
     fn is_live(&self, walk: Walk) -> bool
         ensures { result ≡ live_directory ((tree_of self.now.tree).nodes walk.directory) }
     {
         self.tree.is_live_directory(walk.directory)
     }
 
-    // Where the walk stands when it has looked up its next element, if it found that and goes on.
+    // The walk's place when it has looked up its next element, if it found that and goes on.
     fn next_walk(&self, standing: &Standing, walk: Walk) -> Option<Walk>
         ensures { let before = walk_of (call_in standing.now.whole) walk in
             IsNextWalk (call_in standing.now.whole) result before (look (tree_of self.now.tree).nodes before.at before.next) }
@@ -539,7 +543,7 @@ impl Kept {
         standing.after(walk, number)
     }
 
-    // What the walk's step acts by where it doesn't go on: what its directory has under the last element, or nothing.
+    // What the walk's step acts by if it doesn't go on: what its directory has under the last element, or nothing.
     fn lead(&self, standing: &Standing, walk: Walk) -> Lead
         ensures { let before = walk_of (call_in standing.now.whole) walk in
             LeadsBy result walk before.rest (look (tree_of self.now.tree).nodes before.at before.next) }
@@ -558,8 +562,8 @@ impl Kept {
         }
     }
 
-    // The next element is looked up: the step acts at the last one, or where nothing is found. Without a walk nothing is looked up, and in
-    // a directory that isn't live nothing can be.
+    // The next element is looked up: the step acts at the last one, or when nothing is found. Without a walk nothing
+    // is looked up, and in a directory that isn't live nothing can be.
     fn looks(&mut self, alloc: Global, hart: u8, new: u32) -> Result<Option<Deed>, NoMemory>
         ensures only { IfOk result (λ _. OnlyMoves self.old self.new) }
         ensures tells { IfOk result (λ d. TellsOf self.old hart (Mark.Look new) d self.new) }

@@ -127,7 +127,7 @@ fn only_action(call: &Call) -> Result<Option<Action>, AllocError>
     })
 }
 
-/// The step that comes next of the call where it has come so far.
+/// The step that comes next of the call after it has come so far.
 pub(crate) fn next_action(
     alloc: Global,
     call: &Call,
@@ -172,7 +172,7 @@ fn is_link_through(stand: Stand) -> bool
     }
 }
 
-/// Nothing comes next of the call where it has come so far.
+/// Nothing comes next of the call after it has come so far.
 pub(crate) fn is_through(call: &Call, stand: Stand) -> bool
     ensures { result ≡ is_nothing (next_from call.now stand) }
 {

@@ -22,7 +22,7 @@ fn between(bytes: &[u8], from: usize, to: usize) -> &[u8]
     first(rest_of(bytes, from), to.saturating_sub(from))
 }
 
-/// The name of an element, which stands in a path or in the second one behind it.
+/// The name of an element, which is in a path or in the second one after it.
 pub(crate) fn name_in<'a>(path: &'a [u8], second: &'a [u8], element: &Element) -> &'a [u8]
     ensures { IsElement (path.now ++ second.now) element.now → IsInOne path.now element.now
         → result.now ≡ name_in (path.now ++ second.now) element.now }

@@ -1,4 +1,4 @@
-//! Where a step has its place.
+//! The place of a step.
 ghost use Rattle.std.specs.Prelude.{IsTrue, ◌↔◌};
 ghost use Rattle.tree_histories.specs.Vocabulary.{IsInPlace, tree_of};
 

@@ -33,7 +33,7 @@ pub(crate) enum Placing {
     BadChoice,
 }
 
-/// The event of the call's reply, where it isn't through.
+/// The event of the call's reply, if it isn't through.
 fn end_of(traced: &TracedCall, stand: Stand) -> Option<u64>
     ensures { result ≡ end_of traced.now (is_nothing (next_from traced.now.call stand)) }
 {
@@ -70,7 +70,7 @@ pub(crate) fn stand_in(id: usize, list: &[Placed]) -> Stand
     stand
 }
 
-/// A step of the call may have this number, where no call has to return before `limit`.
+/// A step of the call may have this number, if no call has to return before `limit`.
 fn is_timely(traced: &TracedCall, event: u64, limit: u64, events: u64) -> bool
     ensures { IsTrue result ↔ IsTimely traced.now.finished event limit events }
 {
@@ -168,8 +168,8 @@ impl Position {
         }
     }
 
-    /// Places the next step of the call, with this number for a node that it makes; at the event that is wished for, where it may
-    /// stand there, else as early as it may stand. No call has to return before the limit.
+    /// Places the next step of the call, with this number for a node that it makes. Its event is the one that is
+    /// wished for, if it may be there, else as early as it may be. No call has to return before the limit.
     pub(crate) fn place(
         &mut self,
         alloc: Global,

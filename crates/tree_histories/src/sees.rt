@@ -97,7 +97,7 @@ fn found_in(tree: &Tree, number: u32, query: &Query, path: &[u8], second: &[u8])
     }
 }
 
-// Whether it is empty, where that is looked for.
+// Whether it is empty, if that is looked for.
 fn empty_in(node: &Node, query: &Query) -> bool
     ensures { (text : List ℕ) → result ≡ empty_in (Some node.now) (query_in text query.now) }
 {

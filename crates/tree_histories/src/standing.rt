@@ -25,8 +25,8 @@ const PIECE_LEN: usize = 3072;
 
 const ROOT: u16 = 1;
 
-/// Where a walk stands: the directory in which it looks next, and the place in its path from which the next element is sought. A link's
-/// walk is along its old path, or along its new one.
+/// The place of a walk: the directory in which it looks next, and the place in its path from which the next element is
+/// sought. A link's walk is along its old path, or along its new one.
 #[derive(Clone, Copy)]
 pub(crate) struct Walk {
     pub(crate) directory: u16,
@@ -125,7 +125,7 @@ fn path(whole: &Whole, is_new: bool) -> &[u8]
     }
 }
 
-// Where a path starts; `current` is the hart's directory.
+// The inode at which a path starts; `current` is the hart's directory.
 fn start_of(path: &[u8], current: u16) -> u16
     ensures { result ≡ (if is_absolute path.now then root else current) }
 {
@@ -234,7 +234,7 @@ impl Standing {
         self.has_begun = true;
     }
 
-    /// Its next operation, where it has listed these inodes.
+    /// Its next operation, if it has listed these inodes.
     pub(crate) fn ask(&self) -> Ask
         ensures asks { (listed : List ℕ) → WholeFits listed self.now.whole
             → asks (whole_of listed self.now.whole) ≡ Some (op_in (text_in self.now.whole) result) }
@@ -286,7 +286,7 @@ impl Standing {
         })
     }
 
-    /// Where its path starts; `current` is the hart's directory.
+    /// The inode at which its path starts; `current` is the hart's directory.
     pub(crate) fn start_number(&self, current: u16) -> u16
         ensures { result ≡ (if is_absolute (path_of (action_in self.now.whole)) then root else current) }
     {

@@ -1,4 +1,4 @@
--- What is left of each call.
+-- The rest of each call.
 use Rattle.std.specs.Prelude.{◌≡◌, ◌≤◌, ℕ, ◌+◌, ◌-◌, ◌||◌, Bool, List, [], length, Option, Some, None}
 use Rattle.inode_machine.specs.VersionOne as one
 use Rattle.whole_calls.specs.Vocabulary.{Name, elements, same_name, dot, dotdot, NoEntry, Reply, Do, unmarked, name_in, IsElement, Face, UnlockInode, Store, SetDirectory, Join, P, failed, done, drop, give_up, tail, say, stopped, dup_program, stat_program, chdir_at, face_of, reply_to, After, Stands, most_left, walk_of, Element, Walk}
@@ -21,7 +21,8 @@ use Rattle.path_walk.specs.declared.walk.Walk.TheVariants as walking
 abbrev pub most_listed : ℕ
 most_listed = 128
 
--- where a call with a path is: it begins, it walks, its walk is behind it and a name is to be sought or entered, or that too is behind it
+-- how far a call with a path is: it begins, it walks, its walk is over and it must seek or enter a name, or that too
+-- is over
 pub data Stage : Type 0 where
   Fresh : Stage
   Walks : Walk → Stage

@@ -1,4 +1,4 @@
--- What is left of a close, and of an inherit.
+-- The rest of a close, and of an inherit.
 use Rattle.std.specs.Prelude.{ℕ}
 use Rattle.whole_calls.specs.Vocabulary.{Reply, Ret, Do, unmarked, Lend, Release, Join, Leave, P, done, drop, say, close_program, inherit_end, lend_from, lend_on, lends, lent_directory}
 use Rattle.plain_tree.specs.declared.call.Call.TheVariants as calls

@@ -1,4 +1,4 @@
--- What is left of a call that ends.
+-- The rest of a call that ends.
 use Rattle.std.specs.Prelude.{ℕ, Bool, true, false, List, Some}
 use Rattle.whole_calls.specs.Vocabulary.{Reply, Call, Do, unmarked, AtNothing, Take, UnlockInode, Free, Forget, Leave, Frees, P, drop, give_up, free_listed, free_all, tail, say, reply_to}
 use Rattle.whole_calls.specs.declared.dropping.Dropping.{Dropping}
@@ -23,7 +23,7 @@ dropping_of k (dropping.Free n) = Do (Free n) (λ _. Some (Frees n)) (λ _. free
 dropping_of k (dropping.GiveFreed n) = freed_locked n k
 dropping_of k (dropping.Forget n) = freed n k
 
--- after a step, where it stands so, and is over or not
+-- after a step, with the drop as the step left it, and over or not
 abbrev pub after_drop : P Reply → Dropping → Bool → P Reply
 after_drop k d true = k
 after_drop k d false = dropping_of k d

@@ -1,4 +1,4 @@
--- What is left of a link.
+-- The rest of a link.
 use Rattle.std.specs.Prelude.{◌≡◌, ◌≤◌, ℕ, ◌+◌, ◌-◌, List, [], length, Option, Some, None, if◌then◌else◌}
 use Rattle.whole_calls.specs.Vocabulary.{Name, elements, NoEntry, IsDirectory, Reply, Action, Do, name_in, IsElement, Face, is_directory_type, Store, Enter, P, own_step, failed, done, drop, give_up, tail, stopped, bump_refused, enters, link_at, link_in, link_name, link_program, link_raise, lower, named_on, face_of, reply_to, After, Stands, most_left, walk_of, Element, Walk}
 use Rattle.plain_tree.specs.declared.call.Call.TheVariants as calls

@@ -1,4 +1,4 @@
--- What is left of a mkdir.
+-- The rest of a mkdir.
 use Rattle.std.specs.Prelude.{ℕ, ◌+◌, List, Option, Some, None, if◌then◌else◌}
 use Rattle.whole_calls.specs.Vocabulary.{Name, NoEntry, MemInodes, Blocks, Reply, Do, unmarked, name_in, OfDirectory, Face, Orphans, Claim, Forget, Store, Fill, Enter, P, mends_if_full, failed, full, done, give_up, tail, stopped, entered_file, mends_unless_new, unmake, mkdir_in, mkdir_other, mkdir_program, mkdir_with, name_directory, face_of, reply_to, After, walk_of}
 use Rattle.plain_tree.specs.declared.call.Call.TheVariants as calls

@@ -1,4 +1,4 @@
--- What is left of an open.
+-- The rest of an open.
 use Rattle.std.specs.Prelude.{ℕ, Bool, true, false, List, Option, Some, None, if◌then◌else◌}
 use Rattle.whole_calls.specs.Vocabulary.{creates, Name, MemInodes, Reply, Do, unmarked, name_in, InodeType, Mark, Orphans, Claim, Forget, Up, Store, Enter, Empty, Install, P, own_step, mends_if_full, full, give_up, tail, stopped, create_in, empties, entered_file, file_for, installed_on, installs, make_on, make_other, mends_unless_new, make_with, open_at, open_end, open_made, open_program, take_descriptor, truncates, reply_to, type_of, OfFile, After, walk_of, Goal}
 use Rattle.plain_tree.specs.declared.call.Call.TheVariants as calls

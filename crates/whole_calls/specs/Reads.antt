@@ -1,4 +1,4 @@
--- What is left of a read.
+-- The rest of a read.
 use Rattle.std.specs.Prelude.{◌≡◌, ◌≤◌, ℕ, ◌++◌, List, take, drop, length}
 use Rattle.whole_calls.specs.Vocabulary.{Reply, LocksIt, P, say, read_on, read_program, count_in, reply_to, IsNamed, Ask, Heard}
 use Rattle.plain_tree.specs.declared.answer.Answer.TheVariants as answers
@@ -12,7 +12,7 @@ read_of fd buffer reading.Lock = read_program fd buffer
 read_of fd buffer (reading.Part n offset) = read_on fd buffer (LocksIt n offset)
 read_of fd buffer (reading.Says count) = say (reply_to (calls.Read fd buffer) (answers.Count count))
 
--- a part that is read stands at the buffer's front; nothing else changes it
+-- a part that is read is at the buffer's front; nothing else changes it
 abbrev pub FilledFrom : List ℕ → List ℕ → Read → Heard → Type 0
 FilledFrom old new reading.Lock x = new ≡ old
 FilledFrom old new (reading.Part n offset) x = new ≡ take (count_in x) new ++ drop (count_in x) old

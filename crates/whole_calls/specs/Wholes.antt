@@ -1,4 +1,4 @@
--- What is left of a call, whichever it is.
+-- The rest of a call, whichever it is.
 use Rattle.std.specs.Prelude.{◌≢◌, ◌≤◌, ◌<◌, ◌^◌, ◌+◌, ℕ, Bool, List, [], ◌++◌, length, All}
 use Rattle.whole_calls.specs.Vocabulary.{elements, CallAnswer, Reply, Call, Action, P, stepped, IsNamed, IsNamedInTwo, Ask, Heard}
 use Rattle.plain_tree.specs.declared.call.Call.TheVariants as calls
@@ -40,7 +40,7 @@ call_in (whole.Fstat fd c) = calls.Fstat fd
 call_in (whole.Close fd c) = calls.Close fd
 call_in (whole.Inherit child c) = calls.Inherit child
 
--- the path in which its names stand, of two the second behind the first; or its bytes
+-- the path that has its names, of two the second after the first; or its bytes
 abbrev pub text_in : Whole → List ℕ
 text_in (whole.Open path flags c) = path
 text_in (whole.Read fd buf c) = buf.items

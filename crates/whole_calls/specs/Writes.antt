@@ -1,4 +1,4 @@
--- What is left of a write.
+-- The rest of a write.
 use Rattle.std.specs.Prelude.{◌≡◌, ◌≤◌, ℕ, zero, suc, ◌+◌, ◌*◌, List, [], length}
 use Rattle.whole_calls.specs.Vocabulary.{piece, piece_count, piece_len, Reply, Do, unmarked, JoinFile, WriteFile, Join, Leave, P, say, joined_on, refused_to, write_from, write_piece, write_program, write_reply, writes, wrote_on, reply_to, wrote_of, IsNamed, Ask}
 use Rattle.plain_tree.specs.declared.call.Call.TheVariants as calls
@@ -31,7 +31,7 @@ abbrev pub WriteAsks : List ℕ → Ask → Type 0
 WriteAsks bytes (ask.WriteFile fd n offset i) = piece_len * i ≤ length bytes
 WriteAsks bytes a = IsNamed bytes a
 
--- it is one of theirs, with so many behind it
+-- it is one of theirs, with `more` others after it
 abbrev pub IsPieceOf : List ℕ → Piece → Type 0
 IsPieceOf bytes p = p.index + p.more + 1 ≡ piece_count bytes
 

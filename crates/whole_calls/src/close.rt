@@ -34,7 +34,7 @@ impl Close {
         }
     }
 
-    /// Goes on in its place with what it hears: true where it has ended, with its answer left in `says`.
+    /// Goes on in its place with what it hears: true if it has ended, with its answer left in `says`.
     #[inline(always)]
     pub fn step(&mut self, heard: &Heard, says: &mut Answer) -> bool
         ensures { (text : List ℕ) (fd : ℕ)
@@ -130,7 +130,7 @@ impl Inherit {
         }
     }
 
-    /// Goes on in its place with what it hears: true where it has ended, with its answer left in `says`.
+    /// Goes on in its place with what it hears: true if it has ended, with its answer left in `says`.
     #[inline(always)]
     pub fn step(&mut self, heard: &Heard, says: &mut Answer) -> bool
         ensures { (text : List ℕ) (child : ℕ)

@@ -27,7 +27,7 @@ impl Dup {
         }
     }
 
-    /// Goes on in its place with what it hears: true where it has ended, with its answer left in `says`.
+    /// Goes on in its place with what it hears: true if it has ended, with its answer left in `says`.
     #[inline(always)]
     pub fn step(&mut self, heard: &Heard, says: &mut Answer) -> bool
         ensures { (text : List ℕ) (fd : ℕ)
@@ -99,7 +99,7 @@ impl Fstat {
         }
     }
 
-    /// Goes on in its place with what it hears: true where it has ended, with its answer left in `says`.
+    /// Goes on in its place with what it hears: true if it has ended, with its answer left in `says`.
     #[inline(always)]
     pub fn step(&mut self, heard: &Heard, says: &mut Answer) -> bool
         ensures { (text : List ℕ) (fd : ℕ)

@@ -28,7 +28,7 @@ impl Dropping {
         }
     }
 
-    /// Goes on in its place: true where the reference is gone.
+    /// Goes on in its place: true if the reference is gone.
     #[inline(always)]
     pub fn step(&mut self, heard: &Heard) -> bool
         ensures { (text : List ℕ) (k : P Reply) → hears text (dropping_of k self.old) heard.now ≡ after_drop k self.new result }

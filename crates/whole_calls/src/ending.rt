@@ -29,7 +29,7 @@ impl Freeing {
         }
     }
 
-    /// Goes on in its place: true where the inode is freed, and the transaction left.
+    /// Goes on in its place: true if the inode is freed, and the transaction left.
     pub fn step(&mut self, heard: &Heard) -> bool
         ensures { (text : List ℕ) (k : P Reply) → hears text (freeing_of k self.old) heard.now ≡ after_free k self.new result }
     {
@@ -91,7 +91,7 @@ impl Ending {
         }
     }
 
-    /// Goes on in its place with what it hears: true where it has ended, with its answer left in `says`.
+    /// Goes on in its place with what it hears: true if it has ended, with its answer left in `says`.
     #[inline(always)]
     pub fn step(&mut self, heard: &Heard, list: &mut Numbers, says: &mut Answer) -> bool
         ensures { (text : List ℕ) (call : Call)

@@ -125,7 +125,7 @@ fn entered(directory: u32, number: u32, heard: &Heard) -> Link
 }
 
 impl Link {
-    /// The next operation. The new path stands behind the old one.
+    /// The next operation. The new path is after the old one.
     #[inline(always)]
     pub fn ask(&self, old: &[u8], new: &[u8]) -> Ask
         ensures asks { (list : List ℕ) → LinkFits old.now new.now list (link_stage self.now)
@@ -155,7 +155,7 @@ impl Link {
         }
     }
 
-    /// Goes on in its place with what it hears: true where it has ended, with its answer left in `says`.
+    /// Goes on in its place with what it hears: true if it has ended, with its answer left in `says`.
     pub fn step(
         &mut self,
         heard: &Heard,

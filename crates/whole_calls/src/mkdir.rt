@@ -140,7 +140,7 @@ impl Mkdir {
         }
     }
 
-    /// Goes on in its place with what it hears: true where it has ended, with its answer left in `says`.
+    /// Goes on in its place with what it hears: true if it has ended, with its answer left in `says`.
     pub fn step(
         &mut self,
         heard: &Heard,

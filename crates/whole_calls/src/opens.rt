@@ -44,7 +44,7 @@ impl Found {
     }
 }
 
-/// A name that is to stand for a new inode.
+/// A name for a new inode.
 #[derive(Clone, Copy)]
 pub struct NewName {
     pub directory: u32,
@@ -64,7 +64,7 @@ pub enum Open {
     Install(Found),
     Empty(u32, u32),
     UnlockInode(u32, u32),
-    /// The name is looked up, to be made where it isn't there.
+    /// The name is looked up, to be made if it isn't there.
     Look(u32, Element),
     Up(u32, u32),
     GiveParent(Dropping, u32),
@@ -302,7 +302,7 @@ impl Open {
         }
     }
 
-    /// Goes on in its place with what it hears: true where it has ended, with its answer left in `says`.
+    /// Goes on in its place with what it hears: true if it has ended, with its answer left in `says`.
     #[inline(always)]
     pub fn step(
         &mut self,

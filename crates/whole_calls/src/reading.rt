@@ -13,7 +13,7 @@ use plain_tree::Answer;
 pub enum Read {
     Lock,
     Part(u32, u64),
-    /// So many bytes stand at the front of the buffer.
+    /// The number of bytes at the front of the buffer.
     Says(usize),
 }
 
@@ -29,7 +29,8 @@ impl Read {
         }
     }
 
-    /// Goes on in its place with what it hears: true where it has ended, with its answer left in `says`. The buffer has what was read.
+    /// Goes on in its place with what it hears: true if it has ended, with its answer left in `says`. The buffer has
+    /// what was read.
     #[inline(always)]
     pub fn step(&mut self, heard: &Heard, buffer: &[u8], says: &mut Answer) -> bool
         requires short { length buffer.now < 2 ^ 31 }

@@ -88,7 +88,7 @@ fn reached(directory: u32, element: Element, path: &[u8], at: &mut Unlink)
     }
 }
 
-// "." or ".." stays, where its directory has links.
+// "." or ".." stays, if its directory has links.
 #[inline(always)]
 fn stays(directory: u32, heard: &Heard, at: &mut Unlink)
     ensures program { (text path list : List ℕ)
@@ -172,7 +172,7 @@ impl Unlink {
         }
     }
 
-    /// Goes on in its place with what it hears: true where it has ended, with its answer left in `says`.
+    /// Goes on in its place with what it hears: true if it has ended, with its answer left in `says`.
     #[inline(always)]
     pub fn step(
         &mut self,

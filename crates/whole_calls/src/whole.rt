@@ -88,7 +88,7 @@ impl Whole {
         }
     }
 
-    /// The next operation. Its names stand in the call's path, its pieces in its bytes.
+    /// The next operation. Its names are in the call's path, its pieces in its bytes.
     #[inline(always)]
     pub fn ask(&self) -> Ask
         ensures asks { (list : List ℕ) → WholeFits list self.now → asks (whole_of list self.now) ≡ Some (op_in (text_in self.now) result) }
@@ -109,7 +109,7 @@ impl Whole {
         }
     }
 
-    /// Goes on with what it hears: true where it has ended, with its answer left in `says`.
+    /// Goes on with what it hears: true if it has ended, with its answer left in `says`.
     #[inline(always)]
     pub fn next(&mut self, heard: &Heard, list: &mut Numbers, says: &mut Answer) -> bool
         requires fits { WholeFits list.old self.old }
@@ -159,7 +159,7 @@ impl Whole {
         }
     }
 
-    /// The path in which its names stand, of two the first; or its bytes.
+    /// The path that has its names, of two the first; or its bytes.
     #[inline(always)]
     pub fn text(&self) -> &[u8]
         ensures { result.now ≡ first_in self.now }
@@ -176,7 +176,7 @@ impl Whole {
         }
     }
 
-    /// The second path, which stands behind the first.
+    /// The second path, which is after the first.
     #[inline(always)]
     pub fn second(&self) -> &[u8]
         ensures { result.now ≡ second_in self.now }

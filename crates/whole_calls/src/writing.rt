@@ -106,7 +106,7 @@ impl Write {
         }
     }
 
-    /// Goes on in its place with what it hears: true where it has ended, with its answer left in `says`.
+    /// Goes on in its place with what it hears: true if it has ended, with its answer left in `says`.
     #[inline(always)]
     pub fn step(&mut self, heard: &Heard, bytes: &[u8], says: &mut Answer) -> bool
         requires short { length bytes.now < 2 ^ 31 }
