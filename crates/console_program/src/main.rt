@@ -3,20 +3,24 @@
 //!
 //! Faults are told in this order: the command line (status 2), an IMAGE file that can't be read, a FILE that can't be
 //! written, an image that isn't taken (status 1), the script (status 1 or 2), and what only writing FILE shows (status 1).
-//! Want of memory is told where it comes (status 3).
+//! Want of memory is told where it comes (status 3). After the line of a damaged image one on standard error says where the damage is.
 #![tactic(auto)]
 
+use block_device::MemoryDisk;
 use clap::ArgMatches;
 use clap::error::ErrorKind;
 use clap::parser::ValueSource;
 use console::{ConsoleFault, run_prompt, run_script, status};
 use console_threads::{ThreadsFault, run_threads};
+use damage_places::{Place, find_place};
+use image_tree::find_version;
+use image_versions::Version;
 use mkfs::{ImageRefused, SaveRefused, WordsRefused, read_image, read_words, save, try_to_save};
 use script::{
     EXPLAIN, IMAGE, LAST, Mode, PROMPT, SAVE, SCHEDULE, Schedule, THREADS, TIMELINE, has_prompt,
     has_threads, mode_of, options,
 };
-use std::alloc::AllocError;
+use std::alloc::{AllocError, Global};
 use std::io;
 use std::io::{BufWriter, Write};
 use std::process::ExitCode;
@@ -47,6 +51,9 @@ enum Fault<'a> {
     Image(&'a str, ImageRefused),
     #[error("{0}")]
     Run(ConsoleFault),
+    /// The image is damaged, and where.
+    #[error("{0}")]
+    Damaged(ConsoleFault, Place),
     /// What there is by threads alone.
     #[error("{0}")]
     Threads(ThreadsFault),
@@ -119,16 +126,20 @@ impl<'a> Fault<'a> {
             | Fault::CheckAndRun(_)
             | Fault::Prompt => 2,
             Fault::Image(..) | Fault::Save(_) => 1,
-            Fault::Run(fault) => status(fault),
+            Fault::Run(fault) | Fault::Damaged(fault, _) => status(fault),
             Fault::Threads(fault) => console_threads::status(fault),
         }
     }
 }
 
-// A refused image is told on standard output; after a stop its line is there already.
+// A refused image is told on standard output, and on standard error where it is damaged; after a stop its line is there already.
 fn tell(rt: &HostRuntime, fault: &Fault) -> io::Result<()> {
     match fault {
         Fault::Run(ConsoleFault::Image(_)) => println!(rt; "{fault}"),
+        Fault::Damaged(_, place) => {
+            println!(rt; "{fault}")?;
+            eprintln!(rt; "{place}")
+        }
         Fault::Run(ConsoleFault::Stopped(_)) => Ok(()),
         _ => eprintln!(rt; "{fault}"),
     }
@@ -170,6 +181,42 @@ fn mode_in(matches: &ArgMatches) -> Result<Mode, Fault<'static>> {
     Ok(mode)
 }
 
+// A copy of the image's bytes; none if memory was refused.
+fn copy_of(alloc: Global, image: Option<&Vec<u8>>) -> Option<Vec<u8>> {
+    Vec::from_slice(alloc, image?.as_slice()).ok()
+}
+
+// The first place of damage of an image with these bytes, which is examined as of the version that it says, or mounted as of version 1;
+// none if memory was refused.
+fn place_in(alloc: Global, image: Vec<u8>, is_examined: bool) -> Option<Place> {
+    let mut disk = MemoryDisk::new(image);
+    let version = if is_examined {
+        find_version(&mut disk).ok()?
+    } else {
+        Version::One
+    };
+    find_place(alloc, &mut disk, version).ok()?
+}
+
+// The fault, with the place at which the image is damaged, if that is why it isn't taken.
+fn with_place<'a>(
+    alloc: Global,
+    fault: Fault<'a>,
+    image: Option<Vec<u8>>,
+    is_examined: bool,
+) -> Fault<'a> {
+    match (fault, image) {
+        (Fault::Run(ConsoleFault::Image(refused)), Some(image)) => {
+            let fault = ConsoleFault::Image(refused);
+            match place_in(alloc, image, is_examined) {
+                Some(place) => Fault::Damaged(fault, place),
+                None => Fault::Run(fault),
+            }
+        }
+        (fault, _) => fault,
+    }
+}
+
 // Runs what the command line asks for. What was answered before a fault is printed.
 fn run<'a, R: Threads + Wait + Sync>(
     rt: &HostRuntime,
@@ -191,6 +238,7 @@ fn run<'a, R: Threads + Wait + Sync>(
     let mut out = BufWriter::new(rt.alloc(), io::writer(rt)).map_err(|error| Fault::of_answers(
         error,
     ))?;
+    let copy = copy_of(rt.alloc(), image.as_ref());
     let ran = if has_threads(matches) && !mode.check {
         run_threads(threads, rt.alloc(), image, mode, rt.reader(), &mut out)
     } else if has_prompt(matches) {
@@ -201,7 +249,12 @@ fn run<'a, R: Threads + Wait + Sync>(
         run_script(rt.alloc(), image, mode, rt.reader(), &mut out).map_err(ThreadsFault::Console)
     };
     out.flush().map_err(|error| Fault::of_answers(error))?;
-    let disk = ran?;
+    let disk = match ran {
+        Ok(disk) => disk,
+        Err(fault) => {
+            return Err(with_place(rt.alloc(), Fault::from(fault), copy, mode.check));
+        }
+    };
     if let Some(path) = place {
         let bytes = disk.into_bytes();
         save(rt, path, bytes.as_slice(), rest)?;
