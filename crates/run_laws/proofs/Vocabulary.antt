@@ -7,7 +7,7 @@ pub use Rattle.hart_core.proofs.Vocabulary.{AllAnswer, EventOutcome, Code, DidRu
 unfoldable pub use Rattle.hart_core.proofs.Vocabulary.{pieces, running_of, trace_from}
 pub use Rattle.inode_machine.proofs.Vocabulary.{Answer, ClaimResult, EntryResult, Free, Grown, HasRoom, History, Honest, HonestClaim, InPlace, IsBeginning, IsWellFormed, Keeps, LockFile, MayWait, Mine, New, NoPlace, Others, PathTooLong, Picks, Room, RoomFor, ZeroInPath, append_nil, changed_tells, explains, fill_if, is_live, kept_by, nothing_yet, oldest_first, or_zero, told_of, with_refs}
 pub use Rattle.inode_machine.specs.VersionOne.{IsTheHistory, history_of, kept, kept_on, path_cost, seen_in}
-pub use Rattle.run_laws.specs.Vocabulary.{Chain, FinishedCall, In, IsOfCall, May, PlacedStep, Shows, history, is_zero, lowered_calls, place_of, slot_limit, steps_of, or_else}
+pub use Rattle.run_laws.specs.Vocabulary.{BeginsWhole, Chain, FinishedCall, In, IsOfCall, May, PlacedStep, Shows, history, is_zero, lowered_calls, place_of, slot_limit, steps_of, or_else}
 pub use Rattle.atomic_programs.proofs.Vocabulary.{BeginsSome, EventReport, IsTraced, Starts, eq-eqb, happened, lowered, ltb-true, ne_eqb, placed, start_of}
 pub use Rattle.directory.proofs.Vocabulary.{first_below, found_at, is_free, length-take-le, length-u16_bytes, slots_in}
 pub use Rattle.image_tree.proofs.Vocabulary.{filter-append, ◌↔◌}
