@@ -60,7 +60,7 @@ pub struct Entered {
 }
 
 /// Enters a name into a directory: into its first free slot, or else into a new last one. The inode is stored also where no block was
-/// free for that.
+/// free for that (xv6: `dirlink`).
 #[derive(Drop)]
 pub enum Enter {
     /// A free slot is sought.

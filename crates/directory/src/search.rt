@@ -22,7 +22,7 @@ pub struct Blocks {
 }
 
 /// Looks for a slot of the directory whose lock is at a seat, a block at a time, and stops at the first. It is told the seat and what is
-/// sought.
+/// sought (xv6: `dirlookup`).
 #[derive(Clone, Copy, Drop)]
 pub enum Search {
     /// The next block is fetched.

@@ -94,7 +94,7 @@ fn is_used(block: &Block, place: usize) -> bool
     )
 }
 
-/// The first slot of this name among the first so many.
+/// The first slot of this name among the first so many (xv6: `namecmp`).
 #[tactic(auto, unfolding(crate::specs::Slots::first_named))]
 pub fn first_named(block: &Block, limit: usize, name: &[u8]) -> Option<usize>
     requires limit { limit ≤ dirents_per_block }

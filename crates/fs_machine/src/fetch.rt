@@ -11,7 +11,7 @@ use crate::control::Part;
 use crate::hand::{Hand, Place};
 use crate::op::{Answer, Op};
 
-/// Takes a block's buffer, and reads the block if it isn't valid.
+/// Takes a block's buffer, and reads the block if it isn't valid (xv6: `bread`).
 #[derive(Clone, Copy, Drop)]
 pub enum Fetch {
     Get(Place, u32),

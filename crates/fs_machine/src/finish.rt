@@ -13,7 +13,7 @@ use crate::op::{Answer, Op};
 /// The most writes of a commit.
 const MOST_WRITES: u8 = 62;
 
-/// Leaves a transaction, and makes the writes of the commit if one begins.
+/// Leaves a transaction, and makes the writes of the commit if one begins (xv6: `end_op` with its `commit`).
 #[derive(Clone, Copy, Drop)]
 pub enum Finish {
     Leave,

@@ -132,7 +132,7 @@ impl Operation for LockFilePart {
     }
 }
 
-/// The lock of what a descriptor names is taken, where that has a state to tell.
+/// The lock of what a descriptor names is taken, where that has a state to tell (xv6: `stati`).
 #[derive(Clone, Copy, Drop)]
 pub struct StatFilePart {
     pub lock: LockFile,

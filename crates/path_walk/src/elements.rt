@@ -56,7 +56,7 @@ fn name_len(path: &[u8]) -> usize
     path.len()
 }
 
-/// The first element from a place of a path on, cut to the longest name of the version.
+/// The first element from a place of a path on, cut to the longest name of the version (xv6: `skipelem`).
 #[inline(always)]
 pub fn next_element(version: Version, path: &[u8], from: usize) -> Option<Element>
     requires from { from ≤ length path.now }

@@ -31,7 +31,7 @@ pub enum Next {
     Quits(Lost),
 }
 
-/// A walk. Its places are in the path.
+/// A walk. Its places are in the path (xv6: `namex`).
 #[derive(Clone, Copy)]
 pub enum Walk {
     /// A reference to the path's start is taken.

@@ -10,7 +10,7 @@ use crate::ending::Ending;
 use path_walk::{Ask, Goal, Heard, Mark, Numbers, Query, Walk, Walked, is_directory, stopped};
 use plain_tree::{Answer, Cause};
 
-/// The new directory first, then the old one's reference is dropped.
+/// The new directory first, then the old one's reference is dropped (xv6: `sys_chdir`).
 #[derive(Clone, Copy)]
 pub enum Chdir {
     Join,

@@ -9,7 +9,7 @@ use crate::dropping::Dropping;
 use path_walk::{Ask, Heard, Loan, Mark};
 use plain_tree::{Answer, Cause};
 
-/// close: with the last descriptor the open file's reference is dropped.
+/// close: with the last descriptor the open file's reference is dropped (xv6: `sys_close`, `fileclose`).
 #[derive(Clone, Copy)]
 pub enum Close {
     Shut,
@@ -75,7 +75,8 @@ impl Close {
     }
 }
 
-/// inherit: each descriptor in turn, then the directory; the child's old one is dropped.
+/// inherit: each descriptor in turn, then the directory; the child's old one is dropped
+/// (xv6: what `fork` does of files and the current directory).
 #[derive(Clone, Copy)]
 pub enum Inherit {
     /// At most so many descriptors more, from this one on.

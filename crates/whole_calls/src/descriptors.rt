@@ -9,7 +9,7 @@ ghost use Rattle.plain_tree.specs.declared.answer.Answer.TheVariants as answers;
 use path_walk::{Ask, Face, Heard, InodeType, Mark};
 use plain_tree::{Answer, Cause, Full, NodeType, Stat};
 
-/// dup: one step for descriptor and count; without an open file the reply alone.
+/// dup: one step for descriptor and count; without an open file the reply alone (xv6: `sys_dup`).
 #[derive(Clone, Copy)]
 pub enum Dup {
     Double,
@@ -63,7 +63,7 @@ impl Dup {
     }
 }
 
-/// fstat.
+/// fstat (xv6: `sys_fstat`, `filestat`).
 #[derive(Clone, Copy)]
 pub enum Fstat {
     Look,

@@ -5,7 +5,8 @@ ghost use Rattle.whole_calls.specs.Ends.{after_drop, dropping_of};
 
 use path_walk::{Ask, Heard, Mark};
 
-/// An inode is given up, and the reference to it dropped. The last one to an inode without links frees it.
+/// An inode is given up, and the reference to it dropped. The last one to an inode without links frees it
+/// (xv6: `iunlockput`).
 #[derive(Clone, Copy)]
 pub enum Dropping {
     UnlockInode(u32),

@@ -18,7 +18,7 @@ const COUNT_LIMIT: u16 = 32767;
 
 const NO_ENTRY: Answer = Answer::Failed(Cause::NoEntry);
 
-/// The number is that of what gets the name.
+/// The number is that of what gets the name (xv6: `sys_link`).
 #[derive(Clone, Copy)]
 pub enum Link {
     Join,

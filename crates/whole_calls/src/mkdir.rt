@@ -19,7 +19,7 @@ use plain_tree::{Answer, Cause, Full};
 
 const COUNT_LIMIT: u16 = 32767;
 
-/// The face is the parent's, as it was seen.
+/// The face is the parent's, as it was seen (xv6: `sys_mkdir` and `create`).
 #[derive(Clone, Copy)]
 pub enum Mkdir {
     Join,

@@ -23,7 +23,7 @@ pub struct Name {
     pub face: Face,
 }
 
-/// The name goes, then the counts of its directory and of what it named.
+/// The name goes, then the counts of its directory and of what it named (xv6: `sys_unlink`).
 #[derive(Clone, Copy)]
 pub enum Unlink {
     Join,
