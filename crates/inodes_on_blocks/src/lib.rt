@@ -109,7 +109,7 @@ pub fn locks_are_given()
     ensures { LocksAreGiven }
 {}
 
-/// A reference more is counted exactly if the operation finds a place in memory, and answered so.
+/// A reference more is counted just if the operation finds a place in memory, and the answer says so.
 pub fn tables_count_references()
     ensures { TablesCountReferences }
 {}
