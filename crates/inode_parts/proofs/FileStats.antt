@@ -29,7 +29,7 @@ module _ (sizes : Super) (path : List ℕ) (m : Notes) (fd : ℕ) where
 pub untold : (path : List ℕ) (m : Notes) (k : InodePlace) (h : Hand) (why : Refused) → inode_at k h ≡ None → stat_ends path (beside_in path m k h) (Refuses why) ≡ Ret (handed path m (heard.Stat None) h)
 untold path m k h why free = λ i. Ret (record { answer = (path, heard.Stat None); carry = sym (none_beside path m h k free) i })
 
--- it is locked at the seat where that was to be
+-- it is locked at the seat that was chosen for it
 module _ (path : List ℕ) (m m2 : Notes) (h : Hand) (f : HeldFile) (k : InodePlace) (at : f.seat ≡ k) (has : HasFile f h) (alone : inode_at (other k) h ≡ None) where
   abbrev l : Loaded
   l = loaded_in f.seat h

@@ -61,7 +61,7 @@ pub(crate) fn doubled_in(answer: &Answer) -> Option<Option<u32>>
     }
 }
 
-/// One descriptor less, where that was the last one of the inode of this number.
+/// One descriptor less. If that was the last one, its inode has this number.
 pub(crate) fn shut_in(answer: &Answer, number: u32) -> Option<Option<u32>>
     ensures { result ≡ shut_to (shut_by answer.now number) }
 {
@@ -72,7 +72,7 @@ pub(crate) fn shut_in(answer: &Answer, number: u32) -> Option<Option<u32>>
     }
 }
 
-/// What was handed on, where the child's directory had this number before.
+/// What was handed on; the child's directory had this number before.
 pub(crate) fn loan_in(answer: &Answer, number: u32) -> Loan
     ensures { heard.Loan result ≡ loan_heard (given_by answer.now number) }
 {
@@ -82,7 +82,7 @@ pub(crate) fn loan_in(answer: &Answer, number: u32) -> Loan
     }
 }
 
-/// The child's directory before, where that had this number.
+/// The child's directory before, which had this number.
 pub(crate) fn old_in(answer: &Answer, number: u32) -> u32
     ensures { result ≡ old_directory (given_by answer.now number) }
 {

@@ -245,7 +245,7 @@ impl Operation for ClaimPart {
     }
 }
 
-// What the search came to, as a call hears it.
+// The search's result, as a call hears it.
 fn claimed(made: inode_table::Made) -> path_walk::Claimed
     ensures { (h : HandState) → result ≡ claimed_by (new_value made h) }
 {

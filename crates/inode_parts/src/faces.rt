@@ -19,7 +19,7 @@ fn inode_type(inode: &Dinode) -> InodeType
     }
 }
 
-// How many names an inode has, where that isn't below 0.
+// How many names an inode has, if that isn't below 0.
 fn count(nlink: i16) -> u16
     ensures is { result ≡ natural nlink }
     ensures few { result < 2 ^ 15 }
