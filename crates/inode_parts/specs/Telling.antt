@@ -62,7 +62,7 @@ pub record LoweredTells (l : Lowered) (h : Hand) (answer : (o : steps.Op) → st
 abbrev pub BeginsAsking : Super → Carry → programs.P Reply → Lowered → Hand → Type 0
 BeginsAsking sizes c p l h = (l.sizes ≡ sizes) × AsksNext sizes c p l h
 
--- ---- what isn't said yet
+-- ---- what must still be said
 
 -- it gives back the block that it looked through, because no place in memory was left for an inode
 abbrev pub gives_back : NewInode → Bool
