@@ -18,7 +18,7 @@ pub record RunningFits (hart : ℕ) (s : State) (m : Running) : Type 0 where
 abbrev pub heard_of : Running → Option Heard
 heard_of m = heard_if m.control.ended m.control.heard
 
--- what was claimed for a call that is under way has no place in memory, and the call isn't told so yet
+-- what was claimed for a call that is under way has no place in memory, and the call doesn't hear of it yet
 abbrev pub lacks_place_at : Option Running → Bool
 lacks_place_at None = false
 lacks_place_at (Some m) = lacks_place m.control
