@@ -18,8 +18,8 @@ abbrev pub or_next : {M : Type 0} → Option Found → IndexState → (IndexStat
 or_next (Some f) x next = Ret (record { found = Some f; index = x })
 or_next None x next = next x
 
--- block k is given back as it was, and indexed if it may be: what was sought is there, or the blocks after it are
--- searched
+-- Block k is given back as it was, and indexed if it may be. What was sought is there, or the blocks after it are
+-- searched.
 abbrev pub look_at : {M : Type 0} → Aim → Dinode → ℕ → IndexState → (IndexState → Prog Op Answer M Searched) → FetchedBlock
     → Prog Op Answer M Searched
 look_at aim d k x next f = Do (Put f.number None) unmarked (λ _. or_next (found_in aim d k f.bytes) (raised d k f.bytes x) next)

@@ -16,8 +16,8 @@ MayChange sizes n h =
 abbrev pub beside_inode : InodePlace → Hand → Hand
 beside_inode k h = with_buffer First None (with_buffer Second None (unloaded k h))
 
--- amid an operation on inode n, whose lock is at this seat: it began without a buffer, and beside that inode all is
--- as it was at the start
+-- Amid an operation on inode n, whose lock is at this seat. It began without a buffer, and beside that inode all is
+-- as it was at the start.
 abbrev pub IsAmid : ℕ → Hand → InodePlace → Hand → Type 0
 IsAmid n start k now = (k ≡ seat_of_lock n start) × HasNoBuffer start × (beside_inode k now ≡ beside_inode k start)
 

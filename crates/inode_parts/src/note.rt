@@ -18,7 +18,7 @@ pub enum Note {
 }
 
 /// That of both seats. It counts while a lock is there. It is beside the hand and not in it, because the core knows
-/// nothing of it, and parts that search nothing leave it as it is.
+/// nothing of it. Parts that search nothing leave it as it is.
 #[derive(Clone, Copy, Drop)]
 pub struct Notes {
     pub one: Note,

@@ -71,7 +71,7 @@ impl InodePart {
         InodePart::One(OneStep::Say)
     }
 
-    /// The part of this ask of a call begins in this place, on a disk with this superblock; what was learned of
+    /// The part of this ask of a call begins in this place, on a disk with this superblock. What was learned of
     /// locked inodes is noted. The record of one of them may change in hand.
     #[inline(always)]
     pub fn begin(&mut self, ask: Ask, sizes: &Super, call: &Whole, notes: &Notes, hand: &mut Hand)

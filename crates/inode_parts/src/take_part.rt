@@ -123,8 +123,8 @@ impl TakePart {
         }
     }
 
-    // Looks for this in the inode at a seat, which is locked and loaded, in a call with this path and a second one. It is
-    // true if nothing more must be read for that: what was seen is in `heard` then.
+    // Looks for this in the inode at a seat, which is locked and loaded, in a call with this path and a second one.
+    // It is true if nothing more must be read for that. What was seen is in `heard` then.
     fn look(
         &mut self,
         query: Query,

@@ -1,4 +1,4 @@
--- A block taken for an inode that a hart is changing: its bit is set, and it is filled with zeros; or the bitmap has
+-- A block taken for an inode that a hart is changing. Its bit is set, and it is filled with zeros; or the bitmap has
 -- none. Nothing of it is seen above.
 use Rattle.inodes_on_blocks.proofs.Vocabulary.{◌≡◌, ◌≢◌, ⊎_elim, ℕ, suc, ◌<◌, ◌≤◌, Bool, true, false, not, List, ◌∷◌, length, length-append, Option, Some, None, refl, sym, ◌∙◌, ap, subst, arith, slice_index, cases_lt, get_or_append_left, length-replicate, Dinode, Super, bit_of, IsBytes, IsOutsideLog, recovered, sizes_of, holder_of, IsData, numbers_of, indirect_numbers, IsOwned, NamesOwned, IsLaidOut, IsSpare, Node, hart_count, Do, bind, unmarked, Machine, Laws, P, Wp, Both, joined, Stable, bind-assoc, Wp-more, fetch, seen_of, Put, marked_by, zeros, first_clear_below, give_zeros, zero_found, take_first, take_block, FirstIs, first_is, if_kept, Inv, World, log_of, disk_of, world_with, KeepsRoom, in_hand, IsFetched, Kept, Carry, buffer_in, below, Labels, labelled, Keeps, IsChanging, Shows, addresses, block_len, direct}
 use Rattle.inodes_on_blocks.proofs.Basics.{spare_put, at_index, good_seen, kept_then, marks_are_bits, s-fetch, s-back, below_laws, held_back, through_put}

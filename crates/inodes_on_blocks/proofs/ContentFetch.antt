@@ -4,7 +4,7 @@ use Rattle.inodes_on_blocks.proofs.Vocabulary.{◌≡◌, ℕ, suc, ◌-◌, ◌
 use Rattle.inode_machine.specs.World as above
 use Rattle.inodes_on_blocks.proofs.Basics.{kept_same, kept_then, direct_number, block_stays, but_same, but_then, s-fetch, s-back, below_laws, empty_hand, same_again}
 
--- A block of the content was looked at and given back as it was: the hart has nothing in hand again, and nothing of
+-- A block of the content was looked at and given back as it was. The hart has nothing in hand again, and nothing of
 -- its own changed.
 pub record Touched (h : ℕ) (Stage : above.World → Type 0) (w v : Both World above.World) : Type 0 where
   pub same : Same h w.real v.real

@@ -1,5 +1,5 @@
--- The content of an inode given back: the blocks of its own numbers, those in its indirect block while that block's
--- buffer is in hand, and that block.
+-- The content of an inode given back: the blocks of its own numbers, those in its indirect block, and that block. The
+-- second are given back while that block's buffer is in hand.
 use Rattle.inodes_on_blocks.proofs.Vocabulary.{◌≡◌, ◌≢◌, ℕ, suc, ◌+◌, ◌*◌, ◌<◌, ◌≤◌, ◌==◌, Bool, true, false, List, [], ◌∷◌, ◌++◌, length, take, refl, sym, ◌∙◌, ap, subst, arith, Some, if◌then◌else◌, Super, Dinode, numbers_in, recovered, sizes_of, IsOutsideLog, length-u32s_at, holder_of, hart_count, eq_is, eq_not, IsData, indirect_numbers, NamesOwned, IsUntouched, bind, Machine, Laws, P, Wp, Both, joined, Stable, Wp-more, lock_holder, fetch, seen_of, free_block, table_of, free_numbers, free_table, free_in_table, free_indirect, direct, if_kept, Inv, World, log_of, tables_of, disk_of, inode_in, Shows, KeepsInode, Kept, below, buffer_in, undertaken, Labels, labelled, Keeps, in_hand, SameBut, IsFetched, PutBack, IsChanging, Owns, KeepsRoom, GaveBlocks, numbers_per_block}
 use Rattle.inodes_on_blocks.proofs.Basics.{nothing_owed, good_seen, kept_same, kept_then, data_place, s-fetch, s-back, below_laws, held_back, untouched_then, block_shown, empty_hand, given_order}
 use Rattle.inode_machine.specs.World as above

@@ -1,5 +1,5 @@
--- The blocks of a locked inode's content, read one after the other: what is read is the content as it was when the
--- lock was had.
+-- The blocks of a locked inode's content, read one after the other. What is read is the content as it was when the
+-- lock was taken.
 use Rattle.inodes_on_blocks.proofs.Vocabulary.{◌≡◌, ℕ, zero, suc, ◌+◌, ◌*◌, ◌/◌, ◌<◌, false, List, Option, Some, None, sym, ◌∙◌, ap, subst, arith, Dinode, Super, block_len, is_free, content_block, HoldsAt, Node, hart_count, Do, bind, unmarked, Machine, Laws, P, Wp, Both, joined, Stable, bind-assoc, lock_holder, Put, BlockInHand, FilledMemory, filled_with, next_block, part_of, fetch_block, read_blocks, read_part, World, log_of, tables_of, disk_of, inode_in, KeepsInode, Same, Kept, below, Labels, labelled, Keeps, in_hand}
 use Rattle.inode_machine.specs.World as above
 use Rattle.inodes_on_blocks.proofs.Basics.{kept_then, same_inode, holds_now, used_now, content_stays, below_laws}

@@ -10,7 +10,7 @@ use Rattle.inodes_on_blocks.proofs.ContentBlocks.{data_place, block_data, block_
 abbrev pub IsThere : World → ℕ → Type 0
 IsThere v b = IsOutsideLog (log_of v).sizes b × (b < (log_of v).sizes.size)
 
--- Block k of inode d's content as it was at w, in a later world: its number has the same place, and its bytes are
+-- Block k of inode d's content as it was at w, in a later world. Its number has the same place, and its bytes are
 -- seen as they were.
 pub record BlockStays (w v : World) (d : Dinode) (k : ℕ) : Type 0 where
   pub place : IsThere v (block_number (numbers_of (disk_of (log_of w)) d) k)

@@ -1,5 +1,5 @@
--- A locked directory searched, by its index and then its other blocks, one after the other: what is found is what its
--- content had when the lock was had.
+-- A locked directory searched, by its index and then its other blocks, one after the other. What is found is what its
+-- content had when the lock was taken.
 use Rattle.inodes_on_blocks.proofs.Vocabulary.{◌≡◌, ℕ, zero, suc, ◌+◌, ◌-◌, ◌*◌, ◌<◌, false, List, Option, Some, None, sym, ◌∙◌, ap, subst, arith, Found, Aim, block_count, found_in, look_at, search_from, Dinode, Super, block_len, is_free, content_block, HoldsAt, Node, hart_count, Do, bind, unmarked, Machine, Laws, P, Wp, Both, joined, Stable, bind-assoc, Wp-more, lock_holder, Put, BlockInHand, fetch_block, World, log_of, tables_of, disk_of, inode_in, KeepsInode, Same, Kept, below, Labels, labelled, Keeps, in_hand}
 use Rattle.directory.proofs.Indexed.{else_searched, searched}
 use Rattle.directory.proofs.Indexed.{searched_from}

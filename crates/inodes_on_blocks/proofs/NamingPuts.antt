@@ -1,4 +1,4 @@
--- The record put of an inode that a hart is changing: what it has taken and the record names is the inode's then,
+-- The record put of an inode that a hart is changing. What it has taken and the record names is the inode's then,
 -- which holds its node.
 use Rattle.inodes_on_blocks.proofs.Vocabulary.{◌≡◌, ◌≢◌, inl, inr, ℕ, ◌<◌, ◌≤◌, Bool, true, false, List, length, Option, Some, None, refl, sym, ◌∙◌, ap, subst, arith, if◌then◌else◌, none-some, Dinode, Super, IsDinode, sizes_of, IsData, HoldsAt, IsInodePut, Node, put, either, same_or, put_same, put_other, lock_holder, seen_of, inode_block, is_hart, World, log_of, tables_of, disk_of, inode_in, owners_of, world_with, in_hand, NothingMore, Had, Has, Carry, IsLoaded, IsOpened, InHand, Base, Owners, is_named, inode_put, CanPut, IsChanging, PutLeaves, log_with, owners_with, Shows}
 use Rattle.inodes_on_blocks.proofs.Basics.{inode_is, node_held, good_seen, hart_is, is_here, through_put, open_same, open_then, lock_range, shows_put, record_put, node_then, put_hand}

@@ -1,5 +1,4 @@
--- A block put for an inode that a hart is changing, from what is known of the inode before the put to what is known
--- after it.
+-- A block put for an inode that a hart is changing: what is known of the inode after the put, from what was before.
 use Rattle.inodes_on_blocks.proofs.Vocabulary.{◌≡◌, ◌≢◌, ℕ, suc, ◌<◌, List, length, Option, Some, is_some, refl, sym, ◌∙◌, ap, subst, if◌then◌else◌, Super, IsBytes, recovered, sizes_of, holder_of, IsData, IsPut, hart_count, Do, unmarked, Machine, Laws, P, Wp, Both, joined, Stable, seen_of, Put, if_kept, is_hart, Inv, World, log_of, disk_of, world_with, KeepsRoom, in_hand, HasBuffer, Kept, buffer_in, below, Labels, labelled, Keeps, CanPut, IsChanging, PutLeaves, log_with, owners_with, Shows, block_len}
 use Rattle.inodes_on_blocks.proofs.Basics.{good_seen, buffer_then, buffer_seen, same_view, below_laws, disk_put, put_bytes, old_bytes, put_hand}
 use Rattle.inode_machine.specs.World as above

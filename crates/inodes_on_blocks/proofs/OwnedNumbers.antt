@@ -1,5 +1,5 @@
--- The block numbers of an inode in the order in which their blocks are given back: its own, those in its indirect
--- block, and that block's.
+-- The block numbers of an inode in the order in which they are given back: its own, those in its indirect block, and
+-- that block's.
 use Rattle.inodes_on_blocks.proofs.Vocabulary.{◌≡◌, ◌≢◌, inl, inr, ℕ, zero, suc, ◌+◌, ◌≤◌, ◌==◌, List, [], ◌∷◌, ◌++◌, length, take, filter, slice_index, refl, sym, ◌∙◌, ap, subst, arith, Contains-append_left, Contains-append_right, Contains-append_cases, Dinode, Super, sizes_of, Node, eq_self, one_yes, IsData, is_block, indirect_numbers, numbers_of, times, IsOwned, NamesOwned, IsLaidOut, table_of, direct, Avoids, Owns, addresses}
 use Rattle.std.proofs.Common.{Contains}
 use Rattle.inodes_on_blocks.proofs.ImageBlocks.{block_true, once_times}

@@ -1,5 +1,5 @@
--- A part of a content is written into its next block, which is found or taken for it, by a hart that is changing the
--- inode. Nothing of it is seen above.
+-- A hart that is changing the inode writes a part of a content into its next block, which is found or taken for it.
+-- Nothing of it is seen above.
 use Rattle.inodes_on_blocks.proofs.Vocabulary.{◌≡◌, ◌≢◌, ℕ, suc, ◌+◌, ◌-◌, ◌%◌, ◌<◌, ◌≤◌, nat_lt, Bool, true, false, List, length, length-take, Option, Some, None, sym, ◌∙◌, ap, subst, arith, if◌then◌else◌, Dinode, Super, IsBytes, length-overwrite, IsData, numbers_of, block_number, IsOwned, NamesOwned, IsLaidOut, Becomes, Node, hart_count, bind, Machine, Laws, P, Wp, Both, joined, Stable, bind-assoc, Wp-more, fetch, seen_of, Located, table_of, WriteResult, front_of, with_part, put_part, write_in, write_located, locate, Spent, size, with_number as with_block, most_recorded, Inv, World, log_of, disk_of, KeepsRoom, world_with, Kept, Carry, below, Labels, labelled, Keeps, IsChanging, log_with, Shows, block_len, direct, most_blocks}
 use Rattle.inodes_on_blocks.proofs.Basics.{at_index, good_seen, HasBlocks, extra, number_new, block_room, s-fetch, below_laws, empty_hand, overwrite_bytes, take_bytes}
 use Rattle.inode_machine.specs.World as above

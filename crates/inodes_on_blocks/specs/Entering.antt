@@ -34,8 +34,8 @@ unfoldable pub search_full : Option Acts → ℕ → Dinode → ℕ → IndexSta
 search_full mark zero d k x = bind (fetch_block d k) (look_last mark d k x)
 search_full mark (suc n) d k x = bind (fetch_block d k) (look_at Unused d k x (search_full mark n d (k + 1)))
 
--- the blocks that the index doesn't have; if the index has none free it has one block at most, because it has room
--- for the slots of one
+-- The blocks that the index doesn't have. If the index has none free it has one block at most, because it has room
+-- for the slots of one.
 abbrev pub seek_full : Option Acts → Loaded → P Searched
 seek_full mark l =
     or_next (first_of Unused l.inode l.index) l.index (search_full mark (most_blocks - 1 - l.index.blocks) l.inode l.index.blocks)

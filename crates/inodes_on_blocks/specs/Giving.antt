@@ -24,7 +24,7 @@ pub record KeepsRoom (h b : ℕ) (Knows Then : World → Type 0) : Type 0 where
   pub gives : GivesRoom h b Knows
   pub put : (bytes : List ℕ) (r : World) → Knows r → Then (world_with h b bytes r)
 
--- What changed of a hart's, from v to w, after it gave block b of inode n back: its other inodes and n's record stay,
+-- What changed of a hart's, from v to w, after it gave block b of inode n back. Its other inodes and n's record stay,
 -- and n's other blocks.
 pub record GaveBlock (h n b : ℕ) (v w : World) : Type 0 where
   pub inodes : (i : ℕ) → i ≢ n → lock_holder i (tables_of v) ≡ Some h → KeepsInode h i v w

@@ -13,8 +13,8 @@ pub record HasBuffer (h b : ℕ) (bytes : List ℕ) (w : World) : Type 0 where
   pub holder : holder_of b (log_of w).seats ≡ Some h
   pub has : kept b (log_of w).seats ≡ Some bytes
 
--- Nothing of the hart's changed but block b's buffer: its locks and what those inodes hold, its other buffers, its
--- transaction, its commit, its new inodes.
+-- Nothing of the hart's changed but block b's buffer. Its locks and what those inodes hold stay, and its other
+-- buffers, transaction, commit and new inodes.
 pub record SameBut (h b : ℕ) (v w : World) : Type 0 where
   pub inodes : (i : ℕ) → lock_holder i (tables_of v) ≡ Some h → KeepsInode h i v w
   pub no_more : (i : ℕ) → lock_holder i (tables_of w) ≡ Some h → lock_holder i (tables_of v) ≡ Some h

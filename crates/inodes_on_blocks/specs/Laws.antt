@@ -61,7 +61,7 @@ ChangesMayEnd =
     → g.changing i ≡ Some h → 1 ≤ i → i < sizes.ninodes → HoldsAt (shown contents seats sizes) g.owner i v
     → AreOnBlocks contents seats sizes members (record g { nodes = put g.nodes i v; changing = put g.changing i None })
 
--- A disk with a well-formed image and nothing in its log, of which the cache has nothing else: its nodes are on the
+-- A disk with a well-formed image and nothing in its log, of which the cache has nothing else. Its nodes are on the
 -- seen blocks, and nobody is changing one.
 abbrev pub MountedNodesAreOnBlocks : Type 0
 MountedNodesAreOnBlocks =

@@ -26,14 +26,14 @@ abbrev pub if_last : ℕ → Option Acts → Option Acts
 if_last zero mark = mark
 if_last (suc n) mark = None
 
--- It acts as a block is looked through: if a free inode is picked, if one has no place, and in the last block if
--- there is none.
+-- It acts as a block is looked through. That is if a free inode is picked, if one has no place, and in the last block
+-- if there is none.
 abbrev pub claim_mark : (inode_type : InodeType) → (above.ClaimResult → Option above.Mark) → ℕ → steps.ClaimResult → Option Acts
 claim_mark inode_type m n (steps.Claims i) = acts (Claim inode_type) (above.Picks i) m
 claim_mark inode_type m n steps.NoPlace = acts (Claim inode_type) (above.RoomFor 0) m
 claim_mark inode_type m n steps.NoInode = if_last n (acts (Claim inode_type) above.Room m)
 
--- The inode's record goes into the block with its type; or the block is given back as it was; or it was given back,
+-- The inode's record goes into the block with its type. Or the block is given back as it was; or it was given back,
 -- and it goes on.
 abbrev pub claim_in : P (Handover above.ClaimResult Carry) → ℤ → (b : ℕ) → List ℕ → Carry → steps.ClaimResult
     → P (Handover above.ClaimResult Carry)

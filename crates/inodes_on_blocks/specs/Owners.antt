@@ -3,8 +3,8 @@ use Rattle.std.specs.Prelude.{ℕ, List, [], Bool, false, ◌&&◌, ◌||◌, no
 use Rattle.inodes_on_blocks.specs.Vocabulary.{is_marked, named_by, last, is_hart}
 use Rattle.inodes_on_blocks.specs.Holds.{owner_upto}
 
--- by block: the inode whose it is; whether its bit is set though it is no inode's; and the hart that has set that,
--- until an inode names the block
+-- By block: the inode whose it is, and whether its bit is set though it is no inode's. Then the hart that has set
+-- that, until an inode names the block.
 pub record Owners : Type 0 where
   pub owner : ℕ → ℕ
   pub left : ℕ → Bool

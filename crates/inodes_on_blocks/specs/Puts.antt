@@ -1,5 +1,5 @@
--- A put of one block of a disk that holds nodes, by what is put; what it leaves; and an inode that is being changed,
--- before it is put.
+-- A put of one block of a disk that holds nodes, by what is put, and what it leaves. Then an inode that is being
+-- changed, before it is put.
 use Rattle.std.specs.Prelude.{◌≡◌, ◌≢◌, ℕ, suc, ◌+◌, ◌*◌, ◌/◌, ◌%◌, ◌<◌, ◌≤◌, ◌==◌, Bool, List, ◌∷◌, ◌++◌, take, drop, filter, length, slice_index, slice_set, All, Option, if◌then◌else◌}
 use Rattle.inodes_on_blocks.specs.Vocabulary.{Dinode, Dirent, block_len, dirent_len, dirents_per_block, inodes_per_block, overwrite, dinode_at, numbers_in, IsDirent, spell_dirent, recovered, sizes_of, DirectorySlot as Slot, Node, put, IsOnce, direct, inode_of, is_block, numbers_of, block_number, IsData, is_marked}
 use Rattle.inodes_on_blocks.specs.Holds.{HasContent, HasRoom, IsInode, IsOwned, NamesOwned, MarksBlocks, MarksNoOthers}

@@ -41,8 +41,8 @@ pub record IsChanging (h n : ℕ) (g : above.World) : Type 0 where
 
 -- ---- the laws
 
--- A put that leaves the others' inodes so may be made, shows the same world above, in which the inode is being
--- changed, and keeps what is another hart's.
+-- A put that leaves the others' inodes so may be made, and keeps what is another hart's. It shows the same world
+-- above, in which the inode is being changed.
 abbrev pub RecordedPutsKeep : Type 0
 RecordedPutsKeep =
     (h b n : ℕ) (bytes : List ℕ) (r : World) (g : above.World) (x : Outside) → Shows r g → IsChanging h n g → CanPut h b bytes (log_of r)

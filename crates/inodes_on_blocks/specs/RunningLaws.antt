@@ -41,8 +41,8 @@ ChangesMayEnd =
     → IsRunning disk nodes owner left changing joined → HoldsAt disk owner i (nodes i)
     → IsRunning disk nodes owner left (put changing i None) joined
 
--- A put for an inode that is being changed keeps all this: of its data block, of itself, of a bit for a block that it
--- takes or gives back.
+-- A put for an inode that is being changed keeps all this. It is a put of its data block, of itself, or of a bit for
+-- a block that it takes or gives back.
 abbrev pub PutsKeepRunning : Type 0
 PutsKeepRunning =
     (disk new : List (List ℕ)) (nodes : Nodes) (owner owner' : ℕ → ℕ) (left : ℕ → Bool) (changing : ℕ → Option ℕ) (joined : ℕ → Bool)

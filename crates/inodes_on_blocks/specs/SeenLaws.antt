@@ -19,8 +19,8 @@ SeenDisksStay =
     (sizes : Super) (see now : ℕ → List ℕ) (n : ℕ) → AreSeen sizes see n → AreSeenAlike sizes see now n
     → AreSeen sizes now n × (seen_blocks sizes now n ≡ seen_blocks sizes see n)
 
--- A disk that recovery would leave as it is seen is a well-formed image just if the seen disk is one, and of the same
--- tree.
+-- A disk that recovery would leave as it is seen is a well-formed image just if the seen disk is one. Both are images
+-- of the same tree then.
 abbrev pub RecoveredDisksAreImages : Type 0
 RecoveredDisksAreImages =
     (sizes : Super) (see : ℕ → List ℕ) (disk : List (List ℕ)) → AreSeen sizes see (length disk) → IsRecoveredSo sizes see disk

@@ -21,8 +21,8 @@ recorded_blocks l = record { Spent = Spent; after = spent_after; Allowed = λ s.
 abbrev pub NoMore : Spent → Spent → Type 0
 NoMore s t = (l : LogPart) → used l s ≤ used l t
 
--- if s was spent before the step, r is after it: a block that s names is recorded, or one more; a transaction begins
--- with nothing
+-- If s was spent before the step, r is after it. A block that s names is recorded, or one more; a transaction begins
+-- with nothing.
 abbrev pub LeadsTo : Super → Spent → steps.Op → Spent → Type 0
 LeadsTo sizes s (steps.Put b (Some bytes)) r = (IsSpent sizes s b × (r ≡ s)) ⊎ (r ≡ with_contents 1 s)
 LeadsTo sizes s steps.Join r = r ≡ unspent

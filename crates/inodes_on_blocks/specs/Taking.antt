@@ -30,7 +30,7 @@ abbrev pub TookOne : Super → ℕ → Spent → Option ℕ → World → Type 0
 TookOne sizes h s None r = HasSpent sizes h s r
 TookOne sizes h s (Some b) r = HasTaken sizes h b r × HasSpent sizes h (with_contents 1 s) r
 
--- The program that takes a block does so for an inode that the hart is changing, whatever the other harts do; or no
+-- The program that takes a block does so for an inode that the hart is changing, whatever the other harts do. Or no
 -- block is free. What its transaction has spent must have the bitmap and be less than ten blocks. No operation acts
 -- above.
 abbrev pub BlocksAreTaken : Type 0

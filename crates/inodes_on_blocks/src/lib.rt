@@ -1,7 +1,8 @@
-//! The nodes of a running file system on the blocks that its log shows: what always holds of them, and which puts and
-//! calls of the log keep it. They are a well-formed image of the tree whenever no transaction is outstanding.
+//! The nodes of a running file system on the blocks that its log shows. The laws say what always holds of them, and
+//! which puts and calls of the log keep it. They are a well-formed image of the tree whenever no transaction is
+//! outstanding.
 //!
-//! Beside them the tables that all harts share, each step of which is an operation on whole inodes, and the laws that
+//! Beside them are the tables that all harts share, each step of which is an operation on whole inodes. Other laws
 //! join images and plain trees. The functions do nothing: each carries a law.
 #![tactic(auto)]
 
@@ -71,8 +72,8 @@ pub fn mounts_show_their_trees()
     ensures { MountsShowTheirTrees }
 {}
 
-/// Whenever nobody is in a transaction the seen blocks are an image of the tree above, and so is each disk that
-/// recovery would leave so.
+/// Whenever nobody is in a transaction the seen blocks are an image of the tree above. So is each disk that recovery
+/// would leave so.
 pub fn quiet_worlds_are_images()
     ensures { QuietWorldsAreImages }
 {}
@@ -149,7 +150,7 @@ pub fn descriptors_are_doubled()
     ensures { DescriptorsAreDoubled }
 {}
 
-/// A descriptor is shut, and its open file goes with the last one that names it, of any hart, or is on its way to one.
+/// A descriptor is shut. Its open file goes with the last one that names it, of any hart, or is on its way to one.
 pub fn descriptors_are_shut()
     ensures { DescriptorsAreShut }
 {}
@@ -205,8 +206,8 @@ pub fn trees_of_images_are_well_formed()
     ensures { TreesOfImagesAreWellFormed }
 {}
 
-/// A disk that holds the nodes of a running tree passes the twelve checks, and its tree has just the live ones: the
-/// named part of the running tree.
+/// A disk that holds the nodes of a running tree passes the twelve checks. Its tree has just the live ones: the named
+/// part of the running tree.
 pub fn held_trees_are_images()
     ensures { HeldTreesAreImages }
 {}

@@ -9,8 +9,8 @@ ghost use Rattle.inodes_on_blocks.specs.Making.{claim, HasInodes, IsMade};
 ghost use Rattle.inodes_on_blocks.specs.Spending.{DoesItWithin};
 
 /// A new inode is taken when a block of the table is looked through. There the first free one without a reference is
-/// the hart's, and then its record is put with its type, of which nothing is seen above. Or there is no place for it
-/// in memory; or, in the last block, there is none.
+/// the hart's. Then its record is put with its type, of which nothing is seen above. Or there is no place for it in
+/// memory; or, in the last block, there is none.
 pub fn claims_act_once()
     ensures { (sizes : Super) (inode_type : InodeType) → IsMade inode_type → HasInodes sizes
         → DoesItWithin sizes (Claim inode_type) (claim sizes inode_type) }

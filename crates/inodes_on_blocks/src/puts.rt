@@ -52,8 +52,8 @@ pub fn empty_inodes_are_laid_out()
     ensures { EmptyInodesAreLaidOut }
 {}
 
-/// Bytes that are put into a block of a file are bytes of its node: within its size, or from it on, over which it
-/// grows.
+/// Bytes that are put into a block of a file are bytes of its node. They are within its size, or from it on, and then
+/// it grows.
 pub fn bytes_can_be_put()
     ensures { BytesCanBePut }
 {}

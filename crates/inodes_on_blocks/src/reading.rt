@@ -6,8 +6,8 @@ ghost use Rattle.inodes_on_blocks.specs.Vocabulary.{Super, Query, Take, StatFile
 ghost use Rattle.inodes_on_blocks.specs.Reading.{stat_file, take};
 ghost use Rattle.inodes_on_blocks.specs.Acting.{DoesItAt};
 
-/// What a descriptor names is locked, read from its block if it isn't loaded, and answers its state: of the moment at
-/// which the lock was taken.
+/// What a descriptor names is locked, and read from its block if it isn't loaded. It answers its state of the moment
+/// at which the lock was taken.
 pub fn stats_act_once()
     ensures { (sizes : Super) (fd : ℕ) → DoesItAt sizes (StatFile fd) (stat_file sizes fd) }
 {}

@@ -5,7 +5,7 @@ ghost use Rattle.inodes_on_blocks.specs.Recording.{BitmapsPutBits, ClearedBitsLe
 ghost use Rattle.inodes_on_blocks.specs.Giving.{BlocksAreGivenBack, NumbersAreGivenBack};
 ghost use Rattle.inodes_on_blocks.specs.Taking.{BlocksAreTaken};
 
-/// A block that is recorded for an inode, whose lock the hart has, in its transaction, leaves the others theirs and
+/// A block is recorded for an inode whose lock the hart has, in its transaction. That leaves the others theirs and
 /// the world above as it is shown.
 pub fn recorded_puts_keep()
     ensures { RecordedPutsKeep }
@@ -57,7 +57,7 @@ pub fn numbers_are_given_back()
     ensures { NumbersAreGivenBack }
 {}
 
-/// A block is taken for the inode whatever the other harts do: it is the hart's, of zeros, until a record names it;
+/// A block is taken for the inode whatever the other harts do. It is the hart's, of zeros, until a record names it;
 /// or none is free.
 pub fn blocks_are_taken()
     ensures { BlocksAreTaken }

@@ -1,4 +1,4 @@
-//! Laws of the disk as it is seen while a log runs: by them what is said of puts on a disk is said of what a log
+//! Laws of the disk as it is seen while a log runs. By them what is said of puts on a disk is said of what a log
 //! makes seen.
 
 ghost use Rattle.inodes_on_blocks.specs.SeenLaws.{RecoveredDisksAreImages, SeenDisksAreGood, SeenDisksStay, SeenPutsArePuts};
@@ -19,8 +19,8 @@ pub fn seen_disks_stay()
     ensures { SeenDisksStay }
 {}
 
-/// A disk that recovery would leave as it is seen is a well-formed image just if the seen disk is one, and of the
-/// same tree.
+/// A disk that recovery would leave as it is seen is a well-formed image just if the seen disk is one. Both are
+/// images of the same tree then.
 pub fn recovered_disks_are_images()
     ensures { RecoveredDisksAreImages }
 {}

@@ -1,4 +1,4 @@
-//! Operations on whole inodes that put records, as programs below: each acts at one moment, whatever the other harts
+//! Operations on whole inodes that put records, as programs below. Each acts at one moment, whatever the other harts
 //! do, if the hart's transaction has room for what they record.
 
 ghost use Rattle.std.specs.Prelude.{ℕ};

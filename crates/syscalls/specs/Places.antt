@@ -8,7 +8,7 @@ abbrev pub call_at : Bool → Running → Option Running
 call_at true m = Some m
 call_at false m = None
 
--- A call has begun there, on a disk of these sizes: all of its program is left, it has nothing in hand, and it asks
+-- A call has begun there, on a disk of these sizes. All of its program is left, it has nothing in hand, and it asks
 -- its first operation.
 abbrev pub HasBegun : Super → Call → Option Running → Type 0
 HasBegun sizes call None = ⊥
@@ -27,8 +27,8 @@ abbrev pub KeepsLast : SteppedInPlace Reply Kind → Option Heard → Option Hea
 KeepsLast (Done reply kind) was last = Unit {0}
 KeepsLast result was last = last ≡ was
 
--- What a step says. If it ran, it says what TellsOf has. If the call has replied, it also says that what the call heard
--- is left here. Any other step leaves all as it was.
+-- What a step says. If it ran, it says what TellsOf has. If the call has replied, it also says that what it heard is
+-- left here. Any other step leaves all as it was.
 abbrev pub TellsStep : ℕ → Running → SteppedInPlace Reply Kind → Running → Option Heard → (old new : State) → Type 0
 TellsStep hart m Waits left last old new = (left.control ≡ m.control) × (left.hand ≡ m.hand)
 TellsStep hart m (Ran kind) left last old new = TellsOf hart m None left old new

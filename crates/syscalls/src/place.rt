@@ -22,7 +22,7 @@ use std::alloc::{AllocError, AllocFailed, Global};
 use std::marker::Model;
 
 /// The place of a hart's call. It is idle, or a call is under way there, with the part of its present operation and
-/// all that its hart has in hand. The memory for that is taken once: to begin a call takes none, and a call that has
+/// all that its hart has in hand. The memory for that is taken once. To begin a call takes none, and a call that has
 /// replied leaves the place as it found it. A contract sees the call under way, if one is.
 ///
 /// Code that lets a place go doesn't compile: an idle one is ended, or any after all that harts share has ended.
@@ -44,8 +44,8 @@ impl Model for CallPlace {
     ghost invariant = { λ p. p.is_busy ≡ false → IsEmpty p.machine.value.hand };
 }
 
-// A call under way takes less than this number of bytes, beside those of its call, of its list and of the buffers and
-// inodes that it holds.
+// A call under way takes less than this number of bytes. The bytes of its call, of its list and of the buffers and
+// inodes that it holds don't count.
 const MOST_BYTES: usize = 1024;
 
 const _: () = prove!(size_of::<Machine<Lowered>>() < MOST_BYTES);
