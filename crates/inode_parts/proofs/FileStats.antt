@@ -1,4 +1,4 @@
--- What a descriptor names locked, to tell its state: the operation is its part, and what is heard of it.
+-- What a descriptor names locked, to answer its state: the operation is its part, and what is heard of it.
 use Rattle.inode_parts.proofs.Vocabulary.{◌≡◌, ℕ, List, Some, None, refl, sym, ap, subst, ◌∙◌, Loaded, Super, Ret, Do, bind, plain, unmarked, LockedState, Refuses, Locks, Refused, inode_at, Hand, InodePlace, loaded_in, load_locked, lock_file_loaded, file_left, file_seat, HasFile, HeldFile, LockFile, NothingMore, Carry, Has, stat_loaded, stat_locked, put, Face, carry_in, handed, with_note, face_by, stat_ends, other, answer_by, IsPart, beside_in, Notes}
 use Rattle.fs_machine.specs.declared.files.Want.TheVariants as want
 use Rattle.fs_machine.specs.Machines as code

@@ -25,7 +25,7 @@ IsAmid n start k now = (k ≡ seat_of_lock n start) × HasNoBuffer start × (bes
 abbrev pub loads : Loaded → GuardState Inode → GuardState Inode
 loads l g = record g { value = record g.value { content = Some l } }
 
--- this is loaded of the inode at a seat from now on
+-- this is loaded of the inode at a seat from here on
 abbrev pub with_loaded : InodePlace → Loaded → Hand → Hand
 with_loaded k l h = with_inode k (option_map (loads l) (inode_at k h)) h
 

@@ -1,4 +1,4 @@
--- What a step of a call tells: how the part of its operation goes on, and what the call hears at its end.
+-- What a step of a call says: how the part of its operation goes on, and what the call hears at its end.
 use Rattle.std.specs.Prelude.{◌≡◌, Bool, true, false, Option, Some, None}
 use Rattle.inode_parts.specs.Vocabulary.{Reply, reply_to, call_in, Ret, Goes, Handover, Hand, Super, Carry, HasRoomFor, text_in, whole_of, Heard}
 use Rattle.fs_machine.specs.Steps as steps

@@ -1,4 +1,4 @@
-//! What the answers of operations below tell of those on whole inodes.
+//! What the answers of operations below say of those on whole inodes.
 ghost use Rattle.std.specs.Prelude.{◌≡◌};
 ghost use Rattle.inode_parts.specs.Vocabulary.{doubled_by, given_by, joined_by, number_by, refused_by, shut_by, cause_if, cause_of, doubled_to, old_directory, shut_to};
 ghost use Rattle.inode_parts.specs.OneSteps.{joining_heard, loan_heard};

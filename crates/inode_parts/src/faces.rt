@@ -1,4 +1,4 @@
-//! What an inode's record tells.
+//! What an inode's record says.
 ghost use Rattle.std.specs.Prelude.{◌≡◌, ◌<◌, ◌^◌, IfSome};
 ghost use Rattle.inode_parts.specs.Vocabulary.{natural};
 ghost use Rattle.inode_parts.specs.Faces.{face_by, face_unless_free, type_by_number};
@@ -39,7 +39,7 @@ pub(crate) fn face(inode: &Dinode) -> Face
     }
 }
 
-/// Its type, count and size; a free one tells nothing.
+/// Its type, count and size; a free one says nothing.
 pub(crate) fn face_unless_free(inode: &Dinode) -> Option<Face>
     ensures is { result ≡ face_unless_free inode.now }
     ensures few { IfSome result (λ f. f.count < 2 ^ 15) }

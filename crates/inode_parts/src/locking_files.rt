@@ -1,4 +1,4 @@
-//! Operations that lock what a descriptor names, each as a part: to write it, to read it, and to tell its state.
+//! Operations that lock what a descriptor names, each as a part: to write it, to read it, and to answer its state.
 ghost use Rattle.std.specs.Prelude.{ℕ};
 ghost use Rattle.inode_parts.specs.Vocabulary.{LockOpen as LocksOpen, LockFile as Locks, Stats};
 ghost use Rattle.inode_parts.specs.Starts.{HasStarted};

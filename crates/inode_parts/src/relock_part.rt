@@ -21,7 +21,7 @@ use path_walk::{Heard, Sight};
 /// The lock of the first listed inode is taken, and the reference to it moves to a seat.
 #[derive(Clone, Copy, Drop)]
 pub enum RelockPart {
-    /// They come to this seat, on a disk whose inode blocks begin there.
+    /// They go to this seat, on a disk whose inode blocks begin there.
     Locking(InodePlace, u32),
     /// The inode is loaded.
     Loading(LockInode),

@@ -23,7 +23,7 @@ module _ (U : Machine) (R : LowerLayer U.World) (above : Laws U) (below : LowerL
       ⊎ ((y : U.Outside) × (b : U.Answer op) × (g : U.World) × (mark ≡ acts y) × (U.go h y op m v.seen ≡ Ran b g) × U.Honest h op v.seen y × (U.Inv g → R.Shows r g) × ((other : ℕ) → other ≢ h → R.Same other v.real r) × ((gs : List U.Step) → U.Inv g → C b gs g → N gs r g))
 
   module _ {A : Type 0} (Q : A → List U.Step → W → Type 0) (n : ℕ) (v : W) (fs : List U.Step) (here : Todo fs v.seen) (inv : U.Inv v.seen) (r : R.World) (p : P (joined U R) A) where
-    -- what is to be shown of it, by its mark
+    -- what must be shown of it, by its mark
     abbrev IsFine : Option (ActOf U) → Type 0
     IsFine t = Fine (joined U R) h (act_places U h t v.seen) 0 (suc n) B fs v (record { real = r; seen = seen_after U h t v.seen }) (λ l. Wp (joined U R) h B Q p l (onto (own h (act_places U h t v.seen)) fs) (record { real = r; seen = seen_after U h t v.seen }))
 

@@ -67,7 +67,7 @@ module _ (sizes : Super) (l : Labels) (laws : Laws (labelled l)) (keeps : Keeps 
       next : BlockInHand → P M A
       next f = bind (or_next (found_in aim d k f.bytes) (raised d k f.bytes x) (search_from n aim d (k + 1))) g
 
-  -- the inode as it was when the lock was had, with an index
+  -- the inode as it was when the lock was taken, with an index
   abbrev with_it : IndexState → Loaded
   with_it x = record { inode = d; index = x }
 

@@ -37,7 +37,7 @@ one_block slot =
     let some : nat_lt (dirent_len * slot) (dirent_len * slot + dirent_len) ≡ true = grind (arith, nat_tests) in
     ap (λ (t : Bool). if t then ((dirent_len * slot + dirent_len - 1) / block_len + 1) - dirent_len * slot / block_len else 0) some ∙ (let e : ((dirent_len * slot + dirent_len - 1) / block_len + 1) - dirent_len * slot / block_len ≡ 1 = omega arith in e)
 
--- a free slot that the index tells is one of the directory's
+-- a free slot that the index finds is one of the directory's
 abbrev slot_or : ℕ → Option Found → ℕ
 slot_or count None = count
 slot_or count (Some f) = f.slot

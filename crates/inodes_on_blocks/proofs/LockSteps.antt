@@ -32,7 +32,7 @@ ran_is {A} b d g u p q = same (sym p ∙ q)
     same : ◌≡◌ {A = ExecResult A above.World} (Ran b g) (Ran b u) → g ≡ u
     same e = cc e
 
--- a cause that the tables tell comes back
+-- a cause that the tables answer comes back
 read_back : (e : Option Entry) (k : Cause) → read_refused e ≡ Some k → cause_of (refused_as k) ≡ k
 read_back None k q = subst (λ (z : Cause). cause_of (refused_as z) ≡ z) (same_Some _ k q) refl
 read_back (Some e) k q = mode e.file.readable e.inode_type k q

@@ -100,7 +100,7 @@ module _ (l : Labels) (laws : Laws (labelled l)) (keeps : Keeps l) (h : ℕ) (lt
   abbrev W : Type 0
   W = Both World above.World
 
-  -- ---- a lock that was had
+  -- ---- a lock that was taken
 
   -- of an inode that has a type: its record is in hand from there on, though it may have to be read yet
   pub lock_came : (op : above.Op) (n : ℕ) (v : W) (c : Carry) (b : above.Answer op) (t : TablesState) → Shows v.real v.seen → Base h v.real v.seen c → (v.seen.desks h).lender ≡ None → 0 < v.seen.refs n
@@ -194,7 +194,7 @@ module _ (l : Labels) (laws : Laws (labelled l)) (keeps : Keeps l) (h : ℕ) (lt
         IsActing : W → ExecResult LockedState World → Type 0
         IsActing v d = Acting (labelled l) (below sizes) laws (below_laws sizes l keeps) h B (StatFile fd) m C lasts above.Room v (premises.MayWait h (LockFile want.Stat fd) v.real.state) d Next
 
-        -- by what the tables come to
+        -- by what the tables answer
         on_tables : (v : W) (x : Outside) (d : ExecResult LockedState TablesState) → lock_file h want.Stat fd (tables_of v.real) ≡ d → IsActing v (exec_result_in (with_tables v.real) d) → IsActing v (exec h x (LockFile want.Stat fd) v.real)
         on_tables v x d is acting =
             subst (λ (z : ExecResult LockedState World). IsActing v z) (sym (in_tables_is h (LockFile want.Stat fd) v.real (λ a o. refl) (λ s. refl) (λ a l. refl) (lock_file h want.Stat fd (tables_of v.real)) ∙ ap (exec_result_in (with_tables v.real)) is)) acting

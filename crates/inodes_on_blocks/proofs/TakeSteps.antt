@@ -196,7 +196,7 @@ module _ (l : Labels) (laws : Laws (labelled l)) (keeps : Keeps l) (h : ℕ) (lt
     on_tables v x d is acting =
         subst (λ (z : ExecResult (Option Loaded) World). IsActing v z) (sym (in_tables_is h (Lock n) v.real (λ a o. refl) (λ s. refl) (λ a l. refl) (lock_inode h n (tables_of v.real)) ∙ ap (exec_result_in (with_tables v.real)) is)) acting
 
-    -- the lock was had
+    -- the lock was taken
     loads : (v : W) → Shows v.real v.seen → v.seen.lock n ≡ None → v.real.new n ≡ None → 0 < v.seen.refs n → v.seen.disk n ≢ None → (u : TablesState) (g : above.World)
         → tables.Shows u (locked h n v.seen) (put (loaded (tables_of v.real)) n None)
         → Stands sizes h (with_tables v.real u) g (put c n (Has (loads_of v.real n) NothingMore)) → (gs : List l.Step) → g.disk n ≡ v.seen.disk n → C (seen_in n looking (v.seen.disk n)) gs g

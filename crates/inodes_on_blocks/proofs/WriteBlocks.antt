@@ -48,7 +48,7 @@ part_makes h n at z count bytes cur c o some start limit d b old r g shows chang
       bytes = ap (recovered new) number ∙ made.now ∙ ap (λ (xs : List ℕ). overwrite xs (at % block_len) front) (sym (ap (recovered disk) number ∙ made.was));
     }
 
--- ---- what the parts come to
+-- ---- what the parts are together
 
 -- the first part, and k bytes after it
 front_then : (at k : ℕ) (bytes : List ℕ) → front_of at bytes ++ take k (drop (length (front_of at bytes)) bytes) ≡ take (length (front_of at bytes) + k) bytes

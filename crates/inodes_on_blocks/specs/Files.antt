@@ -40,6 +40,6 @@ give_read fd n offset count m c f =
     (λ a. acts (ReadFile fd n offset count) above.Room m)
     (λ a. Ret (record { answer = f.bytes; carry = put c n Apart }))
 
--- The part is read block by block, each as it was when the lock was had.
+-- The part is read block by block, each as it was when the lock was taken.
 abbrev pub read_file : (fd n offset count : ℕ) → Handler (ReadFile fd n offset count)
 read_file fd n offset count c m = bind (read_from (record_in c n) offset count []) (give_read fd n offset count m c)

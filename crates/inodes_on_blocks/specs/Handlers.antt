@@ -51,7 +51,7 @@ abbrev pub had_of : Option Loaded → Had
 had_of None = Apart
 had_of (Some l) = Has l NothingMore
 
--- the lock of inode n, that is to be freed, came into hand
+-- the lock of inode n, which must be freed, came into hand
 abbrev pub with_dying : ℕ → Carry → DroppedState → Carry
 with_dying n c Counts = c
 with_dying n c Keeps = c

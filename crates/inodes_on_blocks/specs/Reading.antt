@@ -7,7 +7,7 @@ use Rattle.fs_machine.specs.declared.files.Want.TheVariants as want
 use Rattle.inode_machine.specs.World as above
 use Rattle.inodes_on_blocks.specs.Basics.{P, Handler, acts, Knowledge, NothingMore, Finds, Has, Carry}
 
--- ---- what a record tells
+-- ---- what a record says
 
 -- its type, by its number; a device's with the major
 abbrev pub inode_type_at : (kind major : ℤ) → InodeType
@@ -20,7 +20,7 @@ natural (negsuc n) = 0
 abbrev pub face_in : Dinode → Face
 face_in d = record { inode_type = inode_type_at d.kind d.major; count = natural d.nlink; size = d.size }
 
--- ---- a descriptor's inode, locked to tell its state
+-- ---- a descriptor's inode, locked to answer its state
 
 -- the record in hand, and the answer by it
 abbrev pub stat_loaded : Carry → (n : ℕ) → Loaded → P (Handover (Option (ℕ × Face)) Carry)

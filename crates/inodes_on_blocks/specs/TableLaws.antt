@@ -103,7 +103,7 @@ DescriptorsNameFiles =
     × (refusal_of want.Read (file_named h fd t) ≡ option_map refused_as (read_refused (entry_of w h fd)))
     × (refusal_of want.Write (file_named h fd t) ≡ option_map refused_as (write_refused (entry_of w h fd)))
 
--- The lock of the inode that a descriptor names is tried, to tell its state.
+-- The lock of the inode that a descriptor names is tried, to answer its state.
 abbrev pub FitsStat : (load : ℕ → Option Loaded) → Option Entry → LockedState → Type 0
 FitsStat load None a = a ≡ Refuses refused.BadDescriptor
 FitsStat load (Some e) a = a ≡ Locks (file_of e) (load e.file.number)

@@ -23,6 +23,6 @@ abbrev pub lacks_place_at : Option Running → Bool
 lacks_place_at None = false
 lacks_place_at (Some m) = lacks_place m.control
 
--- what a step of it that ran tells; the call may have ended
+-- what a step of it that ran says; the call may have ended
 abbrev pub TellsOf : ℕ → Running → Option (Unit {0}) → Running → (old new : State) → Type 0
 TellsOf hart m out left = TellsBy lowered_left LoweredTells hart m.control m.hand out left.control left.hand
