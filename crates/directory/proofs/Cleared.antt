@@ -1,4 +1,4 @@
--- A slot is free exactly where it is all zeros.
+-- A slot is free exactly if it is all zeros.
 use Rattle.directory.proofs.Vocabulary.{One, ◌≡◌, ℕ, ◌+◌, ◌*◌, ◌<◌, true, ◌==◌, List, length, replicate, Option, Some, None, refl, sym, ap, ◌∙◌, arith, and_parts, eqb-true, same_from_decides, Dirent, Free, Used, record_at, IsBytes, dirent_of, dirent_at, dirent_of-spell, spell-dirent_of, is_free, is_clear, u64_at, block_len, dirent_len, dirents_per_block}
 use Rattle.directory.proofs.OneSlot.{slot_in, zeros_at}
 use Rattle.directory.proofs.Words.{same_row, u64_at-part}

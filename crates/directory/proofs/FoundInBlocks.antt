@@ -41,7 +41,7 @@ module _ (aim : Aim) (slots : ℕ → Option Dirent) where
   abbrev is_at : ℕ → Bool
   is_at s = is_sought aim s (slots s)
 
-  -- where none is sought before mid
+  -- if none is sought before mid
   pub behind_none : (lo mid hi : ℕ) (o : Option Found) → lo ≤ mid → mid ≤ hi → ((s : ℕ) → lo ≤ s → s < mid → is_at s ≡ false) → IsBetween aim slots mid hi o → IsBetween aim slots lo hi o
   behind_none lo mid hi o l h none rest = joins o rest
     where
@@ -52,11 +52,11 @@ module _ (aim : Aim) (slots : ℕ → Option Dirent) where
       joins None f = λ s a b. below s a (λ c. f s c b)
       joins (Some f) g = (omega (arith, g.0), g.1, g.2, g.3, λ s a b. below s a (λ c. g.4 s c b))
 
-  -- where it was found before mid
+  -- if it was found before mid
   pub before_mid : (lo mid hi : ℕ) (f : Found) → mid ≤ hi → IsBetween aim slots lo mid (Some f) → IsBetween aim slots lo hi (Some f)
   before_mid lo mid hi f h g = (g.0, omega (arith, g.1), g.2, g.3, g.4)
 
-  -- where nothing stands between
+  -- if nothing is between
   pub widen : (lo mid hi : ℕ) (o : Option Found) → lo ≤ mid → ((s : ℕ) → lo ≤ s → s < mid → s < hi → ⊥) → IsBetween aim slots mid hi o → IsBetween aim slots lo hi o
   widen lo mid hi None l gap f = λ s a b. ⊎_elim (λ (c : s < mid). absurd (gap s a c b)) (λ (c : mid ≤ s). f s c b) (cases_lt s mid)
   widen lo mid hi (Some f) l gap g =

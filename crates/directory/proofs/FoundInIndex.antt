@@ -9,7 +9,7 @@ use Rattle.directory.proofs.Listed.{Listed, over, passed, here, listed_upto, lis
 module _ (aim : Aim) (slots : ℕ → Option Dirent) (pick : IndexedSlot → Bool)
     (same : (e : IndexedSlot) → dirent_of e.bytes ≡ slots e.place → is_used (slots e.place) ≡ true → pick e ≡ is_sought aim e.place (slots e.place))
     (unused : (s : ℕ) → is_used (slots s) ≡ false → is_sought aim s (slots s) ≡ false) where
-  -- slot s isn't sought, and those behind it are as this says
+  -- slot s isn't sought, and those after it are as this says
   step_on : (s n : ℕ) (o : Option Found) → is_sought aim s (slots s) ≡ false → IsBetween aim slots (s + 1) (s + 1 + n) o → IsBetween aim slots s (s + suc n) o
   step_on s n o none rest =
       let e : s + 1 + n ≡ s + suc n = omega arith in
@@ -42,7 +42,7 @@ module _ (aim : Aim) (slots : ℕ → Option Dirent) (pick : IndexedSlot → Boo
 
 -- ---- free slots
 
--- the slots from s up to g are used, and g isn't, where it is one of the n
+-- the slots from s up to g are used, and g isn't, if it is one of the n
 record Gap (slots : ℕ → Option Dirent) (s n g : ℕ) : Type 0 where
   low : s ≤ g
   high : g ≤ s + n
@@ -115,7 +115,7 @@ and_true : (a b : Bool) → b ≡ true → a ≡ (a && b)
 and_true true b h = sym h
 and_true false b h = refl
 
--- all of them stand before mid
+-- all of them are before mid
 narrow : (aim : Aim) (slots : ℕ → Option Dirent) (lo mid hi : ℕ) (o : Option Found) → mid ≤ hi
     → ((s : ℕ) → s < hi → is_sought aim s (slots s) ≡ true → s < mid) → IsBetween aim slots lo hi o → IsBetween aim slots lo mid o
 narrow aim slots lo mid hi None h before f = λ s a b. f s a (omega arith)
@@ -171,7 +171,7 @@ module _ (d : Dinode) (x : IndexState) (slots : ℕ → Option Dirent) (right : 
       by_test Entry (λ e. nat_le 2 e.place) (λ e h u. and_true (nat_le 2 e.place) (is_used (slots e.place)) u)
       (λ s u. and_right (nat_le 2 s) (is_used (slots s)) u) (λ s h. (and_parts (nat_le 2 s) (is_used (slots s)) h).1)
 
--- ---- where none is free
+-- ---- if none is free
 
 pub none_free : (limit s : ℕ) → free_below limit s ≡ None → limit ≤ s
 none_free limit s h =

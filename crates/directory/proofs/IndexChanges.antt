@@ -11,7 +11,7 @@ pub index_none : (read : ℕ → Option Dirent) → IsIndex no_index read
 unfolding IsIndex used_upto
 index_none read = (refl, omega arith)
 
--- where so many slots are read alike
+-- if n slots are read alike
 same_upto : (read now : ℕ → Option Dirent) (n : ℕ) → ((q : ℕ) → q < n → now q ≡ read q) → used_upto read n ≡ used_upto now n
 unfolding used_upto
 same_upto read now zero same = refl

@@ -11,7 +11,7 @@ abbrev pub else_searched : Option Found → IndexState → (IndexState → Searc
 else_searched (Some f) x next = record { found = Some f; index = x }
 else_searched None x next = next x
 
--- what is found in so many blocks from block k on, and the index as it is then
+-- what is found in this number of blocks from block k on, and the index as it is then
 unfoldable pub searched_from : ℕ → Aim → Dinode → (ℕ → List ℕ) → ℕ → IndexState → Searched
 searched_from zero aim d content k x = record { found = None; index = x }
 searched_from (suc n) aim d content k x = else_searched (found_in aim d k (content k)) (raised d k (content k) x) (searched_from n aim d content (k + 1))
@@ -103,7 +103,7 @@ module _ (content : ℕ → List ℕ) (d : Dinode) (slots : ℕ → Option Diren
       else_index (found_in aim d k (content k)) (raised d k (content k) x) (searched_from n aim d content (k + 1)) (raised_right k x right)
       (λ y h. index_from aim n (k + 1) y h)
 
-  -- block k, and then those behind it
+  -- block k, and then those after it
   else_found : (aim : Aim) (lo mid hi : ℕ) (o : Option Found) (x : IndexState) (next : IndexState → Searched) → lo ≤ mid → mid ≤ hi → IsBetween aim slots lo mid o
       → ((y : IndexState) → IsBetween aim slots mid hi (next y).found) → IsBetween aim slots lo hi (else_searched o x next).found
   else_found aim lo mid hi None x next l h found rest = behind_none aim slots lo mid hi (next x).found l h found (rest x)
@@ -138,7 +138,7 @@ searched_right content l slots are right aim =
       else_index content d slots are o x next right (λ y h. index_from content d slots are aim n x.blocks y h),
     )
 
--- where all slots are there and the index has none free, it has one block at most
+-- if all slots are there and the index has none free, it has one block at most
 pub few_known : (l : Loaded) → slot_count l.inode ≡ most_slots → first_of Unused l.inode l.index ≡ None → l.index.blocks ≤ 1
 unfolding first_of
 few_known l full none =

@@ -1,7 +1,7 @@
--- The used ones of a directory's slots, one behind the other.
+-- The used ones of a directory's slots, one after the other.
 use Rattle.directory.proofs.Vocabulary.{◌≡◌, ℕ, zero, suc, ◌+◌, ◌<◌, ◌≤◌, if◌then◌else◌, Bool, true, false, List, [], ◌∷◌, ◌++◌, map, Option, refl, sym, ap, ◌∙◌, subst, arith, append_assoc, append-nil, add-zero, zero-add, Dirent, dirent_of, IndexedSlot, is_used, used_upto, as_read}
 
--- these are the used ones of so many slots from s on
+-- by the slot s and a count: these are the used ones of that count of slots from s on
 pub data Listed (read : ℕ → Option Dirent) : ℕ → ℕ → List IndexedSlot → Type 0 where
   over : {s : ℕ} → Listed read s zero []
   passed : {s n : ℕ} {es : List IndexedSlot} → is_used (read s) ≡ false → Listed read (s + 1) n es → Listed read s (suc n) es
@@ -60,7 +60,7 @@ module _ (read : ℕ → Option Dirent) where
   listed_low (passed u l) = omega (arith, listed_low l)
   listed_low (here u p d l) = omega arith
 
-  -- so many slots, and so many behind them
+  -- n slots, and m after them
   pub listed_joined : {s n m at : ℕ} {es fs : List IndexedSlot} (k : ℕ) → Listed read s n es → at ≡ s + n → Listed read at m fs → k ≡ n + m → Listed read s k (es ++ fs)
   listed_joined {s = s} {m = m} {fs = fs} k over a rest e =
       let q : m ≡ k = omega arith in
@@ -73,12 +73,12 @@ module _ (read : ℕ → Option Dirent) where
       let q : suc (n + m) ≡ k = omega arith in
       subst (λ (i : ℕ). Listed read s i (f ∷ (es ++ fs))) q (here u p d (listed_joined (n + m) l (omega arith) rest refl))
 
-  -- where none is used
+  -- if none is used
   pub listed_none : (m s : ℕ) → ((q : ℕ) → s ≤ q → q < s + m → is_used (read q) ≡ false) → Listed read s m []
   listed_none zero s none = over
   listed_none (suc m) s none = passed (none s (omega arith) (omega arith)) (listed_none m (s + 1) (λ q l h. none q (omega arith) (omega arith)))
 
--- where the slots are read alike
+-- if the slots are read alike
 pub listed_alike : (read now : ℕ → Option Dirent) {s n : ℕ} {es : List IndexedSlot} → ((q : ℕ) → s ≤ q → now q ≡ read q) → Listed read s n es → Listed now s n es
 listed_alike read now same over = over
 listed_alike read now {s = s} same (passed u l) = passed (ap is_used (same s (omega arith)) ∙ u) (listed_alike read now (λ q h. same q (omega arith)) l)

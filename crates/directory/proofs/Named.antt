@@ -1,4 +1,4 @@
--- A slot compared where it stands is compared by what it is.
+-- A slot compared in its block is compared by what it is.
 use Rattle.directory.proofs.Vocabulary.{One, ◌≡◌, ◌≢◌, ℕ, ◌+◌, ◌-◌, ◌*◌, ◌<◌, ◌≤◌, true, false, not, eqb, ◌==◌, ◌&&◌, List, ◌++◌, length, drop, replicate, Option, Some, None, refl, sym, ap, ◌∙◌, subst, arith, take_all, ⊎_elim, length-append, length-drop, and_parts, cases_lt, eq-eqb, eqb-true, ne_eqb, eqb-false, not-true, same_from_decides, bytes_eq-Decides, drop_at, length-replicate, get_or_append_left, get_or-append_right, Dirent, Free, Used, u16_bytes, u16_at, record_at, IsBytes, list_all, is_zero, IsName, spell_dirent, dirent_of, used_of, free_of, dirent_at, which_branch, dirent_of-spell, spell-dirent_of, number-part, name_parts, u16_at-lt, u16_bytes-at, length-u16_bytes, is_named, field_of, has_words, u64_at, block_len, dirent_len, dirents_per_block, name_len}
 use Rattle.directory.proofs.OneSlot.{IsSlot, slot_in, field_fits, zeros_at}
 use Rattle.directory.proofs.Words.{same_row, u64_at-part, u64_at-drop}
@@ -23,7 +23,7 @@ length-field : (name : List ℕ) → length name ≤ name_len → length (field_
 unfolding field_of
 length-field name h = simp (length-append, length-replicate) (omega arith)
 
--- where the number isn't 0 and the name's field stands behind it, the slot is used by that name
+-- if the number isn't 0 and the name's field follows it, the slot is used by that name
 named_there : (bytes name : List ℕ) → IsSlot bytes → IsName name → u16_at bytes 0 ≢ 0 → drop 2 bytes ≡ field_of name → dirent_of bytes ≡ Some (Used (u16_at bytes 0) name)
 unfolding field_of
 named_there bytes name s is some field =
@@ -31,7 +31,7 @@ named_there bytes name s is some field =
     ap (λ (xs : List ℕ). u16_bytes (u16_at bytes 0) ++ xs) (sym field) ∙ u16_bytes-at bytes 0 (omega (arith, s.long)) s.fits in
     ap dirent_of (sym spelled) ∙ dirent_of-spell One (Used (u16_at bytes 0) name) (some, u16_at-lt bytes 0 s.fits, is)
 
--- and where it is used by that name, the field stands there
+-- and if it is used by that name, the field is there
 field_there : (bytes name : List ℕ) (n : ℕ) → IsSlot bytes → dirent_of bytes ≡ Some (Used n name) → drop 2 bytes ≡ field_of name
 unfolding field_of
 field_there bytes name n s e =
@@ -99,7 +99,7 @@ module _ (block name : List ℕ) (p : ℕ) (s : IsSlot (record_at dirent_len p b
   words_same front back f b =
       rw (f, b) (same_from_decides {P = is_named name (dirent_at p block) ≡ true} _ _ (by_words, by_name (dirent_at p block) refl) (λ h. h, λ h. h))
 
--- compared by the words of its name, a slot is used by this name exactly where it is
+-- compared by the words of its name, a slot is used by this name exactly if it is
 pub words_name : (block name : List ℕ) (p : ℕ) → length block ≡ block_len → IsBytes block → IsBytes name → p < dirents_per_block
     → IsName name
     → (front back : ℕ) → front ≡ u64_at (field_of name) 0 → back ≡ u64_at (field_of name) 6 → has_words front back p block ≡ is_named name (dirent_at p block)

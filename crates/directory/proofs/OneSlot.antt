@@ -27,7 +27,7 @@ slot_in block p l fits h = record {
       (cases_lt i dirent_len);
 }
 
--- the bytes behind its number
+-- the bytes after its number
 pub field_fits : (bytes : List ℕ) → IsSlot bytes → IsBytes (drop 2 bytes)
 field_fits bytes s i = omega (arith, get_or-drop 2 bytes i 0, s.fits (2 + i))
 

@@ -1,4 +1,4 @@
--- So many blocks of a directory searched, the next one first.
+-- A number of blocks of a directory searched, the next one first.
 use Rattle.directory.proofs.Vocabulary.{◌≡◌, ◌≢◌, ℕ, zero, suc, ◌+◌, ◌-◌, refl, ap, ◌∙◌, arith, bind, P, FetchedBlock, fetch_block, Dinode, Aim, IndexState, look_at, search_from}
 
 pub search_some : (aim : Aim) (d : Dinode) (k : ℕ) (x : IndexState) (n : ℕ) (p : P FetchedBlock) → n ≢ 0 → p ≡ fetch_block d k

@@ -1,4 +1,4 @@
--- What stays at the seat of a directory's lock, where all but the buffers and its index does.
+-- What stays at the seat of a directory's lock, if all but the buffers and its index does.
 use Rattle.directory.proofs.Vocabulary.{◌≡◌, Option, Some, None, refl, sym, ap, ◌∙◌, option_map, option_map_or, unwrap_or, GuardState, Inode, Loaded, Hand, InodePlace, no_inode, no_index, no_record, unindexed, indexed, loaded_of, record_in, beside_index}
 use Rattle.fs_machine.specs.declared.hand.InodePlace.TheVariants.{One, Two}
 

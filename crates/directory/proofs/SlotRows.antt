@@ -8,7 +8,7 @@ module _ (slots : List IndexedSlot) (i : ℕ) where
   abbrev at : IndexedSlot
   at = get_or slots i no_slot
 
-  -- the slot at i, and those behind it
+  -- the slot at i, and those after it
   front : i < length slots → drop i slots ≡ at ∷ drop (i + 1) slots
   front h = drop_more slots i no_slot h
 

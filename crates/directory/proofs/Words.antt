@@ -31,7 +31,7 @@ same_row n xs ys few lx ly fx fy front back =
     ap (λ (i : ℕ). get_or xs i 0) (sym e) ∙ sym (get_or-drop n xs (k - n) 0) ∙ there ∙ get_or-drop n ys (k - n) 0 ∙ ap (λ (i : ℕ). get_or ys i 0) e)
     (cases_lt k 8))
 
--- a word at a place of a part stands at the place of the whole
+-- a word at place k of a part is the whole's at place at + k
 pub u64_at-part : (bytes : List ℕ) (at n k : ℕ) → k + 8 ≤ n → u64_at (take n (drop at bytes)) k ≡ u64_at bytes (at + k)
 unfolding u64_at
 u64_at-part bytes at n k h =

@@ -32,7 +32,7 @@ pub data Aim : Type 0 where
   -- a used one past the first two
   Entry : Aim
 
--- the first such slot among the first so many of block k
+-- the first such slot among the first `limit` of block k
 abbrev pub first_in : Aim → (k limit : ℕ) → List ℕ → Option ℕ
 first_in (Named name) k limit block = first_named name limit block
 first_in Unused k limit block = first_free limit block

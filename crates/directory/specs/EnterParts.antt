@@ -10,7 +10,7 @@ use Rattle.directory.specs.declared.enter.Enter.TheVariants.{Searching, Writing}
 use Rattle.directory.specs.declared.enter.Entered.{Entered}
 use Rattle.directory.specs.declared.enter.Entering.{Entering}
 
--- what the result stands for: the index is in hand
+-- what the result means: the index is in hand
 abbrev pub entered_as : Entered → Hand → EnteredState
 entered_as r h = record { inode = r.inode; room = r.room; index = index_at r.seat h }
 
@@ -35,6 +35,6 @@ abbrev pub EnterReady : Enter → Hand → Type 0
 EnterReady (Searching e m) h = IsEntering e × SearchReady e.seat m h × IsSome h.txn
 EnterReady (Writing p m) h = (p.slot < most_slots) × WriteReady p.entry m h × IsLoadedAt p.seat h
 
--- a slot lies in one block, so all of it was written or nothing
+-- a slot is in one block, so all of it was written or nothing
 abbrev pub entered_in : InodePlace → ℕ → Written → Entered
 entered_in seat slot w = record { inode = w.inode; room = if w.upto == dirent_len * (slot + 1) then There else NoBlock; seat = seat }

@@ -19,7 +19,7 @@ abbrev pub slot_for : Dinode → Option Found → ℕ
 slot_for d (Some f) = f.slot
 slot_for d None = slot_count d
 
--- a slot lies in one block, so all of it was written or nothing
+-- a slot is in one block, so all of it was written or nothing
 abbrev pub entered_if : ℕ → List ℕ → IndexState → Dinode → Bool → EnteredState
 entered_if slot bytes x d true = record { inode = d; room = There; index = with_entry slot bytes x }
 entered_if slot bytes x d false = record { inode = d; room = NoBlock; index = x }
@@ -27,7 +27,7 @@ entered_if slot bytes x d false = record { inode = d; room = NoBlock; index = x 
 abbrev pub entered_by : {M : Type 0} → ℕ → List ℕ → IndexState → WriteResult → Prog Op Answer M EnteredState
 entered_by slot bytes x w = Ret (entered_if slot bytes x w.inode (w.upto == dirent_len * (slot + 1)))
 
--- the bytes of an entry go into a slot, where a directory may have so many
+-- the bytes of an entry go into a slot, if a directory may have that slot
 abbrev pub enter_in : {M : Type 0} → Super → (n : ℕ) → Dinode → List ℕ → IndexState → ℕ → Prog Op Answer M EnteredState
 enter_in sizes n d bytes x slot =
     if nat_lt slot most_slots then bind (write_part sizes n d (dirent_len * slot) bytes) (entered_by slot bytes x)
@@ -40,7 +40,7 @@ enter_at sizes n d bytes o = enter_in sizes n d bytes o.index (slot_for d o.foun
 abbrev pub enter_bytes : {M : Type 0} → Super → (n : ℕ) → Loaded → List ℕ → Prog Op Answer M EnteredState
 enter_bytes sizes n l bytes = bind (search Unused l) (enter_at sizes n l.inode bytes)
 
--- Into directory n goes inode m by this name: in the first free slot, else in a new last one, where the directory may have one more and a
--- block is there or free.
+-- Into directory n goes inode m by this name: in the first free slot, else in a new last one. For that the directory
+-- may have one more slot, and a block must be there or free.
 abbrev pub enter : {M : Type 0} → Super → (n : ℕ) → Loaded → (m : ℕ) → List ℕ → Prog Op Answer M EnteredState
 enter sizes n l m name = enter_bytes sizes n l (spell_dirent (Used m name))

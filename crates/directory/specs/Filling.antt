@@ -8,14 +8,14 @@ use Rattle.directory.specs.declared.fill.Filled.{Filled}
 abbrev pub dots : (n parent : ℕ) → List ℕ
 dots n parent = spell_dirent (Used n dot) ++ spell_dirent (Used parent dotdot)
 
--- they stand in one block, so both were written or nothing
+-- they are in one block, so both were written or nothing
 abbrev pub filled_in : WriteResult → Filled
 filled_in w = record { inode = w.inode; whole = w.upto == 2 * dirent_len }
 
 abbrev pub filled_by : WriteResult → P Filled
 filled_by w = Ret (filled_in w)
 
--- into inode n, which stands so
+-- into inode n, whose record is d
 abbrev pub fill : Super → (n : ℕ) → Dinode → (parent : ℕ) → P Filled
 fill sizes n d parent = bind (write_part sizes n d 0 (dots n parent)) filled_by
 

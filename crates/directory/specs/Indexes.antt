@@ -9,18 +9,18 @@ use Rattle.directory.specs.declared.found.Found.{Found}
 abbrev pub index_room : ℕ
 index_room = 64
 
--- so many of the directory's slots stand in the blocks that it has
+-- how many of the directory's slots are in the blocks that it has
 abbrev pub slots_known : IndexState → ℕ
 slots_known x = dirents_per_block * x.blocks
 
--- ---- where it is right
+-- ---- when it is right
 
--- the used ones of the first so many slots, which are read so
+-- the used ones of the first slots up to a number, which are read so
 unfoldable pub used_upto : (ℕ → Option Dirent) → ℕ → List (ℕ × Option Dirent)
 used_upto read zero = []
 used_upto read (suc s) = used_upto read s ++ (if is_used (read s) then (s, read s) ∷ [] else [])
 
--- a slot of the index: where it stands, and how it is read
+-- a slot of the index: its place, and how it is read
 abbrev pub as_read : IndexedSlot → ℕ × Option Dirent
 as_read e = (e.place, dirent_of e.bytes)
 
@@ -33,7 +33,7 @@ IsIndex x read = (map as_read x.slots ≡ used_upto read (slots_known x)) × (le
 abbrev pub found_as : IndexedSlot → Found
 found_as e = record { slot = e.place; number = u16_at e.bytes 0 }
 
--- the first slot from s on that isn't used: else the next one would stand there
+-- the first slot from s on that isn't used: if it were, the next one of the list would be at that place
 unfoldable pub first_gap : ℕ → List IndexedSlot → ℕ
 first_gap s [] = s
 first_gap s (e ∷ es) = if e.place == s then first_gap (s + 1) es else s
@@ -41,7 +41,7 @@ first_gap s (e ∷ es) = if e.place == s then first_gap (s + 1) es else s
 abbrev pub free_below : ℕ → ℕ → Option Found
 free_below limit s = if nat_lt s limit then Some (record { slot = s; number = 0 }) else None
 
--- the first of its slots that passes a test, among so many of the directory
+-- the first of its slots that passes a test, among the first `count` of the directory
 abbrev pub first_that : (IndexedSlot → Bool) → ℕ → List IndexedSlot → Option Found
 first_that test count slots = option_map found_as (find (λ e. nat_lt e.place count && test e) slots)
 
@@ -53,7 +53,7 @@ first_of Entry d x = first_that (λ e. nat_le 2 e.place) (slot_count d) x.slots
 
 -- ---- how it changes
 
--- the used ones among the first so many slots of block k
+-- the used ones among the first `limit` slots of block k
 unfoldable pub used_in : (k limit : ℕ) → List ℕ → List IndexedSlot
 used_in k zero block = []
 used_in k (suc p) block =
@@ -65,11 +65,11 @@ abbrev pub with_block : ℕ → List IndexedSlot → IndexState → IndexState
 with_block k used x =
     if (x.blocks == k) && nat_le (length x.slots + length used) index_room then record { blocks = k + 1; slots = x.slots ++ used } else x
 
--- block k was read: where it is the next one, and its used slots fit, it has that too
+-- block k was read: if it is the next one, and its used slots fit, it has that too
 unfoldable pub raised : Dinode → ℕ → List ℕ → IndexState → IndexState
 raised d k block x = with_block k (used_in k (slots_in d k) block) x
 
--- a slot comes where it stands in their order
+-- a slot goes to its place in their order
 unfoldable pub placed : IndexedSlot → List IndexedSlot → List IndexedSlot
 placed e [] = e ∷ []
 placed e (f ∷ fs) = if nat_lt e.place f.place then e ∷ f ∷ fs else f ∷ placed e fs
@@ -77,7 +77,7 @@ placed e (f ∷ fs) = if nat_lt e.place f.place then e ∷ f ∷ fs else f ∷ p
 abbrev pub with_slot_if : IndexedSlot → IndexState → IndexState
 with_slot_if e x = if nat_lt (length x.slots) index_room then record x { slots = placed e x.slots } else no_index
 
--- an entry of these bytes was put into slot s: where it has no room it has no block any more
+-- an entry of these bytes was put into slot s: if it has no room it has no block any more
 unfoldable pub with_entry : ℕ → List ℕ → IndexState → IndexState
 with_entry s bytes x = if nat_lt s (slots_known x) then with_slot_if (record { place = s; bytes = bytes }) x else x
 

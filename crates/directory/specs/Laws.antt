@@ -11,7 +11,7 @@ abbrev pub Shows : Oracle → Dinode → (ℕ → List ℕ) → Type 0
 Shows answer d content =
     (n k : ℕ) → k < block_count d → (let p : P FetchedBlock = fetch_block d k in (outcome answer n p).bytes ≡ content k)
 
--- slot s of a directory with these blocks: None where its bytes are no entry
+-- slot s of a directory with these blocks: None if its bytes are no entry
 abbrev pub slot_at : (ℕ → List ℕ) → ℕ → Option Dirent
 slot_at content s = dirent_at (s % dirents_per_block) (content (s / dirents_per_block))
 
@@ -27,20 +27,21 @@ number_of None = 0
 number_of (Some Free) = 0
 number_of (Some (Used number name)) = number
 
--- of so many slots none is sought; or the first one that is was found, with its number
+-- of the first `count` slots none is sought; or the first one that is was found, with its number
 abbrev pub IsFirst : Aim → (ℕ → Option Dirent) → ℕ → Option Found → Type 0
 IsFirst aim slots count None = (s : ℕ) → s < count → is_sought aim s (slots s) ≡ false
 IsFirst aim slots count (Some f) =
     (f.slot < count) × (is_sought aim f.slot (slots f.slot) ≡ true) × (f.number ≡ number_of (slots f.slot))
     × ((s : ℕ) → s < f.slot → is_sought aim s (slots s) ≡ false)
 
--- a directory's blocks have so many slots, which are read so; each is an entry, and there are no others
+-- a directory's blocks have `count` slots, which are read so; each is an entry, and there are no others
 pub record AreSlots (count : ℕ) (content : ℕ → List ℕ) (slots : ℕ → Option Dirent) : Type 0 where
   pub shown : (s : ℕ) → s < count → slot_at content s ≡ slots s
   pub entries : (s : ℕ) → s < count → slots s ≢ None
   pub beyond : (s : ℕ) → count ≤ s → is_used (slots s) ≡ false
 
--- where its index is right a search finds the first of the directory's slots that is sought, leaves the index right, and records nothing
+-- if its index is right a search finds the first of the directory's slots that is sought, leaves the index right, and
+-- records nothing
 abbrev pub FindsTheFirst : Type 0
 FindsTheFirst = (answer : Oracle) (l : Loaded) (content : ℕ → List ℕ) (slots : ℕ → Option Dirent) (aim : Aim) → Shows answer l.inode content
     → AreSlots (slot_count l.inode) content slots → IsIndex l.index slots

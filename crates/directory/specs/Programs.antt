@@ -18,12 +18,13 @@ abbrev pub or_next : {M : Type 0} → Option Found → IndexState → (IndexStat
 or_next (Some f) x next = Ret (record { found = Some f; index = x })
 or_next None x next = next x
 
--- block k is given back as it was, and indexed where it may be: what was sought stands there, or the blocks behind it are searched
+-- Block k is given back as it was, and indexed if it may be. What was sought is there, or the blocks after it are
+-- searched.
 abbrev pub look_at : {M : Type 0} → Aim → Dinode → ℕ → IndexState → (IndexState → Prog Op Answer M Searched) → FetchedBlock
     → Prog Op Answer M Searched
 look_at aim d k x next f = Do (Put f.number None) unmarked (λ _. or_next (found_in aim d k f.bytes) (raised d k f.bytes x) next)
 
--- so many blocks from block k on
+-- this number of blocks from block k on
 unfoldable pub search_from : {M : Type 0} → ℕ → Aim → Dinode → ℕ → IndexState → Prog Op Answer M Searched
 search_from zero aim d k x = Ret (record { found = None; index = x })
 search_from (suc n) aim d k x = bind (fetch_block d k) (look_at aim d k x (search_from n aim d (k + 1)))
@@ -50,7 +51,7 @@ is_directory d = is_number 1 d.kind
 abbrev pub is_live_directory : Dinode → Bool
 is_live_directory d = is_directory d && is_positive d.nlink
 
--- What a directory has under a name. Where it has no link, or is no directory, nothing is found and no block touched.
+-- What a directory has under a name. If it has no link, or is no directory, nothing is found and no block touched.
 abbrev pub lookup : {M : Type 0} → List ℕ → Loaded → Prog Op Answer M Searched
 lookup name l = if is_live_directory l.inode then search (Named name) l else Ret (record { found = None; index = l.index })
 
@@ -67,7 +68,7 @@ with_slot s d = record d { size = max d.size (dirent_len * (s + 1)) }
 abbrev pub give_record : {M : Type 0} → Dinode → Unit {0} → Prog Op Answer M Dinode
 give_record d _ = Ret d
 
--- the inode is stored, also where it is as it was
+-- the inode is stored, also if it is as it was
 abbrev pub store_slot : {M : Type 0} → (inodestart n : ℕ) → Dinode → Prog Op Answer M Dinode
 store_slot inodestart n d = bind (store inodestart n d) (give_record d)
 
@@ -76,7 +77,7 @@ abbrev pub put_dirent : {M : Type 0} → (inodestart n : ℕ) → Dinode → (s 
 put_dirent inodestart n d s entry f =
     Do (Put f.number (Some (with_dirent (s % dirents_per_block) entry f.bytes))) unmarked (λ _. store_slot inodestart n (with_slot s d))
 
--- An entry goes into slot s of the directory n, whose block is there: a name is entered so, and cleared. The directory's new record is
--- answered.
+-- An entry goes into slot s of the directory n, whose block is there: a name is entered so, and cleared. The
+-- directory's new record is answered.
 abbrev pub put_entry : {M : Type 0} → (inodestart n : ℕ) → Dinode → (s : ℕ) → Dirent → Prog Op Answer M Dinode
 put_entry inodestart n d s entry = bind (fetch_block d (s / dirents_per_block)) (put_dirent inodestart n d s entry)

@@ -10,7 +10,7 @@ use Rattle.directory.specs.declared.search.Blocks.{Blocks}
 use Rattle.directory.specs.declared.search.Search.{Search}
 use Rattle.directory.specs.declared.search.Search.TheVariants.{Fetching, Giving}
 
--- the blocks behind the one that is looked at
+-- the blocks after the one that is looked at
 abbrev pub search_rest : Aim → Dinode → Blocks → IndexState → P Searched
 search_rest aim d at x = search_from at.left aim d (at.block + 1) x
 

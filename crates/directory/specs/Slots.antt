@@ -1,4 +1,4 @@
--- The slots of a directory's block, looked at where they stand.
+-- The slots of a directory's block, looked at in their places.
 use Rattle.std.specs.Prelude.{ℕ, ◌+◌, ◌-◌, ◌*◌, ◌==◌, nat_le, ◌&&◌, not, List, ◌++◌, length, drop, replicate, Bool, true, false, Option, Some, None}
 use Rattle.directory.specs.Vocabulary.{bytes_eq, little_number, Dirent, Free, Used, u16_at, dirent_at, dirent_len, dirent_name_at, name_len, first_below}
 
@@ -20,7 +20,8 @@ is_free None = false
 is_free (Some Free) = true
 is_free (Some (Used number name)) = false
 
--- Among the first so many slots of a block: the first one of this name; the first free one; the first used one from a place on.
+-- Among the first `limit` slots of a block: the first one of this name; the first free one; the first used one from a
+-- place on.
 unfoldable pub first_named : List ℕ → ℕ → List ℕ → Option ℕ
 first_named name limit block = first_below (λ p. is_named name (dirent_at p block)) limit
 
@@ -32,7 +33,7 @@ first_used from limit block = first_below (λ p. nat_le from p && is_used (diren
 
 -- ---- how the code compares: by words of eight bytes
 
--- the word that stands at a place
+-- the word at a place
 unfoldable pub u64_at : List ℕ → ℕ → ℕ
 u64_at bytes at = little_number 8 (drop at bytes)
 

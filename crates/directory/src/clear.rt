@@ -23,7 +23,8 @@ pub struct Slot {
     pub slot: u32,
 }
 
-/// Clears a slot of a directory, and stores the directory, which is as it was where the slot is one of its own. Its record is answered.
+/// Clears a slot of a directory, and stores the directory, which is as it was if the slot is one of its own. Its
+/// record is answered.
 #[derive(Drop)]
 pub enum Clear {
     /// The slot's block is fetched.

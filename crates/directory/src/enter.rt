@@ -17,7 +17,7 @@ use image_versions::one::DIRENT_LEN;
 use inode_data::{Begun, WritePart, Written};
 use inode_table::record_at;
 
-// An entry can have so many numbers.
+// How many numbers an entry can have, in its 16 bits.
 const NUMBERS: u32 = 65_536;
 
 /// Whether there was room for a name.
@@ -50,8 +50,8 @@ pub struct Placing {
     pub slot: usize,
 }
 
-/// The directory as it was stored, and whether there was room for the name. Where no slot was left it is as it was, and not stored. The
-/// index of its names is in hand, at the seat.
+/// The directory as it was stored, and whether there was room for the name. If no slot was left it is as it was, and
+/// not stored. The index of its names is in hand, at the seat.
 #[derive(Clone, Copy, Drop)]
 pub struct Entered {
     pub inode: Dinode,
@@ -59,8 +59,8 @@ pub struct Entered {
     pub seat: InodePlace,
 }
 
-/// Enters a name into a directory: into its first free slot, or else into a new last one. The inode is stored also where no block was
-/// free for that (xv6: `dirlink`).
+/// Enters a name into a directory: into its first free slot, or else into a new last one. The inode is stored also if
+/// no block was free for that (xv6: `dirlink`).
 #[derive(Drop)]
 pub enum Enter {
     /// A free slot is sought.
@@ -70,8 +70,8 @@ pub enum Enter {
 }
 
 impl Enter {
-    /// Inode `child` by this name, into directory `number` whose lock is at a seat, on a disk with this superblock. An entry has the low
-    /// 16 bits of a number, and an inode's has no more.
+    /// Inode `child` by this name, into directory `number` whose lock is at a seat, on a disk with this superblock.
+    /// An entry has the low 16 bits of a number, and an inode's has no more.
     pub fn begin(
         number: u32,
         seat: InodePlace,
@@ -152,7 +152,7 @@ impl Routine for Enter {
     }
 }
 
-// Goes on where a free slot was sought.
+// Goes on after a free slot was sought.
 fn place(entering: &Entering, found: Option<Found>, hand: &Hand) -> Begun<Enter, Entered>
     requires entering { IsEntering entering.now }
     requires loaded { IsLoadedAt entering.now.seat hand.now }
@@ -192,7 +192,7 @@ fn slot_for(inode: &Dinode, found: Option<Found>) -> usize
     }
 }
 
-// What the writing of a slot came to. Where the entry is there the index has it.
+// The result of writing a slot. If the entry is there the index has it.
 fn room_in(placing: &Placing, written: &Written, hand: &mut Hand) -> Entered
     requires slot { placing.now.slot < most_slots }
     requires loaded { IsLoadedAt placing.now.seat hand.old }

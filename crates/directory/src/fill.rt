@@ -13,7 +13,7 @@ use inode_data::{WritePart, Written};
 // "." and "..".
 const DOTS_LEN: usize = 2 * DIRENT_LEN;
 
-/// The directory as it was stored, and whether it has its two names: it has none where no block was free.
+/// The directory as it was stored, and whether it has its two names: it has none if no block was free.
 #[derive(Clone, Copy, Drop)]
 pub struct Filled {
     pub inode: Dinode,
@@ -28,7 +28,7 @@ pub struct Fill {
 }
 
 impl Fill {
-    /// Into inode `number`, which stands so, on a disk with this superblock, in this directory.
+    /// Into inode `number` with this record, on a disk with this superblock, in this directory.
     pub fn new(number: u32, inode: &Dinode, sizes: &Super, parent: u32) -> Fill
         requires size { sizes.now.size ≤ bits_per_block }
         requires block { inode_block sizes.now.inodestart number < 2 ^ 32 }
@@ -74,7 +74,7 @@ impl Routine for Fill {
     }
 }
 
-// What the writing came to.
+// The result of the writing.
 fn whole_in(written: &Written) -> Filled
     ensures { result ≡ filled_in (written_as written.now) }
 {

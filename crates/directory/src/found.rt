@@ -21,7 +21,7 @@ pub(crate) const DOTS: usize = 2;
 /// A slot that was found.
 #[derive(Clone, Copy, PartialEq, Eq, Debug)]
 pub struct Found {
-    /// Where it stands, counted from the directory's first slot.
+    /// Its place, counted from the directory's first slot.
     pub slot: u32,
     /// The inode's number in it; 0 in a free slot.
     pub number: u32,

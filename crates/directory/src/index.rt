@@ -1,4 +1,5 @@
-//! The index of a directory's names: what is sought found in it, and kept as the directory's blocks are read and its slots written.
+//! The index of a directory's names: what is sought found in it, and kept as the directory's blocks are read and its
+//! slots written.
 ghost use Rattle.std.specs.Prelude.{◌≡◌, ◌+◌, ◌*◌, ◌≤◌, ◌<◌, ℕ, List, nat_le, IfSome, MatchOption, insert, length, remove};
 ghost use Rattle.directory.specs.Vocabulary.{dirent_of, dirent_len, dirents_per_block, most_blocks, record_at, IsBytes, IsName};
 ghost use Rattle.directory.specs.Aims.{most_slots};
@@ -32,7 +33,7 @@ fn has_name(bytes: &[u8; DIRENT_LEN], words: Words) -> bool
     has_words(bytes, 0, words)
 }
 
-// The first one of this name, among so many slots of the directory.
+// The first one of this name, among the first `count` slots of the directory.
 fn first_named(slots: &[IndexedSlot], count: usize, name: &[u8]) -> Option<Found>
     requires { IsName name.now }
     ensures found { result ≡ first_that (λ e. is_named name.now (dirent_of e.bytes)) count slots.now }
@@ -47,7 +48,7 @@ fn first_named(slots: &[IndexedSlot], count: usize, name: &[u8]) -> Option<Found
     None
 }
 
-// The first one past the first two of the directory, among so many of its slots.
+// The first one past the first two of the directory, among the first `count` of its slots.
 fn first_entry(slots: &[IndexedSlot], count: usize) -> Option<Found>
     ensures found { result ≡ first_that (λ e. nat_le 2 e.place) count slots.now }
     ensures below { IfSome result (λ f. f.slot < count) }
@@ -73,7 +74,7 @@ fn first_gap(slots: &[IndexedSlot]) -> usize
     slots.len()
 }
 
-// This slot, where it is one of so many.
+// This slot, if it is below the limit.
 fn free_below(limit: usize, slot: usize) -> Option<Found>
     requires { limit ≤ most_slots }
     ensures free { result ≡ free_below limit slot }
@@ -108,8 +109,8 @@ pub(crate) fn first_of(index: &NameIndex, inode: &Dinode, sought: Sought) -> Opt
     }
 }
 
-// Block `k`, of which so many slots are the directory's, was read: where it is the next one, and there is room for its used slots, the
-// index has that too.
+// Block `k`, of which `count` slots are the directory's, was read. If it is the next one, and there is room for its
+// used slots, the index has that too.
 pub(crate) fn raise(index: &mut NameIndex, k: usize, count: usize, block: &Block)
     requires block { k < most_blocks }
     requires count { count ≤ dirents_per_block }
@@ -190,7 +191,7 @@ pub(crate) fn clear(index: &mut NameIndex, slot: u32)
     }
 }
 
-// Which of them stands there.
+// Which of them is at that place.
 fn position(slots: &[IndexedSlot], place: u32) -> Option<usize>
     ensures { MatchOption result (without place slots.now ≡ slots.now)
         (λ at. (at < length slots.now) × (without place slots.now ≡ remove slots.now at)) }

@@ -1,8 +1,8 @@
 //! What holds of the programs, whatever their operations answer. The functions do nothing: they carry the laws.
 ghost use Rattle.directory.specs.Laws.{FindsTheFirst, FindsNothingInTheDead, PutsOneEntry};
 
-/// As long as the operations show a directory's blocks as they are, and its index is right, a search finds the first slot that is sought,
-/// leaves the index right, and records nothing.
+/// A search finds the first slot that is sought, leaves the index right, and records nothing. For that the operations
+/// must show a directory's blocks as they are, and its index must be right.
 pub fn finds_the_first()
     ensures { FindsTheFirst }
 {}

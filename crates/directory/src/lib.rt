@@ -1,12 +1,13 @@
 //! The names of a directory (xv6's `dirlookup`, `dirlink` and `isdirempty` of fs.c and sysfile.c).
 //!
-//! `specs/Programs` and `specs/Entering` say what is done, operation by operation; `Search`, `Enter`, `Clear` and `Fill` do it.
-//! A block's 64 slots are compared where they stand, in the buffer.
-//! What is found is the first slot of a name, the first free one, or the first used one from a place on. What has no link, or is no
-//! directory, finds nothing and is not touched.
+//! `specs/Programs` and `specs/Entering` say what is done, operation by operation; `Search`, `Enter`, `Clear` and
+//! `Fill` do it. A block's 64 slots are compared in their places, in the buffer. What is found is the first slot of a
+//! name, the first free one, or the first used one from a place on. What has no link, or is no directory, finds
+//! nothing and is not touched.
 //!
-//! A directory in memory has an index of the used slots of its first blocks, which `specs/Indexes` describes. A search looks there first,
-//! and then at the blocks behind those; each block that it looks at is indexed where it is the next one and has room.
+//! A directory in memory has an index of the used slots of its first blocks, which `specs/Indexes` describes. A
+//! search looks there first, and then at the blocks after those. Each block that it looks at is indexed if it is the
+//! next one and has room.
 #![tactic(auto)]
 
 mod clear;

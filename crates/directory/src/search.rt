@@ -1,4 +1,4 @@
-//! A directory searched: its index, and then the blocks behind those that it has, one at a time.
+//! A directory searched: its index, and then the blocks after those that it has, one at a time.
 ghost use Rattle.std.specs.Prelude.{◌≡◌, ◌+◌, ◌≤◌, ◌<◌, Some, None, IsSome, IfSome, IfNone};
 ghost use Rattle.directory.specs.Vocabulary.{asks, IfBegun, InodePlace as InodePlaceState, most_blocks, op_in, answer_in, CanDo, Prepared, IsAfter, IsLoadedAt, IsName, Goes, bare, index_at, left_after, loaded_in, record_in, Hand as HandState, NoBuffers};
 ghost use Rattle.directory.specs.Programs.{Aim, Entry, Named, lookup, search, search_from};
@@ -17,12 +17,12 @@ use inode_table::record_at;
 pub struct Blocks {
     /// This one is looked at next ..
     pub block: usize,
-    /// .. and so many behind it.
+    /// .. and this number after it.
     pub left: usize,
 }
 
-/// Looks for a slot of the directory whose lock is at a seat, a block at a time, and stops at the first. It is told the seat and what is
-/// sought (xv6: `dirlookup`).
+/// Looks for a slot of the directory whose lock is at a seat, a block at a time, and stops at the first. Each of its
+/// steps gets the seat and what is sought (xv6: `dirlookup`).
 #[derive(Clone, Copy, Drop)]
 pub enum Search {
     /// The next block is fetched.
@@ -52,7 +52,8 @@ impl Search {
         }
     }
 
-    /// For what the directory at a seat has under a name. Where it has no link, or is no directory, nothing is found and no block touched.
+    /// For what the directory at a seat has under a name. If it has no link, or is no directory, nothing is found and
+    /// no block touched.
     #[inline(always)]
     pub fn lookup(hand: &Hand, seat: InodePlace, name: &[u8]) -> Begun<Search, Option<Found>>
         requires loaded { IsLoadedAt seat hand.now }
@@ -96,7 +97,8 @@ impl Search {
         }
     }
 
-    /// How it goes on. The block that was fetched is indexed where it may be; all else in hand but the buffers is as it was.
+    /// How it goes on. The block that was fetched is indexed if it may be; all else in hand but the buffers is as it
+    /// was.
     #[inline(always)]
     #[tactic(auto, using(fs_machine::proofs::Going::goes_bind))]
     pub fn next(
@@ -149,7 +151,7 @@ impl Search {
     }
 }
 
-// So many blocks from one on.
+// `left` blocks, from one on.
 #[tactic(auto, unfolding(crate::specs::Programs::search_from))]
 fn next(hand: &Hand, seat: InodePlace, block: usize, left: usize) -> Begun<Search, Option<Found>>
     requires loaded { IsLoadedAt seat hand.now }

@@ -34,7 +34,7 @@ fn raise_in(place: &mut Option<Guard<Inode>>, k: usize, count: usize, block: &Bl
     }
 }
 
-// The block in hand, which is block `k`, was read; so many of its slots are the directory's.
+// The block in hand, which is block `k`, was read; `count` of its slots are the directory's.
 #[inline(always)]
 fn raise_at(hand: &mut Hand, seat: InodePlace, k: usize, count: usize)
     requires valid { MatchOption hand.old.first ⊥ (λ g. IsSome g.value.content) }
@@ -64,7 +64,7 @@ fn found_at(hand: &Hand, inode: &Dinode, k: usize, sought: Sought) -> Option<Fou
     found_in(hand.block(Place::First), inode, k, sought)
 }
 
-// The same where the block is indexed besides, if it may be.
+// The same, and the block is indexed besides, if it may be.
 #[inline(always)]
 #[tactic(auto, unfolding(crate::specs::Indexes::raised))]
 pub(crate) fn look_at(hand: &mut Hand, seat: InodePlace, k: usize, sought: Sought) -> Option<Found>

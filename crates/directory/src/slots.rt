@@ -1,4 +1,4 @@
-//! The slots of a directory's block, looked at where they stand: no name is built for one.
+//! The slots of a directory's block, looked at in their places: no name is built for one.
 ghost use Rattle.std.specs.Prelude.{◌≡◌, ◌+◌, ◌*◌, ◌<◌, ◌≤◌, length, IfSome};
 ghost use Rattle.directory.specs.Vocabulary.{u16_at, dirent_at, IsName, dirent_len, dirents_per_block, name_len};
 ghost use Rattle.directory.specs.Slots.{field_of, first_free, first_named, first_used, has_words, is_clear, is_used, u64_at};
@@ -94,7 +94,7 @@ fn is_used(block: &Block, place: usize) -> bool
     )
 }
 
-/// The first slot of this name among the first so many (xv6: `namecmp`).
+/// The first slot of this name among the first `limit` (xv6: `namecmp`).
 #[tactic(auto, unfolding(crate::specs::Slots::first_named))]
 pub fn first_named(block: &Block, limit: usize, name: &[u8]) -> Option<usize>
     requires limit { limit ≤ dirents_per_block }
@@ -111,7 +111,7 @@ pub fn first_named(block: &Block, limit: usize, name: &[u8]) -> Option<usize>
     None
 }
 
-/// The first free slot among the first so many.
+/// The first free slot among the first `limit`.
 #[tactic(auto, unfolding(crate::specs::Slots::first_free))]
 pub fn first_free(block: &Block, limit: usize) -> Option<usize>
     requires { limit ≤ dirents_per_block }
@@ -126,7 +126,7 @@ pub fn first_free(block: &Block, limit: usize) -> Option<usize>
     None
 }
 
-/// The first used slot from a place on, among the first so many.
+/// The first used slot from a place on, among the first `limit`.
 #[tactic(auto, unfolding(crate::specs::Slots::first_used))]
 pub fn first_used(block: &Block, from: usize, limit: usize) -> Option<usize>
     requires { limit ≤ dirents_per_block }

@@ -7,12 +7,12 @@ unloaded_set : (d : Dinode) (o : Option (GuardState Inode)) → option_map witho
 unloaded_set d None = refl
 unloaded_set d (Some g) = refl
 
--- where its record is set
+-- after its record is set
 pub record_beside : (k : InodePlace) (d : Dinode) (h : Hand) → beside_inode k (with_record k d h) ≡ beside_inode k h
 record_beside One d h = λ i. record (beside_inode One h) { one = unloaded_set d h.one i }
 record_beside Two d h = λ i. record (beside_inode Two h) { two = unloaded_set d h.two i }
 
--- where its index is
+-- after its index is
 index_unloaded : (x : IndexState) (o : Option (GuardState Inode)) → option_map without_content (option_map (indexed x) o) ≡ option_map without_content o
 index_unloaded x None = refl
 index_unloaded x (Some g) = refl
@@ -21,7 +21,7 @@ index_beside : (k : InodePlace) (x : IndexState) (h : Hand) → beside_inode k (
 index_beside One x h = λ i. record (beside_inode One h) { one = index_unloaded x h.one i }
 index_beside Two x h = λ i. record (beside_inode Two h) { two = index_unloaded x h.two i }
 
--- where buffers change
+-- when buffers change
 pub buffers_beside : (k : InodePlace) (before h : Hand) → beside_buffers tt h ≡ beside_buffers tt before → beside_inode k h ≡ beside_inode k before
 buffers_beside One before h same = ap (unloaded One) same
 buffers_beside Two before h same = ap (unloaded Two) same
@@ -31,7 +31,7 @@ pub same_inode : (k : InodePlace) (before h : Hand) → beside_buffers tt h ≡ 
 same_inode One before h same = ap (λ (h : Hand). h.one) same
 same_inode Two before h same = ap (λ (h : Hand). h.two) same
 
--- where one of them does
+-- when one of them does
 pub buffer_beside : (p : Place) (k : InodePlace) (before h : Hand) → with_buffer p None h ≡ with_buffer p None before → beside_inode k h ≡ beside_inode k before
 buffer_beside First k before h same = buffers_beside k before h (ap (with_buffer Second None) same)
 buffer_beside Second k before h same = buffers_beside k before h (ap (with_buffer First None) same)
@@ -78,7 +78,7 @@ module _ (n : ℕ) (start h : Hand) (k : InodePlace) (amid : IsAmid n start k h)
   pub leaves_changed : (m m2 : Notes) (x : Note) → m2 ≡ with_note k x m → IsLoadedAt k h → Changed n start h × StandBeside n (having start m) (having h m2)
   leaves_changed m m2 x noted there = ((reloads, subst (λ (k : InodePlace). IsLoadedAt k h) amid.0 there), stands m m2 x noted)
 
--- where its record is set at the end
+-- after its record is set at the end
 leaves_set : (n : ℕ) (start h after : Hand) (k : InodePlace) (d : Dinode) (m m2 : Notes) (x : Note) → IsAmid n start k h → HasNoBuffer h → IsSome (inode_at k h) → after ≡ with_record k d h → m2 ≡ with_note k x m
     → Changed n start after × StandBeside n (having start m) (having after m2)
 leaves_set n start h after k d m m2 x amid none there set noted =

@@ -1,4 +1,4 @@
--- The lemmas that most of this crate's other lemmas stand on.
+-- The lemmas that most of this crate's other lemmas use.
 pub use Rattle.inode_parts.proofs.Afterwards.{load_then}
 pub use Rattle.inode_parts.proofs.Amid.{same_inode}
 pub use Rattle.inode_parts.proofs.Begins.{gives_ready, lock_is, locked_there}

@@ -1,4 +1,4 @@
--- What an operation on whole inodes is below, where it is one operation.
+-- What an operation on whole inodes is below, if it is one operation.
 use Rattle.inode_parts.proofs.Vocabulary.{◌≡◌, ◌≢◌, ℕ, zero, suc, List, [], ◌++◌, Bool, true, false, Option, Some, None, refl, sym, ap, ◌∙◌, subst, inl, inr, append-nil, if◌then◌else◌, is_some, IsSome, MatchOption, option_map_or, unwrap_or, put, eq_is, Prog, Ret, Do, bind, plain, unmarked, GuardState, Loaded, Super, Inode, Given, AfterLeave, Commits, holding, P, after_leave, commit_unless, commits, most_writes, Hand, InodePlace, One, Two, inode_at, inode_in, no_inode, number_at, reference_at, new_file, Acts, joining_to, lent_to, with_dying, is_listed, is_dying, Carry, Had, Apart, record_had, joined_in, loan_in, op_in, Ask, Element, BeginsWith, carry_in, had_at, had_of, IsPart, Part, one, Begins, HasReference, IsAlone, MayRefer, StepReady, free_seat, joining_heard, loan_heard, locks, seat_of_lock, seat_of_reference, still, having, ends_with, is_short, part_for, part_left, PartReady, one_or_leave, PartTold, FillsAs, Note, Notes, OneStep}
 use Rattle.fs_machine.specs.declared.slots.Given.TheVariants as given
 use Rattle.group_log.specs.declared.log.AfterLeave.TheVariants.{Free}
@@ -115,7 +115,7 @@ module _ (sizes : Super) (path : List ℕ) (m : Notes) (h : Hand) where
 
 -- ---- what is asked
 
--- what isn't asked to be read fills nothing
+-- any ask but one to read fills nothing
 pub other_fills : (text : List ℕ) (a : Ask) (q : Part) → ((fd n offset count : ℕ) → a ≢ ask.ReadFile fd n offset count) → FillsAs a text q
 other_fills text (ask.ReadFile fd n offset count) q other = absurd (other fd n offset count refl)
 other_fills text a q other = tt
@@ -141,7 +141,7 @@ pub short_fills : (text : List ℕ) (a : Ask) (q : Part) → is_short a ≡ true
 short_fills text (ask.ReadFile fd n offset count) q short = absurd (cc short)
 short_fills text a q short = tt
 
--- what isn't one of the longer ones is one below, or leaves a transaction
+-- any ask but the longer ones is one operation below, or leaves a transaction
 pub short_begins : (path : List ℕ) (m : Notes) (a : Ask) (h : Hand) → BeginsWith path (op_in path a) (having h m)
     → ((n count : ℕ) → a ≢ ask.Store n count)
     → ((n : ℕ) → a ≢ ask.Empty n)
@@ -225,6 +225,6 @@ is_ready op h has = absurd has
 
 -- ---- its text
 
--- no second one stands behind it
+-- there is no second one after it
 pub alone : (path second : List ℕ) → second ≡ [] → path ≡ path ++ second
 alone path second none = sym (append-nil path) ∙ ap (λ (second : List ℕ). path ++ second) (sym none)

@@ -1,4 +1,4 @@
--- What stays in hand where buffers change, and the index of the inode at a seat.
+-- What stays in hand when buffers change, and the index of the inode at a seat.
 use Rattle.inode_parts.proofs.Vocabulary.{◌≡◌, ℕ, List, Option, Some, None, refl, sym, ap, ◌∙◌, subst, IsSome, MatchOption, option_map, option_map_or, Ret, GuardState, IndexState, Loaded, Inode, no_index, record_of, Hand, InodePlace, One, Two, inode_at, no_inode, number_at, indexed, with_index, number_in, record_in, IsLoadedAt, beside_index, beside_lock, without_content, Heard, carry_in, with_note, beside_inode, changed, loads, with_loaded, IsAlone, other, beside_in, IsTaken, Notes}
 use Rattle.inode_parts.specs.declared.note.Note.TheVariants as note
 use Rattle.inode_parts.proofs.Handing.{still_in}

@@ -112,14 +112,14 @@ carried_beside path m e l before h same = at e.seat same
     at One same = still_in path m (with_loaded One l before) (with_loaded One l h) (sym (set_same l h.one before.one (ap (λ (h : Hand). h.one) same))) (sym (ap (λ (h : Hand). h.two) same))
     at Two same = still_in path m (with_loaded Two l before) (with_loaded Two l h) (sym (ap (λ (h : Hand). h.one) same)) (sym (set_same l h.two before.two (ap (λ (h : Hand). h.two) same)))
 
--- where its index stays
+-- when its index stays
 pub rewritten_beside : (path : List ℕ) (m : Notes) (e : Emptying) (d : Dinode) (before h : Hand) → beside_emptying e h ≡ beside_emptying e before
     → carry_in path m (with_loaded e.seat (recorded_at e.seat before d) before) ≡ carry_in path m (with_loaded e.seat (recorded_at e.seat h d) h)
 rewritten_beside path m e d before h same =
     (λ i. carry_in path m (with_loaded e.seat (record { inode = d; index = index-kept e before h (sym same) i }) before))
     ∙ carried_beside path m e (recorded_at e.seat h d) before h (freeing-kept e h before same)
 
--- where buffers alone change
+-- when buffers alone change
 module _ (path : List ℕ) (m : Notes) (before h : Hand) (beside : beside_buffers tt h ≡ beside_buffers tt before) where
   loaded_beside : (k : InodePlace) (l : Loaded) → carry_in path m (with_loaded k l before) ≡ carry_in path m (with_loaded k l h)
   loaded_beside One l = still_in path m (with_loaded One l before) (with_loaded One l h) (sym (ap (λ (h : Hand). option_map (loads l) h.one) beside)) (sym (ap (λ (h : Hand). h.two) beside))

@@ -13,7 +13,7 @@ use Rattle.inode_parts.proofs.Afterwards.{then_plain}
 abbrev answers : Carry → Made → code.P (Handover above.ClaimResult Carry)
 answers c a = Ret (record { answer = claimed_of (claimed_by a); carry = c })
 
--- so many blocks looked through
+-- n blocks looked through
 plain_claim : (n : ℕ) (sizes : Super) (inode_type : InodeType) (c : Carry) (m : above.ClaimResult → Option above.Mark) (q : ℕ) → plain (claim_from n sizes inode_type c m q) ≡ bind (new_from n (kind_of inode_type) sizes q) (answers c)
 unfolding claim_from new_from
 plain_claim zero sizes inode_type c m q = refl

@@ -1,4 +1,4 @@
--- How a lock comes to hand.
+-- How a lock gets into hand.
 use Rattle.inode_parts.proofs.Vocabulary.{◌≡◌, ℕ, true, Bool, Option, Some, None, refl, sym, ap, subst, ◌∙◌, ◌==◌, if◌then◌else◌, IsSome, MatchOption, eq_self, GuardState, Inode, inode_at, with_inode, Hand, InodePlace, One, Two, number_in, IsLoadedAt, beside_lock, HasFile, HeldFile, having, note_at, with_note, Comes, CameTo, LearnsFile, Opened, IsAlone, locks, other, seat_of_lock, Note, Notes}
 use Rattle.inode_parts.specs.declared.note.Note.TheVariants as note
 use Rattle.inode_parts.proofs.Basics.{alone_none, other_free, named_in}

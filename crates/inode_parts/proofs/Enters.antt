@@ -127,7 +127,7 @@ module _ (sizes : Super) (n : ℕ) (d : Dinode) (bytes : List ℕ) where
       let some : Asks p = goes_on_so (write_blocks count sizes (dirent_len * slot) bytes d) (store_written sizes n) (λ w. refl) in
       subst (λ (t : Bool). let q : P EnteredState = if t then bind p (entered_by slot bytes x) else Ret (record { inode = d; room = room.NoSlot; index = x }) in Asks q) (sym fits) (begins_so p (entered_by slot bytes x) some)
 
-  -- where no block is left to be searched it has room for one slot more
+  -- if no block is left to be searched it has room for one slot more
   search_asks : (count k : ℕ) (x : IndexState) → (count ≡ 0 → slot_count d < most_slots) → let p : P Searched = search_from count Unused d k x in Asks (bind p (enter_at sizes n d bytes))
   unfolding search_from
   search_asks zero k x room =

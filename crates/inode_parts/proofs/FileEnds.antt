@@ -29,7 +29,7 @@ module _ (path : List ℕ) (m m2 : Notes) (h : Hand) (f : HeldFile) (has : HasFi
     carry = (had_now path m f.seat h (note.Opened fd f.file.offset) f.file.number has.0 has.1 (alone_none f.file.number f.seat h alone) ∙ ap (λ (m : Notes). carry_in path m h) (sym noted)) i;
   })
 
--- the same at the seat where it was to be
+-- the same at the seat that was chosen for it
 module _ (path : List ℕ) (m m2 : Notes) (h : Hand) (f : HeldFile) (k : InodePlace) (at : f.seat ≡ k) (has : HasFile f h) (alone : inode_at (other k) h ≡ None) where
   alone_there : inode_at (other f.seat) h ≡ None
   alone_there = subst (λ (k : InodePlace). inode_at (other k) h ≡ None) (sym at) alone

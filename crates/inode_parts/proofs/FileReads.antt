@@ -58,7 +58,7 @@ module _ (sizes : Super) (text : List ℕ) (m : Notes) (n fd offset count : ℕ)
       read_is_part f (q (record_in f.seat h)) (λ i. record { seat = seat i; fd = by i; offset = at i })
       (subst (λ (d : Dinode). q d ≡ read_from d offset count text) is (program ∙ ap (λ (from : ℕ). let p : code.P FilledMemory = read_from d from count text in p) at))
 
--- what is read stands at the text's front
+-- what is read is at the text's front
 pub read_fills : (text : List ℕ) (d : Dinode) (offset count : ℕ) (f : LockedFile) (h : Hand) (q : code.P FilledMemory) → q ≡ read_from d offset count text → FillsFrom text (bind q (read_over f h))
 read_fills text d offset count f h q program x y same =
     subst (λ (q : code.P FilledMemory). bind (bind q (read_over f h)) x ≡ bind (bind q (read_over f h)) y) (sym program)

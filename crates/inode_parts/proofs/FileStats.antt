@@ -1,4 +1,4 @@
--- What a descriptor names locked, to tell its state: the operation is its part, and what is heard of it.
+-- What a descriptor names locked, to answer its state: the operation is its part, and what is heard of it.
 use Rattle.inode_parts.proofs.Vocabulary.{◌≡◌, ℕ, List, Some, None, refl, sym, ap, subst, ◌∙◌, Loaded, Super, Ret, Do, bind, plain, unmarked, LockedState, Refuses, Locks, Refused, inode_at, Hand, InodePlace, loaded_in, load_locked, lock_file_loaded, file_left, file_seat, HasFile, HeldFile, LockFile, NothingMore, Carry, Has, stat_loaded, stat_locked, put, Face, carry_in, handed, with_note, face_by, stat_ends, other, answer_by, IsPart, beside_in, Notes}
 use Rattle.fs_machine.specs.declared.files.Want.TheVariants as want
 use Rattle.fs_machine.specs.Machines as code
@@ -29,7 +29,7 @@ module _ (sizes : Super) (path : List ℕ) (m : Notes) (fd : ℕ) where
 pub untold : (path : List ℕ) (m : Notes) (k : InodePlace) (h : Hand) (why : Refused) → inode_at k h ≡ None → stat_ends path (beside_in path m k h) (Refuses why) ≡ Ret (handed path m (heard.Stat None) h)
 untold path m k h why free = λ i. Ret (record { answer = (path, heard.Stat None); carry = sym (none_beside path m h k free) i })
 
--- it is locked at the seat where that was to be
+-- it is locked at the seat that was chosen for it
 module _ (path : List ℕ) (m m2 : Notes) (h : Hand) (f : HeldFile) (k : InodePlace) (at : f.seat ≡ k) (has : HasFile f h) (alone : inode_at (other k) h ≡ None) where
   abbrev l : Loaded
   l = loaded_in f.seat h

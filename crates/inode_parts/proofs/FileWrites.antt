@@ -97,7 +97,7 @@ module _ (sizes : Super) (text : List ℕ) (m : Notes) (n fd offset : ℕ) (byte
 
 -- ---- how it goes on
 
--- so many of the bytes were written
+-- this number of the bytes was written
 pub bytes_so : (bytes new : List ℕ) (p : WritePart) (h : Hand) → write_done p ≤ length new → WriteReady bytes p h → WriteReady new p h
 bytes_so bytes new (write.Locating w m) h done ready = ((ready.0.0, done), ready.1)
 bytes_so bytes new (write.Fetching w d m) h done ready = ((ready.0.0, done), ready.1, ready.2, ready.3, ready.4)

@@ -1,4 +1,4 @@
--- Bytes read into memory: whatever stood there before, the same are read, and behind them it stays.
+-- Bytes read into memory: whatever was there before, the same are read, and after them it stays.
 use Rattle.inode_parts.proofs.Vocabulary.{◌≡◌, ℕ, zero, suc, ◌+◌, ◌/◌, List, ◌++◌, length, drop, None, sym, ◌∙◌, ap, append_assoc, length-append, drop-append-add, take-append_seam, drop-drop, Dinode, overwrite, block_len, Do, bind, plain, unmarked, bind-assoc, plain-bind, FetchedBlock, FilledMemory, fetch_block, filled_with, next_block, part_of, read_blocks, read_part}
 use Rattle.fs_machine.specs.Machines as code
 use Rattle.fs_machine.specs.Steps as steps
@@ -20,7 +20,7 @@ module _ (buffer : List ℕ) where
           ∙ sym (append_assoc b part (drop (length b + length part) buffer))
           ∙ (λ i. (b ++ part) ++ drop (sym (length-append b part) i) buffer)
 
--- whatever the memory, what comes then is the same where it is by the bytes
+-- whatever the memory, what comes then is the same if it is by the bytes
 module _ {A : Type 0} (x y : List ℕ) (f : FilledMemory → P A) (g : FilledMemory → code.P A) (same : (b : List ℕ) → plain (f (within x b)) ≡ g (within y b)) where
   pub blocks_same : (n : ℕ) (d : Dinode) (from upto : ℕ) (b : List ℕ) → plain (bind (read_blocks n d from upto (within x b)) f) ≡ bind (read_blocks n d from upto (within y b)) g
   unfolding read_blocks
@@ -44,7 +44,7 @@ module _ {A : Type 0} (x y : List ℕ) (f : FilledMemory → P A) (g : FilledMem
           → plain (bind (read_part (read_blocks n d (next_block from) upto) from upto (within x b) t) f) ≡ bind (read_part (read_blocks n d (next_block from) upto) from upto (within y b) t) g
       part all t = λ i. Do (steps.Put t.number None) unmarked (λ _. more (part_of from upto t.bytes) (all (part_of from upto t.bytes)) i)
 
--- at each end these stand at its front
+-- at each end these are at its front
 module _ {A : Type 0} (y : List ℕ) (f g : FilledMemory → code.P A) (same : (b : List ℕ) → f (within y b) ≡ g (within y b)) where
   pub blocks_fill : (n : ℕ) (d : Dinode) (from upto : ℕ) (b : List ℕ) → bind (read_blocks n d from upto (within y b)) f ≡ bind (read_blocks n d from upto (within y b)) g
   unfolding read_blocks

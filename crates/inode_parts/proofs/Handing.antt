@@ -30,7 +30,7 @@ pub elsewhere : (path : List ℕ) (l : Note) (n : ℕ) (o : Option (GuardState I
 elsewhere path l n None x e = refl
 elsewhere path l n (Some g) x e = ap (λ (b : Bool). if b then had_of path l g.value.content else x) e
 
--- not at this seat, where it isn't locked there
+-- not at this seat, if it isn't locked there
 pub apart : (path : List ℕ) (l : Note) (o : Option (GuardState Inode)) (i n : ℕ) (x : Had) → locks n o ≡ false → (i == n) ≡ true → had_at path l o i x ≡ x
 apart path l o i n x alone e = elsewhere path l i o x (subst (λ (n : ℕ). locks n o ≡ false) (sym (eq_is i n e)) alone)
 
@@ -41,7 +41,7 @@ not_it : (path : List ℕ) (l : Note) (o : Option (GuardState Inode)) (i : ℕ) 
 not_it path l None i x has e = absurd (cc has)
 not_it path l (Some g) i x has e = ap (λ (b : Bool). if b then had_of path l g.value.content else x) e
 
--- where a lock is given up nothing is had of its inode
+-- after a lock is given up nothing is had of its inode
 pub gave : (path : List ℕ) (m : Notes) (k : InodePlace) (before : Hand) → IsSome (inode_at k before) → IsAlone (inode_in k before).number k before
     → put (carry_in path m before) (inode_in k before).number Apart ≡ carry_in path m (with_inode k None before)
 unfolding put
@@ -56,7 +56,7 @@ gave path m Two before has alone = λ j i. at i (i == number_of before.two) refl
     at i true e = sym (apart path m.one before.one i (number_of before.two) Apart alone e)
     at i false e = ap (had_at path m.one before.one i) (not_it path m.two before.two i Apart has e)
 
--- where a lock came into hand this is had of it
+-- after a lock came into hand this is had of it
 pub held : (path : List ℕ) (m : Notes) (k : InodePlace) (l : Note) (g : GuardState Inode) (before : Hand) → inode_at k before ≡ None → IsAlone g.value.number k before
     → put (carry_in path m before) g.value.number (had_of path l g.value.content) ≡ carry_in path (with_note k l m) (with_inode k (Some g) before)
 unfolding put

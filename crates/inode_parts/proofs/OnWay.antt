@@ -9,7 +9,7 @@ use Rattle.whole_calls.specs.declared.reading.Read.TheVariants as reading
 use Rattle.whole_calls.specs.declared.whole.Whole.TheVariants as whole
 use Rattle.inode_parts.proofs.Texts.{heard_runs}
 
--- ---- the path in which its names stand
+-- ---- the path that has its names
 
 text_is : (w : Whole) → text_in w ≡ path_of (call_in w)
 text_is (whole.Open path flags c) = refl

@@ -64,7 +64,7 @@ plain_indirect at table after = by (table == 0)
     by true = refl
     by false = plain-bind (fetch table) (free_in_table at table after) ∙ (λ i. bind (plain_fetch table i) (λ bytes. in_table bytes i))
 
--- what follows goes on behind them
+-- what follows goes on after them
 numbers_bind : {M B C : Type 0} (at : ℕ) (bs : List ℕ) (after : Prog steps.Op steps.Answer M B) (k : B → Prog steps.Op steps.Answer M C) → bind (free_numbers at bs after) k ≡ free_numbers at bs (bind after k)
 numbers_bind {M} {B} {C} at [] after k = refl
 numbers_bind {M} {B} {C} at (b ∷ bs) after k = by (b == 0) (numbers_bind at bs after k)

@@ -108,7 +108,7 @@ plain_full mark (suc n) d k x =
     then_plain (fetch_block d k) (fetch_block d k) (look_at Unused d k x (search_full mark n d (k + 1))) (look_at Unused d k x (search_from (suc n) Unused d (k + 1))) (plain_block d k)
     (λ f i. Do (steps.Put f.number None) unmarked (λ _. plain_or_next (found_in Unused d k f.bytes) (raised d k f.bytes x) (search_full mark n d (k + 1)) (search_from (suc n) Unused d (k + 1)) (plain_full mark n d (k + 1)) i))
 
--- where all slots are there, and the index has none free, it has one block at most
+-- if all slots are there, and the index has none free, it has one block at most
 module _ (mark : Option Acts) (l : Loaded) (full : slot_count l.inode ≡ most_slots) where
   abbrev b : ℕ
   b = l.index.blocks

@@ -112,7 +112,7 @@ module _ (k : InodePlace) (before h : Hand) (g : GuardState Inode) (is : h ≡ w
 
 -- ---- what it leaves
 
--- the reference came to this seat
+-- the reference went to this seat
 first_at : (k : InodePlace) (h : Hand) → number_at k (with_first k h) ≡ first_listed h
 first_at One h = refl
 first_at Two h = refl

@@ -22,12 +22,12 @@ module _ (path : List ℕ) (m : Notes) (h : Hand) where
       at i true e = refl
       at i false e = ap (had_at path m.one h.one i) (passed path m.two n h.two i Apart is e)
 
-  -- where a seat has no lock
+  -- if a seat has no lock
   pub none_beside : (k : InodePlace) → inode_at k h ≡ None → carry_in path m h ≡ beside_in path m k h
   none_beside One e = λ j i. had_at path m.one (e j) i (had_at path m.two h.two i Apart)
   none_beside Two e = λ j i. had_at path m.one h.one i (had_at path m.two (e j) i Apart)
 
-  -- where a seat has the lock of inode n, and what was learned of it
+  -- if a seat has the lock of inode n, and what was learned of it
   pub there_beside : (k : InodePlace) (l : Note) (g : GuardState Inode) → inode_at k h ≡ Some g → IsAlone g.value.number k h
       → put (beside_in path m k h) g.value.number (had_of path l g.value.content) ≡ carry_in path (with_note k l m) h
   unfolding put

@@ -135,7 +135,7 @@ heard_of (Ret r) = r.answer.1
 heard_of (Do o m k) = heard.WasDone
 
 module _ (path : List ℕ) (m m2 : Notes) (before h : Hand) (a : Answer) (x : Heard) where
-  -- this step came to that
+  -- this step had this result
   abbrev Came : OneStep → Type 0
   Came s = IsAfter (step_asked s) before a h × Goes (step_left path m s before) (answer_in (step_asked s) a h) (Ret (handed path m2 x h)) × (m2 ≡ step_notes s (yes_in a) m)
 

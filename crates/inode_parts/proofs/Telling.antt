@@ -1,4 +1,4 @@
--- What a record tells, as it is heard and above.
+-- What a record says, as it is heard and above.
 use Rattle.inode_parts.proofs.Vocabulary.{◌≡◌, ℤ, Bool, true, false, if◌then◌else◌, refl, Dinode, is_number, OfDevice, OfDirectory, OfFile, face_in, inode_type_at, face_of, type_of, face_by, type_by_number}
 use Rattle.path_walk.specs.declared.asks.InodeType.TheVariants as inode_type
 

@@ -9,7 +9,7 @@ use Rattle.inode_parts.specs.declared.part.InodePart.TheVariants as part
 
 -- ---- what is left, by the text that a part hands over
 
--- the reply has what was read, and behind it what stood there
+-- the reply has what was read, and after it what was there
 reply_so : (fd : ℕ) (text b : List ℕ) → let new : List ℕ = b ++ drop (length b) text in read_reply fd text (take (length b) new) ≡ read_reply fd new (take (length b) new)
 reply_so fd text b =
     let new : List ℕ = b ++ drop (length b) text in

@@ -1,4 +1,4 @@
--- The words that most of this crate's other definitions stand on.
+-- The words that most of this crate's other definitions use.
 pub use Rattle.inode_parts.specs.Carries.{carry_in, had_of, handed, note_at, with_note}
 pub use Rattle.inode_parts.specs.Changes.{IsAmid, MayChange, changed, rewritten}
 pub use Rattle.inode_parts.specs.Coming.{Comes}

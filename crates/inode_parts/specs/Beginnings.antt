@@ -13,7 +13,8 @@ use Rattle.inode_parts.specs.UnderWay.{UnderWay}
 use Rattle.inode_parts.specs.declared.note.Notes.{Notes}
 use Rattle.inode_parts.specs.declared.part.InodePart.{InodePart}
 
--- on a disk of these sizes, in a call with this path and a second one behind it, the hand has what the ask's operation takes
+-- on a disk of these sizes, in a call with this path and a second one after it, the hand has what the ask's operation
+-- takes
 pub record PartMayBegin (sizes : Super) (first second : List ℕ) (a : Ask) (m : Notes) (h : Hand) : Type 0 where
   pub sized : IsSized sizes
   pub begins : BeginsWith (first ++ second) (above_op (first ++ second) a) (having h m)

@@ -18,7 +18,7 @@ use Rattle.inode_parts.specs.declared.part.InodePart.{InodePart}
 
 -- ---- which calls run so
 
--- the path in which the names of a call stand, of two the second behind the first; or its bytes
+-- the path that has the names of a call, of two the second after the first; or its bytes
 abbrev pub path_of : Call → List ℕ
 path_of (calls.Open path flags) = path
 path_of (calls.Read fd buf) = buf
@@ -36,7 +36,7 @@ path_of (calls.Inherit child) = []
 abbrev pub RunsByParts : List ℕ → Call → Type 0
 RunsByParts path call = (s : Having) → IsEmpty s.hand → Runs path (BeginsWith path) (program call) s
 
--- ---- what is left of a call
+-- ---- the rest of a call
 
 -- a read whose part comes next
 abbrev pub IsReading : Whole → Type 0
@@ -53,7 +53,7 @@ IsFilled w v = ⊥
 abbrev pub FillsOrStays : Whole → Whole → Type 0
 FillsOrStays w v = (v ≡ w) ⊎ IsFilled w v
 
--- what is left of the call, where such a read's buffer has these bytes by then
+-- the rest of the call, if such a read's buffer has these bytes by then
 abbrev pub whole_with : List ℕ → Whole → List ℕ → programs.P Reply
 whole_with ns (whole.Read fd buf (reading.Part n offset)) text = read_of fd text (reading.Part n offset)
 whole_with ns w text = whole_of ns w
@@ -68,7 +68,7 @@ lowered_left l h = with_text l.sizes (part_left (text_in l.call) l.notes l.part 
 abbrev pub lowered_asked : Lowered → Op
 lowered_asked l = part_asked l.part
 
--- the program runs from some start on, where its first operation began, whose part is under way from there
+-- The program runs from some start on. Its first operation began there, and the operation's part is under way.
 pub record IsOnWay (path : List ℕ) (p : programs.P Reply) (q : InodePart) (now : Having) : Type 0 where
   pub op : above.Op
   pub start : Having

@@ -6,7 +6,7 @@ use Rattle.inode_parts.specs.declared.note.Note.{Note}
 use Rattle.inode_parts.specs.declared.note.Note.TheVariants as note
 use Rattle.inode_parts.specs.declared.note.Notes.{Notes}
 
--- what it has of a locked inode: names stand in the call's path
+-- what it has of a locked inode: names are in the call's path
 abbrev pub had_of : List ℕ → Note → Option Loaded → Had
 had_of path note.Nothing (Some l) = Has l NothingMore
 had_of path (note.Finds e s) (Some l) = Has l (Finds (name_in path e) s)

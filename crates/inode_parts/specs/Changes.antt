@@ -16,15 +16,16 @@ MayChange sizes n h =
 abbrev pub beside_inode : InodePlace → Hand → Hand
 beside_inode k h = with_buffer First None (with_buffer Second None (unloaded k h))
 
--- amid an operation on inode n, whose lock is at this seat: it began without a buffer, and beside that inode all is as it was at the start
+-- Amid an operation on inode n, whose lock is at this seat. It began without a buffer, and beside that inode all is
+-- as it was at the start.
 abbrev pub IsAmid : ℕ → Hand → InodePlace → Hand → Type 0
 IsAmid n start k now = (k ≡ seat_of_lock n start) × HasNoBuffer start × (beside_inode k now ≡ beside_inode k start)
 
--- a guard, where this is loaded
+-- a guard, if this is loaded
 abbrev pub loads : Loaded → GuardState Inode → GuardState Inode
 loads l g = record g { value = record g.value { content = Some l } }
 
--- this is loaded of the inode at a seat from now on
+-- this is loaded of the inode at a seat from here on
 abbrev pub with_loaded : InodePlace → Loaded → Hand → Hand
 with_loaded k l h = with_inode k (option_map (loads l) (inode_at k h)) h
 
@@ -36,6 +37,6 @@ recorded_at k h d = record { inode = d; index = index_at k h }
 abbrev pub changed : List ℕ → Notes → InodePlace → Heard → Hand → Loaded → Part
 changed path m k x h l = Ret (handed path (with_note k note.Nothing m) x (with_loaded k l h))
 
--- the same, where its record alone changes
+-- the same, if its record alone changes
 abbrev pub rewritten : List ℕ → Notes → InodePlace → Heard → Hand → Dinode → Part
 rewritten path m k x h d = changed path m k x h (recorded_at k h d)

@@ -17,7 +17,7 @@ entered_so path m k h d x NoSlot = Ret (handed path m (heard.Entered entry.NoSlo
 abbrev pub entered : List ℕ → Notes → InodePlace → Hand → EnteredState → Part
 entered path m k h r = entered_so path m k h r.inode r.index r.room
 
--- where the directory's lock is
+-- the seat of the directory's lock
 abbrev pub enter_part_seat : EnterPart → InodePlace
 enter_part_seat p = enter_seat p.enter
 
@@ -38,8 +38,8 @@ EnterAmid n start p now = IsAmid n start (enter_part_seat p) now
 abbrev pub EnterBegins : Super → ℕ → List ℕ → Hand → Type 0
 EnterBegins sizes n name h = MayChange sizes n h × (sizes.size ≤ bits_per_block) × IsName name
 
--- a name that is asked for stands in one of the call's paths, there is room for what is read, and a piece begins within its bytes,
--- behind which no second text stands
+-- A name that is asked for is in one of the call's paths. There is room for what is read. A piece begins within its
+-- bytes, and no second text is after them.
 abbrev pub AskStands : List ℕ → List ℕ → Ask → Type 0
 AskStands path second (ask.Enter d e n) = StandsIn path second e
 AskStands path second (ask.ReadFile fd n offset count) = (count ≤ length path) × (count < 2 ^ 32) × (second ≡ [])

@@ -12,7 +12,7 @@ use Rattle.inode_parts.specs.Holding.{Having, Runs}
 abbrev pub HasChangeable : ℕ → Hand → Type 0
 HasChangeable n h = HasLock n h × IsLoadedAt (seat_of_lock n h) h × IsSome h.txn × HasNoBuffer h
 
--- there is a place for the lock of inode n where the reference to it is
+-- there is a place for the lock of inode n at the seat of the reference to it
 abbrev pub MayLock : ℕ → Hand → Type 0
 MayLock n h = HasReference n h × (inode_at (seat_of_reference n h) h ≡ None) × IsAlone n (seat_of_reference n h) h × HasNoBuffer h
 
@@ -20,7 +20,7 @@ MayLock n h = HasReference n h × (inode_at (seat_of_reference n h) h ≡ None) 
 abbrev pub MayOpen : Hand → Type 0
 MayOpen h = (h.one ≡ None) × (h.two ≡ None) × HasNoBuffer h
 
--- the lock of the inode that this descriptor names is in hand, and no other, and its file stands there
+-- the lock of the inode that this descriptor names is in hand, and no other, and its file has this offset
 abbrev pub HasOpened : (fd n offset : ℕ) → Having → Type 0
 HasOpened fd n offset s = HasLock n s.hand × IsLoadedAt (seat_of_lock n s.hand) s.hand × HasNoBuffer s.hand
     × (note_at (seat_of_lock n s.hand) s.notes ≡ note.Opened fd offset) × (inode_at (other (seat_of_lock n s.hand)) s.hand ≡ None)

@@ -20,7 +20,7 @@ abbrev pub read_file_asked : ReadFilePart → Op
 read_file_asked (Reading f p) = read_asked p
 read_file_asked (Ending f count) = ops.UnlockMoving f.seat f.fd (f.offset + count)
 
--- the file's offset has room for so many bytes more
+-- the file's offset has room for this number of bytes more
 abbrev pub MayMove : LockedFile → ℕ → Type 0
 MayMove f count = f.offset + count < 2 ^ 32
 
@@ -41,7 +41,7 @@ read_seat (Ending f count) = f.seat
 abbrev pub ReadFileAmid : ℕ → Hand → ReadFilePart → Hand → Type 0
 ReadFileAmid n start p now = IsAmid n start (read_seat p) now
 
--- at each of its ends the bytes that were read stand at the text's front, and behind them what stood there
+-- at each of its ends the bytes that were read are at the text's front, and after them what was there
 abbrev pub filled : List ℕ → List ℕ → Carry → Handover Message Carry
 filled text b c = record { answer = (b ++ drop (length b) text, heard.Read (length b)); carry = c }
 

@@ -1,4 +1,4 @@
--- What a descriptor names locked, to tell its state, as a part.
+-- What a descriptor names locked, to answer its state, as a part.
 use Rattle.std.specs.Prelude.{◌≡◌, ℕ, List, None}
 use Rattle.inode_parts.specs.Vocabulary.{option_map, put, Loaded, Ret, bind, LockedState, Refuses, Locks, Hand, Op, inode_at, file_left, file_asked, file_seat, FileReady, Carry, Face}
 use Rattle.path_walk.specs.declared.asks.Heard.TheVariants as heard

@@ -13,11 +13,11 @@ use Rattle.inode_parts.specs.declared.file_bytes.LockedFile.{LockedFile}
 use Rattle.inode_parts.specs.declared.file_bytes.WriteFilePart.{WriteFilePart}
 use Rattle.inode_parts.specs.declared.file_bytes.WriteFilePart.TheVariants.{Denied, Writing, Ending}
 
--- what is heard where these bytes were written from an offset up to another one
+-- what is heard if these bytes were written from an offset up to another one
 abbrev pub wrote_upto : (offset : ℕ) → List ℕ → (upto : ℕ) → Wrote
 wrote_upto offset bytes upto = if upto == offset + length bytes then wrote.Whole else wrote.Short (upto - offset)
 
--- the file moves to where they end that were written, and the inode's record is that with their blocks
+-- the file moves to the end of the written bytes, and the inode's record is that with their blocks
 abbrev pub write_over : List ℕ → LockedFile → List ℕ → Inode → WriteResult → Part
 write_over text f bytes v w = moved f (stands_so w.inode v) w.upto text (heard.Wrote (wrote_upto f.offset bytes w.upto))
 

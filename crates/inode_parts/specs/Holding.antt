@@ -17,11 +17,11 @@ pub record Having : Type 0 where
 
 -- ---- what is in hand after an operation, by its answer
 
--- a reference more, or none, where there was none
+-- a reference more, or none, if there was none
 abbrev pub Referred : Option ℕ → Hand → Hand → Type 0
 Referred r before h = h ≡ with_reference (free_seat before) r before
 
--- .. aside where no seat is free
+-- .. aside if no seat is free
 abbrev pub ReferredOrAside : Option ℕ → Hand → Hand → Type 0
 ReferredOrAside r before h = (HasFreeSeat before → Referred r before h) × ((HasFreeSeat before → ⊥) → h ≡ with_aside r before)
 
@@ -29,7 +29,7 @@ ReferredOrAside r before h = (HasFreeSeat before → Referred r before h) × ((H
 abbrev pub Dropped : ℕ → Hand → Hand → Type 0
 Dropped n before h = h ≡ with_reference (seat_of_reference n before) None before
 
--- the lock of inode n came to this seat, and that is loaded
+-- the lock of inode n went to this seat, and that is loaded
 abbrev pub CameTo : InodePlace → ℕ → Hand → Hand → Type 0
 CameTo k n before h = (g : GuardState Inode) × (h ≡ with_inode k (Some g) before) × (g.value.number ≡ n) × IsSome g.value.content
 
@@ -73,7 +73,8 @@ abbrev pub LeavesUp : ℕ → Bool → Hand → Hand → Type 0
 LeavesUp n true before h = ReferredOrAside (Some n) before h
 LeavesUp n false before h = ReferredOrAside None before h
 
--- within a walk the last reference to a dead inode is listed, behind the others, and one that is aside comes to its seat
+-- within a walk the last reference to a dead inode is listed, after the others, and one that is aside moves to its
+-- seat
 abbrev pub LeavesWalkDown : ℕ → Bool → Hand → Hand → Type 0
 LeavesWalkDown n true before h = h ≡ with_listed (before.listed ++ n ∷ []) (with_seated (seat_of_reference n before) before)
 LeavesWalkDown n false before h = h ≡ with_seated (seat_of_reference n before) before
@@ -159,7 +160,7 @@ LeavesHand above.Say a before h = h ≡ before
 
 -- ---- what is learned of it
 
--- what was learned of the inode at the other seat stands
+-- what was learned of the inode at the other seat stays
 abbrev pub Stand : InodePlace → Having → Having → Type 0
 Stand k before after = note_at (other k) after.notes ≡ note_at (other k) before.notes
 
@@ -176,7 +177,7 @@ abbrev pub LearnsBy : List ℕ → ℕ → Query → Sight → Having → Having
 LearnsBy path n looking a before after = Stand (seat_of_lock n after.hand) before after
     × Learns path looking a (note_at (seat_of_lock n after.hand) after.notes)
 
--- by which descriptor it was locked, and where that file stands
+-- by which descriptor it was locked, and that file's offset
 abbrev pub LearnsFile : (fd n offset : ℕ) → Having → Type 0
 LearnsFile fd n offset after = note_at (seat_of_lock n after.hand) after.notes ≡ note.Opened fd offset
 
@@ -204,7 +205,8 @@ Leaves path op a before after = LeavesHand op a before.hand after.hand × Leaves
 
 -- ---- a program with this in hand
 
--- Each of its operations finds in hand what it asks, whatever those before it answered; and at its end nothing is in hand.
+-- Each of its operations finds in hand what it asks, whatever those before it answered; and at its end nothing is in
+-- hand.
 unfoldable pub Runs : List ℕ → (above.Op → Having → Type 0) → programs.P Reply → Having → Type 0
 Runs path Begins (Ret r) s = IsEmpty s.hand
 Runs path Begins (Do op m k) s = Begins op s × ((a : above.Answer op) (t : Having) → Leaves path op a s t → Runs path Begins (k a) t)

@@ -85,7 +85,7 @@ PartReady (part.Relock p) h = RelockReady p h
 PartReady (part.ReadFile p) h = ReadFileReady p h
 PartReady (part.WriteFile p) h = WriteFileReady p h
 
--- the names that it seeks stand in the call's paths; its bytes, or the room for them, with no second text behind
+-- the names that it seeks are in the call's paths; its bytes, or the room for them, with no second text after them
 abbrev pub PartTold : List ℕ → List ℕ → InodePart → Type 0
 PartTold path second (part.Take p) = TakeTold path second p
 PartTold path second (part.ReadFile p) = ReadFileTold path p × (second ≡ [])
@@ -104,7 +104,7 @@ one_or_leave None = part.Leave finish.Leave
 abbrev pub part_for : above.Op → Hand → InodePart
 part_for op h = one_or_leave (step_for op h)
 
--- what is asked to be read comes to the front of the call's text
+-- what is asked to be read goes to the front of the call's text
 abbrev pub FillsAs : Ask → List ℕ → Part → Type 0
 FillsAs (ask.ReadFile fd n offset count) text q = FillsFrom text q
 FillsAs a text q = Unit {0}

@@ -8,12 +8,12 @@ use Rattle.inode_parts.specs.declared.note.Notes.{Notes}
 abbrev pub having : Hand → Notes → Having
 having h m = record { hand = h; notes = m }
 
--- what is heard, where the operation is over
+-- what is heard, if the operation is over
 abbrev pub heard_if : Bool → Heard → Option Heard
 heard_if true x = Some x
 heard_if false x = None
 
--- where nothing is heard it is still amid, and nothing was learned; else it leaves what its operation does
+-- if nothing is heard it is still amid, and nothing was learned; else it leaves what its operation does
 abbrev pub StaysOrLeaves : (Hand → Type 0) → List ℕ → above.Op → Option Heard → Having → Having → Type 0
 StaysOrLeaves Amid path op None before after = Amid after.hand × (after.notes ≡ before.notes)
 StaysOrLeaves Amid path op (Some x) before after = Leaves path op (answer_to [] op x) before after

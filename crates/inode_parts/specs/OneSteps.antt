@@ -124,7 +124,7 @@ StepReady step.Say h = Unit {0}
 
 -- ---- which one an operation on whole inodes is
 
--- where the lock of inode n is, where a reference to it, and where no reference
+-- the seat of the lock of inode n, that of a reference to it, and a free one
 abbrev pub seat_of_lock : ℕ → Hand → InodePlace
 seat_of_lock n h = if locks n h.one then One else Two
 
@@ -141,7 +141,7 @@ abbrev pub start_for : Bool → Hand → OneStep
 start_for true h = step.UpRoot (free_seat h)
 start_for false h = step.UpDirectory (free_seat h)
 
--- a reference to inode n, aside where no seat is free
+-- a reference to inode n, aside if no seat is free
 abbrev pub up_for : ℕ → Hand → OneStep
 up_for n h = if is_some (reference_at (free_seat h) h) then step.UpAside n else step.Up (free_seat h) n
 

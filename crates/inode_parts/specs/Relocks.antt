@@ -31,7 +31,7 @@ MayRelock n h = (HasReference n h → ⊥) × ((rest : List ℕ) × (h.listed �
     × (inode_at (free_seat h) h ≡ None)
     × IsAlone n (free_seat h) h × HasNoBuffer h
 
--- it comes to the free seat of the hand at the start: the hand is that still, or the lock came with the reference
+-- it goes to the free seat of the hand at the start: the hand is that still, or the lock is there with the reference
 abbrev pub RelockAmid : ℕ → Hand → RelockPart → Hand → Type 0
 RelockAmid n start (relock.Locking k inodestart) now = MayRelock n start × (k ≡ free_seat start) × (now ≡ start)
 RelockAmid n start (relock.Loading r) now =

@@ -9,6 +9,6 @@ use Rattle.inode_parts.specs.declared.note.Notes.{Notes}
 abbrev pub beside_in : List ℕ → Notes → InodePlace → Hand → Carry
 beside_in path m k h i = had_at path (note_at (other k) m) (inode_at (other k) h) i Apart
 
--- a lock, where there is one, is that of inode n
+-- a lock, if there is one, is that of inode n
 abbrev pub IsOf : ℕ → Option (GuardState Inode) → Type 0
 IsOf n o = IfSome o (λ g. g.value.number ≡ n)

@@ -10,7 +10,8 @@ pub use Rattle.inode_parts.specs.UnderWay.{UnderWay}
 pub use Rattle.inode_parts.specs.declared.note.Notes.{Notes}
 use Rattle.inode_parts.specs.declared.part.InodePart.{InodePart}
 
--- all of this operation is before a part that asks nothing of a call's text, on a disk of these sizes; the hand was so, and is so then
+-- All of this operation is before a part that asks nothing of a call's text, on a disk of these sizes. The hand was
+-- so, and is so then.
 pub record HasStarted (sizes : Super) (op : above.Op) (before : Hand) (p : InodePart) (after : Hand) : Type 0 where
   pub part : (path : List ℕ) (m : Notes) → IsPart sizes (carry_in path m before) op (part_left path m p after)
   pub ready : PartReady p after

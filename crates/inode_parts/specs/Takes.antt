@@ -59,7 +59,7 @@ take_asked (take.Locking q r) = lock_asked r
 take_asked (take.Naming k e s) = search_asked s
 take_asked (take.Listing k s) = search_asked s
 
--- a name that is looked for stands in the path or in the second one
+-- a name that is looked for is in the path or in the second one
 abbrev pub IsTold : List ℕ → List ℕ → Query → Type 0
 IsTold path second query.Nothing = Unit {0}
 IsTold path second (query.Name e) = StandsIn path second e
@@ -79,7 +79,7 @@ TakeReady (take.Locking q r) h = LockReady r h × IsAlone (number_at (lock_seat 
 TakeReady (take.Naming k e s) h = SearchReady k s h × IsTaken k h
 TakeReady (take.Listing k s) h = SearchReady k s h × IsTaken k h
 
--- where the lock comes, and what is looked for
+-- the seat to which the lock goes, and what is looked for
 abbrev pub take_seat : TakePart → InodePlace
 take_seat (take.Locking q r) = lock_seat r
 take_seat (take.Naming k e s) = k
@@ -90,7 +90,7 @@ take_query (take.Locking q r) = q
 take_query (take.Naming k e s) = query.Name e
 take_query (take.Listing k s) = query.Entries
 
--- this is looked for in inode n, whose lock comes to the seat of the reference to it
+-- this is looked for in inode n, whose lock goes to the seat of the reference to it
 abbrev pub TakeAmid : List ℕ → ℕ → whole.Query → Hand → TakePart → Hand → Type 0
 TakeAmid path n looking start p now = HasReference n start × (take_seat p ≡ seat_of_reference n start)
     × (query_in path (take_query p) ≡ looking) × Comes (take_seat p) start now

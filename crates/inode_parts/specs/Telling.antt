@@ -1,4 +1,4 @@
--- What a step of a call tells: how the part of its operation goes on, and what the call hears at its end.
+-- What a step of a call says: how the part of its operation goes on, and what the call hears at its end.
 use Rattle.std.specs.Prelude.{◌≡◌, Bool, true, false, Option, Some, None}
 use Rattle.inode_parts.specs.Vocabulary.{Reply, reply_to, call_in, Ret, Goes, Handover, Hand, Super, Carry, HasRoomFor, text_in, whole_of, Heard}
 use Rattle.fs_machine.specs.Steps as steps
@@ -16,7 +16,7 @@ use Rattle.inode_parts.specs.declared.part.InodePart.TheVariants as part
 use Rattle.inode_table.specs.declared.new_inode.NewInode.{NewInode}
 use Rattle.inode_table.specs.declared.new_inode.NewInode.TheVariants as new
 
--- what is left of the part that is under way
+-- the rest of the part that is under way
 abbrev pub part_of : Lowered → Hand → Part
 part_of l h = part_left (text_in l.call) l.notes l.part h
 
@@ -62,9 +62,9 @@ pub record LoweredTells (l : Lowered) (h : Hand) (answer : (o : steps.Op) → st
 abbrev pub BeginsAsking : Super → Carry → programs.P Reply → Lowered → Hand → Type 0
 BeginsAsking sizes c p l h = (l.sizes ≡ sizes) × AsksNext sizes c p l h
 
--- ---- what isn't told yet
+-- ---- what must still be said
 
--- it gives back the block that it looked through, since no place in memory was left for an inode
+-- it gives back the block that it looked through, because no place in memory was left for an inode
 abbrev pub gives_back : NewInode → Bool
 gives_back (new.Fetching seat looking fetch) = false
 gives_back (new.Look seat looking) = false
@@ -75,6 +75,6 @@ abbrev pub finds_no_place : InodePart → Bool
 finds_no_place (part.Claim p) = gives_back p.claim
 finds_no_place p = false
 
--- The call claims an inode, and no place in memory was left for one: it is told so in its next step.
+-- The call claims an inode, and no place in memory was left for one: its next step says so.
 abbrev pub lacks_place : Lowered → Bool
 lacks_place l = finds_no_place l.part

@@ -1,4 +1,4 @@
--- The text of a call: a path, and where the call has two the second one behind it.
+-- The text of a call: a path, and if the call has two the second one after it.
 use Rattle.std.specs.Prelude.{ℕ, List, ◌++◌}
 use Rattle.inode_parts.specs.Vocabulary.{IsElement, IsInOne, Element}
 

@@ -1,4 +1,4 @@
-//! What the answers of operations below tell of those on whole inodes.
+//! What the answers of operations below say of those on whole inodes.
 ghost use Rattle.std.specs.Prelude.{◌≡◌};
 ghost use Rattle.inode_parts.specs.Vocabulary.{doubled_by, given_by, joined_by, number_by, refused_by, shut_by, cause_if, cause_of, doubled_to, old_directory, shut_to};
 ghost use Rattle.inode_parts.specs.OneSteps.{joining_heard, loan_heard};
@@ -61,7 +61,7 @@ pub(crate) fn doubled_in(answer: &Answer) -> Option<Option<u32>>
     }
 }
 
-/// One descriptor less, where that was the last one of the inode of this number.
+/// One descriptor less. If that was the last one, its inode has this number.
 pub(crate) fn shut_in(answer: &Answer, number: u32) -> Option<Option<u32>>
     ensures { result ≡ shut_to (shut_by answer.now number) }
 {
@@ -72,7 +72,7 @@ pub(crate) fn shut_in(answer: &Answer, number: u32) -> Option<Option<u32>>
     }
 }
 
-/// What was handed on, where the child's directory had this number before.
+/// What was handed on; the child's directory had this number before.
 pub(crate) fn loan_in(answer: &Answer, number: u32) -> Loan
     ensures { heard.Loan result ≡ loan_heard (given_by answer.now number) }
 {
@@ -82,7 +82,7 @@ pub(crate) fn loan_in(answer: &Answer, number: u32) -> Loan
     }
 }
 
-/// The child's directory before, where that had this number.
+/// The child's directory before, which had this number.
 pub(crate) fn old_in(answer: &Answer, number: u32) -> u32
     ensures { result ≡ old_directory (given_by answer.now number) }
 {

@@ -1,4 +1,5 @@
-//! Operations that change a directory, each as a part: a name is entered or cleared, or the names of a new one are written.
+//! Operations that change a directory, each as a part: a name is entered or cleared, or the names of a new one are
+//! written.
 ghost use Rattle.std.specs.Prelude.{◌≡◌, ℕ, List};
 ghost use Rattle.inode_parts.specs.Vocabulary.{Name, Ret, bare, Hand as HandState, HasNoBuffer, IsLoadedAt, entered_as};
 ghost use Rattle.inode_machine.specs.World as world;
@@ -87,7 +88,7 @@ impl Operation for EnterPart {
     }
 }
 
-// What is heard of it. The directory was stored, but where it has no slot left.
+// What is heard of it. The directory was stored, unless it has no slot left.
 fn hear(outcome: &Entered, notes: &mut Notes, hand: &mut Hand) -> Heard
     requires { IsLoadedAt outcome.now.seat hand.old }
     ensures is { (path : List ℕ)
@@ -198,7 +199,7 @@ pub struct FillPart {
 }
 
 impl InodePart {
-    /// Begins to write the two names of directory `number`, which stands in this one, on a disk with this superblock.
+    /// Begins to write the two names of directory `number`, which is in this one, on a disk with this superblock.
     #[inline(always)]
     #[tactic(auto, using(crate::proofs::Fills::fill_is_part))]
     pub(crate) fn begin_fill(&mut self, number: u32, parent: u32, sizes: &Super, hand: &Hand)
@@ -219,7 +220,7 @@ impl Operation for FillPart {
 
     ghost Ready = { FillPartReady };
 
-    // The directory, and the one in which it stands.
+    // The directory, and the one that it is in.
     ghost About = { ℕ × ℕ };
 
     ghost above = { λ a. world.Fill a.0 a.1 };

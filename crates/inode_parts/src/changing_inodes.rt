@@ -27,7 +27,7 @@ pub struct StorePart {
 }
 
 impl InodePart {
-    /// Begins to store inode `number`, which has this count from now on, on a disk with this superblock.
+    /// Begins to store inode `number`, which has this count from here on, on a disk with this superblock.
     #[inline(always)]
     #[tactic(auto, using(crate::proofs::Stores::store_is_part))]
     pub(crate) fn begin_store(&mut self, number: u32, count: u32, sizes: &Super, hand: &mut Hand)
@@ -198,7 +198,7 @@ pub struct ClaimPart {
 }
 
 impl InodePart {
-    /// Begins to seek a free inode, which is to have this type, on a disk of these sizes.
+    /// Begins to seek a free inode, for a new one of this type, on a disk of these sizes.
     #[inline(always)]
     pub(crate) fn begin_claim(&mut self, inode_type: InodeType, sizes: &Super, hand: &Hand)
         requires { ClaimBegins sizes.now hand.now }
@@ -245,7 +245,7 @@ impl Operation for ClaimPart {
     }
 }
 
-// What the search came to, as a call hears it.
+// The search's result, as a call hears it.
 fn claimed(made: inode_table::Made) -> path_walk::Claimed
     ensures { (h : HandState) → result ≡ claimed_by (new_value made h) }
 {

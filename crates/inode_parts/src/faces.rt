@@ -1,4 +1,4 @@
-//! What an inode's record tells.
+//! What an inode's record says.
 ghost use Rattle.std.specs.Prelude.{◌≡◌, ◌<◌, ◌^◌, IfSome};
 ghost use Rattle.inode_parts.specs.Vocabulary.{natural};
 ghost use Rattle.inode_parts.specs.Faces.{face_by, face_unless_free, type_by_number};
@@ -19,7 +19,7 @@ fn inode_type(inode: &Dinode) -> InodeType
     }
 }
 
-// How many names an inode has, where that isn't below 0.
+// How many names an inode has, if that isn't below 0.
 fn count(nlink: i16) -> u16
     ensures is { result ≡ natural nlink }
     ensures few { result < 2 ^ 15 }
@@ -39,7 +39,7 @@ pub(crate) fn face(inode: &Dinode) -> Face
     }
 }
 
-/// Its type, count and size; a free one tells nothing.
+/// Its type, count and size; a free one says nothing.
 pub(crate) fn face_unless_free(inode: &Dinode) -> Option<Face>
     ensures is { result ≡ face_unless_free inode.now }
     ensures few { IfSome result (λ f. f.count < 2 ^ 15) }

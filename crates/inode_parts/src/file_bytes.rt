@@ -22,7 +22,7 @@ use inode_table::record_at;
 use path_walk::{Heard, Wrote};
 use plain_tree::Cause;
 
-/// Where the lock is, by which descriptor it was taken, and where the open file stands.
+/// The seat of the lock, the descriptor by which it was taken, and the open file's offset.
 #[derive(Clone, Copy, Drop)]
 pub struct LockedFile {
     pub seat: InodePlace,
@@ -48,7 +48,7 @@ pub(crate) fn locked_file(number: u32, fd: u32, notes: &Notes, hand: &Hand) -> L
 #[derive(Clone, Copy, Drop)]
 pub enum ReadFilePart {
     Reading(LockedFile, ReadPart),
-    /// So many bytes were read.
+    /// This number of bytes was read.
     Ending(LockedFile, usize),
 }
 
@@ -99,7 +99,7 @@ impl ReadFilePart {
         }
     }
 
-    /// How it goes on, with the call's bytes lent: true where it is over, with what is heard left in `heard`.
+    /// How it goes on, with the call's bytes lent: true if it is over, with what is heard left in `heard`.
     #[inline(always)]
     pub fn next(&mut self, text: &mut [u8], answer: &Answer, hand: &Hand, heard: &mut Heard) -> bool
         requires told { ReadFileTold text.old self.old }
@@ -149,8 +149,8 @@ pub enum WriteFilePart {
 }
 
 impl InodePart {
-    /// Begins to write the piece at this place of a call with these bytes to the file that this descriptor names, whose inode has this
-    /// number, on a disk with this superblock.
+    /// Begins to write the piece at this place of a call with these bytes to the file that this descriptor names. The
+    /// file's inode has this number, and the disk this superblock.
     #[inline(always)]
     pub(crate) fn begin_write_file(
         &mut self,
@@ -186,8 +186,8 @@ impl InodePart {
 }
 
 impl WriteFilePart {
-    /// The next operation. The next block's part of the bytes is written in its buffer. The file moves in the same step in which its lock
-    /// is given up.
+    /// The next operation. The next block's part of the bytes is written in its buffer. The file moves in the same
+    /// step in which its lock is given up.
     pub fn op(&self, text: &[u8], hand: &mut Hand) -> Op
         requires ready { WriteFileReady self.now hand.old }
         requires told { WriteFileTold text.now self.now }
@@ -203,8 +203,8 @@ impl WriteFilePart {
         }
     }
 
-    /// How it goes on, with the call's bytes lent: true where it is over, with what is heard left in `heard`. Once the piece is written the
-    /// inode has its new record in hand.
+    /// How it goes on, with the call's bytes lent: true if it is over, with what is heard left in `heard`. Once the
+    /// piece is written the inode has its new record in hand.
     pub fn next(&mut self, text: &[u8], answer: &Answer, hand: &mut Hand, heard: &mut Heard) -> bool
         requires told { WriteFileTold text.now self.old }
         requires came { (before : HandState) × WriteFileReady self.old before
@@ -245,7 +245,7 @@ impl WriteFilePart {
     }
 }
 
-// Why so many bytes may not be written from an offset on.
+// Why `len` bytes may not be written from an offset on.
 fn refused(inode: &Dinode, offset: u32, len: usize) -> Option<Cause>
     requires { len ≤ piece_len }
     ensures is { (bytes : List ℕ) → length bytes ≡ len → result ≡ refused_in inode.now offset bytes }
@@ -260,7 +260,7 @@ fn refused(inode: &Dinode, offset: u32, len: usize) -> Option<Cause>
     }
 }
 
-// So many bytes were to be written, and these were. The inode has its new record from now on.
+// Of `len` bytes these were written. The inode has its new record from this step on.
 #[tactic(auto, using(crate::proofs::Changing::bare_record))]
 fn ended(file: &LockedFile, len: usize, written: &Written, hand: &mut Hand) -> WriteFilePart
     requires few { len ≤ piece_len }

@@ -1,4 +1,4 @@
-//! Operations that lock what a descriptor names, each as a part: to write it, to read it, and to tell its state.
+//! Operations that lock what a descriptor names, each as a part: to write it, to read it, and to answer its state.
 ghost use Rattle.std.specs.Prelude.{ℕ};
 ghost use Rattle.inode_parts.specs.Vocabulary.{LockOpen as LocksOpen, LockFile as Locks, Stats};
 ghost use Rattle.inode_parts.specs.Starts.{HasStarted};
@@ -72,7 +72,7 @@ impl Operation for LockOpenPart {
     }
 }
 
-/// The lock of what this descriptor names is taken, where that may be read.
+/// The lock of what this descriptor names is taken, if that may be read.
 #[derive(Clone, Copy, Drop)]
 pub struct LockFilePart {
     pub fd: u32,
@@ -80,7 +80,7 @@ pub struct LockFilePart {
 }
 
 impl InodePart {
-    /// Begins to lock what this descriptor names, where that may be read, on a disk of these sizes.
+    /// Begins to lock what this descriptor names, if that may be read, on a disk of these sizes.
     #[inline(always)]
     pub(crate) fn begin_lock_file(&mut self, fd: u32, sizes: &Super, hand: &Hand)
         requires { LockBegins sizes.now hand.now }
@@ -132,14 +132,14 @@ impl Operation for LockFilePart {
     }
 }
 
-/// The lock of what a descriptor names is taken, where that has a state to tell (xv6: `stati`).
+/// The lock of what a descriptor names is taken, if that has a state (xv6: `stati`).
 #[derive(Clone, Copy, Drop)]
 pub struct StatFilePart {
     pub lock: LockFile,
 }
 
 impl InodePart {
-    /// Begins to lock what this descriptor names, where that has a state to tell, on a disk of these sizes.
+    /// Begins to lock what this descriptor names, if that has a state, on a disk of these sizes.
     #[inline(always)]
     pub(crate) fn begin_stat_file(&mut self, fd: u32, sizes: &Super, hand: &Hand)
         requires { LockBegins sizes.now hand.now }

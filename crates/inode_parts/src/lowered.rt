@@ -33,7 +33,7 @@ const NO_SIZES: Super = Super {
     bmapstart: 0,
 };
 
-/// A call with the part of its present operation; between two calls of its hart it stands idle.
+/// A call with the part of its present operation; between two calls of its hart it is idle.
 #[derive(Drop)]
 pub struct Lowered {
     sizes: Super,
@@ -85,14 +85,15 @@ impl Lowered {
         self.part.begin(ask, sizes, &self.call, &self.notes, hand);
     }
 
-    /// What the call heard in its last step, where an operation over whole inodes ended there; also of a call that has ended.
+    /// What the call heard in its last step, if an operation over whole inodes ended there; also of a call that has
+    /// ended.
     pub fn heard(&self) -> Option<Heard>
         ensures { result ≡ heard_if self.now.ended self.now.heard }
     {
         if self.ended { Some(self.heard) } else { None }
     }
 
-    /// The same, told in its place: what is large is not moved twice.
+    /// The same, written in its place: what is large is not moved twice.
     #[inline(always)]
     pub fn tell(&self, last: &mut Option<Heard>)
         ensures { last.new ≡ heard_if self.now.ended self.now.heard }
@@ -104,7 +105,7 @@ impl Lowered {
         }
     }
 
-    /// Whether the call claims an inode for which no place in memory was left, and is to be told so in its next step.
+    /// Whether the call claims an inode for which no place in memory was left, and its next step must say so.
     pub fn lacks_place(&self) -> bool
         ensures { result ≡ lacks_place self.now }
     {
@@ -126,7 +127,7 @@ impl Lowered {
     }
 }
 
-// What stands where no call is under way.
+// What is there while no call is under way.
 fn no_call() -> Whole {
     Whole::Dup {
         fd: 0,
@@ -141,7 +142,7 @@ fn take_call(call: &mut Whole) -> Whole
     mem::replace(call, no_call())
 }
 
-// A call's part goes on: true where it is over, with what is heard left in `heard`. A read's has the call's own buffer.
+// A call's part goes on: true if it is over, with what is heard left in `heard`. A read's has the call's own buffer.
 #[inline(always)]
 fn part_next(
     part: &mut InodePart,

@@ -5,7 +5,7 @@ ghost use Rattle.inode_parts.specs.Carries.{note_at, with_note};
 use fs_machine::InodePlace;
 use path_walk::Element;
 
-/// What was learned of the inode at a seat since its lock was taken.
+/// What was learned of the inode at a seat after its lock was taken.
 #[derive(Clone, Copy, Drop)]
 pub enum Note {
     Nothing,
@@ -17,8 +17,8 @@ pub enum Note {
     Freed,
 }
 
-/// That of both seats. It counts where a lock is: it stands beside the hand and not in it, since the core knows nothing of it, and parts
-/// that search nothing leave it as it is.
+/// That of both seats. It counts while a lock is there. It is beside the hand and not in it, because the core knows
+/// nothing of it. Parts that search nothing leave it as it is.
 #[derive(Clone, Copy, Drop)]
 pub struct Notes {
     pub one: Note,

@@ -16,15 +16,16 @@ use path_walk::{Ask, Heard};
 /// Such an operation, with the place of what it is about.
 #[derive(Clone, Copy, Drop)]
 pub enum OneStep {
-    /// An inode's lock is given up; so too where it is the hart's current directory from then on.
+    /// An inode's lock is given up; so too if it is the hart's current directory from then on.
     UnlockInode(InodePlace),
     SetDirectory(InodePlace),
-    /// A reference more: to the root, to the current directory, to this inode; and to this one where no seat is free.
+    /// A reference more: to the root, to the current directory, to this inode; and to this one if no seat is free.
     UpRoot(InodePlace),
     UpDirectory(InodePlace),
     Up(InodePlace, u32),
     UpAside(u32),
-    /// A reference less: in a walk, where one that is aside comes to its seat; elsewhere; and to an inode that was freed.
+    /// A reference less: in a walk, in which one that is aside moves to its seat; elsewhere; and to an inode that was
+    /// freed.
     WalkDown(InodePlace),
     Down(InodePlace),
     Forget(InodePlace),
@@ -165,7 +166,7 @@ fn up(number: u32, hand: &Hand) -> OneStep
     }
 }
 
-// Whether the inode to which a reference was dropped is to be freed: then its lock came into hand.
+// Whether the inode that lost a reference must be freed: then its lock came into hand.
 fn dies(notes: &mut Notes, seat: InodePlace, answer: &Answer) -> bool
     ensures is { result ≡ yes_in answer.now }
     ensures notes { notes.new ≡ (if yes_in answer.now then with_note seat note.Nothing notes.old else notes.old) }

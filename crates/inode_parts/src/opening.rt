@@ -1,4 +1,4 @@
-//! What is told of a file that is opened.
+//! What is recorded of a file that is opened.
 ghost use Rattle.std.specs.Prelude.{◌≡◌, ℕ};
 ghost use Rattle.inode_parts.specs.Vocabulary.{has, file_for, kind_of, new_file as told_of, type_of};
 

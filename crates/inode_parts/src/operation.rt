@@ -10,9 +10,10 @@ use crate::note::Notes;
 use fs_machine::{Answer, Hand, Op};
 use path_walk::Heard;
 
-/// An operation on whole inodes, run below step by step, that needs nothing more of its call's text once it has begun. It does what
-/// `iupdate`, `itrunc`, `dirlink`, `ialloc`, `ilock` or `stati` does in xv6, or `iput` with an inode without links, `unlink` with a name,
-/// `fileread` or `filewrite` with the lock that it takes.
+/// An operation on whole inodes, run below step by step, that needs nothing more of its call's text once it has
+/// begun. It does what `iupdate`, `itrunc`, `dirlink`, `ialloc`, `ilock` or `stati` does in xv6. Or it does what
+/// `iput` does with an inode without links, `unlink` with a name, `fileread` or `filewrite` with the lock that it
+/// takes.
 pub trait Operation: Drop {
     // The program that is left, in a call with this text, by these notes and with this in hand.
     ghost left: { List ℕ → NotesState → Self → HandState → Part };
@@ -28,7 +29,7 @@ pub trait Operation: Drop {
 
     ghost above: { About → OpAbove };
 
-    // It began so with that in hand, and stands so with this in hand.
+    // It began so with that in hand, and is so with this in hand.
     ghost Amid: { About → HandState → Self → HandState → Type 0 };
 
     /// The next operation. Bytes to be recorded are written in their buffer.
@@ -39,7 +40,8 @@ pub trait Operation: Drop {
         ensures can { CanDo result hand.new }
         ensures prepared { Prepared result hand.old hand.new };
 
-    /// How it goes on: true where it is over, with what is heard left in `heard`. The record of a locked inode may change in hand.
+    /// How it goes on: true if it is over, with what is heard left in `heard`. The record of a locked inode may
+    /// change in hand.
     fn next(
         &mut self,
         notes: &mut Notes,

@@ -33,7 +33,7 @@ use whole_calls::Whole;
 #[derive(Drop)]
 pub enum InodePart {
     One(OneStep),
-    /// A transaction is left, with the commit where one begins.
+    /// A transaction is left, with the commit if one begins.
     Leave(Finish),
     /// An inode's count is put.
     Store(StorePart),
@@ -53,7 +53,7 @@ pub enum InodePart {
     LockOpen(LockOpenPart),
     /// The same, to read it.
     LockFile(LockFilePart),
-    /// The state of what a descriptor names is told.
+    /// The state of what a descriptor names is answered.
     StatFile(StatFilePart),
     /// An inode is locked, and looked at.
     Take(TakePart),
@@ -71,8 +71,8 @@ impl InodePart {
         InodePart::One(OneStep::Say)
     }
 
-    /// The part of this ask of a call begins in this place, on a disk with this superblock; what was learned of locked inodes is noted. The
-    /// record of one of them may change in hand.
+    /// The part of this ask of a call begins in this place, on a disk with this superblock. What was learned of
+    /// locked inodes is noted. The record of one of them may change in hand.
     #[inline(always)]
     pub fn begin(&mut self, ask: Ask, sizes: &Super, call: &Whole, notes: &Notes, hand: &mut Hand)
         requires { PartMayBegin sizes.now (first_in call.now) (second_in call.now) ask notes.now hand.old }
@@ -88,8 +88,8 @@ impl InodePart {
         }
     }
 
-    // The same, in a function of its own. What its arms begin is cleared first, so each is a function that is put into it: no other's
-    // room is cleared.
+    // The same, in a function of its own. What its arms begin is cleared first, so each is a function that is put
+    // into it: no other's room is cleared.
     #[tactic(auto, using(crate::proofs::Begins::is_part, crate::proofs::Begins::is_ready))]
     fn begin_long(&mut self, ask: Ask, sizes: &Super, call: &Whole, notes: &Notes, hand: &mut Hand)
         requires { PartMayBegin sizes.now (first_in call.now) (second_in call.now) ask notes.now hand.old }
@@ -120,7 +120,8 @@ impl InodePart {
         }
     }
 
-    // That of an operation which is one below, or leaves a transaction. Where one below was here before, it alone is written.
+    // That of an operation which is one below, or leaves a transaction. If one below was here before, it alone is
+    // written.
     #[inline(always)]
     fn begin_short(&mut self, ask: Ask, hand: &Hand)
         ensures is { (path : List ℕ) → self.new ≡ part_for (above_op path ask) hand.now }
@@ -134,7 +135,7 @@ impl InodePart {
         }
     }
 
-    // An inode is locked by the reference at a seat, or where none is there by the first listed one.
+    // An inode is locked by the reference at a seat, or if none is there by the first listed one.
     #[inline(always)]
     fn begin_take(&mut self, number: u32, query: Query, sizes: &Super, hand: &Hand)
         requires sizes { IsSized sizes.now }
@@ -156,7 +157,8 @@ impl InodePart {
         }
     }
 
-    /// The next operation of a call, whose bytes are read where they are written. Bytes to be recorded are written in their buffer.
+    /// The next operation of a call, whose bytes are read where they are written. Bytes to be recorded are written in
+    /// their buffer.
     #[inline(always)]
     pub fn op(&self, call: &Whole, hand: &mut Hand) -> Op
         requires ready { PartReady self.now hand.old }
@@ -187,8 +189,8 @@ impl InodePart {
         }
     }
 
-    /// How it goes on in a call, where it reads nothing into that: true where it is over, with what is heard left in `heard`. The record
-    /// of a locked inode may change in hand.
+    /// How it goes on in a call, if it reads nothing into that: true if it is over, with what is heard left in
+    /// `heard`. The record of a locked inode may change in hand.
     #[inline(always)]
     #[tactic(auto, using(crate::proofs::Goings::leave_on))]
     pub fn next(

@@ -1,4 +1,4 @@
-//! Where in hand an inode's lock is, or a reference to it.
+//! The seat in hand of an inode's lock, or of a reference to it.
 ghost use Rattle.std.specs.Prelude.{◌≡◌};
 ghost use Rattle.inode_parts.specs.Vocabulary.{number_at, reference_at};
 ghost use Rattle.inode_parts.specs.OneSteps.{free_seat, locks, refers, seat_of_lock, seat_of_reference};
@@ -25,7 +25,7 @@ pub(crate) fn number_to(hand: &Hand, seat: InodePlace) -> Option<u32>
     }
 }
 
-/// That number, where there is a reference.
+/// That number, if there is a reference.
 pub(crate) fn known_number(hand: &Hand, seat: InodePlace) -> u32
     ensures { result ≡ number_at seat hand.now }
 {
@@ -41,7 +41,7 @@ fn has_number(place: &Option<Guard<Inode>>, number: u32) -> bool
     }
 }
 
-/// Where the lock of the inode of this number is.
+/// The seat of the lock of the inode of this number.
 pub(crate) fn lock_seat(hand: &Hand, number: u32) -> InodePlace
     ensures { result ≡ seat_of_lock number hand.now }
 {
@@ -61,7 +61,7 @@ fn refers_to(place: &Option<Reference>, number: u32) -> bool
     }
 }
 
-/// Where the reference to the inode of this number is.
+/// The seat of the reference to the inode of this number.
 pub(crate) fn reference_seat(hand: &Hand, number: u32) -> InodePlace
     ensures { result ≡ seat_of_reference number hand.now }
 {
@@ -82,7 +82,7 @@ pub(crate) fn refers_at(hand: &Hand, seat: InodePlace, number: u32) -> bool
     }
 }
 
-/// Where there is no reference.
+/// The free seat of the hand: the first if it has no reference, else the second.
 pub(crate) fn free_seat(hand: &Hand) -> InodePlace
     ensures { result ≡ free_seat hand.now }
 {

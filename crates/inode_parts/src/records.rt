@@ -8,7 +8,7 @@ use crate::note::{Note, Notes};
 use fs_layout::Dinode;
 use fs_machine::{Hand, InodePlace};
 
-// The inode at a seat has this record from now on, and nothing more is known of it.
+// The inode at a seat has this record from here on, and nothing more is known of it.
 #[tactic(auto, using(crate::proofs::Changing::bare_record))]
 pub(crate) fn change(seat: InodePlace, inode: Dinode, notes: &mut Notes, hand: &mut Hand)
     requires { IsSome (inode_at seat hand.old) }
@@ -20,7 +20,7 @@ pub(crate) fn change(seat: InodePlace, inode: Dinode, notes: &mut Notes, hand: &
     notes.set(seat, Note::Nothing);
 }
 
-// None of the names of the directory at a seat is indexed from now on.
+// None of the names of the directory at a seat is indexed from here on.
 #[tactic(auto, using(crate::proofs::Changing::bare_index))]
 pub(crate) fn clear_index_at(seat: InodePlace, hand: &mut Hand)
     requires { IsLoadedAt seat hand.old }

@@ -18,10 +18,10 @@ use fs_machine::{Answer, Hand, InodePlace, Op, Routine};
 use inode_table::{LockInode, record_at};
 use path_walk::{Heard, Sight};
 
-/// The lock of the first listed inode is taken, and the reference to it comes to a seat.
+/// The lock of the first listed inode is taken, and the reference to it moves to a seat.
 #[derive(Clone, Copy, Drop)]
 pub enum RelockPart {
-    /// They come to this seat, on a disk whose inode blocks begin there.
+    /// They go to this seat, on a disk whose inode blocks begin there.
     Locking(InodePlace, u32),
     /// The inode is loaded.
     Loading(LockInode),

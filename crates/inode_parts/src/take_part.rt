@@ -65,7 +65,8 @@ impl TakePart {
         }
     }
 
-    /// How it goes on, in a call with this path and a second one: true where it is over, with what is heard left in `heard`.
+    /// How it goes on, in a call with this path and a second one: true if it is over, with what is heard left in
+    /// `heard`.
     pub fn next(
         &mut self,
         path: &[u8],
@@ -122,8 +123,8 @@ impl TakePart {
         }
     }
 
-    // Looks for this in the inode at a seat, which is locked and loaded, in a call with this path and a second one: true where it is seen,
-    // and left in `heard`.
+    // Looks for this in the inode at a seat, which is locked and loaded, in a call with this path and a second one.
+    // It is true if nothing more must be read for that. What was seen is in `heard` then.
     fn look(
         &mut self,
         query: Query,
@@ -190,7 +191,7 @@ fn saw(inode: &Dinode, found: Option<u32>, empty: bool, heard: &mut Heard)
     });
 }
 
-// The same where a name was sought; its slot is noted.
+// The same if a name was sought; its slot is noted.
 #[inline(always)]
 fn named(
     inode: &Dinode,
@@ -216,7 +217,7 @@ fn named(
     }
 }
 
-// The same where an entry was sought.
+// The same if an entry was sought.
 fn listed(
     inode: &Dinode,
     seat: InodePlace,

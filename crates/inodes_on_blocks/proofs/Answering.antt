@@ -1,4 +1,4 @@
--- An operation below that acts or not, and as what lies outside has it, by what it answers.
+-- An operation below that acts or not, by what it answers and by what comes from outside.
 use Rattle.inodes_on_blocks.proofs.Vocabulary.{◌≡◌, ◌≢◌, ◌⊎◌, inl, inr, ℕ, suc, List, Option, Some, None, [], ◌∷◌, refl, sym, subst, arith, Do, ExecResult, Ran, Machine, Laws, P, Fine, Goes, Good, Wp, onto, own, placed_with, ActOf, Both, both, joined, Lasts, LowerLayer, LowerLaws, act_places, placed_at, ran_to, seen_after, Here, ToAct, may_act, s-step, to_act}
 
 goes_below : (U : Machine) (R : LowerLayer U.World) (t : U.Tree) (ps : List (ℕ × U.Step)) (u : U.Tree) → Goes U t ps u → Goes (joined U R) t ps u
@@ -16,14 +16,14 @@ module _ (U : Machine) (R : LowerLayer U.World) (above : Laws U) (below : LowerL
   abbrev acts : U.Outside → Option (ActOf U)
   acts y = Some (record { op = op; outside = y; mark = m })
 
-  -- Where it ran: the world above stays, or goes on as the operation alone does; the program goes on as N says.
+  -- If it ran: the world above stays, or goes on as the operation alone does; the program goes on as N says.
   abbrev pub Answered : W → R.World → List U.Step → Option (ActOf U) → (List U.Step → R.World → U.World → Type 0) → Type 0
   Answered v r fs mark N =
       ((mark ≡ None) × R.Shows r v.seen × ((g : ℕ) → g ≢ h → R.Same g v.real r) × N fs r v.seen)
       ⊎ ((y : U.Outside) × (b : U.Answer op) × (g : U.World) × (mark ≡ acts y) × (U.go h y op m v.seen ≡ Ran b g) × U.Honest h op v.seen y × (U.Inv g → R.Shows r g) × ((other : ℕ) → other ≢ h → R.Same other v.real r) × ((gs : List U.Step) → U.Inv g → C b gs g → N gs r g))
 
   module _ {A : Type 0} (Q : A → List U.Step → W → Type 0) (n : ℕ) (v : W) (fs : List U.Step) (here : Todo fs v.seen) (inv : U.Inv v.seen) (r : R.World) (p : P (joined U R) A) where
-    -- what is to be shown of it, by its mark
+    -- what must be shown of it, by its mark
     abbrev IsFine : Option (ActOf U) → Type 0
     IsFine t = Fine (joined U R) h (act_places U h t v.seen) 0 (suc n) B fs v (record { real = r; seen = seen_after U h t v.seen }) (λ l. Wp (joined U R) h B Q p l (onto (own h (act_places U h t v.seen)) fs) (record { real = r; seen = seen_after U h t v.seen }))
 
@@ -39,7 +39,7 @@ module _ (U : Machine) (R : LowerLayer U.World) (above : Laws U) (below : LowerL
       next = next;
     }
 
-    -- by what the operation alone comes to
+    -- by what the operation alone does
     acting : (y : U.Outside) (b : U.Answer op) (g : U.World) (d : ExecResult (U.Answer op) U.World) → d ≡ Ran b g → Fine U h (U.places h op b (m b) v.seen) (U.more op) (suc (U.more op)) B fs v.seen g (λ l. C b (onto (own h (U.places h op b (m b) v.seen)) fs) g)
         → (U.Inv g → R.Shows r g) → ((other : ℕ) → other ≢ h → R.Same other v.real r) → ((gs : List U.Step) → U.Inv g → C b gs g → Wp (joined U R) h B Q p n gs (record { real = r; seen = g }))
         → Fine (joined U R) h (placed_at (placed_with U h op m v.seen) d) 0 (suc n) B fs v (record { real = r; seen = ran_to v.seen d }) (λ l. Wp (joined U R) h B Q p l (onto (own h (placed_at (placed_with U h op m v.seen) d)) fs) (record { real = r; seen = ran_to v.seen d }))

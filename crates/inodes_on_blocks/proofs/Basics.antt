@@ -1,4 +1,4 @@
--- The lemmas that most of this crate's other lemmas stand on.
+-- The lemmas that most of this crate's other lemmas use.
 pub use Rattle.inodes_on_blocks.proofs.Accounts.{other_put, set_at, spent_put, transactions_have_room}
 pub use Rattle.inodes_on_blocks.proofs.Alone.{alone_keeps, alone_laws, kept_same, kept_then, lasts_done}
 pub use Rattle.inodes_on_blocks.proofs.Answering.{Answered, s-answered}

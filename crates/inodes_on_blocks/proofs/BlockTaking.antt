@@ -1,4 +1,5 @@
--- A block taken for an inode that a hart is changing: its bit is set, and it is filled with zeros; or the bitmap has none. Nothing of it is seen above.
+-- A block taken for an inode that a hart is changing. Its bit is set, and it is filled with zeros; or the bitmap has
+-- none. Nothing of it is seen above.
 use Rattle.inodes_on_blocks.proofs.Vocabulary.{◌≡◌, ◌≢◌, ⊎_elim, ℕ, suc, ◌<◌, ◌≤◌, Bool, true, false, not, List, ◌∷◌, length, length-append, Option, Some, None, refl, sym, ◌∙◌, ap, subst, arith, slice_index, cases_lt, get_or_append_left, length-replicate, Dinode, Super, bit_of, IsBytes, IsOutsideLog, recovered, sizes_of, holder_of, IsData, numbers_of, indirect_numbers, IsOwned, NamesOwned, IsLaidOut, IsSpare, Node, hart_count, Do, bind, unmarked, Machine, Laws, P, Wp, Both, joined, Stable, bind-assoc, Wp-more, fetch, seen_of, Put, marked_by, zeros, first_clear_below, give_zeros, zero_found, take_first, take_block, FirstIs, first_is, if_kept, Inv, World, log_of, disk_of, world_with, KeepsRoom, in_hand, IsFetched, Kept, Carry, buffer_in, below, Labels, labelled, Keeps, IsChanging, Shows, addresses, block_len, direct}
 use Rattle.inodes_on_blocks.proofs.Basics.{spare_put, at_index, good_seen, kept_then, marks_are_bits, s-fetch, s-back, below_laws, held_back, through_put}
 use Rattle.inode_machine.specs.World as above
@@ -12,7 +13,7 @@ use Rattle.inodes_on_blocks.proofs.TakingSteps.{MarkedFor, s-mark}
 
 -- ---- numbers
 
--- the number of the indirect block stands behind the first twelve
+-- the number of the indirect block follows the first twelve
 pub table_place : (disk : List (List ℕ)) (d : Dinode) → length d.addrs ≡ addresses → (slice_index (numbers_of disk d) direct ≡ slice_index d.addrs direct) × (direct < length (numbers_of disk d))
 unfolding numbers_of
 table_place disk d long = (get_or_append_left d.addrs (indirect_numbers disk d) 0 direct (omega (arith, long)), omega (arith, long, length-append d.addrs (indirect_numbers disk d)))
@@ -34,9 +35,10 @@ zeros_bytes : IsBytes zeros
 unfolding zeros
 zeros_bytes = zero_bytes block_len
 
--- ---- what it comes to
+-- ---- the result
 
--- Block b was taken, from w on: it is the inode's, of zeros, and no record names it yet. A buffer of block t in hand is there still.
+-- Block b was taken, from w on: it is the inode's, of zeros, and no record names it yet. A buffer of block t in hand
+-- is there still.
 pub record Took (h n b t : ℕ) (Stage : above.World → Type 0) (c : Carry) (o : Option Node) (d : Dinode) (x : Node) (Then : World → Type 0) (w z : Both World above.World) : Type 0 where
   pub spare : HasSpare h n b c o d x z.real z.seen
   pub zeros_are : recovered (disk_of (log_of z.real)) b ≡ zeros

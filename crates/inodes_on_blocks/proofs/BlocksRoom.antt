@@ -106,7 +106,7 @@ abbrev pub one_of : Bool → ℕ
 one_of true = 1
 one_of false = 0
 
--- one for the indirect block, where the content may reach it and it isn't among these
+-- one for the indirect block, if the content may reach it and it isn't among these
 abbrev pub extra : Bool → List ℕ → ℕ → ℕ
 extra far bs t = one_of (far && not (not (t == 0) && budget.has bs t))
 

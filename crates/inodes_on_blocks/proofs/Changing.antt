@@ -1,4 +1,5 @@
--- What a hart has of an inode that it is changing, block by block, until it puts the record: with the blocks that it has taken it is laid out for a node.
+-- What a hart has of an inode that it is changing, block by block, until it puts the record. With the blocks that it
+-- has taken, the inode is laid out for a node.
 use Rattle.inodes_on_blocks.proofs.Vocabulary.{◌≡◌, ◌≢◌, inl, inr, ℕ, ◌<◌, ◌==◌, Bool, true, false, List, length, Option, Some, None, is_some, refl, sym, ◌∙◌, ap, subst, if◌then◌else◌, Dinode, Super, recovered, sizes_of, IsData, numbers_of, HoldsAt, NamesOwned, IsUntouched, IsLaidOut, Node, either, lock_holder, seen_of, if_kept, is_hart, Idle, World, log_of, tables_of, disk_of, inode_in, owners_of, world_with, SameBut, KeepsInode, Kept, undertaken, IsThrough, Same, Carry, IsLoaded, InHand, Base, PutLeaves, log_with, owners_with, Shows}
 use Rattle.inodes_on_blocks.proofs.Basics.{untouched, untouched_change, laid_before, good_seen, data_place, hart_is, held_back, kept_disk, hand_then, lent_then, through_then, through_put, block_shown, lock_range}
 use Rattle.inode_machine.specs.World as above
@@ -10,7 +11,7 @@ use Rattle.inodes_on_blocks.proofs.PutLaws.{behind}
 abbrev pub owner_with : ℕ → ℕ → World → ℕ → ℕ
 owner_with h n r b = if is_hart (r.taken b) h then n else r.owner b
 
--- what is left of it while others step, and while it takes buffers
+-- the part of it that stays while others step, and while it takes buffers
 pub record LeftTo (h : ℕ) (v w : World) : Type 0 where
   pub inodes : (i : ℕ) → lock_holder i (tables_of v) ≡ Some h → KeepsInode h i v w
   pub no_more : (i : ℕ) → lock_holder i (tables_of w) ≡ Some h → lock_holder i (tables_of v) ≡ Some h
@@ -70,8 +71,8 @@ module _ (h n : ℕ) (v w : World) (g u : above.World) (shows : Shows v g) (show
 
 -- ---- an inode that a hart is changing
 
--- Its lock is the hart's; above it is what it was; with what the hart has taken, and this record, it is laid out for this node, and names all that is its own; the hart's other inodes are as
--- before.
+-- Its lock is the hart's, and above it is what it was. With what the hart has taken, and this record, it is laid out
+-- for this node, and names all that is its own. The hart's other inodes are as before.
 pub record Changing (h n : ℕ) (c : Carry) (o : Option Node) (d : Dinode) (x : Node) (r : World) (g : above.World) : Type 0 where
   pub others : (i : ℕ) → i ≢ n → lock_holder i (tables_of r) ≡ Some h → InHand h i (c i) r g
   pub lock : lock_holder n (tables_of r) ≡ Some h
@@ -82,7 +83,7 @@ pub record Changing (h n : ℕ) (c : Carry) (o : Option Node) (d : Dinode) (x : 
   pub laid : IsLaidOut (disk_of (log_of r)) (owner_with h n r) n d x
   pub named : NamesOwned (disk_of (log_of r)) (owner_with h n r) n (numbers_of (disk_of (log_of r)) d)
 
--- Where it has taken nothing, an inode that holds its node is so.
+-- If the hart has taken nothing, an inode that holds its node is so.
 pub changing_start : (h n : ℕ) (c : Carry) (x : Node) (r : World) (g : above.World) → Base h r g c → lock_holder n (tables_of r) ≡ Some h → g.disk n ≡ Some x → Changing h n c (Some x) (inode_in (log_of r) n) x r g
 changing_start h n c x r g base mine is =
     let hand = base.inodes n mine in
@@ -145,11 +146,11 @@ module _ (h n b : ℕ) (bytes : List ℕ) (r : World) (g : above.World) (shows :
         opened = was.opened;
       }
 
-  -- where it is laid out for another node then
+  -- if it is laid out for another node then
   pub changed_put : (c : Carry) (o : Option Node) (d e : Dinode) (x y : Node) → Changing h n c o d x r g → IsLaidOut (disk_of (log_of then_)) (owner_with h n then_) n e y → NamesOwned (disk_of (log_of then_)) (owner_with h n then_) n (numbers_of (disk_of (log_of then_)) e)
       → Changing h n c o e y then_ g
   changed_put c o d e x y is laid named = record { others = others_put c is.others; lock = is.lock; keeps = is.keeps; was = is.was; through = through_put h r then_ (log_of then_) refl refl is.through; lent = is.lent; laid = laid; named = named }
 
--- whose the blocks are doesn't change where a block behind the bitmap is put
+-- whose the blocks are doesn't change if a block after the bitmap is put
 pub data_owners : (h b : ℕ) (bytes : List ℕ) (r : World) → (log_of r).sizes.bmapstart < b → owners_with h b bytes r ≡ owners_of r
 data_owners h b bytes r past = behind (λ i. lock_holder i (tables_of r)) h (log_of r).sizes.bmapstart b (disk_of (log_of r)) (disk_of (log_with h b bytes r)) (owners_of r) past

@@ -10,7 +10,7 @@ use Rattle.inodes_on_blocks.proofs.StatSteps.{in_use}
 
 -- ---- the claim
 
--- of an inode to which no reference stands, and whose record is free
+-- of an inode that has no reference, and whose record is free
 module _ (h : ℕ) (lt : h < hart_count) (inode_type : InodeType) (v : World) (g : above.World) (shows : Shows v g) (inv : Inv g) (n : ℕ) (low : 1 ≤ n) (bound : n < (log_of v).sizes.ninodes) (free : is_free (inode_in (log_of v) n) ≡ true) (zero : g.refs n ≡ 0) where
   nobody : g.keeper n ≡ None
   nobody = at (g.keeper n) refl
@@ -151,7 +151,7 @@ pub record HasClaimed (h n : ℕ) (inode_type : InodeType) (c : Carry) (r : Worl
   pub hands : AllInHand h c r g
   pub free : (g.desks h).lender ≡ None
 
--- the same above where that differs for the proof alone
+-- the same if the world above differs for the proof alone
 pub claimed_marked : (h n : ℕ) (inode_type : InodeType) (c : Carry) (r : World) (g u : above.World) → SameCode g u → HasClaimed h n inode_type c r g → HasClaimed h n inode_type c r u
 claimed_marked h n inode_type c r g u s is = record {
   new = is.new;
@@ -227,7 +227,7 @@ module _ (h : ℕ) (n : ℕ) (inode_type : InodeType) (c : Carry) (r : World) (g
   fits : IsDinode put_record
   fits = new_fits inode_type
 
-  -- the block may be put, where its buffer is in hand and there is room
+  -- the block may be put, if its buffer is in hand and there is room
   pub can_put_new : holder_of b l.seats ≡ Some h → IsSome (kept b l.seats) → (has l.group b ≡ false → HasRoom l.members h) → CanPut h b stored l
   can_put_new holder valid room = record {
     holder = holder;

@@ -1,4 +1,5 @@
--- The operation that takes a new inode acts where a block of the table is looked through; its record is put in a step of its own.
+-- The operation that takes a new inode acts when a block of the table is looked through. A step of its own puts the
+-- inode's record.
 use Rattle.inodes_on_blocks.proofs.Vocabulary.{◌≡◌, ◌≢◌, inl, inr, ℕ, zero, suc, ℤ, pos, negsuc, ◌+◌, ◌*◌, ◌/◌, ◌<◌, ◌≤◌, ◌||◌, ◌&&◌, Bool, true, false, List, Option, Some, None, is_some, refl, sym, ◌∙◌, ap, subst, arith, if◌then◌else◌, [], IsSome, nat_lt, is_none, nat_tests, Super, dinode_at, IsOutsideLog, SeatState, kept, given_back, holder_of, has, HasRoom, is_free, is_number, hart_count, and_true, put_same, put_other, Do, unmarked, ExecResult, Ran, Machine, Laws, P, Wp, Both, joined, Below, Handover, Lasts, Here, Silent, ToAct, to_act, acted, s-silent, Wp-more, TablesState, references_in, up_inode, first_free, is_unreferenced, Outside, Passes, seen_of, keeps_whole, leaves_own, shows_its_puts, free_in, inode_blocks, new_record, inode_block, with_dinode, Spent, size, most_recorded, InodeType, Claim, claimed, counted_up, has_place, place_count, referenced, blank, marked, with_mark, Idle, Inv, more, loaded, kind_of, World, log_of, tables_of, inode_in, came_to, exec, alone, Answers, IsDone, in_hand, HasBuffer, SameBut, Carry, IsThrough, Keeps, Kept, Labels, Same, Stands, below, labelled, IsMade, answers, claim, claim_at, claim_from, claim_in, claim_mark, HasInodes, Owners, GivesRoom, HasSpent, Shows, ActsWithin, DoesItWithin, inodes_per_block}
 use Rattle.std.specs.Prelude.{Contains}
 use Rattle.inode_machine.specs.VersionOne as one
@@ -111,7 +112,7 @@ module _ (sizes : Super) (l : Labels) (laws : Laws (labelled l)) (keeps : Keeps 
   ends : (r : World) (g : above.World) → in_hand h r ≡ 0 → Looks r g → Stands sizes h r g c
   ends r g none is = (record { free = none; taken = is.taken; through = is.through; inodes = is.hands; lent = is.lent }, is.knows.0)
 
-  -- the blocks behind this one, of which there are so many
+  -- the blocks after this one, by their count
   abbrev Again : ℕ → ℕ → Type 0
   Again zero q = Unit {0}
   Again (suc n) q = (z : W) (fs : List l.Step) → Todo fs z.seen → Looks z.real z.seen → in_hand h z.real ≡ 0 → Wp M h B Q (claim_from (suc n) sizes inode_type c m q) (claim_steps (suc n)) fs z
@@ -289,7 +290,7 @@ module _ (sizes : Super) (l : Labels) (laws : Laws (labelled l)) (keeps : Keeps 
                   (acted (labelled l) (below sizes) laws (below_laws sizes l keeps) h B (Claim inode_type) m C lasts (above.New i)) done (λ z es here. puts z fs es here)),
             )
 
-    -- what the step comes to
+    -- what the step does
     abbrev Comes : (n : ℕ) → P M (Handover above.ClaimResult Carry) → Outside → Type 0
     Comes n rest x = (a : steps.ClaimResult) × (z : World) × (exec h x (steps.Claim b candidates) r ≡ Ran a z) × Came n rest a z
 

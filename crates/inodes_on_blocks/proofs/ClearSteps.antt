@@ -1,4 +1,4 @@
--- A name cleared acts where the directory's record is put, after its slot was put free.
+-- A name cleared acts when the directory's record is put, after its slot was put free.
 use Rattle.inode_machine.specs.VersionOne as one
 use Rattle.inodes_on_blocks.proofs.Vocabulary.{◌≡◌, ◌≢◌, ℕ, zero, suc, ◌+◌, ◌-◌, ◌*◌, ◌/◌, ◌%◌, ◌<◌, ◌≤◌, ◌==◌, ◌&&◌, nat_lt, Bool, true, false, List, [], ◌∷◌, length, max, get_or, Option, Some, None, refl, sym, ◌∙◌, ap, subst, arith, if◌then◌else◌, IsSome, option_map, unwrap_or, none-some, Found, Named, block_count, look_at, search_from, with_dirent, with_slot, Free, Dinode, Super, IsBytes, IsDinode, recovered, All, IsData, is_free, numbers_of, block_number, content_block, HoldsAt, IsOwned, entry_of, size_in, IsPut, IsLaidOut, Becomes, slots_with, Slot, Node, NodeKind, Directory, File, Device, cleared, node_or, Name, same_name, live_directory, look, first_slot, all_slots, put, hart_count, eq_is, Ret, bind, Ran, Laws, Machine, P, Wp, Both, joined, Below, Lasts, Handover, ToAct, to_act, may_act, bind-assoc, Wp-more, lock_holder, fetch, seen_of, Direct, InTable, BlockInHand, fetch_at, fetch_block, no_record, inode_block, Clear, without_entry, with_record, Inv, World, log_of, tables_of, disk_of, inode_in, KeepsRoom, in_hand, HasBuffer, KeepsInode, NothingMore, Finds, Opened, Had, Apart, Has, Emptied, Same, Kept, Carry, record_had, IsFirstNamed, IsKnown, InHand, Stands, below, Labels, labelled, Keeps, put_named, slot_found, clear_in, clear_slot, clear, learned, number_found, IsChanging, GivesRoom, Shows, record_in, block_len, direct, dirent_len, dirents_per_block, most_blocks}
 use Rattle.inodes_on_blocks.proofs.Basics.{at_index, good_seen, kept_then, kept_same, same_inode, same_numbers, holds_now, used_now, block_stays, but_same, but_then, below_laws, lock_range, seen_dinode, TakesStep, s-here}
@@ -94,7 +94,7 @@ module _ (sizes : Super) (l : Labels) (laws : Laws (labelled l)) (keeps : Keeps 
       by true = block_takes (record_in c n) (s / dirents_per_block) (clear_in sizes n e c m (s, x.index))
       by false = search_takes x
 
-  -- ---- from v on, where the lock is the hart's
+  -- ---- from v on, with the lock in the hart's hand
 
   module _ (v : W) (fs : List l.Step) (todo : Todo fs v.seen) (shows : Shows v.real v.seen) (inv : Inv v.seen) (stands : Stands sizes h v.real v.seen c) (knows : Knows v.real) where
     may : one.May h (Clear n e) v.seen
@@ -118,7 +118,7 @@ module _ (sizes : Super) (l : Labels) (laws : Laws (labelled l)) (keeps : Keeps 
     used : is_free d ≡ false
     used = in_use d node holds.inode
 
-    -- a live directory, where it has a name
+    -- a live directory, if it has a name
     live : live_directory (Some node) ≡ true
     unfolding look
     live = by (live_directory (Some node)) refl
@@ -194,7 +194,7 @@ module _ (sizes : Super) (l : Labels) (laws : Laws (labelled l)) (keeps : Keeps 
         abbrev b : ℕ
         b = block_number numbers k
 
-        -- where the block stands later
+        -- the block's place later
         abbrev block_in : World → ℕ
         block_in r = block_number (numbers_of (disk_of (log_of r)) (inode_in (log_of r) n)) k
 

@@ -71,7 +71,7 @@ pins_apart sizes ss group (Staging i) runs fits = fits.apart
 pins_apart sizes ss group (Installing i) runs fits = fits.apart
 pins_apart sizes ss group Halted runs fits = λ b low high. absurd (runs refl)
 
--- ---- a step of hart h after which the log is m, where nothing else is seen outside it
+-- ---- a step of hart h after which the log is m, and nothing else is seen outside it
 
 abbrev pub with_log : World → LogPart → Option ℕ → World
 with_log v m commits = record v { state = record (v.state) { log = m }; commits = commits }

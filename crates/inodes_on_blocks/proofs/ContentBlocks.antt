@@ -1,4 +1,4 @@
--- The blocks of the content of an inode that holds its node: where the number of each stands, and what is seen of it.
+-- The blocks of the content of an inode that holds its node: the place of each one's number, and what is seen of it.
 use Rattle.inodes_on_blocks.proofs.Vocabulary.{◌≡◌, ◌≢◌, inr, ℕ, zero, suc, ◌+◌, ◌-◌, ◌*◌, ◌<◌, ◌≤◌, ◌==◌, nat_lt, Bool, true, false, List, [], ◌++◌, length, refl, sym, ◌∙◌, ap, subst, arith, Option, slice_index, if◌then◌else◌, nat_tests, get_or_append_left, get_or-append_right, get_or_past, Dinode, Super, u32s_at, numbers_in, IsOutsideLog, recovered, sizes_of, block_len, IsData, inode_of, is_free, numbers_of, indirect_numbers, block_number, content_block, numbers_by_node, HoldsAt, IsOwned, seen_in, Node, seen_of, World, log_of, disk_of, inode_in, Shows, addresses, direct}
 use Rattle.std.proofs.Common.{All}
 use Rattle.inodes_on_blocks.proofs.ImageNodes.{at_index}
@@ -22,7 +22,7 @@ front k lt = grind (arith, nat_tests)
 behind : (k : ℕ) → direct ≤ k → nat_lt k direct ≡ false
 behind k le = grind (arith, nat_tests)
 
--- the numbers of the first blocks stand in the inode itself
+-- the numbers of the first blocks are in the inode itself
 pub direct_number : (disk : List (List ℕ)) (i k : ℕ) → k < direct → block_number (numbers_of disk (inode_of disk i)) k ≡ slice_index (inode_of disk i).addrs k
 unfolding numbers_of
 direct_number disk i k lt =
@@ -62,7 +62,7 @@ module _ (v : World) (g : above.World) (shows : Shows v g) where
         let place = data_place (block_number (numbers_of disk d) k) (block_data k below) in
         sym (block_shown v g shows (block_number (numbers_of disk d) k) place.1 place.0)
 
-    -- ---- where its number stands
+    -- ---- the place of its number
 
     -- the indirect block is one of those that it names
     pub table_data : slice_index d.addrs direct ≢ 0 → IsData (sizes_of disk) (slice_index d.addrs direct)

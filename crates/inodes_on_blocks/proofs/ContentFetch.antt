@@ -1,9 +1,11 @@
--- A block of a locked inode's content is taken as code takes it: after a touch of the indirect block, where its number stands there.
+-- A block of a locked inode's content is taken as code takes it: after a touch of the indirect block, if its number
+-- is there.
 use Rattle.inodes_on_blocks.proofs.Vocabulary.{◌≡◌, ℕ, suc, ◌-◌, ◌*◌, ◌<◌, ◌≤◌, nat_lt, Bool, true, false, List, Option, Some, None, refl, sym, ◌∙◌, ap, subst, arith, slice_index, if◌then◌else◌, nat_tests, Dinode, Super, numbers_in, block_len, is_free, numbers_of, block_number, content_block, HoldsAt, Node, hart_count, Do, bind, unmarked, Machine, Laws, P, Wp, Both, joined, Stable, bind-assoc, Wp-more, lock_holder, fetch, seen_of, Put, Direct, InTable, BlockInHand, give_fetched, fetch_number, fetch_named, fetch_at, fetch_block, Inv, World, log_of, tables_of, disk_of, inode_in, Shows, Same, Kept, below, Labels, labelled, Keeps, in_hand, IsFetched, direct}
 use Rattle.inode_machine.specs.World as above
 use Rattle.inodes_on_blocks.proofs.Basics.{kept_same, kept_then, direct_number, block_stays, but_same, but_then, s-fetch, s-back, below_laws, empty_hand, same_again}
 
--- A block of the content was looked at and given back as it was: the hart has nothing in hand again, and nothing of its own changed.
+-- A block of the content was looked at and given back as it was. The hart has nothing in hand again, and nothing of
+-- its own changed.
 pub record Touched (h : ℕ) (Stage : above.World → Type 0) (w v : Both World above.World) : Type 0 where
   pub same : Same h w.real v.real
   pub kept : Kept h w.seen v.seen
@@ -84,7 +86,8 @@ module _ (sizes : Super) (l : Labels) (laws : Laws (labelled l)) (keeps : Keeps 
         t : ℕ
         t = slice_index d.addrs direct
 
-    -- A hart that has the inode's lock, and nothing in hand, goes on with the block in hand; its bytes are those of the content.
+    -- A hart that has the inode's lock, and nothing in hand, goes on with the block in hand; its bytes are those of
+    -- the content.
     pub s-content : Rest → (es : List l.Step) → G es w.seen → Wp M h B Q (bind (fetch_block d k) f) (suc (suc (suc (suc (suc n))))) es w
     s-content rest es stage =
         either_place k (Wp M h B Q (bind (fetch_block d k) f) (suc (suc (suc (suc (suc n))))) es w)

@@ -1,4 +1,5 @@
--- The content of an inode given back: the blocks of its own numbers, those in its indirect block while that block's buffer is in hand, and that block.
+-- The content of an inode given back: the blocks of its own numbers, those in its indirect block, and that block. The
+-- second are given back while that block's buffer is in hand.
 use Rattle.inodes_on_blocks.proofs.Vocabulary.{◌≡◌, ◌≢◌, ℕ, suc, ◌+◌, ◌*◌, ◌<◌, ◌≤◌, ◌==◌, Bool, true, false, List, [], ◌∷◌, ◌++◌, length, take, refl, sym, ◌∙◌, ap, subst, arith, Some, if◌then◌else◌, Super, Dinode, numbers_in, recovered, sizes_of, IsOutsideLog, length-u32s_at, holder_of, hart_count, eq_is, eq_not, IsData, indirect_numbers, NamesOwned, IsUntouched, bind, Machine, Laws, P, Wp, Both, joined, Stable, Wp-more, lock_holder, fetch, seen_of, free_block, table_of, free_numbers, free_table, free_in_table, free_indirect, direct, if_kept, Inv, World, log_of, tables_of, disk_of, inode_in, Shows, KeepsInode, Kept, below, buffer_in, undertaken, Labels, labelled, Keeps, in_hand, SameBut, IsFetched, PutBack, IsChanging, Owns, KeepsRoom, GaveBlocks, numbers_per_block}
 use Rattle.inodes_on_blocks.proofs.Basics.{nothing_owed, good_seen, kept_same, kept_then, data_place, s-fetch, s-back, below_laws, held_back, untouched_then, block_shown, empty_hand, given_order}
 use Rattle.inode_machine.specs.World as above
@@ -69,7 +70,7 @@ module _ (sizes : Super) (l : Labels) (laws : Laws (labelled l)) (keeps : Keeps 
 
   module _ {A : Type 0} (Q : A → List l.Step → W → Type 0) (G : List l.Step → above.World → Type 0) (stable : Stable (labelled l) (below sizes) laws (below_laws sizes l keeps) h B G)
       (n : ℕ) (changing : (fs : List l.Step) (g : above.World) → G fs g → Inv g → IsChanging h n g) (Knows : World → Type 0) (room : KeepsRoom h sizes.bmapstart Knows Knows) where
-    -- Without a buffer in hand, since `start`: these blocks of the inode are left.
+    -- Without a buffer in hand, after `start`: these blocks of the inode are left.
     pub record Between (start : W) (rest : List ℕ) (fs : List l.Step) (w : W) : Type 0 where
       pub stage : G fs w.seen
       pub gone : Gone h n start.real w.real
@@ -114,14 +115,14 @@ module _ (sizes : Super) (l : Labels) (laws : Laws (labelled l)) (keeps : Keeps 
       abbrev bitmap : ℕ
       bitmap = sizes.bmapstart
 
-      -- the steps from where its buffer goes back
+      -- the steps from the one that gives its buffer back
       abbrev last_steps : ℕ
       last_steps = suc (3 * 1 + j)
 
       place : (v : World) (g : above.World) → Shows v g → (log_of v).sizes ≡ sizes → IsData sizes t → IsOutsideLog (log_of v).sizes t × (t < (log_of v).sizes.size)
       place v g shows at is = data_place v g shows t (subst (λ (s : Super). IsData s t) (sym (disk_sizes v g shows at)) is)
 
-      -- from where the blocks are given back whose numbers stand in it
+      -- from the step that begins to give back the blocks whose numbers are in it
       back : (w v x : W) (gs : List l.Step) → IsData sizes t → IsOutsideLog sizes t → G gs x.seen → Gone h n start.real x.real → Kept h start.seen x.seen → in_hand h x.real ≡ 1 → (log_of x.real).sizes ≡ sizes
           → Owns sizes x.real.owner n (t ∷ []) → NamesOwned (disk_of (log_of x.real)) x.real.owner n (t ∷ []) → Knows x.real → holder_of t (log_of x.real).seats ≡ Some h
           → Wp M h B Q (free_table bitmap t k) last_steps gs x
@@ -152,7 +153,7 @@ module _ (sizes : Super) (l : Labels) (laws : Laws (labelled l)) (keeps : Keeps 
       abbrev table_steps : ℕ
       table_steps = suc (suc (3 * numbers_per_block + last_steps))
 
-      -- it is fetched, and those given back whose numbers stand in it, and itself
+      -- it is fetched, and then the blocks whose numbers are in it are given back, and itself
       s-table : (es : List l.Step) (w : W) (ns : List ℕ) → Between start (ns ++ t ∷ []) es w → numbers_in (recovered (disk_of (log_of w.real)) t) ≡ ns → Wp M h B Q (bind (fetch t) (free_in_table bitmap t k)) table_steps es w
       s-table es w ns here is =
           s-fetch sizes l laws keeps h lt B Q G stable t (free_in_table bitmap t k) (3 * numbers_per_block + last_steps) es w here.stage (let none = here.none in omega (arith, none))

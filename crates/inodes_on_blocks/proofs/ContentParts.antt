@@ -20,7 +20,7 @@ filled_is m part e =
     λ i. record { count = sum i; bytes = over_end m.bytes part m.count count i }
 
 module _ (content : ℕ → List ℕ) (k : ℕ) (whole : (q : ℕ) → q < k → length (content q) ≡ block_len) where
-  -- the parts of the blocks between two offsets, behind what is there
+  -- the parts of the blocks between two offsets, after what is there
   pub read_all : (n from upto : ℕ) (m : FilledMemory) → m ≡ with_bytes m.bytes → n ≡ blocks_between from upto → upto ≤ block_len * k → filled_from content n from upto m ≡ with_bytes (m.bytes ++ drop from (take upto (front content k)))
   unfolding filled_from
   read_all zero from upto m e n within =
@@ -36,7 +36,7 @@ module _ (content : ℕ → List ℕ) (k : ℕ) (whole : (q : ℕ) → q < k →
       ∙ read_all n (next_block from) upto (with_bytes (m.bytes ++ part)) refl (next_between n from upto is lt) within
       ∙ ap with_bytes (append_assoc m.bytes part (drop (next_block from) (take upto all)) ∙ ap (λ (xs : List ℕ). m.bytes ++ xs) (part_then content k whole from upto (omega (arith, lt, within))))
 
--- up to a size, and so many
+-- up to a size, and n bytes
 pub up_to : (offset n size : ℕ) (xs : List ℕ) → drop offset (take (min (offset + n) size) xs) ≡ take n (drop offset (take size xs))
 up_to offset n size xs =
     ⊎_elim

@@ -1,10 +1,11 @@
--- The blocks of a locked inode's content, read one after the other: what is read is the content as it was when the lock was had.
+-- The blocks of a locked inode's content, read one after the other. What is read is the content as it was when the
+-- lock was taken.
 use Rattle.inodes_on_blocks.proofs.Vocabulary.{◌≡◌, ℕ, zero, suc, ◌+◌, ◌*◌, ◌/◌, ◌<◌, false, List, Option, Some, None, sym, ◌∙◌, ap, subst, arith, Dinode, Super, block_len, is_free, content_block, HoldsAt, Node, hart_count, Do, bind, unmarked, Machine, Laws, P, Wp, Both, joined, Stable, bind-assoc, lock_holder, Put, BlockInHand, FilledMemory, filled_with, next_block, part_of, fetch_block, read_blocks, read_part, World, log_of, tables_of, disk_of, inode_in, KeepsInode, Same, Kept, below, Labels, labelled, Keeps, in_hand}
 use Rattle.inode_machine.specs.World as above
 use Rattle.inodes_on_blocks.proofs.Basics.{kept_then, same_inode, holds_now, used_now, content_stays, below_laws}
 use Rattle.inodes_on_blocks.proofs.ContentFetch.{s-touch}
 
--- the memory with the parts of so many blocks
+-- the memory with the parts of this number of blocks
 unfoldable pub filled_from : (ℕ → List ℕ) → ℕ → (from upto : ℕ) → FilledMemory → FilledMemory
 filled_from content zero from upto m = m
 filled_from content (suc n) from upto m = filled_from content n (next_block from) upto (filled_with m (part_of from upto (content (from / block_len))))

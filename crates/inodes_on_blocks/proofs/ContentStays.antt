@@ -6,11 +6,12 @@ use Rattle.inodes_on_blocks.proofs.ImageNodes.{at_index}
 use Rattle.inode_machine.specs.World as above
 use Rattle.inodes_on_blocks.proofs.ContentBlocks.{data_place, block_data, block_seen, table_data, table_number}
 
--- where a block is, and another one outside the log
+-- a block of the disk, outside the log
 abbrev pub IsThere : World → ℕ → Type 0
 IsThere v b = IsOutsideLog (log_of v).sizes b × (b < (log_of v).sizes.size)
 
--- Block k of inode d's content as it was at w, in a later world: its number stands where it stood, and its bytes are seen as they were.
+-- Block k of inode d's content as it was at w, in a later world. Its number has the same place, and its bytes are
+-- seen as they were.
 pub record BlockStays (w v : World) (d : Dinode) (k : ℕ) : Type 0 where
   pub place : IsThere v (block_number (numbers_of (disk_of (log_of w)) d) k)
   pub seen : seen_of (log_of v) (block_number (numbers_of (disk_of (log_of w)) d) k) ≡ content_block (disk_of (log_of w)) d k

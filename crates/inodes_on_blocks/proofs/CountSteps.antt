@@ -110,7 +110,7 @@ module _ (l : Labels) (laws : Laws (labelled l)) (keeps : Keeps l) (h : ℕ) (lt
   refers : (n : ℕ) (w : above.World) → Inv w → 0 < (w.harts h).refs n → 0 < w.refs n
   refers n w inv some = let c = inv.counts n in let p = sum_part hart_count h (λ g. (w.harts g).refs n) lt in omega (arith, c, p, some)
 
-  -- nobody has the lock where the reference is the last one
+  -- nobody has the lock if the reference is the last one
   pub last_free : (n : ℕ) (w : above.World) → Inv w → 0 < (w.harts h).refs n → w.lock n ≢ Some h → w.refs n ≡ 1 → w.lock n ≡ None
   last_free n w inv some not_mine one = by (w.lock n) refl
     where
@@ -205,7 +205,7 @@ module _ (l : Labels) (laws : Laws (labelled l)) (keeps : Keeps l) (h : ℕ) (lt
       keeper true i ne = put_other v.seen.keeper n None i ne
       keeper false i ne = refl
 
-      -- what isn't loaded stays so
+      -- an inode that isn't loaded stays so
       unloaded_left : (b : Bool) (i : ℕ) → load i ≡ None → left b i ≡ None
       unloaded_left false i none = none
       unloaded_left true i none = elim (same_or i n) [ inl q ↦ ap (put load n None) q ∙ put_same load n None | inr ne ↦ put_other load n None i ne ∙ none ]

@@ -1,4 +1,4 @@
--- The tables count what they have, and so an operation waits only where it may.
+-- The tables count what they have, and so an operation waits only if it may.
 use Rattle.inodes_on_blocks.proofs.Vocabulary.{loaded, waits_where_it_may, tables_of, ReferencesAreCounted, WaitsForOthers}
 use Rattle.inodes_on_blocks.proofs.Basics.{all_owed}
 

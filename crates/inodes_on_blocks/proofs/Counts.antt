@@ -3,7 +3,7 @@ use Rattle.inodes_on_blocks.proofs.Vocabulary.{◌≡◌, ◌≢◌, inl, inr, �
 use Rattle.fs_machine.specs.declared.entries.Entry.{Entry}
 use Rattle.fs_machine.specs.Soundness.{IsOnce}
 
--- how many references stand to an inode, over all places
+-- the number of references to an inode, over all places
 standing : ℕ → List Entry → ℕ
 standing i [] = 0
 standing i (e ∷ es) = (if e.number == i then e.references else 0) + standing i es
@@ -16,7 +16,7 @@ once_tail : (e : Entry) (es : List Entry) → IsOnce (e ∷ es) → IsOnce es
 unfolding IsOnce
 once_tail e es once j k x y ex ey lx ly n = let q : suc j ≡ suc k = once (suc j) (suc k) x y ex ey lx ly n in omega (arith, q)
 
--- an inode that stands at no place
+-- an inode that has no place
 standing_none : (i : ℕ) (es : List Entry) → ((k : ℕ) (e : Entry) → slice_get es k ≡ Some e → 0 < e.references → e.number ≢ i) → standing i es ≡ 0
 unfolding standing
 standing_none i [] none = refl
@@ -30,7 +30,7 @@ standing_none i (e ∷ es) none =
       | inr n ↦ rw (n, rest) refl
     ]
 
--- one that stands at place k
+-- one that has place k
 standing_at : (i : ℕ) (es : List Entry) (k : ℕ) (f : Entry) → IsOnce es → slice_get es k ≡ Some f → f.number ≡ i → 0 < f.references → standing i es ≡ f.references
 unfolding standing IsOnce
 standing_at i [] k f once there number lt = absurd (none-some f there)
@@ -93,7 +93,7 @@ used_is n (e ∷ es) once below =
     more : 0 < e.references → 0 < standing e.number (e ∷ es)
     more lt = rw (eq_self e.number) (omega arith)
 
--- a free place is left where not all are used
+-- a free place is left if not all are used
 free_left : (es : List Entry) → used es < length es → (k : ℕ) × (e : Entry) × (slice_get es k ≡ Some e) × (e.references ≡ 0)
 unfolding used
 free_left [] lt = absurd (omega (arith, lt))
@@ -131,7 +131,7 @@ not_all_used (x ∷ xs) (suc k) e there z =
     let b : one_if (nat_lt 0 x.references) ≤ 1 = at_most (nat_lt 0 x.references) in
     omega (arith, rest, b)
 
--- where a free place is found: while fewer inodes are referred to than there are places
+-- a free place is found while fewer inodes are referred to than there are places
 pub room_is : (n : ℕ) (es : List Entry) (refs : ℕ → ℕ) → IsOnce es → ((k : ℕ) (e : Entry) → slice_get es k ≡ Some e → 0 < e.references → e.number < n) → ((i : ℕ) → refs i ≡ references_in es (place_of i es))
     → is_some (position is_unused es) ≡ nat_lt (sum_below n (λ i. one_if (nat_lt 0 (refs i)))) (length es)
 room_is n es refs once below counts = by_place (position is_unused es) refl

@@ -1,4 +1,5 @@
--- A block put for an inode that a hart is changing, which the inode has or the hart has taken: nothing of it is seen above.
+-- A block put for an inode that a hart is changing, which the inode has or the hart has taken. Nothing of it is seen
+-- above.
 use Rattle.inodes_on_blocks.proofs.Vocabulary.{◌≡◌, ◌≢◌, ◌⊎◌, inl, inr, ℕ, suc, ◌<◌, Bool, List, length, Option, Some, None, is_some, refl, sym, ◌∙◌, ap, subst, arith, if◌then◌else◌, Dinode, Super, IsBytes, recovered, sizes_of, holder_of, IsHome, IsData, numbers_of, NamesOwned, IsPut, IsLaidOut, Becomes, Node, hart_count, either, Do, unmarked, Machine, Laws, P, Wp, Both, joined, Stable, seen_of, Put, if_kept, is_hart, Inv, World, log_of, disk_of, owners_of, world_with, KeepsRoom, in_hand, HasBuffer, Kept, Carry, buffer_in, below, Labels, labelled, Keeps, CanPut, IsChanging, log_with, owners_with, Shows, block_len}
 use Rattle.inodes_on_blocks.proofs.Basics.{good_seen, buffer_then, buffer_seen, same_view, below_laws, hart_is, disk_put, put_bytes, old_bytes, put_hand}
 use Rattle.inode_machine.specs.World as above
@@ -32,7 +33,7 @@ own_or_taken h n b r own = elim (either (is_hart (r.taken b) h)) [
   | inr apart ↦ inl (sym (ap (λ (t : Bool). if t then n else r.owner b) apart) ∙ own)
 ]
 
--- Where a hart goes on after it put a block for inode n: that is laid out for this node then.
+-- How a hart goes on after it put a block for inode n: the inode is laid out for this node then.
 pub record PutFor (h n b : ℕ) (Stage : above.World → Type 0) (c : Carry) (o : Option Node) (e : Dinode) (y : Node) (Then : World → Type 0) (v x : Both World above.World) : Type 0 where
   pub changing : Changing h n c o e y x.real x.seen
   pub kept : Kept h v.seen x.seen

@@ -1,4 +1,4 @@
--- How far below the root a directory stands.
+-- How far below the root a directory is.
 use Rattle.inodes_on_blocks.proofs.Vocabulary.{◌≡◌, ◌≢◌, ℕ, zero, suc, ◌<◌, Bool, true, false, eqb, ◌⊎◌, inl, inr, refl, sym, ◌∙◌, ap, arith, List, false≢true, is_live_directory, up, climb, HasGoodSlots, IsOneTree, either, eq_not, same_or}
 use Rattle.inodes_on_blocks.proofs.Links.{up_live}
 
@@ -6,7 +6,7 @@ abbrev one_more_unless : Bool → ℕ → ℕ
 one_more_unless true n = 0
 one_more_unless false n = suc n
 
--- the first of at most so many steps that leads to the root
+-- the first of at most n steps that leads to the root
 first_step : ℕ → (ℕ → ℕ) → ℕ → ℕ
 first_step zero f d = 0
 first_step (suc n) f d = one_more_unless (eqb d 1) (first_step n f (f d))
@@ -60,6 +60,6 @@ module _ (disk : List (List ℕ)) (good : HasGoodSlots disk) (one : IsOneTree di
       let above : depth_in (up disk d) ≡ first_step n (up disk) (up disk d) = depth_is (up disk d) n (up_live disk good one d live) (sym (climb_more (up disk) n d) ∙ h) in
       omega (arith, here, above)
 
-  -- the ".." of a directory stands higher
+  -- the ".." of a directory is higher
   pub higher : (d : ℕ) → is_live_directory disk d ≡ true → d ≢ 1 → depth_in (up disk d) < depth_in d
   higher d live ne = deeper d (one.reaches d live).steps.0 live ne (one.reaches d live).steps.1

@@ -1,4 +1,5 @@
--- A locked directory searched, by its index and then its other blocks, one after the other: what is found is what its content had when the lock was had.
+-- A locked directory searched, by its index and then its other blocks, one after the other. What is found is what its
+-- content had when the lock was taken.
 use Rattle.inodes_on_blocks.proofs.Vocabulary.{◌≡◌, ℕ, zero, suc, ◌+◌, ◌-◌, ◌*◌, ◌<◌, false, List, Option, Some, None, sym, ◌∙◌, ap, subst, arith, Found, Aim, block_count, found_in, look_at, search_from, Dinode, Super, block_len, is_free, content_block, HoldsAt, Node, hart_count, Do, bind, unmarked, Machine, Laws, P, Wp, Both, joined, Stable, bind-assoc, Wp-more, lock_holder, Put, BlockInHand, fetch_block, World, log_of, tables_of, disk_of, inode_in, KeepsInode, Same, Kept, below, Labels, labelled, Keeps, in_hand}
 use Rattle.directory.proofs.Indexed.{else_searched, searched}
 use Rattle.directory.proofs.Indexed.{searched_from}
@@ -25,17 +26,17 @@ module _ (sizes : Super) (l : Labels) (laws : Laws (labelled l)) (keeps : Keeps 
   abbrev content : ℕ → List ℕ
   content q = content_block (disk_of (log_of w.real)) d q
 
-  -- where it goes on with what was found
+  -- how it goes on with what was found
   abbrev Rest : Searched → Type 0
   Rest found = (v : W) (fs : List l.Step) → Same h w.real v.real → Kept h w.seen v.seen → G fs v.seen → Wp M h B Q (g found) j fs v
 
-  -- what was sought was found, or it is looked for behind that
+  -- what was sought was found, or it is looked for after that
   by : (n : ℕ) (v : W) (fs : List l.Step) → Same h w.real v.real → Kept h w.seen v.seen → G fs v.seen → (here : Option Found) (x : IndexState) (behind : IndexState → Searched) (next : IndexState → P M Searched) → Rest (else_searched here x behind)
       → (Rest (behind x) → Wp M h B Q (bind (next x) g) (touches n j) fs v) → Wp M h B Q (bind (or_next here x next) g) (touches n j) fs v
   by n v fs same kept stage (Some f) x behind next rest goes = Wp-more M h (g (record { found = Some f; index = x })) B Q j (touches n j) fs v (let more = touches_are n j in omega (arith, more)) (rest v fs same kept stage)
   by n v fs same kept stage None x behind next rest goes = goes rest
 
-  -- so many blocks
+  -- n blocks from block k on
   s-blocks : (n k : ℕ) (x : IndexState) (u : W) (es : List l.Step) → Same h w.real u.real → Kept h w.seen u.seen → G es u.seen → ((q : ℕ) → q < n → block_len * (k + q) < d.size)
       → Rest (searched_from n aim d content k x) → Wp M h B Q (bind (search_from n aim d k x) g) (touches n j) es u
   unfolding search_from touches searched_from
@@ -66,7 +67,7 @@ module _ (sizes : Super) (l : Labels) (laws : Laws (labelled l)) (keeps : Keeps 
       next : BlockInHand → P M A
       next f = bind (or_next (found_in aim d k f.bytes) (raised d k f.bytes x) (search_from n aim d (k + 1))) g
 
-  -- the inode as it was when the lock was had, with an index
+  -- the inode as it was when the lock was taken, with an index
   abbrev with_it : IndexState → Loaded
   with_it x = record { inode = d; index = x }
 

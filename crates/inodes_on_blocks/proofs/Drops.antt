@@ -22,7 +22,7 @@ module _ (h n k : ℕ) (t : TablesState) (w : World) (load : ℕ → Option Load
   abbrev slot : (s : SlotState Inode) × (slice_get t.locks k ≡ Some s) × PlaceFits k f.entry s
   slot = slot_at t.entries t.locks k f.entry sound f.there
 
-  -- its lock is in where the reference is the last one
+  -- its lock is free if the reference is the last one
   lone : (s : SlotState Inode) → slice_get t.locks k ≡ Some s → f.entry.references ≡ 1 → s.holder ≡ None
   lone s there one = sym (slot_with h n k t w load shows e s there).0 ∙ may.free (count ∙ one)
 
@@ -63,7 +63,7 @@ module _ (h n k : ℕ) (t : TablesState) (w : World) (load : ℕ → Option Load
     range = range_down;
   }
 
-  -- another reference stands
+  -- another reference is left
   shown_less : f.entry.references ≢ 1 → Shows (uncounted_at k t) (counted_down h n w) load
   shown_less ne =
       let r = f.referenced in

@@ -1,4 +1,4 @@
--- A file's content is given back: the operation acts where its record is put without it.
+-- A file's content is given back: the operation acts when its record is put without it.
 use Rattle.inode_machine.specs.VersionOne as one
 use Rattle.inodes_on_blocks.proofs.Vocabulary.{◌≡◌, ℕ, zero, suc, pos, ◌^◌, ◌<◌, ◌≤◌, ◌==◌, Bool, true, false, List, [], ◌∷◌, length, take, replicate, Option, Some, None, refl, sym, ◌∙◌, ap, subst, arith, if◌then◌else◌, AllByRecursion, unwrap_or, none-some, same_Some, Super, Dinode, IsDinode, sizes_of, Node, NodeKind, Directory, File, Device, emptied, node_or, hart_count, HoldsAt, IsInode, NamesOwned, size_in, type_in, numbers_by_free, bind, once, Ran, Laws, Machine, P, Wp, Both, joined, Below, Lasts, Handover, ToAct, to_act, may_act, Stable, Wp-more, lock_holder, fetch, seen_of, free_block, table_of, free_numbers, free_indirect, free_in_table, without_content, direct, no_record, inode_block, Empty, with_record, with_no_bytes, Inv, Idle, more, World, log_of, tables_of, disk_of, inode_in, empty, Owns, KeepsRoom, KeepsInode, Kept, NothingMore, Had, Apart, Has, Emptied, Carry, record_had, IsLoaded, InHand, Base, Stands, below, Labels, labelled, Keeps, IsChanging, GivesRoom, Shows, record_in, put_record, Loaded, unindexed, IsIndexOf, index_in, recorded_had, all_slots, had_in, addresses}
 use Rattle.plain_tree.specs.Steps.{is_file}
@@ -70,7 +70,7 @@ module _ (sizes : Super) (l : Labels) (laws : Laws (labelled l)) (keeps : Keeps 
   abbrev M : Machine
   M = joined (labelled l) (below sizes)
 
-  -- what gives a content back takes a step where what comes after it does
+  -- what gives a content back takes a step if what comes after it does
   numbers_step : {A : Type 0} (B : List l.Step → Type 0) (bitmap : ℕ) (bs : List ℕ) (k : P M A) → TakesStep sizes l laws keeps h lt B k → TakesStep sizes l laws keeps h lt B (free_numbers bitmap bs k)
   numbers_step B bitmap [] k step = step
   numbers_step B bitmap (b ∷ bs) k step = by (b == 0) (numbers_step B bitmap bs k step)
@@ -162,7 +162,8 @@ module _ (sizes : Super) (l : Labels) (laws : Laws (labelled l)) (keeps : Keeps 
           at = between.at;
         }
 
-    -- The content is given back from where the first step is taken on, by an operation that may be made only where the hart has the lock and is in a transaction.
+    -- The content is given back from the first step on. The operation that does it may be made only if the hart has
+    -- the lock and is in a transaction.
     pub s-none : {A : Type 0} (c : Carry) (k : P M A) (j : ℕ) (Q : A → List l.Step → W → Type 0) (G : List l.Step → above.World → Type 0) (stable : Stable (labelled l) (below sizes) laws (below_laws sizes l keeps) h B G)
         (changing : (fs : List l.Step) (g : above.World) → G fs g → Inv g → IsChanging h n g) (es : List l.Step) (w : W) → TakesStep sizes l laws keeps h lt B k → G es w.seen → Stands sizes h w.real w.seen c → Knows w.real
         → ((u : W) → Begins n (had_in c n) (u.seen.disk n) u.real u.seen → (x : W) (gs : List l.Step) → G gs x.seen → Knows x.real → Ready sizes h (HasNone h n c (u.seen.disk n)) x.real x.seen → Wp M h B Q k j gs x)

@@ -1,4 +1,5 @@
--- A name entered acts where the directory's record is put, after its entry was written; or, where the directory has no slot left, where its last block is given back.
+-- A name entered acts when the directory's record is put, after its entry was written. If the directory has no slot
+-- left, it acts when its last block is given back.
 use Rattle.inode_machine.specs.VersionOne as one
 use Rattle.inodes_on_blocks.proofs.Vocabulary.{◌≡◌, inl, inr, ℕ, zero, suc, ◌+◌, ◌-◌, ◌*◌, ◌/◌, ◌<◌, ◌≤◌, ◌==◌, ◌&&◌, nat_lt, Bool, true, false, List, [], length, drop, max, min, get_or, take, none-some, Option, Some, None, refl, sym, ◌∙◌, ap, subst, arith, if◌then◌else◌, slice_index, nat_tests, Found, slot_for, IsFirst, Unused, block_count, look_at, search_from, slot_count, Used, Dinode, Dirent, Super, IsDirent, spell_dirent, length-spell_dirent, is_free, content_block, HoldsAt, entry_of, size_in, slots_with, Slot, Node, NodeKind, Directory, File, Device, node_or, Name, hart_count, same_or, put_same, put_other, eq_not, eq_self, Ret, bind, Ran, Laws, Machine, P, Wp, Both, joined, Below, Lasts, Handover, ToAct, to_act, may_act, Wp-more, lock_holder, Direct, InTable, BlockInHand, fetch_at, fetch_block, blocks_between, WriteResult, front_of, write_blocks, inode_block, Spent, size, with_contents, most_recorded, Enter, all_used, enter_if, is_full_directory, with_entry, with_record, marked, Inv, IsSpent, World, log_of, tables_of, disk_of, inode_in, enter, entered_to, put_grown, look_last, search_full, Acts, acts, Same, Kept, Knowledge, NothingMore, Finds, Opened, Had, Apart, Has, Emptied, IsOpened, Carry, InHand, Base, Stands, below, Labels, labelled, Keeps, IsChanging, HasSpent, Shows, record_in, One, block_len, direct, dirent_len, dirents_per_block, most_blocks, most_slots}
 use Rattle.directory.proofs.Indexed.{else_searched, few_known, searched_from}
@@ -30,13 +31,13 @@ use Rattle.inodes_on_blocks.proofs.NumberPuts.{sized}
 use Rattle.inodes_on_blocks.proofs.PartSteps.{MakesPart, s-part}
 use Rattle.inodes_on_blocks.proofs.StatSteps.{in_use}
 
--- a slot lies in one block
+-- a slot is in one block
 one_block : (slot : ℕ) → blocks_between (dirent_len * slot) (dirent_len * slot + dirent_len) ≡ 1
 one_block slot =
     let some : nat_lt (dirent_len * slot) (dirent_len * slot + dirent_len) ≡ true = grind (arith, nat_tests) in
     ap (λ (t : Bool). if t then ((dirent_len * slot + dirent_len - 1) / block_len + 1) - dirent_len * slot / block_len else 0) some ∙ (let e : ((dirent_len * slot + dirent_len - 1) / block_len + 1) - dirent_len * slot / block_len ≡ 1 = omega arith in e)
 
--- a free slot that the index tells is one of the directory's
+-- a free slot that the index finds is one of the directory's
 abbrev slot_or : ℕ → Option Found → ℕ
 slot_or count None = count
 slot_or count (Some f) = f.slot
@@ -104,7 +105,7 @@ module _ (sizes : Super) (l : Labels) (laws : Laws (labelled l)) (keeps : Keeps 
   abbrev act : Option Acts
   act = acts (Enter n e q) above.Room m
 
-  -- the program where the record is x
+  -- the program if the record is x
   abbrev goes_in : Dinode → IndexState → ℕ → P M (Handover above.EntryResult Carry)
   goes_in x y slot =
       if nat_lt slot most_slots then bind (write_blocks (blocks_between (dirent_len * slot) (dirent_len * slot + length bytes)) sizes (dirent_len * slot) bytes x) (entered_to sizes n e q c m y slot)
@@ -161,7 +162,7 @@ module _ (sizes : Super) (l : Labels) (laws : Laws (labelled l)) (keeps : Keeps 
       by (Some f) is = in_takes x.inode x.index f.slot (low_slot x f is)
       by None is = blocks_take x.inode (block_count x.inode - x.index.blocks) x.index.blocks x.index room_
 
-  -- ---- from v on, where the lock is the hart's
+  -- ---- from v on, with the lock in the hart's hand
 
   module _ (v : W) (fs : List l.Step) (todo : Todo fs v.seen) (shows : Shows v.real v.seen) (inv : Inv v.seen) (stands : Stands sizes h v.real v.seen c) (knows : HasSpent sizes h s v.real) where
     may : one.May h (Enter n e q) v.seen
@@ -312,7 +313,7 @@ module _ (sizes : Super) (l : Labels) (laws : Laws (labelled l)) (keeps : Keeps 
           ∙ ap (λ (o : Option Node). Ran above.InPlace (with_record g n (Some (with_entry e q (node_or o))))) was ∙ ap (λ (y : Node). Ran above.InPlace (with_record g n (Some y))) entered_is)
           fit (omega (arith, upto_is)) (omega (arith, size_is, limit, low)) few gs u there)
 
-      -- the blocks are written, from where the slot was found
+      -- the blocks are written, after the slot was found
       writes : (w : W) (gs : List l.Step) → Same h v.real w.real → Kept h v.seen w.seen → Todo gs w.seen → Wp M h B Q (goes_in d y slot) 21 gs w
       unfolding write_blocks
       writes w gs same kept stage =
@@ -353,7 +354,7 @@ module _ (sizes : Super) (l : Labels) (laws : Laws (labelled l)) (keeps : Keeps 
     slot_is None = count_is
     slot_is (Some f) = refl
 
-    -- where there is room for it
+    -- if there is room for it
     here_goes : (o : Option Found) (y : IndexState) → IsIndexOf y (Some node) → IsFirst Unused read (length slots) o → slot_of slots o < most_slots → (w : W) (gs : List l.Step) → Same h v.real w.real → Kept h v.seen w.seen → Todo gs w.seen
         → Wp M h B Q (goes d (record { found = o; index = y })) 21 gs w
     here_goes o y right is_first low w gs same kept stage =
@@ -364,7 +365,7 @@ module _ (sizes : Super) (l : Labels) (laws : Laws (labelled l)) (keeps : Keeps 
         unused o is_first =
             ap (λ (k : NodeKind). sought.is_used (entry_of (get_or (slots_of k) (slot_of slots o) None))) directory.1 ∙ looks.used_as (get_or slots (slot_of slots o) None) ∙ slot_unused slots read are o is_first
 
-    -- where all slots are there
+    -- if all slots are there
     full_goes : most_slots ≤ length slots → Wp M h B Q (bind (seek_full act (record { inode = d; index = known })) (goes d)) 1641 fs v
     full_goes all = by (first_of Unused d known) refl
       where

@@ -13,7 +13,7 @@ directory_of count slots = record { count = count; kind = Directory slots }
 
 -- ---- one entry
 
--- of a slot all bytes stand in its block
+-- of a slot all bytes are in its block
 pub slot_front : (slot : ℕ) (bytes : List ℕ) → length bytes ≡ dirent_len → front_of (dirent_len * slot) bytes ≡ bytes
 slot_front slot bytes long = take_all (block_len - dirent_len * slot % block_len) bytes (omega (arith, long))
 

@@ -217,7 +217,8 @@ module _ (sizes : Super) (l : Labels) (laws : Laws (labelled l)) (keeps : Keeps 
       (quiet_shows h v.real v.seen shows ss quiet, quiet_others h v.real v.seen shows ss quiet, rest ss (back_hand h b (log_of v.real).seats may.0) quiet)
 
   module _ {A : Type 0} (Q : A → List l.Step → W → Type 0) (G : List l.Step → above.World → Type 0) (stable : Stable (labelled l) (below sizes) laws (below_laws sizes l keeps) h B G) where
-    -- A hart with at most one buffer in hand, and not this one, takes it; from there on its bytes are those seen of the block.
+    -- A hart with at most one buffer in hand, and not this one, takes it. From there on its bytes are those seen of
+    -- the block.
     pub s-fetch : (b : ℕ) (k : List ℕ → P M A) (n : ℕ) (es : List l.Step) (w : W) → G es w.seen → in_hand h w.real ≤ 1 → ((v : W) (fs : List l.Step) → Here (labelled l) (below sizes) laws (below_laws sizes l keeps) h B G w v fs → IsOutsideLog (log_of v.real).sizes b × (b < (log_of v.real).sizes.size))
         → (holder_of b (log_of w.real).seats ≢ Some h) → ((v : W) (fs : List l.Step) → IsFetched h b (G fs) w v → Wp M h B Q (k (seen_of (log_of v.real) b)) n fs v)
         → Wp M h B Q (bind (fetch b) k) (suc (suc n)) es w

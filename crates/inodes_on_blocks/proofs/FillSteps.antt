@@ -1,4 +1,4 @@
--- A new directory's two names written act where its record is put.
+-- A new directory's two names written act when its record is put.
 use Rattle.inode_machine.specs.VersionOne as one
 use Rattle.inodes_on_blocks.proofs.Vocabulary.{◌≡◌, ◌≢◌, ℕ, zero, suc, ◌+◌, ◌-◌, ◌*◌, ◌/◌, ◌<◌, ◌≤◌, ◌==◌, nat_lt, Bool, true, false, List, [], ◌∷◌, length, length-take, drop, Option, Some, None, refl, sym, ◌∙◌, ap, subst, arith, if◌then◌else◌, slice_index, unwrap_or, none-some, Dinode, Super, spell_dirent, Used, HoldsAt, size_in, Node, node_or, dot, dotdot, hart_count, bind, Ran, Laws, Machine, P, Wp, Both, joined, Below, Lasts, Handover, ToAct, to_act, may_act, Wp-more, lock_holder, Direct, InTable, table_of, blocks_between, WriteResult, front_of, take_one, located, name_direct, with_table, locate_in_table, locate_at, write_located, write_blocks, no_record, inode_block, Spent, size, with_contents, most_recorded, Fill, with_dots, with_record, Inv, IsSpent, World, log_of, tables_of, disk_of, inode_in, dots, filled_to, fill, put_grown, Had, Apart, Has, Emptied, Carry, record_had, InHand, Stands, below, Labels, labelled, Keeps, IsChanging, HasSpent, Shows, record_in, block_len, direct, dirent_len}
 use Rattle.directory.proofs.IndexChanges.{index_none}
@@ -37,7 +37,7 @@ module _ (sizes : Super) (l : Labels) (laws : Laws (labelled l)) (keeps : Keeps 
   abbrev M : Machine
   M = joined (labelled l) (below sizes)
 
-  -- a program that writes blocks takes a step, where what follows does
+  -- a program that writes blocks takes a step, if what follows does
   pub takes_write : {A : Type 0} (count at : ℕ) (bytes : List ℕ) (d : Dinode) (f : WriteResult → P M A) → ((w : WriteResult) → TakesStep sizes l laws keeps h lt B (f w)) → TakesStep sizes l laws keeps h lt B (bind (write_blocks count sizes at bytes d) f)
   unfolding write_blocks
   takes_write zero at bytes d f all = all (record { inode = d; upto = at })
@@ -88,7 +88,7 @@ module _ (sizes : Super) (l : Labels) (laws : Laws (labelled l)) (keeps : Keeps 
       by true = tt
       by false = tt
 
-  -- from v on, where the lock is the hart's
+  -- from v on, with the lock in the hart's hand
   module _ (v : W) (fs : List l.Step) (todo : Todo fs v.seen) (shows : Shows v.real v.seen) (inv : Inv v.seen) (stands : Stands sizes h v.real v.seen c) (knows : HasSpent sizes h s v.real) where
     may : one.May h (Fill n p) v.seen
     may = may_at fs v.seen todo inv

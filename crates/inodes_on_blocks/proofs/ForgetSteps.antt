@@ -12,7 +12,7 @@ use Rattle.inodes_on_blocks.proofs.Basics.{kept_old, fewer_owed, CameTo, one_ste
 use Rattle.inodes_on_blocks.proofs.CountSteps.{last_free, some_here, may_die, counted_down_came}
 use Rattle.inodes_on_blocks.proofs.SlotSteps.{in_tables_is}
 
--- where nothing is loaded nothing dies
+-- if nothing is loaded nothing dies
 dead_none : (o : Option Inode) → loaded_of o ≡ None → dead_in o ≡ None
 dead_none None e = refl
 dead_none (Some v) e = ap dead_of_content e

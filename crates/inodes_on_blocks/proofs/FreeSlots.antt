@@ -1,4 +1,4 @@
--- The slot of a new name: what a search for a free slot finds is where the node has it; and the entry that is put there.
+-- The slot of a new name: a search finds the free slot that the node has; and the entry that is put there.
 use Rattle.inodes_on_blocks.proofs.Vocabulary.{◌≡◌, ◌≢◌, ℕ, zero, suc, ◌-◌, ◌==◌, ◌<◌, ◌≤◌, nat_lt, nat_le, ◌&&◌, not, Bool, true, false, List, [], ◌∷◌, ◌++◌, length, replicate, get_or, Option, Some, None, refl, sym, ◌∙◌, ap, arith, list_all, nat_tests, Found, IsFirst, Unused, Dirent, Used, IsBytes, u16_bytes, IsDirent, spell_dirent, entry_of, slots_with, Slot, Name, dot, dotdot, eq_not, all_used, IsName, IsText, most_slots, name_len}
 use Rattle.directory.specs.Slots as sought
 use Rattle.fs_layout.specs.Name as names
@@ -101,7 +101,7 @@ module _ (slots : List (Option Slot)) (read : ℕ → Option Dirent) (are : AreR
   pub none_left : IsFirst Unused read (length slots) None → all_used slots ≡ true
   none_left first = all_are slots (all_before (length slots) (omega arith) first)
 
-  -- there is one, or room behind them
+  -- there is one, or room after them
   pub some_left : (o : Option Found) → IsFirst Unused read (length slots) o → slot_of slots o < most_slots → ((length slots == most_slots) && all_used slots) ≡ false
   some_left None first lt = ap (λ (b : Bool). b && all_used slots) (eq_not (length slots) most_slots (λ e. absurd (omega (arith, e, lt))))
   some_left (Some f) first lt = by (length slots == most_slots) (some_isnt slots f.slot first.0 (turned_off (is_used (get_or slots f.slot None)) (sym (is_so f.slot first.0) ∙ first.1)))

@@ -1,4 +1,5 @@
--- An inode without links is freed: its content is given back, its record goes into its block without that, and there once more without a type, where the operation acts.
+-- An inode without links is freed: its content is given back, and its record goes into its block without that. Then
+-- the record is put once more without a type, and with this the operation acts.
 use Rattle.inode_machine.specs.VersionOne as one
 use Rattle.inodes_on_blocks.proofs.Vocabulary.{◌≡◌, ◌≢◌, ℕ, suc, ◌<◌, false, List, [], length, Option, Some, None, refl, sym, ◌∙◌, ap, subst, arith, Super, Dinode, IsDinode, IsOutsideLog, has, HasRoom, Node, hart_count, bind, once, Laws, Machine, P, Wp, Both, joined, Below, Lasts, Handover, Here, ToAct, to_act, may_act, Stable, bind-assoc, Wp-more, lock_holder, LogPart, put_block, fetch, seen_of, without_content, freed, inode_block, put_inode, with_dinode, store_inode, Inv, Idle, more, Owners, World, log_of, tables_of, disk_of, owners_of, KeepsRoom, world_with, in_hand, HasBuffer, IsFetched, Emptied, Carry, Stands, below, Labels, labelled, Keeps, IsThrough, CanPut, IsChanging, Shows, record_in, put_record, had_in, block_len}
 use Rattle.inodes_on_blocks.proofs.Basics.{freed_held, buffer_then, buffer_seen, s-fetch, below_laws, lent_then, through_then, through_put, empty_hand, after, lock_range, quiet_owners, Ready, inode_home, untaken, place_in, can_record, others_then, none_then, named_then, open_same}
@@ -35,7 +36,7 @@ module _ (sizes : Super) (l : Labels) (laws : Laws (labelled l)) (keeps : Keeps 
     abbrev IsPutting : (at : ℕ) → List ℕ → List l.Step → W → Type 0
     IsPutting at bytes gs u = Putting sizes l laws keeps h lt B Q G stable n at bytes (λ _. k) j gs u
 
-    -- the put, where the buffer is in hand
+    -- the put, with the buffer in hand
     there : (u : W) (gs : List l.Step) → G gs u.seen → Shows u.real u.seen → IsChanging h n u.seen → HasNone h n c o u.real u.seen
         → CanPut h (place_in n u.real) (with_dinode n d (seen_of (log_of u.real) (place_in n u.real))) (log_of u.real) × (length (seen_of (log_of u.real) (place_in n u.real)) ≡ block_len)
         → ((i : ℕ) → u.real.taken i ≢ Some h) → IsThrough h u.real → (((u.seen.desks h).lender ≡ None → ⊥) → Idle h u.seen) → in_hand h u.real ≡ 1 → (log_of u.real).sizes ≡ sizes
@@ -73,7 +74,7 @@ module _ (sizes : Super) (l : Labels) (laws : Laws (labelled l)) (keeps : Keeps 
         before : place_in n u.real ≢ (log_of u.real).sizes.bmapstart
         before e = let inodes = shows.blocks.seen.good.inodes in let bound = (lock_range n h u.real u.seen shows changes.lock).1 in absurd (omega (arith, inodes, bound, e))
 
-    -- and from where the block was fetched on
+    -- and from the fetch of the block on
     puts : (x v u : W) (fs gs : List l.Step) → Ready sizes h (HasNone h n c o) x.real x.seen → Knows x.real → IsFetched h b (G fs) x v → IsHere v u gs → IsPutting b (with_dinode n d (seen_of (log_of v.real) b)) gs u
     puts x v u fs gs ready knows got here =
         let changes = changing gs u.seen here.stage here.inv in

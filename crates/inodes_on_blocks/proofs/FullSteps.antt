@@ -1,4 +1,5 @@
--- A directory that has all its slots, and none free: the operation acts where the last block that is searched is given back, and changes nothing.
+-- A directory that has all its slots, and none free. The operation acts when the last block that is searched is given
+-- back, and changes nothing.
 use Rattle.inode_machine.specs.VersionOne as one
 use Rattle.inodes_on_blocks.proofs.Vocabulary.{◌≡◌, ℕ, zero, suc, ◌+◌, ◌*◌, ◌<◌, false, List, Option, Some, None, refl, sym, ◌∙◌, ap, subst, arith, Found, Unused, found_in, look_at, Dinode, Super, IsOutsideLog, block_len, holder_of, given_back, is_free, numbers_of, block_number, content_block, HoldsAt, Node, hart_count, Do, bind, unmarked, Ran, Machine, Laws, P, Wp, Both, joined, Lasts, ToAct, to_act, s-act, bind-assoc, Wp-more, lock_holder, Passes, Put, keeps_whole, leaves_own, shows_its_puts, BlockInHand, fetch_block, marked, with_mark, World, log_of, tables_of, disk_of, inode_in, if_none, look_last, search_full, Acts, acts, in_hand, SameBut, IsFetched, KeepsInode, Same, Kept, below, Labels, labelled, Keeps}
 use Rattle.directory.proofs.Indexed.{else_searched, searched_from}
@@ -13,7 +14,7 @@ use Rattle.inodes_on_blocks.proofs.Basics.{kept_then, same_inode, holds_now, use
 use Rattle.inodes_on_blocks.proofs.ContentFetch.{s-content, s-touch}
 use Rattle.inodes_on_blocks.proofs.ContentReads.{touches, touches_are}
 
--- nothing is found behind the last block
+-- nothing is found after the last block
 abbrev none_behind : IndexState → Searched
 none_behind x = record { found = None; index = x }
 
@@ -29,7 +30,7 @@ module _ (sizes : Super) (l : Labels) (laws : Laws (labelled l)) (keeps : Keeps 
     abbrev Todo : List l.Step → above.World → Type 0
     Todo = ToAct (labelled l) (below sizes) laws (below_laws sizes l keeps) h B op m C lasts
 
-    -- Where it goes on, from w, with this below: it acted in the world v above, and block b's buffer is back.
+    -- How it goes on, from w, with this below: it acted in the world v above, and block b's buffer is back.
     pub record ActedAt (b : ℕ) (w v : W) (r : World) (gs : List l.Step) : Type 0 where
       pub since : SameBut h b w.real r
       pub kept : Kept h w.seen v.seen
@@ -87,7 +88,7 @@ module _ (sizes : Super) (l : Labels) (laws : Laws (labelled l)) (keeps : Keeps 
       abbrev act : Option Acts
       act = acts op outside m
 
-      -- where a free slot was found it is still to act; else it has
+      -- if a free slot was found it must still act; else it has acted
       pub record Rests (found : Searched) : Type 0 where
         pub some : (f : Found) → found.found ≡ Some f → (v : W) (fs : List l.Step) → Same h w.real v.real → Kept h w.seen v.seen → Todo fs v.seen → Wp M h B Q (g found) j fs v
         pub none : found.found ≡ None → (v : W) (r : World) (gs : List l.Step) → Same h w.real r → Kept h w.seen v.seen → one.May h op v.seen → C answer gs (marked h (m answer) v.seen) → Wp M h B Q (g found) j gs (record { real = r; seen = marked h (m answer) v.seen })

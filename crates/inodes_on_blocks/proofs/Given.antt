@@ -38,7 +38,7 @@ stays h n xs fs g u o c =
 
 -- ---- the law
 
--- what comes to an end comes to the same without more behind it
+-- a program with nothing after it but its end is that program
 pub bind-end : {Op : Type 0} {Answer : Op → Type 0} {M A : Type 0} (p : Prog Op Answer M A) → bind p (λ a. Ret a) ≡ p
 bind-end (Ret a) = refl
 bind-end (Do op m k) = λ i. Do op m (λ a. bind-end (k a) i)
@@ -46,7 +46,7 @@ bind-end (Do op m k) = λ i. Do op m (λ a. bind-end (k a) i)
 abbrev M : Super → Machine
 M sizes = joined whole (below sizes)
 
--- where it ends
+-- what holds at its end
 abbrev Ends : (sizes : Super) (h n b : ℕ) → Spent → Both World above.World → Unit {0} → List Done → Both World above.World → Type 0
 Ends sizes h n b s w a es x = (es ≡ []) × Gave h n b (IsChanging h n) w x × HasSpent sizes h s x.real
 

@@ -83,7 +83,7 @@ module _ (h c : ℕ) (w : World) (D : ℕ → Desk) (inv : Inv w) (s : Hands h c
     | inr nc ↦ part (λ d. is_at d.hand k) g nc (ap (λ (o : Option ℕ). is_at o k) s.hand)
   ])
 
-  -- the cards where the child's changed
+  -- the cards after the child's changed
   desks_handed : (list : List cards.Desk) (f : cards.Desk → cards.Desk) → DesksShow list w.desks → c < hart_count → ((d : cards.Desk) → DeskShows d (descriptor w.desks c) (w.desks c).directory (w.desks c).hand → DeskShows (f d) (descriptor D c) (D c).directory (D c).hand) → DesksShow (change_at c f list) D
   desks_handed list f shows lc card g lg =
       let his = shows c lc in
@@ -113,7 +113,7 @@ module _ (h c : ℕ) (w : World) (D : ℕ → Desk) (inv : Inv w) (s : Hands h c
   files_handed : (places : List FilePlace) (F : ℕ → Option Entry) → FilesShow places w.files w.desks → ((k : ℕ) (b : Bool) → place_with b (F k) ≡ place_with b (w.files k)) → FilesShow places F D
   files_handed places F shows same k lt = shows k lt ∙ ap (λ (b : Bool). Some (place_with b (w.files k))) (sym (taken_is k)) ∙ ap (λ (p : FilePlace). Some p) (sym (same k (is_taken D k)))
 
-  -- the cards stay where what the child has under each descriptor does
+  -- the cards stay if what the child has under each descriptor does
   desks_kept : (list : List cards.Desk) → DesksShow list w.desks → ((d : cards.Desk) → DeskShows d (descriptor w.desks c) (w.desks c).directory (w.desks c).hand → DeskShows d (descriptor D c) (D c).directory (D c).hand) → DesksShow list D
   desks_kept list shows card g lg =
       let was = shows g lg in (

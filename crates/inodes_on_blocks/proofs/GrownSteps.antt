@@ -37,7 +37,8 @@ module _ (sizes : Super) (l : Labels) (laws : Laws (labelled l)) (keeps : Keeps 
     abbrev pub Ends : Handover (above.Answer op) Carry → List l.Step → W → Type 0
     Ends r fs u = Below (labelled l) (below sizes) h C r fs u × HasSpent sizes h (with_contents most s) u.real
 
-    -- the record d that the program has, of size `was`, goes back with what was written up to an offset; it is laid out so for node x
+    -- The record d that the program has, of size `was`, goes back with what was written up to an offset. It is laid
+    -- out so for node x.
     pub s-grown : (outside : above.Outside) (answer : above.Answer op) (x : Node) (index : IndexState) (right : IsIndexOf index (Some x)) (was z upto : ℕ) (d : Dinode) (bs : List ℕ) → ((v : W) → rules.Honest h op v.seen outside)
         → ((g : above.World) → one.May h op g → g.disk n ≡ o → one.exec h outside op g ≡ Ran answer (above_exec.with_record g n (Some x)))
         → Fits was d → max was upto ≡ z → z < 2 ^ 32 → length bs ≤ most → (es : List l.Step) (w : W)

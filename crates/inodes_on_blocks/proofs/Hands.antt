@@ -6,7 +6,7 @@ use Rattle.buffer_cache.specs.declared.got.Got.TheVariants as got
 
 -- ---- counts
 
--- one of these counts, where the other doesn't
+-- one of these counts, and the other doesn't
 counts_one : (a b : Bool) (n : ℕ) → a ≡ false → b ≡ true → cond b 1 0 + n ≡ suc (cond a 1 0 + n)
 counts_one true b n e f = absurd (cc e)
 counts_one false true n e f = omega arith

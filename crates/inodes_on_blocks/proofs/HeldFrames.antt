@@ -1,4 +1,4 @@
--- What an inode and its blocks say stays where these do.
+-- What an inode and its blocks say stays if these do.
 use Rattle.inodes_on_blocks.proofs.Vocabulary.{◌≡◌, ◌≢◌, ⊎_elim, ℕ, zero, suc, ◌+◌, ◌*◌, ◌/◌, ◌%◌, ◌<◌, ◌≤◌, false, inl, inr, refl, sym, ◌∙◌, ap, subst, arith, List, [], ◌∷◌, ◌++◌, length, take, get_or, slice_index, filter, Option, Some, None, nat_lt, if◌then◌else◌, All, Contains, cases_eq, Super, Dinode, Dirent, u32s_at, dirent_at, recovered, sizes_of, Node, NodeKind, Directory, File, Device, IsOnce, inode_of, is_free, is_block, numbers_of, numbers_by, block_number, content_block, blocks_for, front_blocks, slot_on as slot_at, first_slots, IsData, numbers_by_node, numbers_without, numbers_with, All-addrs, numbers_by_free, either, IsRecord, HasContent, HasContentOf, IsOwned, HoldsAt, NamesOwned, IsPut, IsUntouched, IsLaidOut, IsSpare, Becomes, slot_by, first_slots_by, block_len, direct, dirent_len, dirents_per_block, numbers_per_block}
 use Rattle.inodes_on_blocks.specs.Holds.{HasRoom}
 use Rattle.inodes_on_blocks.proofs.Held.{inode_used}

@@ -117,7 +117,7 @@ module _ (disk : List (List ℕ)) (nodes : Nodes) (records : HoldsRecords disk n
     | inl none ↦ unused_count disk nodes records i node none ∙ ap pos (sym (ap (λ (o : Option Node). links_of o) (no_inode disk nodes records i none)))
   ]
 
-  -- where the count isn't above 0 there are no links
+  -- if the count isn't above 0 there are no links
   no_links : (i : ℕ) → is_node disk i ≡ true → is_live (inode_of disk i) ≡ false → links_here disk i ≡ 0
   no_links i node dead =
       let none : nat_lt 0 (links_here disk i) ≡ false = sym (ap is_positive (count_is i node)) ∙ dead in

@@ -3,7 +3,7 @@ use Rattle.inodes_on_blocks.proofs.Vocabulary.{◌≡◌, ◌≢◌, ℕ, ◌+�
 use Rattle.inodes_on_blocks.specs.Puts.{inode_block}
 use Rattle.inodes_on_blocks.proofs.HeldFrames.{laid_kept, system_put}
 
--- inodes stand before the bitmap
+-- inodes are before the bitmap
 pub before_bits : (disk : List (List ℕ)) (i : ℕ) → UpToLog disk → i < (sizes_of disk).ninodes → inode_block disk i < (sizes_of disk).bmapstart
 before_bits disk i front bound = let inodes = front.0.0.1.1.inodes in omega (arith, inodes, bound)
 
@@ -19,7 +19,7 @@ module _ (disk new : List (List ℕ)) (b : ℕ) (put : IsPut disk new b) where
       ap (λ (s : Super). bit_of (recovered new s.bmapstart) c) put.sizes
       ∙ ap (λ (block : List ℕ). bit_of block c) (put.others (sizes_of disk).bmapstart (λ e. ne (sym e)))
 
-  -- no bit changes where it isn't the bitmap
+  -- no bit changes if the block isn't the bitmap
   marks_kept : (owner : ℕ → ℕ) → b ≢ (sizes_of disk).bmapstart → MarksBlocks disk owner → MarksBlocks new owner
   marks_kept owner ne marks = record {
     front = λ c l. same_bit ne c ∙ marks.front c (subst (λ (s : Super). c ≤ s.bmapstart) put.sizes l);
@@ -101,7 +101,7 @@ module _ (disk new : List (List ℕ)) (owner : ℕ → ℕ) (i b : ℕ) (front :
   own_bit : (value : Bool) → IsBitPut disk new b value → is_marked new b ≡ value
   own_bit value put = put.bits b ∙ (rw (eq_self b) refl)
 
-  -- the bits, where the block has become that of an inode, or of none
+  -- the bits, if the block has become that of an inode, or of none
   bits_then : (value : Bool) (j : ℕ) → IsBitPut disk new b value → (j ≢ 0 → value ≡ true) → MarksBlocks disk owner → MarksBlocks new (put owner b j)
   bits_then value j put' set marks = record {
     front = λ c l.
@@ -117,7 +117,7 @@ module _ (disk new : List (List ℕ)) (owner : ℕ → ℕ) (i b : ℕ) (front :
     ];
   }
 
-  -- and no other bits, where its own is set just while it has an owner and it is none of those left over
+  -- and no other bits, if its own is set just while it has an owner and it is none of those left over
   no_others_then : (value : Bool) (j : ℕ) → IsBitPut disk new b value → (j ≡ 0 → value ≡ false) → (left : ℕ → Bool) → left b ≡ false → MarksNoOthers disk owner left
       → MarksNoOthers new (put owner b j) left
   no_others_then value j put' clear left spare marks = record {

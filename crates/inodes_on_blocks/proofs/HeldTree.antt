@@ -9,7 +9,7 @@ use Rattle.inodes_on_blocks.proofs.Forests.{links_here}
 
 -- ---- lists
 
--- what holds of each number that stands in a list
+-- what holds of each number in a list
 all_times : (P : ℕ → Type 0) (xs : List ℕ) → ((n : ℕ) → 1 ≤ times n xs → P n) → All P xs
 all_times P [] h = All-nil P
 all_times P (x ∷ xs) h =

@@ -28,7 +28,7 @@ once_times b (x ∷ xs) once = elim (same_or x b) [
       omega (arith, times_cons b x xs, same, one_at_most (eqb x b))
 ]
 
--- what stands in a list stands there so often
+-- the element at a place of a list occurs in it at least once
 pub place_times : (xs : List ℕ) (k d : ℕ) → k < length xs → 1 ≤ times (get_or xs k d) xs
 place_times [] k d l = absurd (omega arith)
 place_times (x ∷ xs) zero d l = omega (arith, times_cons x x xs, one_yes (eqb x x) (eq_self x))

@@ -1,11 +1,11 @@
--- Lists of block numbers in which each stands once, and 0 stands for none.
+-- Lists of block numbers in which each occurs once, and 0 means none.
 use Rattle.inodes_on_blocks.proofs.Vocabulary.{◌≡◌, ◌≢◌, ⊎_elim, ℕ, zero, suc, ◌+◌, ◌<◌, ◌≤◌, true, false, eqb, inl, inr, refl, sym, ◌∙◌, ap, subst, arith, List, [], ◌∷◌, length, filter, get_or, slice_index, nat_lt, if◌then◌else◌, All, Contains, cases_lt, nat_tests, get_or_past, IsOnce, times, is_block, block_number, once_nil, either, same_or, eq_self, one_yes, direct}
 use Rattle.inodes_on_blocks.proofs.Lists.{times_cons, times_filtered, filter_keeps, filter_drops}
 use Rattle.inodes_on_blocks.proofs.ImageBlocks.{place_times, once_times, block_true}
 use Rattle.inodes_on_blocks.proofs.HeldTree.{pairs_cons}
 use Rattle.inodes_on_blocks.proofs.HeldBlocks.{blocks_alone}
 
--- ---- a number that stands once
+-- ---- a number that occurs once
 
 two_times : (xs : List ℕ) (p q d : ℕ) → p < q → q < length xs → get_or xs p d ≡ get_or xs q d → 2 ≤ times (get_or xs p d) xs
 two_times [] p q d l m e = absurd (omega arith)
@@ -81,7 +81,7 @@ once_by_places (x ∷ ns) h =
           subst IsOnce (sym (filter_keeps is_block x ns y)) (record { apart = pairs_cons (λ a c. a ≢ c) x (filter is_block ns) apart rest.apart })
     ]
 
--- ---- where the number of block k stands
+-- ---- the place of block k's number
 
 unfoldable pub place : ℕ → ℕ
 place k = if nat_lt k direct then k else k + 1

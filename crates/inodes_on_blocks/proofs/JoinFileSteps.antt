@@ -1,4 +1,4 @@
--- A transaction is joined for the inode that a descriptor names, in one step, where that may be written.
+-- A transaction is joined for the inode that a descriptor names, in one step, if that may be written.
 use Rattle.inode_machine.specs.VersionOne as one
 use Rattle.inodes_on_blocks.proofs.Vocabulary.{◌≡◌, ℕ, ◌<◌, Bool, true, false, length, Option, Some, None, refl, sym, ◌∙◌, ap, subst, option_map, same_Some, joined_count as joined, limit_of, join_waits, hart_count, Cause, Ran, Laws, Both, Refused, file_named, refusal_of, join_if, IsWholeLog, After, keeps_whole, Entry, JoinResult, NotJoined, Joined, JoinFile, write_refused, join_at, Inv, loaded, file_of, refused_as, World, log_of, tables_of, came_to, Shows, Carry, Base, Labels, labelled, Keeps, cause_of, joining_to, join_file, ActsOnce}
 use Rattle.plain_tree.specs.declared.answer.Cause.TheVariants as causes

@@ -34,7 +34,7 @@ module _ (disk new : List (List ℕ)) (owner : ℕ → ℕ) (i k : ℕ) (d : Din
       ∙ put.others (block_number ns l) (λ e. apart (sym (place_same k l (alone (place l) (sym (number_place ns l) ∙ e)))))
       ∙ sym (block_of disk d l)
 
-  -- with what it says now it is laid out, where it names the same blocks
+  -- with this record it is laid out, if it names the same blocks
   pub becomes : (e : Dinode) (w : Node) → e.addrs ≡ d.addrs → IsInode e w → HasContent new e w.kind → HasRoom disk e → Becomes disk new owner owner i d e w
   becomes e w addrs is content room =
       let same : numbers_of new e ≡ ns = addrs_alone new d e addrs ∙ numbers_stay in

@@ -1,4 +1,4 @@
--- An inode that comes to name one more block.
+-- An inode that names one block more than before.
 use Rattle.inodes_on_blocks.proofs.Vocabulary.{◌≡◌, ◌≢◌, ⊎_elim, ℕ, zero, suc, ◌+◌, ◌-◌, ◌*◌, ◌^◌, ◌<◌, ◌≤◌, inl, inr, refl, sym, ◌∙◌, ap, subst, arith, List, [], ◌∷◌, ◌++◌, length, set, get_or, slice_index, replicate, get_or-set_other, get_or-set_same, nat_lt, if◌then◌else◌, flat_map, All, Contains, cases_lt, get_or_append_left, get_or-append_right, length-replicate, append-nil, All-replicate, recursion_from_All, Super, Dinode, u32_bytes, u32s_at, recovered, sizes_of, length-u32s_at, u32s_at-bytes, Node, numbers_of, block_number, IsData, numbers_without, numbers_with, same_or, IsOwned, IsNumberPut, IsLaidOut, IsSpare, Names, addresses, block_len, direct, numbers_per_block}
 use Rattle.std.proofs.lemmas.List.{length-set}
 use Rattle.inodes_on_blocks.proofs.Basics.{at_index, block_of, content_same, device_kept, HasPlaces, within, one_place, once_by_places, all_by_places, contains_at, contains_place, place, number_place, place_apart}
@@ -149,7 +149,7 @@ zeros_at zero q = refl
 zeros_at (suc n) zero = refl
 zeros_at (suc n) (suc q) = zeros_at n q
 
--- zeros behind a list are like nothing behind it
+-- zeros after a list are like nothing after it
 zeros_behind : (xs : List ℕ) (n q : ℕ) → slice_index (xs ++ replicate n 0) q ≡ slice_index xs q
 zeros_behind [] n q = zeros_at n q
 zeros_behind (x ∷ xs) n zero = refl

@@ -1,4 +1,4 @@
--- A directory's slot that is put, or one more behind its last.
+-- A directory's slot that is put, or one more after its last.
 use Rattle.inodes_on_blocks.proofs.Vocabulary.{◌≡◌, ◌≢◌, ℕ, zero, suc, ◌*◌, ◌/◌, ◌%◌, ◌<◌, ◌≤◌, inl, inr, refl, sym, ◌∙◌, ap, subst, arith, List, [], ◌∷◌, ◌++◌, length, length-append, length-take, take, drop, map, append_assoc, Option, Some, max, take_all, drop_all, take-append-le, drop-append-le, Dinode, Dirent, dirent_at, recovered, reads_back, others_stay, Slot, Node, Directory, numbers_of, block_number, content_block, slot_on as slot_at, first_slots, slots_of, largest_size, same_or, entry_of, IsSlotPut, IsLaidOut, slots_with, Becomes, slot_by, first_slots_by, One, block_len, dirent_len, dirents_per_block}
 use Rattle.std.proofs.Common.{length-drop}
 use Rattle.std.proofs.lemmas.List.{take_at}
@@ -24,7 +24,7 @@ slots_by disk new d e (suc n) same =
     ap (λ (xs : List (Option Dirent)). xs ++ slot_at new e n ∷ []) (slots_by disk new d e n (λ s l. same s (omega arith)))
     ∙ ap (λ (x : Option Dirent). first_slots disk d n ++ x ∷ []) (same n (omega arith))
 
--- a list with one element put, or one more behind the last
+-- a list with one element put, or one more after the last
 abbrev with_one : {X : Type 0} → List X → ℕ → X → List X
 with_one xs s x = take s xs ++ x ∷ drop (suc s) xs
 
@@ -117,7 +117,7 @@ module _ (disk new : List (List ℕ)) (owner : ℕ → ℕ) (i s count : ℕ) (s
   held = let size = h.inode.size in let many : length slots ≡ d.size / dirent_len = omega (arith, size) in
       ap (first_slots disk d) many ∙ h.content
 
-  -- within the slots, and behind them
+  -- within the slots, and after them
   slots_now : first_slots new d (max (length slots) (suc s)) ≡ with_one (map entry_of slots) s (Some entry)
   slots_now = elim (same_or s (length slots)) [
     | inr ne ↦

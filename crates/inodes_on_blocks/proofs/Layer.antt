@@ -68,7 +68,7 @@ untouched_then old mid new o p q i a b = record {
   alone = λ c block own. a.alone c block (b.alone c (subst (λ (s : Super). IsData s c) (sym a.sizes) block) own);
 }
 
--- where the seen disk is as it was, and whose the blocks are
+-- if the seen disk is as it was, and so are the blocks' owners
 pub kept_alike : (h i : ℕ) (v w : World) → lock_holder i (tables_of w) ≡ Some h → disk_of (log_of w) ≡ disk_of (log_of v) → w.owner ≡ v.owner → KeepsInode h i v w
 kept_alike h i v w lock disk owner = record {
   lock = lock;
@@ -143,7 +143,7 @@ below_laws sizes l keeps =
 
 -- ---- a step on the tables
 
--- another hart has its locks still, where only this hart's changed
+-- another hart has its locks still, if only this hart's changed
 pub tables_left : (h : ℕ) (v : World) (t : TablesState) (g u : above.World) (load load_then : ℕ → Option Loaded) → tables.Shows (tables_of v) g load → tables.Shows t u load_then
     → ((i : ℕ) → (u.lock i ≡ g.lock i) ⊎ (Ours h (g.lock i) × Ours h (u.lock i))) → (other : ℕ) → other ≢ h → Same other v (record v { state = record (v.state) { tables = t } })
 tables_left h v t g u load load_then shows after change other ne =

@@ -60,7 +60,7 @@ same_group (Staging i) group begun runs = refl
 same_group (Installing i) group begun runs = refl
 same_group Halted group begun runs = absurd (runs refl)
 
--- a leave begins a commit just where it says so
+-- a leave begins a commit just if it says so
 left_free : (j : ℕ) (group : List ℕ) → left_at j group ≡ Free → phase_at_leave j group ≡ Open
 left_free j [] e = refl
 left_free j (b ∷ ks) e = pick (j == 0) (λ t. (if t then Commits else Free) ≡ Free → (if t then Staging 0 else Open) ≡ Open) (λ _ z. absurd (cc z)) (λ _ z. refl) e
@@ -106,7 +106,7 @@ tables_desk h new t w load fds hand directory lends lender shows = record {
 
 -- ---- the writes
 
--- a hart that commits, with so many writes at most
+-- a hart that commits, with at most `left` writes to make
 record Committing (sizes : Super) (h left : ℕ) (r : World) (g : above.World) : Type 0 where
   commits : r.commits ≡ Some h
   new : (n : ℕ) → r.new n ≢ Some h

@@ -46,7 +46,7 @@ more_same s files k e at = elim (same_or k s) [
   | inr ne ↦ (e, put_other files s (more_users (files s)) k ne ∙ at, refl)
 ]
 
--- and stands where it stood
+-- and its offset is as it was
 more_offset : (o : Option Entry) (e : Entry) → more_users o ≡ Some e → ((d : Entry) → o ≡ Some d → d.file.offset ≤ largest_size) → e.file.offset ≤ largest_size
 more_offset None e is old = absurd (none-some e is)
 more_offset (Some d) e is old = subst (λ (x : Entry). x.file.offset ≤ largest_size) (same_Some _ e is) (old d refl)
@@ -135,7 +135,7 @@ is_over a b e = grind (arith, nat_tests)
 not_over : (a b : ℕ) → nat_lt a b ≡ false → b ≤ a
 not_over a b e = grind (arith, nat_tests)
 
--- where a hart with no descriptor from here on starts at the first, it starts at one
+-- if a hart that has no descriptor from here on starts at the first, it starts at one
 starts_below : (from : ℕ) (fds : ℕ → Option ℕ) → (next_used from fds ≡ None → from ≡ 0) → from ≤ descriptor_count
 starts_below from fds first_ = by (nat_lt descriptor_count from) refl
   where

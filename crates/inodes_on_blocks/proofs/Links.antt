@@ -66,7 +66,7 @@ module _ (disk : List (List ℕ)) (good : HasGoodSlots disk) (one : IsOneTree di
     ]
   ]
 
-  -- a directory stands once in its ".."
+  -- a directory is once in its ".."
   pub stands_once : (i : ℕ) → is_live_directory disk i ≡ true → i ≢ 1 → times i (further_in disk (up disk i)) ≡ 1
   stands_once i live ne =
       let above = directory_is disk (up disk i) (up_live i live) in
@@ -111,7 +111,7 @@ module _ (disk : List (List ℕ)) (good : HasGoodSlots disk) (one : IsOneTree di
   alone : (i n : ℕ) → times i (n ∷ []) ≡ one_if (eqb n i)
   alone i n = omega (arith, times_cons i n [], times_nil i)
 
-  -- a number alone, where another one is left out
+  -- a number alone, with another one left out
   kept : (i n c : ℕ) → eqb n c ≡ false → times i (filter (λ m. not (eqb m c)) (n ∷ [])) ≡ one_if (eqb n i)
   kept i n c h = ap (times i) (filter_keeps (λ m. not (eqb m c)) n [] (ap not h)) ∙ alone i n
 

@@ -1,9 +1,9 @@
--- How often a number stands in what is gathered from inodes, as a sum over them.
+-- How often a number occurs in what is gathered from inodes, as a sum over them.
 use Rattle.inodes_on_blocks.proofs.Vocabulary.{◌≡◌, ◌≢◌, ℕ, zero, suc, ◌+◌, ◌≤◌, Bool, true, false, eqb, cond, inl, inr, refl, sym, ◌∙◌, ap, arith, List, [], ◌∷◌, filter, sum_by-cons, gathered, times, sum_below, one_if, either, eq_not, same_or}
 pub use Rattle.image_tree.proofs.Freed.{filter_keeps, filter_drops}
 pub use Rattle.image_tree.proofs.Unnamed.{times_more}
 
--- how much one number adds to how often i stands in a list
+-- how much one number adds to how often i occurs in a list
 abbrev hits : ℕ → ℕ → ℕ
 hits i x = cond (eqb x i) 1 0
 

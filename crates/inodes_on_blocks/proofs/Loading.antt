@@ -77,7 +77,8 @@ module _ (sizes : Super) (l : Labels) (laws : Laws (labelled l)) (keeps : Keeps 
   M = joined (labelled l) (below sizes)
 
   module _ {A : Type 0} (Q : A → List l.Step → W → Type 0) (G : List l.Step → above.World → Type 0) (stable : Stable (labelled l) (below sizes) laws (below_laws sizes l keeps) h B G) where
-    -- A hart that has an inode's lock goes on with what was loaded of it, or with its record, whose names aren't indexed.
+    -- A hart that has an inode's lock goes on with what was loaded of it, or with its record, whose names aren't
+    -- indexed.
     pub s-load : (n : ℕ) (content : Option Loaded) (c : Carry) (k : Loaded → P M A) (j : ℕ) (es : List l.Step) (w : W) → G es w.seen → Stands sizes h w.real w.seen c → lock_holder n (tables_of w.real) ≡ Some h → n < sizes.ninodes
         → ((v : W) (fs : List l.Step) → Same h w.real v.real → Kept h w.seen v.seen → G fs v.seen → Stands sizes h v.real v.seen c → Wp M h B Q (k (unwrap_or content (unindexed (inode_in (log_of w.real) n)))) j fs v)
         → Wp M h B Q (bind (load_unless sizes.inodestart n content) k) (suc (suc (suc j))) es w

@@ -1,4 +1,5 @@
--- A block of the content of an inode that a hart is changing: found by its number, or taken where it is missing, and named. Nothing of it is seen above.
+-- A block of the content of an inode that a hart is changing: found by its number, or taken if it is missing, and
+-- named. Nothing of it is seen above.
 use Rattle.inodes_on_blocks.proofs.Vocabulary.{get_or-set_other, get_or-set_same, inr, ◌≡◌, ◌≢◌, ℕ, suc, ◌+◌, ◌-◌, ◌^◌, ◌<◌, ◌≤◌, ◌==◌, Bool, true, false, List, length, Option, Some, None, refl, sym, ◌∙◌, ap, subst, arith, if◌then◌else◌, slice_index, Dinode, Super, IsBytes, numbers_in, IsDinode, IsOutsideLog, sizes_of, holder_of, given_back, IsData, numbers_of, block_number, IsOwned, Node, hart_count, eq_is, Do, bind, unmarked, Machine, Laws, P, Wp, Both, joined, Stable, bind-assoc, Wp-more, with_seats, fetch, seen_of, Put, Direct, InTable, Located, table_of, with_address, take_one, located, name_direct, name_in_table, look_up, locate_in_table, with_table, locate_at, locate, Spent, size, with_number as with_block, most_recorded, Inv, World, log_of, disk_of, KeepsRoom, in_hand, IsFetched, Carry, below, buffer_in, Labels, labelled, Keeps, IsChanging, Shows, addresses, block_len, direct, most_blocks}
 use Rattle.inodes_on_blocks.proofs.Basics.{at_index, good_seen, HasBlocks, extra, extra_there, number_again, number_more, number_before, number_stays, extra_missing, cost_more, cost_both, named_room, block_room, buffer_then, with_buffers, s-fetch, s-back, back_hand, same_view, below_laws, held_back, block_shown, empty_hand, has_number}
 use Rattle.inode_data.specs.Writing.{with_number}
@@ -12,7 +13,7 @@ use Rattle.inodes_on_blocks.proofs.NumberPuts.{sized, addressed_fits, direct_pla
 use Rattle.inodes_on_blocks.proofs.OwnPuts.{s-own}
 use Rattle.inodes_on_blocks.proofs.Taking.{HasSpare, spare_stays}
 
--- Where a hart stands that is changing inode n, between two blocks: with nothing in hand.
+-- What holds of a hart that is changing inode n, between two blocks: with nothing in hand.
 pub record Between (sizes : Super) (h n : ℕ) (Stage : above.World → Type 0) (c : Carry) (o : Option Node) (d : Dinode) (x : Node) (Knows : World → Type 0) (w : Both World above.World) : Type 0 where
   pub changing : Changing h n c o d x w.real w.seen
   pub shows : Shows w.real w.seen
@@ -30,7 +31,7 @@ abbrev pub IsFound : (far : Bool) (k z most : ℕ) → List ℕ → Dinode → L
 IsFound far k z most bs d disk None = length bs ≤ most
 IsFound far k z most bs d disk (Some b) = (b ≢ 0) × (block_number (numbers_of disk (sized z d)) k ≡ b) × (length (with_block bs b) + extra far (with_block bs b) (table_of d) ≤ suc most)
 
--- Where it goes on at v with what was found: the record d of this size names it.
+-- How it goes on at v with what was found: the record d of this size names it.
 pub record Found (sizes : Super) (h n : ℕ) (Stage : above.World → Type 0) (c : Carry) (o : Option Node) (x : Node) (s : Spent) (far : Bool) (k z was most : ℕ) (l : Located) (v : Both World above.World) : Type 0 where
   pub after : List ℕ
   pub between : Between sizes h n Stage c o (sized z l.inode) x (HasBlocks sizes h s after) v
@@ -136,7 +137,7 @@ module _ (sizes : Super) (l : Labels) (laws : Laws (labelled l)) (keeps : Keeps 
         knows_v : HasBlocks sizes h s bs v.real
         knows_v = (bits_room bs few).gives.fetched t w.real v.real got.since start.known
 
-        -- the number stands there
+        -- the number is there
         there : slice_index (numbers_in bytes) i ≢ 0 → Wp M h B Q (Do (Put t None) unmarked (λ _. f (record { inode = d; number = Some (slice_index (numbers_in bytes) i) }))) (suc (take_steps j)) fs v
         there is =
             s-back sizes l laws keeps h lt B Q G stable t (λ _. f (record { inode = d; number = Some (slice_index (numbers_in bytes) i) })) (take_steps j) fs v got.stage got.buffer.holder (outside v.real v.seen got.shows at_v)
@@ -248,7 +249,7 @@ module _ (sizes : Super) (l : Labels) (laws : Laws (labelled l)) (keeps : Keeps 
           (empty_hand h t w.real start.none)
           (λ v fs got. looks w es start v fs got (slice_index (numbers_in (seen_of (log_of v.real) t)) i == 0) refl)))
 
-    -- ---- wherever it stands
+    -- ---- wherever it is
 
     module _ (d : Dinode) (fits : Fits was d) (bs : List ℕ) (low : k < most_blocks) (cost : length bs + extra far bs (table_of d) ≤ most) (w : W) (es : List l.Step) (start : In d bs es w) where
       fewer : length bs ≤ most
@@ -340,7 +341,7 @@ module _ (sizes : Super) (l : Labels) (laws : Laws (labelled l)) (keeps : Keeps 
             (takes (λ a. bind (with_table sizes (k - direct) d a) f) (look_steps j)
             (λ u gs took. Wp-more M h (f (record { inode = d; number = None })) B Q j (look_steps j) gs u (omega arith) (lacking u gs took)) (with_new (eq_is (table_of d) 0 is)))
 
-      -- Block k: where it is missing it is taken, and an indirect block before it.
+      -- Block k: if it is missing it is taken, and an indirect block before it.
       pub s-locate : (far ≡ false → k < direct) → Wp M h B Q (bind (locate sizes d k) f) (locate_steps far j) es w
       s-locate near =
           either_place k (Wp M h B Q (bind (locate sizes d k) f) (locate_steps far j) es w)

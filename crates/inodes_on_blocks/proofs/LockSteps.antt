@@ -1,4 +1,4 @@
--- The lock of an open file's inode, taken by its descriptor, acts where it is had.
+-- The lock of an open file's inode, taken by its descriptor, acts when it is taken.
 use Rattle.inode_machine.specs.VersionOne as one
 use Rattle.inodes_on_blocks.proofs.Vocabulary.{◌≡◌, ◌≢◌, ℕ, ◌<◌, ◌^◌, Bool, true, false, List, Option, Some, None, refl, sym, ◌∙◌, ap, subst, arith, option_map, MatchOption, none-some, same_Some, Super, Cause, BadDescriptor, put, hart_count, put_same, bind, ExecResult, Waits, Ran, exec_result_in, Laws, Wp, Both, joined, Below, Lasts, Acting, acted, s-act, TablesState, file_named, lock_holder, LockedState, Refuses, Locks, lock_file as lock_named, lock_unless, lock_inode, with_file as with_locked, Outside, lock_opened, with_open, MayLockFile, IsElsewhere, InodeType, OfDirectory, OfFile, OfDevice, Entry, LockResult, NotLocked, LocksIt, LockOpen, entry_at, slot_at, lock_at, lock_if, locked, mode_refusal, offset_of, read_refused, Inv, loaded, file_of, refused_as, World, tables_of, exec, Shows, Opened, NothingMore, Has, Carry, HasOpen, Stands, below, Labels, labelled, Keeps, cause_of, ActsOnceAt, file_locked, open_locked, lock_open, load_unless, Loaded}
 use Rattle.fs_machine.specs.declared.files.Want.TheVariants as want
@@ -15,7 +15,7 @@ use Rattle.inodes_on_blocks.proofs.SlotSteps.{in_tables_is, came_quiet, all_same
 use Rattle.inodes_on_blocks.proofs.StatSteps.{file_typed, file_referred, lock_came, came_acting, file_old, loads_of}
 use Rattle.inodes_on_blocks.proofs.TakeSteps.{learned_base}
 
--- what stands behind a descriptor is open by it
+-- what a descriptor names is open by it
 pub has_open : (h fd : ℕ) (v : above.World) (e : Entry) → Inv v → h < hart_count → entry_of v h fd ≡ Some e → HasOpen h e.file.number fd e.file.offset v
 has_open h fd v e inv lt is = by_slot (slot_at v h fd) refl
   where
@@ -25,14 +25,14 @@ has_open h fd v e inv lt is = by_slot (slot_at v h fd) refl
         let m = names_at h fd s v inv lt q in
         record { hart = lt; below = m.below; slot = s; is = m.is; entry = e; at = sym (ap (entry_at v.files) q) ∙ is; number = refl; offset_is = refl }
 
--- where an operation ran to one world
+-- if an operation ran to one world
 ran_is : {A : Type 0} (b : A) (d : ExecResult A above.World) (g u : above.World) → d ≡ Ran b g → d ≡ Ran b u → g ≡ u
 ran_is {A} b d g u p q = same (sym p ∙ q)
   where
     same : ◌≡◌ {A = ExecResult A above.World} (Ran b g) (Ran b u) → g ≡ u
     same e = cc e
 
--- a cause that the tables tell comes back
+-- a cause that the tables answer comes back
 read_back : (e : Option Entry) (k : Cause) → read_refused e ≡ Some k → cause_of (refused_as k) ≡ k
 read_back None k q = subst (λ (z : Cause). cause_of (refused_as z) ≡ z) (same_Some _ k q) refl
 read_back (Some e) k q = mode e.file.readable e.inode_type k q
@@ -47,7 +47,7 @@ module _ (l : Labels) (laws : Laws (labelled l)) (keeps : Keeps l) (h : ℕ) (lt
   abbrev W : Type 0
   W = Both World above.World
 
-  -- ---- the inode is loaded, where its lock was had from v
+  -- ---- the inode is loaded, after its lock was taken at v
 
   loads : (op : above.Op) (m : above.Answer op → Option above.Mark) (c : Carry) (B : List l.Step → Type 0) (C : above.Answer op → List l.Step → above.World → Type 0) → Lasts (labelled l) h B C → (b : above.Answer op) (v : W) (e : Entry)
       → Shows v.real v.seen → Inv v.seen → (v.seen.desks h).lender ≡ None → entry_of v.seen h fd ≡ Some e → 0 < v.seen.refs e.file.number → (u : TablesState) (g : above.World)

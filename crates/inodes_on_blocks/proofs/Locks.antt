@@ -8,7 +8,7 @@ use Rattle.inode_machine.specs.World.{World}
 use Rattle.inodes_on_blocks.specs.ShownTables.{Shows}
 use Rattle.inodes_on_blocks.proofs.Places.{locks_set}
 
--- a place where something stands
+-- the cases of a place: there is one, or none
 pub some_place : (o : Option ℕ) (P : Type 0) → ((k : ℕ) → o ≡ Some k → P) → (o ≡ None → P) → P
 some_place None P some none = none refl
 some_place (Some k) P some none = some k refl
@@ -26,7 +26,7 @@ both_ran {A} {B} Fits load d e a b t w is is_too fits shows =
 pub both_wait : {A B : Type 0} (Fits : A → B → Type 0) (load : A → ℕ → Option Loaded) (d : ExecResult A TablesState) (e : ExecResult B World) → d ≡ Waits → e ≡ Waits → BothCame Fits load d e
 both_wait {A} {B} Fits load d e is is_too = subst (λ (x : ExecResult A TablesState). BothCame Fits load x e) (sym is) (subst (λ (y : ExecResult B World). BothCame Fits load Waits y) (sym is_too) tt)
 
--- an inode to which a reference stands has a place
+-- an inode that has a reference has a place
 pub place_there : (n : ℕ) (t : TablesState) (w : World) (load : ℕ → Option Loaded) → Shows t w load → 0 < w.refs n → (k : ℕ) × (place_of n t.entries ≡ Some k)
 place_there n t w load shows lt = at (place_of n t.entries) refl
   where
@@ -63,7 +63,7 @@ module _ (h n k : ℕ) (t : TablesState) (w : World) (load : ℕ → Option Load
       is None q = absurd (full q)
       is (Some v) q = subst (λ (z : Option ℕ). PlacesShow t.entries (slice_set t.locks k (taken s h)) w.refs (put w.lock n z) (put load n None)) (ap (λ (z : Option Inode). option_map_or (λ _. Some h) z s.holder) q) set_so
 
-  -- by what the lock comes to
+  -- by what the lock answers
   pub by_lock : (P : Type 0) → (lock_inode h n t ≡ Waits → (g : ℕ) → w.lock n ≡ Some g → P)
       → ((u : TablesState) → lock_inode h n t ≡ Ran (load n) u → w.lock n ≡ None → Shows u (locked h n w) (put load n None) → P) → P
   by_lock P waits had = by_slot (slot_at t.entries t.locks k f.entry inodes f.there)

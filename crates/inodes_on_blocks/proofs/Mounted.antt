@@ -82,7 +82,7 @@ module _ (disk : List (List ℕ)) (failures : ℕ) (m : IsMountable disk) where
   tables_show : tables.Shows fresh w (loaded fresh)
   tables_show = fresh_tables_show t (λ h lt. (image_at_rest disk).cwd h) some_inodes
 
-  -- of what is referred to nothing is dead, since that is the root
+  -- of what is referred to nothing is dead, because that is the root
   referred_lives : (n : ℕ) → 0 < w.refs n → is_dead (t.nodes n) ≡ false
   referred_lives n some = elim (same_or n root) [
     | inl e ↦ ap (λ (k : ℕ). is_dead (t.nodes k)) e ∙ root_lives
@@ -127,7 +127,7 @@ module _ (disk : List (List ℕ)) (failures : ℕ) (m : IsMountable disk) where
     refl,
   )
 
-  -- each node has a name, so none goes where the tree settles
+  -- each node has a name, so none goes when the tree settles
   live_only : (n : ℕ) → is_live (t.nodes n) ≡ false → t.nodes n ≡ None
   live_only n isnt = nodes_at disk n ∙ elim (either (is_node disk n)) [
     | inl y ↦ elim (either (inodes.is_live (inode_of disk n))) [

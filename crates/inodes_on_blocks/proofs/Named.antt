@@ -71,7 +71,7 @@ descriptors_name_files h fd t w load shows inv runs =
 pub card_named : (d : cards.Desk) (fds : ℕ → Option ℕ) (cwd : ℕ) (hand : Option ℕ) (fd : ℕ) (o : Option ℕ) → DeskShows d fds cwd hand → fd < descriptor_count → DeskShows (with_descriptor fd o d) (put fds fd o) cwd hand
 card_named d fds cwd hand fd o s lt = let c = card_set d fds cwd hand hand fd o s lt in record { long = c.long; descriptors = c.descriptors; directory = c.directory; hand = s.hand }
 
--- the places where an open file's count of descriptors changed
+-- the places after an open file's count of descriptors changed
 pub files_counted : (h fd s r : ℕ) (o : Option ℕ) (t : TablesState) (w : World) (load : ℕ → Option Loaded) → Shows t w load → (n : Names h fd s w) → (new : Desk) → new.hand ≡ (w.desks h).hand
     → FilesShow t.files (put w.files s (Some (record { file = n.entry.file; inode_type = n.entry.inode_type; references = r }))) (put w.desks h new)
 files_counted h fd s r o t w load shows n new same j lt = elim (same_or j s) [
@@ -162,7 +162,7 @@ directories_are_settled h v t w load shows runs mine = at (w.alone v.number)
 
 -- ---- the lock of what is named
 
--- a reference stands to it
+-- it has a reference
 pub file_referred : (h fd : ℕ) (w : World) (f : Entry) → Inv w → h < hart_count → entry_of w h fd ≡ Some f → 0 < w.refs f.file.number
 file_referred h fd w f inv lt e = by_slot (slot_at w h fd) refl
   where

@@ -33,7 +33,7 @@ no_positive k e = grind (arith, nat_tests)
 is_positive : (k : ℕ) → 1 ≤ k → nat_lt 0 k ≡ true
 is_positive k e = grind (arith, nat_tests)
 
--- where inode n alone may name it
+-- if inode n alone may name it
 only_one : (f : ℕ → List ℕ) (most b n : ℕ) → ((j : ℕ) → j ≢ n → times b (f j) ≡ 0) → (owner_upto f most b ≡ 0) ⊎ (owner_upto f most b ≡ n)
 unfolding owner_upto
 only_one f zero b n others = inl refl

@@ -1,4 +1,5 @@
--- The record put of an inode that a hart is changing: what it has taken and the record names is the inode's then, which holds its node.
+-- The record put of an inode that a hart is changing. What it has taken and the record names is the inode's then,
+-- which holds its node.
 use Rattle.inodes_on_blocks.proofs.Vocabulary.{◌≡◌, ◌≢◌, inl, inr, ℕ, ◌<◌, ◌≤◌, Bool, true, false, List, length, Option, Some, None, refl, sym, ◌∙◌, ap, subst, arith, if◌then◌else◌, none-some, Dinode, Super, IsDinode, sizes_of, IsData, HoldsAt, IsInodePut, Node, put, either, same_or, put_same, put_other, lock_holder, seen_of, inode_block, is_hart, World, log_of, tables_of, disk_of, inode_in, owners_of, world_with, in_hand, NothingMore, Had, Has, Carry, IsLoaded, IsOpened, InHand, Base, Owners, is_named, inode_put, CanPut, IsChanging, PutLeaves, log_with, owners_with, Shows}
 use Rattle.inodes_on_blocks.proofs.Basics.{inode_is, node_held, good_seen, hart_is, is_here, through_put, open_same, open_then, lock_range, shows_put, record_put, node_then, put_hand}
 use Rattle.fs_machine.specs.InMemory.{IndexState, Loaded}
@@ -93,7 +94,7 @@ module _ (h n : ℕ) (c : Carry) (o : Option Node) (d : Dinode) (x : Node) (r : 
   pub naming_shows : Shows then_ g
   naming_shows = shows_put h b n (with_record n d r) r g shows is.lock is.joined can (owners_with h b (with_record n d r) r) naming_leaves
 
-  -- and so above, where it is that node then
+  -- and so above: the inode is that node then
   abbrev seen_then : above.World
   seen_then = above_exec.with_record g n (Some x)
 

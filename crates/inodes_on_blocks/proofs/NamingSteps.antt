@@ -50,7 +50,7 @@ module _ (sizes : Super) (l : Labels) (laws : Laws (labelled l)) (keeps : Keeps 
         → Acting (labelled l) (below sizes) laws (below_laws sizes l keeps) h B op m C lasts outside v (premises.MayWait h (Put k (Some bytes)) v.real.state) (exec h y (Put k (Some bytes)) v.real)
         (λ a z u g. (gs : List l.Step) → Inv g → C z gs g → Wp M h B Q (Ret (record { answer = answer; carry = put c n (Has loads NothingMore) })) 0 gs (record { real = u; seen = g })))
 
-    -- the put, where the buffer is in hand
+    -- the put, with the buffer in hand
     acts_there : (v : W) → Shows v.real v.seen → one.May h op v.seen → IsChanged v → in_hand h v.real ≡ 1 → CanPut h (at v.real) (with_record n d v.real) (log_of v.real) → (log_of v.real).sizes ≡ sizes → Then (world_with h (at v.real) (with_record n d v.real) v.real) → Acts v (at v.real) (with_record n d v.real)
     unfolding steps.exec premises.MayWait premises.Honest
     acts_there v shows may changing one can here spent =
@@ -73,7 +73,7 @@ module _ (sizes : Super) (l : Labels) (laws : Laws (labelled l)) (keeps : Keeps 
           ),
         )
 
-    -- and from where the block was fetched on
+    -- and from the fetch of the block on
     names_then : (w v : W) (fs : List l.Step) → Shows w.real w.seen → IsChanged w → in_hand h w.real ≡ 0 → (log_of w.real).sizes ≡ sizes → Knows w.real → IsFetched h b (Todo fs) w v
         → Wp M h B Q (put_named op outside m answer b n loads c (seen_of (log_of v.real) b)) 1 fs v
     names_then w v fs shows changing none here_ knows got =
@@ -117,7 +117,7 @@ module _ (sizes : Super) (l : Labels) (laws : Laws (labelled l)) (keeps : Keeps 
             let range = lock_range n h v.real v.seen here.shows ((asks v.seen may).0.lock) in
             subst (λ (s : Super). IsOutsideLog (log_of v.real).sizes (inode_block s.inodestart n) × (inode_block s.inodestart n < (log_of v.real).sizes.size)) (here.same.sizes ∙ here_) (inode_place v.real v.seen here.shows n range.1)
 
-  -- the same, where no more is asked of what was spent
+  -- the same, if no more is asked of what was spent
   module _ (op : above.Op) (outside : above.Outside) (m : above.Answer op → Option above.Mark) (answer : above.Answer op) (c : Carry) (o : Option Node) (d : Dinode) (x : Node) (index : IndexState) (right : IsIndexOf index (Some x)) (fits : IsDinode d)
       (honest : (v : W) → rules.Honest h op v.seen outside) (asks : (g : above.World) → one.May h op g → IsChanging h n g × ((g.desks h).lender ≡ None))
       (ran : (g : above.World) → one.May h op g → g.disk n ≡ o → one.exec h outside op g ≡ Ran answer (above_exec.with_record g n (Some x)))

@@ -10,7 +10,7 @@ untyped_less l was n k e = at (is_free (inode_in l n)) e
     at true q = q
     at false q = absurd (none-some k q)
 
--- a new one is so still where its record is as it was
+-- a new one is so still if its record is as it was
 pub new_alike : (n k : ℕ) (l m : LogPart) (lock keeper : ℕ → Option ℕ) (load : ℕ → Option Loaded) → m.sizes ≡ l.sizes → m.members ≡ l.members → inode_in m n ≡ inode_in l n → IsNew n k l lock keeper load → IsNew n k m lock keeper load
 new_alike n k l m lock keeper load sizes members same is = record {
   low = is.low;
@@ -22,7 +22,7 @@ new_alike n k l m lock keeper load sizes members same is = record {
   unloaded = is.unloaded;
 }
 
--- and where nobody has taken its lock, and its hart keeps it
+-- and if nobody has taken its lock, and its hart keeps it
 pub new_kept : (n k : ℕ) (l : LogPart) (lock keeper lock' keeper' : ℕ → Option ℕ) (load load' : ℕ → Option Loaded) → lock' n ≡ None → keeper' n ≡ Some k → load' n ≡ None → IsNew n k l lock keeper load → IsNew n k l lock' keeper' load'
 new_kept n k l lock keeper lock' keeper' load load' free keeps none is = record { low = is.low; bound = is.bound; free = is.free; unlocked = free; kept = keeps; joined = is.joined; unloaded = none }
 
@@ -47,11 +47,11 @@ module _ (r : World) (g : above.World) (shows : Shows r g) (n : ℕ) where
   pub kept_old : (h : ℕ) → ((m : ℕ) → r.new m ≡ Some h → ⊥) → g.keeper n ≡ Some h → r.new n ≡ None
   kept_old h through mine = none_new (λ k e. through n (e ∙ sym (shows.news n k e).kept ∙ mine))
 
--- what isn't new has its node on the blocks
+-- an inode that isn't new has its node on the blocks
 pub old_node : (new : ℕ → Option ℕ) (nodes : ℕ → Option Node) (n : ℕ) → new n ≡ None → on_blocks new nodes n ≡ nodes n
 old_node new nodes n e = ap (λ (o : Option ℕ). unless_new o (nodes n)) e
 
--- and so where its node changes
+-- and so if its node changes
 pub put_node : (new : ℕ → Option ℕ) (nodes : ℕ → Option Node) (n : ℕ) (v : Option Node) → new n ≡ None → on_blocks new (put nodes n v) ≡ put (on_blocks new nodes) n v
 put_node new nodes n v e = λ z m. each m z
   where

@@ -37,7 +37,7 @@ slot_bytes bytes (Some s) long fits e =
     let low : s.number < 2 ^ 16 = subst (λ (k : ℕ). k < 2 ^ 16) (sym number) (u16_at-lt bytes 0 fits) in
     sym (spell-dirent_of One bytes (Used s.number s.name) long fits e) ∙ ap (λ (xs : List ℕ). xs ++ (s.name ++ replicate (name_len - length s.name) 0)) (u16_is s.number low)
 
--- a list of so many slots' bytes
+-- the bytes of a list of slots
 entries_are : (slots : List (Option Slot)) (xs : List ℕ) → length xs ≡ dirent_len * length slots → ((s : ℕ) → s < length slots → take dirent_len (drop (dirent_len * s) xs) ≡ entry_bytes (get_or slots s None)) → xs ≡ entries slots
 unfolding entries_by
 entries_are [] [] long each = refl

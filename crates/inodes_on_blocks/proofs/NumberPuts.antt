@@ -1,4 +1,4 @@
--- A block that was taken for an inode comes to be named: in the record that will be put, or in the indirect block.
+-- An inode names a block that was taken for it: in the record that will be put, or in the indirect block.
 use Rattle.inodes_on_blocks.proofs.Vocabulary.{◌≡◌, ◌≢◌, ℕ, zero, suc, ◌+◌, ◌-◌, ◌*◌, ◌^◌, ◌<◌, ◌≤◌, nat_lt, Bool, true, false, List, [], ◌∷◌, ◌++◌, length, length-set, Option, sym, ◌∙◌, ap, subst, arith, get_or-set_same, if◌then◌else◌, refl, slice_index, slice_set, AllByRecursion, nat_tests, get_or_append_left, get_or-append_right, Dinode, IsBytes, u32_bytes, numbers_in, IsDinode, recovered, length-u32_bytes, length-u32s_at, length-overwrite, u32s_at-write, numbers_of, block_number, indirect_numbers, numbers_with, NamesOwned, IsLaidOut, Node, zeros, with_address, World, log_of, disk_of, world_with, Carry, Shows, addresses, block_len, direct, numbers_per_block}
 use Rattle.inodes_on_blocks.proofs.LaidNumbers.{direct_named, table_named, number_named}
 use Rattle.inode_data.specs.Writing.{with_number}
@@ -30,7 +30,7 @@ addressed_fits i b d small fits = record {
   addrs = set_small d.addrs i b small fits.addrs;
 }
 
--- ---- where the number of a block stands
+-- ---- the place of a block's number
 
 near : (k : ℕ) → k < direct → nat_lt k direct ≡ true
 near k lt = grind (arith, nat_tests)

@@ -1,4 +1,4 @@
--- The open file by which a hart has locked an inode: it is behind its descriptor still, with its offset.
+-- The open file by which a hart has locked an inode: its descriptor names it still, with its offset.
 use Rattle.inodes_on_blocks.proofs.Vocabulary.{◌≡◌, ℕ, ◌<◌, Some, None, refl, ◌∙◌, ap, OpenFile, put, descriptor_count, put_same, Desk, Entry, Kept, NothingMore, Finds, Opened, Had, Apart, Has, Emptied, IsOpened}
 use Rattle.inode_machine.specs.World as above
 use Rattle.inode_machine.specs.Rules.{Own}
@@ -10,7 +10,7 @@ OpenStays h i g u = (fd k : ℕ) (e : Entry) → fd < descriptor_count → (g.de
 pub open_same : (h i : ℕ) (g : above.World) → OpenStays h i g g
 open_same h i g fd k e below is at number = (is, e, at, refl)
 
--- where neither changes
+-- if neither changes
 pub open_alike : (h i : ℕ) (g u : above.World) → (u.desks h).fds ≡ (g.desks h).fds → u.files ≡ g.files → OpenStays h i g u
 open_alike h i g u fds files fd k e below is at number = ((λ z. fds z fd) ∙ is, e, (λ z. files z k) ∙ at, refl)
 

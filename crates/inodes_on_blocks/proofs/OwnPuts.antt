@@ -1,4 +1,4 @@
--- A block put for an inode that a hart is changing, from what is known of the inode before the put to what is known behind it.
+-- A block put for an inode that a hart is changing: what is known of the inode after the put, from what was before.
 use Rattle.inodes_on_blocks.proofs.Vocabulary.{◌≡◌, ◌≢◌, ℕ, suc, ◌<◌, List, length, Option, Some, is_some, refl, sym, ◌∙◌, ap, subst, if◌then◌else◌, Super, IsBytes, recovered, sizes_of, holder_of, IsData, IsPut, hart_count, Do, unmarked, Machine, Laws, P, Wp, Both, joined, Stable, seen_of, Put, if_kept, is_hart, Inv, World, log_of, disk_of, world_with, KeepsRoom, in_hand, HasBuffer, Kept, buffer_in, below, Labels, labelled, Keeps, CanPut, IsChanging, PutLeaves, log_with, owners_with, Shows, block_len}
 use Rattle.inodes_on_blocks.proofs.Basics.{good_seen, buffer_then, buffer_seen, same_view, below_laws, disk_put, put_bytes, old_bytes, put_hand}
 use Rattle.inode_machine.specs.World as above
@@ -7,7 +7,8 @@ use Rattle.inodes_on_blocks.proofs.DataPuts.{data_home, own_or_taken}
 use Rattle.inodes_on_blocks.proofs.PutLaws.{data_puts_leave}
 use Rattle.inodes_on_blocks.proofs.PutSteps.{s-put}
 
--- What such a put makes of the disk: the block alone is other, and whose the blocks are stays. It could be put with any bytes.
+-- What such a put makes of the disk: the block alone is other, and whose the blocks are stays. It could be put with
+-- any bytes.
 pub record IsOwnPut (h n b : ℕ) (old bytes : List ℕ) (r : World) : Type 0 where
   pub leaves : PutLeaves h n r (log_with h b bytes r) (owners_with h b bytes r)
   pub put : IsPut (disk_of (log_of r)) (disk_of (log_with h b bytes r)) b
@@ -17,7 +18,7 @@ pub record IsOwnPut (h n b : ℕ) (old bytes : List ℕ) (r : World) : Type 0 wh
   pub taken : (world_with h b bytes r).taken ≡ r.taken
   pub any : (others : List ℕ) → length others ≡ block_len → IsBytes others → (mid : List (List ℕ)) × IsPut (disk_of (log_of r)) mid b × (recovered mid b ≡ others)
 
--- Where a hart goes on after it put block b, from v.
+-- How a hart goes on after it put block b, from v.
 pub record PutOn (h b : ℕ) (Stage : above.World → Type 0) (After : World → above.World → Type 0) (Then : World → Type 0) (v x : Both World above.World) : Type 0 where
   pub after : After x.real x.seen
   pub kept : Kept h v.seen x.seen

@@ -1,10 +1,11 @@
--- The block numbers of an inode in the order in which their blocks are given back: its own, those in its indirect block, and that block's.
+-- The block numbers of an inode in the order in which they are given back: its own, those in its indirect block, and
+-- that block's.
 use Rattle.inodes_on_blocks.proofs.Vocabulary.{◌≡◌, ◌≢◌, inl, inr, ℕ, zero, suc, ◌+◌, ◌≤◌, ◌==◌, List, [], ◌∷◌, ◌++◌, length, take, filter, slice_index, refl, sym, ◌∙◌, ap, subst, arith, Contains-append_left, Contains-append_right, Contains-append_cases, Dinode, Super, sizes_of, Node, eq_self, one_yes, IsData, is_block, indirect_numbers, numbers_of, times, IsOwned, NamesOwned, IsLaidOut, table_of, direct, Avoids, Owns, addresses}
 use Rattle.std.proofs.Common.{Contains}
 use Rattle.inodes_on_blocks.proofs.ImageBlocks.{block_true, once_times}
 use Rattle.inodes_on_blocks.proofs.Lists.{times_cons, times_filtered, times_nil}
 
--- ---- numbers that stand once
+-- ---- numbers that occur once
 
 avoids : (b : ℕ) (bs : List ℕ) → times b bs ≡ 0 → Avoids b bs
 avoids b [] e = tt
@@ -83,7 +84,7 @@ module _ (disk : List (List ℕ)) (d : Dinode) (thirteen : length d.addrs ≡ ad
   ]
 
   module _ (sizes : Super) (owner : ℕ → ℕ) (n : ℕ) (v : Node) (laid : IsLaidOut disk owner n d v) (here : sizes_of disk ≡ sizes) where
-    -- they are data blocks of the inode, and each stands there once
+    -- they are data blocks of the inode, and each occurs there once
     pub order_owned : Owns sizes owner n (given_order disk d)
     order_owned =
         owns_all sizes owner n (given_order disk d)

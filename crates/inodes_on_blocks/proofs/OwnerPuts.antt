@@ -55,7 +55,7 @@ module _ (h n : ℕ) (r : World) (g : above.World) (shows : Shows r g) (bytes : 
     as_before : (c : ℕ) → c ≢ b → is_marked (disk_of now) c ≡ is_marked (disk_of l) c
     as_before c ne = bit.bits c ∙ (rw (eq_not c b ne) refl)
 
-    -- where a bit is set it was
+    -- if a bit is set it was
     was_set : (c : ℕ) → is_marked (disk_of now) c ≡ true → is_marked (disk_of l) c ≡ true
     was_set c set = elim (same_or c b) [
       | inl e ↦ absurd (let q : false ≡ true = sym cleared ∙ ap (is_marked (disk_of now)) (sym e) ∙ set in cc)

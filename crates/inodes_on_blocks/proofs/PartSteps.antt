@@ -1,4 +1,5 @@
--- A part of a content is written into its next block, which is found or taken for it, by a hart that is changing the inode. Nothing of it is seen above.
+-- A hart that is changing the inode writes a part of a content into its next block, which is found or taken for it.
+-- Nothing of it is seen above.
 use Rattle.inodes_on_blocks.proofs.Vocabulary.{◌≡◌, ◌≢◌, ℕ, suc, ◌+◌, ◌-◌, ◌%◌, ◌<◌, ◌≤◌, nat_lt, Bool, true, false, List, length, length-take, Option, Some, None, sym, ◌∙◌, ap, subst, arith, if◌then◌else◌, Dinode, Super, IsBytes, length-overwrite, IsData, numbers_of, block_number, IsOwned, NamesOwned, IsLaidOut, Becomes, Node, hart_count, bind, Machine, Laws, P, Wp, Both, joined, Stable, bind-assoc, Wp-more, fetch, seen_of, Located, table_of, WriteResult, front_of, with_part, put_part, write_in, write_located, locate, Spent, size, with_number as with_block, most_recorded, Inv, World, log_of, disk_of, KeepsRoom, world_with, Kept, Carry, below, Labels, labelled, Keeps, IsChanging, log_with, Shows, block_len, direct, most_blocks}
 use Rattle.inodes_on_blocks.proofs.Basics.{at_index, good_seen, HasBlocks, extra, number_new, block_room, s-fetch, below_laws, empty_hand, overwrite_bytes, take_bytes}
 use Rattle.inode_machine.specs.World as above
@@ -37,7 +38,7 @@ module _ (sizes : Super) (l : Labels) (laws : Laws (labelled l)) (keeps : Keeps 
   module _ {A : Type 0} (Q : A → List l.Step → W → Type 0) (G : List l.Step → above.World → Type 0) (stable : Stable (labelled l) (below sizes) laws (below_laws sizes l keeps) h B G)
       (n : ℕ) (changes : (fs : List l.Step) (g : above.World) → G fs g → Inv g → IsChanging h n g) (c : Carry) (o : Option Node) (x y : Node) (s : Spent) (bitmap : s.bitmap ≡ true) (far : Bool) (k z e was most : ℕ) (small : size s + most < most_recorded)
       (at : ℕ) (bytes : List ℕ) (are : IsBytes bytes) (makes : MakesPart h n k z e at bytes c o x y) (more : Dinode → P M WriteResult) (f : WriteResult → P M A) (j : ℕ)
-      -- where it goes on: no block was free, or the part was written
+      -- how it goes on: no block was free, or the part was written
       (lacks : (d : Dinode) (bs : List ℕ) (v : W) (fs : List l.Step) → Between sizes h n (G fs) c o (sized z d) x (HasBlocks sizes h s bs) v → Fits was d → length bs ≤ most → Wp M h B Q (f (record { inode = d; upto = at })) j fs v)
       (goes : (d : Dinode) (bs : List ℕ) (v : W) (fs : List l.Step) → Between sizes h n (G fs) c o (sized e d) y (HasBlocks sizes h s bs) v → Fits was d → length bs + extra far bs (table_of d) ≤ suc most → Wp M h B Q (bind (more d) f) j fs v) where
     abbrev rest : Located → P M A

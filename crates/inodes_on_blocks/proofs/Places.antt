@@ -1,4 +1,4 @@
--- Where inodes have their places after an entry or a lock changed.
+-- The places of inodes after an entry or a lock changed.
 use Rattle.inodes_on_blocks.proofs.Vocabulary.{◌≡◌, ◌≢◌, ◌⊎◌, inl, inr, ℕ, ◌<◌, List, length, Option, Some, None, refl, sym, ◌∙◌, ap, subst, slice_get, slice_set, same_Some, none-some, SlotState, slice_get-set_same, slice_get-set_other, put, same_or, put_same, put_other, Inode, place_of, references_in, references_at, holder_in, holder_at, found, placed, at_set, PlacesShow, loaded_of, loaded_in, loaded_at, Loaded}
 use Rattle.fs_machine.specs.declared.entries.Entry.{Entry}
 use Rattle.fs_machine.specs.Soundness.{IsOnce}
@@ -20,7 +20,7 @@ module _ (entries : List Entry) (k n : ℕ) (e f : Entry) (there : slice_get ent
     | inr other ↦ record { entry = g.entry; there = other.1; number = g.number; referenced = g.referenced }
   ]
 
-  -- any other inode has its place where it had it
+  -- any other inode keeps its place
   pub place_other : (m : ℕ) → m ≢ n → place_of m (slice_set entries k f) ≡ place_of m entries
   place_other m ne = at (place_of m entries) refl
     where

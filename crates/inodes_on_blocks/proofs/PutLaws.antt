@@ -13,7 +13,7 @@ recorded_puts_keep h b n bytes r g x shows is can leaves = (
   (shows_put h b n bytes r g shows is.lock is.joined can (owners_with h b bytes r) leaves, same_put h b n bytes r g shows is.lock is.joined can (owners_with h b bytes r) leaves),
 )
 
--- behind the bitmap nothing of it changes
+-- after the bitmap nothing of it changes
 pub behind : (lock : ℕ → Option ℕ) (h bitmap b : ℕ) (old new : List (List ℕ)) (o : Owners) → bitmap < b → owners_put lock h bitmap b old new o ≡ o
 behind lock h bitmap b old new o past = elim (either (nat_lt b bitmap)) [
   | inl low ↦ absurd (not_below b bitmap past low)

@@ -170,7 +170,7 @@ module _ (sizes : Super) (l : Labels) (laws : Laws (labelled l)) (keeps : Keeps 
     abbrev IsHere : W → W → List l.Step → Type 0
     IsHere w v fs = Here (labelled l) (below sizes) laws (below_laws sizes l keeps) h B G w v fs
 
-    -- where a put is made: it may be, and what it leaves
+    -- what holds at a put: it may be made, and what it leaves
     pub record Putting (n b : ℕ) (bytes : List ℕ) (k : Unit {0} → P M A) (j : ℕ) (fs : List l.Step) (v : W) : Type 0 where
       pub changing : IsChanging h n v.seen
       pub can : CanPut h b bytes (log_of v.real)

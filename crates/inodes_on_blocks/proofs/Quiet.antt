@@ -7,14 +7,14 @@ use Rattle.inodes_on_blocks.proofs.SeenDisks.{good_seen, seen_put, seen_stays, r
 one_joined : (k : ℕ) (members : List (Option ℕ)) → joined (Some k ∷ members) ≡ 1 + joined members
 one_joined k members = sum_by-cons (λ (m : Option ℕ). cond (is_some m) 1 0) (Some k) members
 
--- where nobody is joined no hart is
+-- if nobody is joined no hart is
 pub nobody_joined : (members : List (Option ℕ)) (h : ℕ) → joined members ≡ 0 → is_joined members h ≡ false
 nobody_joined [] h none = refl
 nobody_joined (None ∷ members) zero none = refl
 nobody_joined (None ∷ members) (suc h) none = nobody_joined members h none
 nobody_joined (Some k ∷ members) h none = absurd (omega (arith, none, one_joined k members))
 
--- who was in a transaction is in one where hart h joins
+-- who was in a transaction is in one after hart h joins
 pub still_joined : (members : List (Option ℕ)) (h k f : ℕ) → is_joined members f ≡ true → is_joined (set members h (Some k)) f ≡ true
 still_joined [] h k f joined = joined
 still_joined (m ∷ members) zero k zero joined = refl

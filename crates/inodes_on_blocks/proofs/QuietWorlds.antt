@@ -1,4 +1,4 @@
--- In a world where nobody is in a transaction the seen blocks are an image of the tree.
+-- While nobody is in a transaction the seen blocks are an image of the tree.
 use Rattle.inodes_on_blocks.proofs.Vocabulary.{◌≡◌, inl, inr, ℕ, Bool, true, false, ◌||◌, if◌then◌else◌, length, is_some, Option, Some, None, refl, sym, ◌∙◌, ap, arith, subst, cases_lt, get_or_past, Super, sizes_of, Node, Hold, holds_raised, IsNamedPart, tree_of, settle, tree_in, settled_well, live_part, IsImageOf, IsTreeOf, IsRunning, seen_of, Inv, is_joined, World, log_of, disk_of, Shows, if_joined, ghost_of, on_blocks, IsQuiet, QuietWorldsAreImages, RestingWorldsAreImages}
 use Rattle.plain_tree.specs.Tree.{is_live, is_named}
 use Rattle.inodes_on_blocks.proofs.Basics.{live_none, quiet_image, good_seen, none_new, old_node, quiet_disk}

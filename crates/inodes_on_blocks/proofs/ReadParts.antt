@@ -86,7 +86,7 @@ module _ (v : World) (g : above.World) (shows : Shows v g) (n : ℕ) (node : Nod
       ∙ up_to offset count d.size all
       ∙ ap (λ (xs : List ℕ). take count (drop offset xs)) content_is)
 
-  -- and with it a file stands no further than a content may be long
+  -- and with it a file's offset is no further than a content may be long
   pub part_short : offset ≤ largest_size → offset + length (part_of (Some node) offset count) ≤ largest_size
   part_short within =
       let limit = small in

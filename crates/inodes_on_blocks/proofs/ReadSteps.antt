@@ -1,4 +1,4 @@
--- A part of a locked file is read, and the operation acts where the lock is given up and the offset moves.
+-- A part of a locked file is read, and the operation acts when the lock is given up and the offset moves.
 use Rattle.inode_machine.specs.VersionOne as one
 use Rattle.inodes_on_blocks.proofs.Vocabulary.{◌≡◌, ◌≢◌, ℕ, zero, suc, ◌+◌, ◌-◌, ◌/◌, ◌<◌, ◌≤◌, nat_lt, Bool, true, false, List, [], length, Option, Some, None, refl, sym, ◌∙◌, ap, subst, arith, if◌then◌else◌, option_map, unwrap_or, IfSome, none-some, same_Some, Dinode, Super, largest_size, HoldsAt, Node, put, hart_count, put_other, Ret, bind, Ran, Machine, Laws, Wp, Both, Handover, joined, Below, Lasts, Acting, ToAct, to_act, may_act, s-act, Wp-more, Inode, unlock_inode, TablesState, file_named, lock_holder, Outside, no_record, Direct, InTable, FilledMemory, blocks_between, end_of, fetch_at, next_block, read_blocks, read_from, read_part, Entry, ReadFile, entry_at, entry_moved, offset_of, read_at, slot_at, unlocked, with_offset, Inv, loaded, file_of, ActsOnceAt, World, log_of, tables_of, disk_of, inode_in, exec, give_read, read_file, Apart, Emptied, Has, Had, Carry, InHand, IsLoaded, Stands, below, Labels, labelled, Keeps, record_had, Shows, OffsetsShow, record_in, Loaded, unindexed, block_len, direct}
 use Rattle.fs_machine.specs.declared.files.OpenFile as files

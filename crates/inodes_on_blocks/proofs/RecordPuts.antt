@@ -1,4 +1,4 @@
--- An inode's record is put by the hart that has its lock, in its transaction, where it has taken no block.
+-- An inode's record is put by the hart that has its lock, in its transaction, if it has taken no block.
 use Rattle.inodes_on_blocks.proofs.Vocabulary.{◌≡◌, ◌≢◌, inl, inr, ℕ, ◌+◌, ◌/◌, ◌%◌, ◌<◌, ◌≤◌, Bool, true, false, List, length, Option, Some, None, refl, sym, ◌∙◌, ap, subst, arith, if◌then◌else◌, nat_lt, none-some, Super, Dinode, dinode_at, IsDinode, recovered, sizes_of, Node, either, same_or, eq_not, put_other, IsData, IsPut, IsInodePut, LeavesOthers, LogPart, put_block, seen_of, inode_block, with_dinode, stores_one, with_record, is_dead, if_kept, is_hart, loaded, is_joined, Owners, is_named, named_of, inode_put, owners_put, World, log_of, tables_of, disk_of, owners_of, CanPut, PutLeaves, Shows, if_joined, on_blocks, IsRunning, IsIndexOf, block_len, inodes_per_block}
 use Rattle.inodes_on_blocks.proofs.HeldPuts.{inode_leaves}
 use Rattle.inodes_on_blocks.proofs.RunningBlocks.{node_any}

@@ -1,4 +1,4 @@
--- An inode as it stands in a block, and in one that it was stored in.
+-- An inode as it is in a block, and in one that it was stored in.
 use Rattle.inodes_on_blocks.proofs.Vocabulary.{◌≡◌, ◌⊎◌, inl, inr, ℕ, zero, suc, pos, ◌+◌, ◌*◌, ◌^◌, ◌<◌, ◌≤◌, List, [], ◌∷◌, ◌++◌, length, take, drop, ◌∙◌, subst, arith, w16, FitsSigned, flat_map, AllByRecursion, byte_at, cast_unsigned, Fits-of_lt, sfits_to_z, Dinode, overwrite, u16_bytes, u32_bytes, i16_bytes, u16_at, i16_at, u32s_at, IsBytes, spell_dinode, dinode_of, dinode_at, IsDinode, length-spell_dinode, u16_at-lt, u32_at-lt, length-u32s_at, length-overwrite, with_dinode, addresses, block_len, inode_len}
 use Rattle.inode_table.specs.Programs.{place_of}
 
@@ -68,7 +68,7 @@ spelled_bytes d =
 
 -- ---- a record
 
--- what stands in a block of bytes is one
+-- a number that is read from a block of bytes is one
 u32s_small : (n : ℕ) (bytes : List ℕ) (at : ℕ) → IsBytes bytes → AllByRecursion (λ b. b < 2 ^ 32) (u32s_at n bytes at)
 unfolding u32s_at
 u32s_small zero bytes at are = tt

@@ -224,7 +224,7 @@ seen_stays sizes see now n these alike =
 
 -- ---- a disk that recovery would leave so
 
--- past its end recovery leaves nothing, since the log names blocks of the disk
+-- past its end recovery leaves nothing, because the log names blocks of the disk
 past_end : (disk : List (List ℕ)) (b : ℕ) → UpToLog disk → length disk ≤ b → recovered disk b ≡ []
 past_end disk b good past =
     let sized = good.0.1 in

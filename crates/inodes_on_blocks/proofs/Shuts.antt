@@ -31,7 +31,7 @@ place_same k (Some j) = refl
 
 -- ---- how often a slot is used
 
--- where it isn't used at all nothing names it
+-- if it isn't used at all nothing names it
 unused_fd : (D : ℕ → Desk) (k g i : ℕ) → users D k ≡ 0 → g < hart_count → i < descriptor_count → (is_at ((D g).fds i) k ≡ false) × (is_at ((D g).lent i) k ≡ false)
 unused_fd D k g i none lg li =
     let a = sum_part hart_count g (λ z. uses (D z) k) lg in

@@ -13,7 +13,7 @@ use Rattle.inodes_on_blocks.specs.ShownTables as tables
 use Rattle.inodes_on_blocks.proofs.Basics.{part_same, places_are_taken, files_are_opened, hand_here, descriptors_are_doubled, descriptors_name_files, tables_left, fewer_owed, Came, CameTo, one_step, with_tables, shows_then, base_then, OpenStays, open_same, open_put}
 use Rattle.inodes_on_blocks.proofs.Shuts.{descriptors_are_shut}
 
--- where one open file is put
+-- after one open file is put
 pub offsets_put : (files : ℕ → Option Entry) (s : ℕ) (o : Option Entry) → ((e : Entry) → o ≡ Some e → e.file.offset ≤ largest_size) → OffsetsShow files → OffsetsShow (put files s o)
 offsets_put files s o new old k e at = elim (same_or k s) [
   | inl q ↦ new e (sym (ap (put files s o) q ∙ put_same files s o) ∙ at)
@@ -36,7 +36,7 @@ pub record SameInodes (h : ℕ) (g u : above.World) : Type 0 where
 pub all_same : (h : ℕ) (g : above.World) → SameInodes h g g
 all_same h g = record { disk = refl; lock = refl; refs = λ n some. some; keeper = refl; size = refl; joined = λ j. refl; lender = refl; opens = λ i mine. open_same h i g; offsets = λ old. old }
 
--- where an operation ran so
+-- if an operation ran so
 pub ran_same : {A : Type 0} (h : ℕ) (g w u : above.World) (a b : A) → ◌≡◌ {A = ExecResult A above.World} (Ran a w) (Ran b u) → SameInodes h g w → SameInodes h g u
 ran_same {A} h g w u a b e s = subst (SameInodes h g) world s
   where

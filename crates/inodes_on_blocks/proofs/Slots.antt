@@ -8,7 +8,7 @@ use Rattle.inodes_on_blocks.specs.ShownTables.{Shows}
 use Rattle.inodes_on_blocks.proofs.Locks.{both_ran}
 use Rattle.inodes_on_blocks.proofs.Desks.{position_first, first_empty_is, desks_set, lenders_set, own_desk, taken_same}
 
--- a place is free where no file is open in it, and no hart has it in hand
+-- a place is free if no file is open in it, and no hart has it in hand
 free_is : (taken : Bool) (o : Option Entry) → is_free (place_with taken o) ≡ (is_nothing o && not taken)
 free_is true None = refl
 free_is false None = refl

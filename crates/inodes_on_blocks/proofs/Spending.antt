@@ -18,7 +18,7 @@ unset_at (m ∷ ms) zero k e = cc e
 unset_at (m ∷ ms) (suc h) k e = unset_at ms h k e
 
 module _ (h : ℕ) (st : State) (whole_ : IsWholeLog st.log) where
-  -- no more than r was spent where it was no more than s before
+  -- no more than r was spent if it was no more than s before
   abbrev Account : Spent → Spent → LogPart → Type 0
   Account s r l = Accounts h st.log s → Accounts h l r
 

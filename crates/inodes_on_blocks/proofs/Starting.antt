@@ -1,4 +1,4 @@
--- What a hart knows where its program takes its first step.
+-- What a hart knows when its program takes its first step.
 use Rattle.inodes_on_blocks.proofs.Vocabulary.{ℕ, ◌<◌, List, [], Super, hart_count, Ret, Do, Machine, Laws, P, Wp, onto, Both, joined, Stable, Here, World, below, Labels, labelled, Keeps}
 use Rattle.inode_machine.specs.World as above
 use Rattle.inodes_on_blocks.proofs.Layer.{below_laws}

@@ -1,4 +1,5 @@
--- An operation that locks an inode and loads it acts where the lock is had: so the one that tells a descriptor's state.
+-- An operation that locks an inode and loads it acts when the lock is taken: so the one that answers a descriptor's
+-- state.
 use Rattle.inode_machine.specs.VersionOne as one
 use Rattle.inodes_on_blocks.proofs.Vocabulary.{◌≡◌, ◌≢◌, inl, inr, ℕ, pos, ◌<◌, Bool, false, List, Option, Some, None, refl, sym, ◌∙◌, ap, subst, arith, if◌then◌else◌, IsSome, option_map, MatchOption, none-some, Dinode, Super, Node, NodeKind, Directory, File, Device, put, hart_count, same_or, put_same, put_other, is_number, is_free, IsInode, IsRecord, type_in, ExecResult, Waits, Ran, exec_result_in, Laws, Wp, Both, joined, Below, Lasts, Acting, acted, s-act, TablesState, file_named, lock_holder, LockedState, Refuses, Locks, refusal_of, lock_file, lock_unless, lock_inode, with_file, Outside, LockFile, MayLockFile, IsElsewhere, Face, face_of, face_or, Entry, StatFile, entry_at, slot_at, lock_if, locked, stat_at, marked, with_mark, Inv, ours_none, ours_some, lone_file, opens_slots, node_there, loaded, file_of, World, log_of, tables_of, inode_in, exec, Shows, NothingMore, Had, Has, Carry, IsLoaded, InHand, Base, Stands, below, Labels, labelled, Keeps, IsOpened, ActsOnceAt, face_in, inode_type_at, natural, stat_file, stat_locked, stat_loaded, Loaded, unindexed, IsIndexOf, unwrap_or}
 use Rattle.fs_machine.specs.declared.files.Want.TheVariants as want
@@ -43,7 +44,7 @@ face_seen d (Some v) is typed = ap (λ (b : Bool). if b then None else Some (fac
 
 -- ---- what an open file is of
 
--- has a type, where nobody has its lock
+-- has a type, if nobody has its lock
 pub file_typed : (v : above.World) (s : ℕ) (e : Entry) → Inv v → v.files s ≡ Some e → v.lock e.file.number ≡ None → v.disk e.file.number ≢ None
 file_typed v s e inv at free none = by (v.keeper n) refl
   where
@@ -99,7 +100,7 @@ module _ (l : Labels) (laws : Laws (labelled l)) (keeps : Keeps l) (h : ℕ) (lt
   abbrev W : Type 0
   W = Both World above.World
 
-  -- ---- a lock that was had
+  -- ---- a lock that was taken
 
   -- of an inode that has a type: its record is in hand from there on, though it may have to be read yet
   pub lock_came : (op : above.Op) (n : ℕ) (v : W) (c : Carry) (b : above.Answer op) (t : TablesState) → Shows v.real v.seen → Base h v.real v.seen c → (v.seen.desks h).lender ≡ None → 0 < v.seen.refs n
@@ -161,7 +162,7 @@ module _ (l : Labels) (laws : Laws (labelled l)) (keeps : Keeps l) (h : ℕ) (lt
         opened = subst (λ (o : Had). IsOpened h n o (locked h n v.seen)) (sym (put_same c n (Has x NothingMore))) tt;
       }
 
-  -- ---- an operation acts where its step came so
+  -- ---- an operation acts if its step came so
 
   module _ (sizes : Super) (op : above.Op) (m : above.Answer op → Option above.Mark) (B : List l.Step → Type 0) (C : above.Answer op → List l.Step → above.World → Type 0) (lasts : Lasts (labelled l) h B C) where
     pub came_acting : {A : Type 0} (v : W) (wait : Type 0) (a : A) (r : World) (b : above.Answer op) (c : Carry) (N : A → above.Answer op → World → above.World → Type 0) → rules.Honest h op v.seen above.Room → (log_of r).sizes ≡ sizes
@@ -193,7 +194,7 @@ module _ (l : Labels) (laws : Laws (labelled l)) (keeps : Keeps l) (h : ℕ) (lt
         IsActing : W → ExecResult LockedState World → Type 0
         IsActing v d = Acting (labelled l) (below sizes) laws (below_laws sizes l keeps) h B (StatFile fd) m C lasts above.Room v (premises.MayWait h (LockFile want.Stat fd) v.real.state) d Next
 
-        -- by what the tables come to
+        -- by what the tables answer
         on_tables : (v : W) (x : Outside) (d : ExecResult LockedState TablesState) → lock_file h want.Stat fd (tables_of v.real) ≡ d → IsActing v (exec_result_in (with_tables v.real) d) → IsActing v (exec h x (LockFile want.Stat fd) v.real)
         on_tables v x d is acting =
             subst (λ (z : ExecResult LockedState World). IsActing v z) (sym (in_tables_is h (LockFile want.Stat fd) v.real (λ a o. refl) (λ s. refl) (λ a l. refl) (lock_file h want.Stat fd (tables_of v.real)) ∙ ap (exec_result_in (with_tables v.real)) is)) acting

@@ -8,7 +8,8 @@ use Rattle.inode_machine.specs.World as above
 use Rattle.inode_machine.specs.Rules as rules
 use Rattle.inodes_on_blocks.proofs.RecordThen.{shows_then}
 
--- What a hart knows of inode n, whose lock it has, where it is to put this record for it, and has `had` of it then: the operation above makes this of it.
+-- What a hart knows of inode n, whose lock it has, before it puts this record for it. It has `had` of the inode from
+-- then on. The operation above makes this node of it.
 pub record PutsRecord (h : ℕ) (op : above.Op) (n : ℕ) (answer : above.Answer op) (d : Dinode) (had : Had) (r : World) (g : above.World) : Type 0 where
   pub node : Option Node
   pub ran : one.exec h above.Room op g ≡ Ran answer (with_record g n node)
@@ -100,7 +101,7 @@ module _ (sizes : Super) (l : Labels) (laws : Laws (labelled l)) (keeps : Keeps 
         → Acting (labelled l) (below sizes) laws (below_laws sizes l keeps) h B op m C lasts above.Room v (premises.MayWait h (Put k (Some bytes)) v.real.state) (exec h x (Put k (Some bytes)) v.real)
         (λ a o u g. (gs : List l.Step) → Inv g → C o gs g → Wp M h B Q (Ret (record { answer = answer; carry = put c n had })) 0 gs (record { real = u; seen = g })))
 
-    -- the put, where the buffer is in hand
+    -- the put, with the buffer in hand
     acts_there : (v : W) → Shows v.real v.seen → AllBut n h c v.real v.seen → in_hand h v.real ≡ 1 → ((k : ℕ) → v.real.taken k ≢ Some h) → IsThrough h v.real → PutsRecord h op n answer d had v.real v.seen
         → CanPut h (at v.real) (with_dinode n d (seen_of (log_of v.real) (at v.real))) (log_of v.real) → length (seen_of (log_of v.real) (at v.real)) ≡ block_len → (log_of v.real).sizes ≡ sizes
         → Acts v (at v.real) (with_dinode n d (seen_of (log_of v.real) (at v.real)))
@@ -132,7 +133,7 @@ module _ (sizes : Super) (l : Labels) (laws : Laws (labelled l)) (keeps : Keeps 
         before v shows mine e =
             let inodes = shows.blocks.seen.good.inodes in let bound = (lock_range n h v.real v.seen shows mine).1 in absurd (omega (arith, inodes, bound, e))
 
-    -- and from where the block was fetched on
+    -- and from the fetch of the block on
     puts_then : (w v : W) (fs : List l.Step) → Ready sizes h This w.real w.seen → Knows w.real → IsFetched h b (Todo fs) w v → Wp M h B Q (put_record op m answer b n d had c (seen_of (log_of v.real) b)) 1 fs v
     puts_then w v fs ready knows got =
         s-act (labelled l) (below sizes) laws (below_laws sizes l keeps) h B op m C lasts above.Room (Put b (Some (with_dinode n d (seen_of (log_of v.real) b))))

@@ -1,4 +1,4 @@
--- The operation that locks an inode, loads it and looks at it acts where the lock is had.
+-- The operation that locks an inode, loads it and looks at it acts when the lock is taken.
 use Rattle.inode_machine.specs.Rules.{search_cost}
 use Rattle.inodes_on_blocks.proofs.Vocabulary.{◌≡◌, ◌≢◌, inl, inr, ℕ, suc, ◌<◌, nat_lt, ◌&&◌, Bool, true, false, not, List, Option, Some, None, is_some, refl, sym, ◌∙◌, ap, subst, arith, if◌then◌else◌, none-some, Found, Aim, Named, block_count, Dinode, Super, Node, Name, put, live_directory, hart_count, same_or, put_same, put_other, is_free, HoldsAt, Ret, bind, ExecResult, Waits, Ran, exec_result_in, Machine, Laws, P, Wp, Both, Handover, joined, Below, Lasts, Acting, acted, s-act, Wp-more, TablesState, lock_holder, lock_inode, Outside, Lock, Sight, Query, AtNothing, AtName, AtEntries, Take, lock_if, locked, Inv, looking_cost, one_refs, two_refs, loaded, World, log_of, tables_of, disk_of, inode_in, exec, Shows, Same, Kept, Knowledge, NothingMore, Had, Has, Carry, IsKnown, IsLoaded, InHand, Base, Stands, below, Labels, labelled, Keeps, IsOpened, ActsOnceAt, face_in, number_found, learned, seen_record, looked, take_inode as take, load_unless}
 use Rattle.directory.specs.Programs.{Entry, Searched, search}
@@ -26,7 +26,7 @@ steps_of AtEntries = search_cost
 same_ran : (b : Sight) (g u : above.World) → Ran b g ≡ Ran b u → g ≡ u
 same_ran b g u e = cc e
 
--- an inode that a hart refers to isn't new, where none is new by it
+-- an inode that a hart refers to isn't new, if none is new by it
 referred_old : (h n : ℕ) (r : World) (g : above.World) → h < hart_count → Shows r g → Inv g → ((m : ℕ) → r.new m ≢ Some h) → 0 < (g.harts h).refs n → r.new n ≡ None
 referred_old h n r g lt shows inv through some =
     none_new r g shows n
@@ -79,7 +79,7 @@ module _ (l : Labels) (laws : Laws (labelled l)) (keeps : Keeps l) (h : ℕ) (lt
   abbrev M : Machine
   M = joined (labelled l) (below sizes)
 
-  -- ---- where the lock was had, in w, and the inode is loaded
+  -- ---- the lock was taken, in w, and the inode is loaded
 
   module _ (m : Sight → Option above.Mark) (c : Carry) (B : List l.Step → Type 0) (C : Sight → List l.Step → above.World → Type 0) (lasts : Lasts (labelled l) h B C) (w : W) (node : Node)
       (is : w.seen.disk n ≡ Some node) (holds : HoldsAt (disk_of (log_of w.real)) w.real.owner n (Some node)) (mine : lock_holder n (tables_of w.real) ≡ Some h) where
@@ -196,7 +196,7 @@ module _ (l : Labels) (laws : Laws (labelled l)) (keeps : Keeps l) (h : ℕ) (lt
     on_tables v x d is acting =
         subst (λ (z : ExecResult (Option Loaded) World). IsActing v z) (sym (in_tables_is h (Lock n) v.real (λ a o. refl) (λ s. refl) (λ a l. refl) (lock_inode h n (tables_of v.real)) ∙ ap (exec_result_in (with_tables v.real)) is)) acting
 
-    -- the lock was had
+    -- the lock was taken
     loads : (v : W) → Shows v.real v.seen → v.seen.lock n ≡ None → v.real.new n ≡ None → 0 < v.seen.refs n → v.seen.disk n ≢ None → (u : TablesState) (g : above.World)
         → tables.Shows u (locked h n v.seen) (put (loaded (tables_of v.real)) n None)
         → Stands sizes h (with_tables v.real u) g (put c n (Has (loads_of v.real n) NothingMore)) → (gs : List l.Step) → g.disk n ≡ v.seen.disk n → C (seen_in n looking (v.seen.disk n)) gs g

@@ -12,7 +12,7 @@ M sizes = joined whole (below sizes)
 abbrev Ends : (sizes : Super) (h n : ℕ) → Carry → Dinode → Node → Spent → Both World above.World → Option ℕ → List Done → Both World above.World → Type 0
 Ends sizes h n c d x s w a es v = (es ≡ []) × ChangesStill h n c d x w v × TookOne sizes h s a v.real
 
--- where none was free, and where one was
+-- if none was free, and if one was
 module _ (sizes : Super) (h n t : ℕ) (c : Carry) (o : Option Node) (d : Dinode) (x : Node) (s : Spent) (w v z : Both World above.World) (gs : List Done) (kept : Kept h w.seen v.seen) (none : in_hand h v.real ≡ 0) where
   took_none : TookNone h n t (IsStage h n gs) c o d x (HasSpent sizes h s) v z → Ends sizes h n c d x s w None gs z
   took_none took = (

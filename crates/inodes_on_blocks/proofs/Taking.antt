@@ -1,4 +1,5 @@
--- A block that a hart takes for an inode that it is changing: the bit is set, and until the record names it the block is spare.
+-- A block that a hart takes for an inode that it is changing. The bit is set, and until the record names it the block
+-- is spare.
 use Rattle.inodes_on_blocks.proofs.Vocabulary.{◌≡◌, ◌≢◌, inl, inr, ℕ, ◌<◌, Bool, true, false, List, ◌∷◌, Option, Some, None, sym, ◌∙◌, ap, subst, arith, if◌then◌else◌, refl, Dinode, Super, sizes_of, IsData, is_marked, numbers_of, IsOwned, NamesOwned, MarksBlocks, IsBitPut, IsTaken, IsLaidOut, IsSpare, Node, put, either, same_or, put_same, put_other, eq_self, lock_holder, seen_of, with_bit, is_hart, Idle, World, log_of, tables_of, disk_of, world_with, Kept, Carry, InHand, IsThrough, CanPut, IsChanging, PutLeaves, log_with, owners_with, Shows}
 use Rattle.inodes_on_blocks.proofs.Basics.{untouched_change, taken, bitmaps_put_bits, held_back, kept_disk, hand_then, lent_then, hart_is, is_here, through_then, through_put, lock_range}
 use Rattle.inode_machine.specs.World as above

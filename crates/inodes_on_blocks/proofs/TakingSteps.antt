@@ -1,4 +1,5 @@
--- The bit of a block set for an inode that a hart is changing: nothing of it is seen above, and the block is spare then.
+-- The bit of a block set for an inode that a hart is changing. Nothing of it is seen above, and the block is spare
+-- then.
 use Rattle.inodes_on_blocks.proofs.Vocabulary.{◌≡◌, ◌≢◌, ℕ, zero, suc, ◌^◌, ◌/◌, ◌%◌, ◌<◌, true, false, List, length, length-set, Option, Some, is_some, bit_or, refl, sym, ◌∙◌, ap, subst, arith, slice_index, or_of_8, Dinode, Super, bit_of, IsBytes, sizes_of, holder_of, kept, has, HasRoom, IsData, is_marked, Node, hart_count, Do, unmarked, Machine, Laws, P, Wp, Both, joined, Stable, Here, seen_of, Put, with_bit, if_kept, Inv, World, log_of, disk_of, world_with, KeepsRoom, in_hand, HasBuffer, Kept, Carry, buffer_in, below, Labels, labelled, Keeps, CanPut, IsChanging, log_with, Shows}
 use Rattle.inodes_on_blocks.proofs.Basics.{good_seen, marks_are_bits, buffer_then, buffer_seen, same_view, below_laws, put_hand}
 use Rattle.inode_machine.specs.World as above
@@ -30,7 +31,7 @@ with_long b block = length-set block (b / 8) (bit_or (slice_index block (b / 8))
 
 -- ---- the put
 
--- where a hart goes on after it has set the bit of block b
+-- how a hart goes on after it has set the bit of block b
 pub record MarkedFor (h n b bitmap : ℕ) (Stage : above.World → Type 0) (c : Carry) (o : Option Node) (d : Dinode) (x : Node) (Then : World → Type 0) (v z : Both World above.World) : Type 0 where
   pub spare : HasSpare h n b c o d x z.real z.seen
   pub kept : Kept h v.seen z.seen

@@ -1,4 +1,5 @@
--- Bytes are written into the blocks of a file that a hart is changing, one block after the other. Nothing of it is seen above.
+-- Bytes are written into the blocks of a file that a hart is changing, one block after the other. Nothing of it is
+-- seen above.
 use Rattle.inodes_on_blocks.proofs.Vocabulary.{◌≡◌, ⊎_elim, ℕ, zero, suc, ◌+◌, ◌-◌, ◌*◌, ◌/◌, ◌%◌, ◌<◌, ◌≤◌, true, false, List, [], ◌++◌, length, take, drop, Option, sym, ◌∙◌, ap, subst, arith, length-append, length-take, max, min, cases_lt, take_all, take-append-drop, Dinode, Super, IsBytes, overwrite, recovered, overwrite-overwrite, largest_size, Becomes, IsBytesPut, IsPut, Node, File, hart_count, bind, Machine, Laws, P, Wp, Both, joined, Stable, Wp-more, seen_of, table_of, blocks_between, next_block, WriteResult, front_of, with_part, write_blocks, side_by_side, some_between, next_between, Spent, size, most_recorded, Inv, World, log_of, disk_of, Carry, below, Labels, labelled, Keeps, IsChanging, log_with, block_len}
 use Rattle.std.proofs.Common.{length-drop}
 use Rattle.inodes_on_blocks.proofs.LaidBytes.{bytes_laid}
@@ -47,9 +48,9 @@ part_makes h n at z count bytes cur c o some start limit d b old r g shows chang
       bytes = ap (recovered new) number ∙ made.now ∙ ap (λ (xs : List ℕ). overwrite xs (at % block_len) front) (sym (ap (recovered disk) number ∙ made.was));
     }
 
--- ---- what the parts come to
+-- ---- what the parts are together
 
--- the first part, and so many bytes behind it
+-- the first part, and k bytes after it
 front_then : (at k : ℕ) (bytes : List ℕ) → front_of at bytes ++ take k (drop (length (front_of at bytes)) bytes) ≡ take (length (front_of at bytes) + k) bytes
 front_then at k bytes =
     let n : ℕ = length (front_of at bytes) in
@@ -66,7 +67,7 @@ front_then at k bytes =
         (λ (le : length bytes ≤ block_len - at % block_len). take_all (length (front_of at bytes)) bytes (omega (arith, part, le)) ∙ sym (take_all (block_len - at % block_len) bytes le))
         (cases_lt (block_len - at % block_len) (length bytes))
 
--- how many blocks are left behind it
+-- how many blocks are left after it
 left_between : (m at : ℕ) (bytes : List ℕ) → suc m ≡ blocks_between at (at + length bytes) → 0 < length bytes
     → m ≡ blocks_between (at + length (front_of at bytes)) (at + length (front_of at bytes) + length (drop (length (front_of at bytes)) bytes))
 left_between m at bytes is some =
@@ -123,7 +124,7 @@ module _ (sizes : Super) (l : Labels) (laws : Laws (labelled l)) (keeps : Keeps 
     abbrev In : Dinode → ℕ → List ℕ → List ℕ → List l.Step → W → Type 0
     In d z cur bs fs v = Between sizes h n (G fs) c o (sized z d) (file count cur) (HasBlocks sizes h s bs) v
 
-    -- where it goes on, once the first k of the bytes are written
+    -- how it goes on, once the first k of the bytes are written
     abbrev pub Wrote : (at z most : ℕ) → (bytes cur : List ℕ) → Type 0
     Wrote at z most bytes cur =
         (d : Dinode) (bs : List ℕ) (k : ℕ) (v : W) (fs : List l.Step) → k ≤ length bytes → In d (max z (at + k)) (overwrite cur at (take k bytes)) bs fs v → Fits was d → length bs ≤ most → Wp M h B Q (f (record { inode = d; upto = at + k })) j fs v

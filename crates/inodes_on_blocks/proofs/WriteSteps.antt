@@ -1,4 +1,4 @@
--- A piece is written into a locked file, and the operation acts where the lock is given up; or it is refused.
+-- A piece is written into a locked file, and the operation acts when the lock is given up; or it is refused.
 use Rattle.inode_machine.specs.VersionOne as one
 use Rattle.inodes_on_blocks.proofs.Vocabulary.{◌≡◌, ⊎_elim, ℕ, zero, suc, ◌+◌, ◌-◌, ◌/◌, ◌<◌, ◌≤◌, ◌==◌, ◌&&◌, not, nat_lt, Bool, true, false, List, [], ◌∷◌, length, take, drop, Option, Some, None, refl, sym, ◌∙◌, ap, subst, arith, append_assoc, if◌then◌else◌, slice_index, max, unwrap_or, cases_lt, nat_tests, none-some, Dinode, Super, IsBytes, overwrite, IsDinode, largest_size, HoldsAt, Cause, BadOffset, TooBig, Node, NodeKind, Directory, File, Device, content, node_or, write_kind, hart_count, Ret, bind, Machine, Laws, P, Wp, Both, Handover, joined, Below, Lasts, ToAct, to_act, may_act, bind-assoc, Wp-more, lock_holder, inode_block, no_record, store_inode, Direct, InTable, table_of, blocks_between, WriteResult, front_of, grown, locate_at, locate_in_table, located, name_direct, store_written, take_one, with_table, write_blocks, write_located, Spent, size, with_bitmap, with_contents, with_inode, most_recorded, Wrote, WriteFile, with_bytes, Inv, World, log_of, tables_of, disk_of, inode_in, Apart, Emptied, Has, Had, Carry, IsLoaded, Stands, below, Labels, labelled, Keeps, record_had, IsChanging, HasSpent, Shows, ActsWithin, DoesItWithin, NoMore, record_in, deny_write, give_written, refused_in, write_file, write_unless, Answers, IsDone, alone, unindexed, IsIndexOf, index_in, all_slots, block_len, direct}
 use Rattle.plain_tree.specs.Steps.{is_file}
@@ -23,7 +23,7 @@ refused_as : (d : Dinode) (fs : List ℕ) (offset : ℕ) (bytes : List ℕ) → 
 refused_as d fs offset [] same some = absurd (omega (arith, some))
 refused_as d fs offset (b ∷ bs) same some = ap (λ (k : ℕ). if nat_lt k offset then Some BadOffset else (if nat_lt largest_size (offset + length (b ∷ bs)) then Some TooBig else None)) (sym same)
 
--- what isn't goes no further than a content may
+-- a write that isn't refused goes no further than a content may
 fits_in : (d : Dinode) (offset : ℕ) (bytes : List ℕ) → refused_in d offset bytes ≡ None → (offset ≤ d.size) × (offset + length bytes ≤ largest_size)
 fits_in d offset bytes e = by (nat_lt d.size offset) refl (nat_lt largest_size (offset + length bytes)) refl e
   where
@@ -119,7 +119,7 @@ module _ (sizes : Super) (l : Labels) (laws : Laws (labelled l)) (keeps : Keeps 
       subst (TakesStep sizes l laws keeps h lt B) (sym (bind-assoc (write_blocks (blocks_between offset (offset + length bytes)) sizes offset bytes (record_in c n)) (store_written sizes n) (give_written fd n offset bytes m c)))
       (blocks_take (blocks_between offset (offset + length bytes)) offset bytes (record_in c n) (λ w. bind (store_written sizes n w) (give_written fd n offset bytes m c)) (λ w. tt))
 
-  -- ---- from v on, where the lock is the hart's
+  -- ---- from v on, with the lock in the hart's hand
 
   module _ (count : ℕ) (fs : List ℕ) (v : W) (gs : List l.Step) (todo : Todo gs v.seen) (shows : Shows v.real v.seen) (inv : Inv v.seen) (stands : Stands sizes h v.real v.seen c) (known : HasSpent sizes h s v.real) (there : v.seen.disk n ≡ Some (file count fs)) where
     may : one.May h op v.seen

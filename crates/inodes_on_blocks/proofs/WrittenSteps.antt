@@ -1,4 +1,5 @@
--- The end of a write: the inode's record is put unseen, and the operation acts where the lock is given up and the offset moves.
+-- The end of a write: the inode's record is put unseen, and the operation acts when the lock is given up and the
+-- offset moves.
 use Rattle.inodes_on_blocks.proofs.Vocabulary.{◌≡◌, ◌≢◌, inl, inr, ℕ, suc, ◌+◌, ◌-◌, ◌<◌, ◌≤◌, ◌==◌, if◌then◌else◌, Bool, true, false, List, length, take, Option, Some, None, is_some, refl, sym, ◌∙◌, ap, subst, arith, option_map, IfSome, take_all, none-some, Dinode, Super, IsDinode, IsOutsideLog, holder_of, kept, has, HasRoom, largest_size, HoldsAt, Cause, Node, node_or, write_kind, put, hart_count, put_again, eq_is, eq_isnt, same_or, put_same, put_other, Ret, Do, bind, Ran, Machine, Laws, P, Wp, Both, Handover, joined, Below, Lasts, Acting, Here, Stable, ToAct, s-act, bind-assoc, Inode, unlock_inode, TablesState, file_named, lock_holder, Outside, fetch, seen_of, WriteResult, inode_block, put_inode, with_dinode, store_inode, Entry, Wrote, Whole, Stopped as Refused, Short, WriteFile, entry_at, offset_of, slot_at, unlocked, with_bytes, with_offset, with_record, write_at, write_if, wrote_in, marked, with_mark, HonestPiece, Idle, Inv, loaded, file_of, World, log_of, tables_of, disk_of, inode_in, exec, KeepsRoom, world_with, acts, in_hand, IsFetched, Apart, Base, Carry, Had, Has, InHand, IsLoaded, IsOpened, Keeps, Kept, Labels, NothingMore, Same, Stands, below, labelled, record_had, IsThrough, CanPut, IsChanging, log_with, Shows, give_written, deny_write, Loaded, IsIndexOf, index_in, recorded_had, block_len}
 use Rattle.std.proofs.lemmas.List.{length-take}
 use Rattle.inode_machine.specs.VersionOne as one
@@ -18,7 +19,8 @@ use Rattle.inodes_on_blocks.proofs.TableSteps.{GivesBack, given_base, given_came
 
 -- ---- an inode that was changed, and whose lock the hart has still
 
--- Above it is what it was; below it has this record, and holds this node. The hart's other inodes are as before, and it has nothing else.
+-- Above it is what it was; below it has this record, and holds this node. The hart's other inodes are as before, and
+-- it has nothing else.
 pub record IsWritten (h n : ℕ) (c : Carry) (o : Option Node) (d : Dinode) (x : Node) (r : World) (g : above.World) : Type 0 where
   pub others : (i : ℕ) → i ≢ n → lock_holder i (tables_of r) ≡ Some h → InHand h i (c i) r g
   pub lock : lock_holder n (tables_of r) ≡ Some h
@@ -85,7 +87,7 @@ written_base h n c o d x r g free is = record {
 
 -- ---- its record put unseen
 
--- Where a hart goes on after it has put the record: what it knows of z, where it was in w.
+-- How a hart that was in w goes on after it has put the record: what it knows of z.
 pub record Stored (sizes : Super) (h n : ℕ) (Stage : above.World → Type 0) (c : Carry) (o : Option Node) (d : Dinode) (x : Node) (Then : World → Type 0) (w z : Both World above.World) : Type 0 where
   pub written : IsWritten h n c o d x z.real z.seen
   pub kept : Kept h w.seen z.seen
@@ -121,7 +123,7 @@ module _ (sizes : Super) (l : Labels) (laws : Laws (labelled l)) (keeps : Keeps 
     abbrev Rest : W → Type 0
     Rest w = (z : W) (gs : List l.Step) → Stored sizes h n (G gs) c o d x Then w z → Wp M h B Q (k tt) j gs z
 
-    -- the put, where the buffer is in hand
+    -- the put, with the buffer in hand
     there : (w u : W) (gs : List l.Step) → G gs u.seen → Shows u.real u.seen → Inv u.seen → Kept h w.seen u.seen → IsChanging h n u.seen → Changing h n c o d x u.real u.seen → in_hand h u.real ≡ 1 → (log_of u.real).sizes ≡ sizes
         → CanPut h (at u.real) (recording.with_record n d u.real) (log_of u.real) → Then (world_with h (at u.real) (recording.with_record n d u.real) u.real) → Rest w → IsPutting (at u.real) (recording.with_record n d u.real) gs u
     there w u gs stage shows inv kept_ is changing one here can known rest =
@@ -156,7 +158,7 @@ module _ (sizes : Super) (l : Labels) (laws : Laws (labelled l)) (keeps : Keeps 
               });
         }
 
-    -- and from where the block was fetched on
+    -- and from the fetch of the block on
     puts : (w v u : W) (fs gs : List l.Step) → Shows w.real w.seen → Changing h n c o d x w.real w.seen → in_hand h w.real ≡ 0 → (log_of w.real).sizes ≡ sizes → Knows w.real → IsFetched h b (G fs) w v → IsHere v u gs → Rest w
         → IsPutting b (with_dinode n d (seen_of (log_of v.real) b)) gs u
     puts w v u fs gs shows changing none here_ knows got here rest =
@@ -220,7 +222,7 @@ module _ (l : Labels) (laws : Laws (labelled l)) (keeps : Keeps l) (h : ℕ) (lt
   abbrev answers : Wrote → P (joined (labelled l) (below sizes)) (Handover Wrote Carry)
   answers b = Ret (record { answer = b; carry = put c n Apart })
 
-  -- by what lies outside: these bytes were written
+  -- by what comes from outside: these bytes were written
   module _ (y : above.Outside) (b : Wrote) (bs : List ℕ) (honest : HonestPiece bytes y) (goes : (g : above.World) (s : Option ℕ) (e : Entry) → write_in g s e n bytes y ≡ Ran b (wrote_in g s e n bs))
       (node : Node) (d : Dinode) (allowed : write_kind node.kind offset bytes ≡ None) (short : offset ≤ largest_size → offset + length bs ≤ largest_size) where
     abbrev inode : Inode

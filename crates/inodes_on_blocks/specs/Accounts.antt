@@ -31,9 +31,8 @@ pub record LeavesGroup (h : ℕ) (l m : LogPart) : Type 0 where
   pub sizes : m.sizes ≡ l.sizes
   pub group : (b : ℕ) → IsMember l.members h → has l.group b ≡ true → has m.group b ≡ true
 
--- What may be spent begins with nothing at a join, lasts, and may become more. Where it is at most ten blocks, each of those that it says
--- may be recorded; and
--- where it is less, any other one.
+-- What may be spent begins with nothing at a join, lasts, and may become more. If it is at most ten blocks, each of
+-- those that it says may be recorded. If it is less, any other one may.
 pub record RoomLaws (h : ℕ) (l : LogPart) : Type 0 where
   pub begins : (group : List ℕ) → Accounts h (record l { members = slice_set l.members h (Some 0); group = group }) unspent
   pub lasts : (m : LogPart) (s : Spent) → LeavesGroup h l m → Accounts h l s → Accounts h m s

@@ -6,7 +6,8 @@ use Rattle.inodes_on_blocks.specs.Below.{World}
 use Rattle.inodes_on_blocks.specs.Lowering.{Carry, Kept, Stands, below, Labels, labelled}
 use Rattle.inodes_on_blocks.specs.Handlers.{Handler}
 
--- whatever the operation alone is shown to do above, under any history, this program does below, on a disk of these sizes
+-- whatever the operation alone is shown to do above, under any history, this program does below, on a disk of these
+-- sizes
 abbrev pub ActsOnceAt : Super → (l : Labels) → ℕ → (op : above.Op) → (above.Answer op → Option above.Mark) → Handler op → Type 1
 ActsOnceAt sizes l h op m p =
     (c : Carry) (B : List l.Step → Type 0) (C : above.Answer op → List l.Step → above.World → Type 0) (es : List l.Step)
@@ -45,8 +46,9 @@ IsDone op es = (a : above.Answer op) × (es ≡ (op, a) ∷ [])
 abbrev pub Answers : (op : above.Op) → above.Answer op → List Done → above.World → Type 0
 Answers op a es w = es ≡ (op, a) ∷ []
 
--- Where the operation alone may be made and keeps what always holds, its program below does it: once, whatever the other harts do,
--- with the answer that it itself gives; each of its steps may be made, and the hart has no more than its locks' records after it.
+-- If the operation alone may be made and keeps what always holds, its program below does it. It does it once,
+-- whatever the other harts do, with the answer that the operation itself gives. Each of its steps may be made, and
+-- after it the hart has no more than its locks' records.
 abbrev pub DoesItAt : Super → (op : above.Op) → Handler op → Type 0
 DoesItAt sizes op p =
     (h : ℕ) (m : above.Answer op → Option above.Mark) (c : Carry) (w : Both World above.World) → h < hart_count

@@ -1,4 +1,4 @@
--- The words that most of this crate's other definitions stand on.
+-- The words that most of this crate's other definitions use.
 pub use Rattle.inodes_on_blocks.specs.Accounts.{Accounts, IsSpent, used}
 pub use Rattle.inodes_on_blocks.specs.Acting.{Answers, IsDone, whole}
 pub use Rattle.inodes_on_blocks.specs.Below.{World, disk_of, exec, inode_in, log_of, owners_after, tables_of, untyped}

@@ -1,4 +1,5 @@
--- The machine below: what all harts share, and beside it, for the proof alone, whose each block is and which hart commits.
+-- The machine below: what all harts share, and beside it, for the proof alone, whose each block is and which hart
+-- commits.
 use Rattle.std.specs.Prelude.{ℕ, List, Bool, true, false, if◌then◌else◌, Option, Some, None}
 use Rattle.inodes_on_blocks.specs.Vocabulary.{Dinode, put, inode_of, is_free, Commits, ExecResult, Waits, Ran, Stops, TablesState, lock_holder, LogPart, Outside, State, Op, Answer, Put, Commit, Claims}
 use Rattle.group_log.specs.declared.log.AfterLeave.TheVariants.{Free}
@@ -11,7 +12,8 @@ pub record World : Type 0 where
   pub state : State
   -- for the proof
   pub owner : ℕ → ℕ  -- the inode whose a block is, 0 where it is nobody's
-  -- a bit that is set though the block is no inode's: left over of the mounted image, or of a block that a hart has taken
+  -- a bit that is set though the block is no inode's: left over of the mounted image, or of a block that a hart has
+  -- taken
   pub left : ℕ → Bool
   pub taken : ℕ → Option ℕ  -- the hart that has set a block's bit, until an inode names the block
   pub commits : Option ℕ  -- the hart that makes the commit which is under way

@@ -1,4 +1,4 @@
--- What the machine below asks of the tables wherever an operation waits, from what it shows of the world above.
+-- What the machine below asks of the tables whenever an operation waits, from what it shows of the world above.
 use Rattle.std.specs.Prelude.{◌≡◌, ℕ}
 use Rattle.inodes_on_blocks.specs.Vocabulary.{Waits, Outside, Op, May, MayWait, IsCounted, Inv}
 use Rattle.fs_machine.specs.Steps as steps

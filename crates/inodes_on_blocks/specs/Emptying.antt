@@ -1,5 +1,5 @@
--- The programs below of operations that give an inode's content back. On a disk of these sizes; c: what the hart has of the inodes whose
--- locks it has.
+-- The programs below of operations that give an inode's content back. On a disk of these sizes; c: what the hart has
+-- of the inodes whose locks it has.
 use Rattle.std.specs.Prelude.{ℕ, take}
 use Rattle.inodes_on_blocks.specs.Vocabulary.{Super, Dinode, bind, fetch, inode_block, store_inode, table_of, free_numbers, free_indirect, without_content, freed, Empty, Free}
 use Rattle.inode_data.specs.Widths.{direct}

@@ -1,5 +1,5 @@
--- The programs below of operations that enter names in a directory. On a disk of these sizes; c: what the hart has of the inodes whose
--- locks it has.
+-- The programs below of operations that enter names in a directory. On a disk of these sizes; c: what the hart has of
+-- the inodes whose locks it has.
 use Rattle.std.specs.Prelude.{ℕ, zero, suc, ◌+◌, ◌*◌, ◌-◌, ◌==◌, nat_lt, if◌then◌else◌, List, ◌++◌, length, Bool, true, false, Option, Some, None}
 use Rattle.inodes_on_blocks.specs.Vocabulary.{IndexState, Loaded, Searched, first_of, or_next, raised, slot_for, with_entry, Unused, found_in, look_at, most_slots, search, slot_count, Used, Dinode, Super, spell_dirent, dirent_len, Name, dot, dotdot, Ret, Do, bind, Handover, fetch, FetchedBlock, blocks_between, fetch_block, most_blocks, WriteResult, grown, write_blocks, inode_block, Enter, Fill}
 use Rattle.fs_machine.specs.Steps as steps
@@ -8,8 +8,8 @@ use Rattle.fs_machine.specs.InMemory.{no_index}
 use Rattle.inodes_on_blocks.specs.Basics.{Acts, P, Handler, acts, Carry, loaded_in, record_in, with_index}
 use Rattle.inodes_on_blocks.specs.Naming.{put_named}
 
--- The inode's record goes back after its blocks were written, also where it is as it was, and this is its index. There the operation acts,
--- as what lies outside made it.
+-- The inode's record goes back after its blocks were written, also if it is as it was, and this is its index. There
+-- the operation acts, with what came from outside.
 abbrev pub put_grown : (op : above.Op) → above.Outside → (above.Answer op → Option above.Mark) → above.Answer op → Super → (n : ℕ) → Carry
     → IndexState → WriteResult → P (Handover (above.Answer op) Carry)
 put_grown op outside m answer sizes n c x w =
@@ -22,18 +22,20 @@ abbrev pub if_none : {A : Type 0} → Option A → Option Acts → Option Acts
 if_none None mark = mark
 if_none (Some a) mark = None
 
--- where the last block of a directory that has all its slots has no free one, the operation acts as that block is given back
+-- if the last block of a directory that has all its slots has no free one, the operation acts as that block is given
+-- back
 abbrev pub look_last : Option Acts → Dinode → ℕ → IndexState → FetchedBlock → P Searched
 look_last mark d k x f =
     Do (steps.Put f.number None) (λ _. if_none (found_in Unused d k f.bytes) mark)
     (λ _. Ret (record { found = found_in Unused d k f.bytes; index = raised d k f.bytes x }))
 
--- block k, and so many behind it
+-- block k, and this number of blocks after it
 unfoldable pub search_full : Option Acts → ℕ → Dinode → ℕ → IndexState → P Searched
 search_full mark zero d k x = bind (fetch_block d k) (look_last mark d k x)
 search_full mark (suc n) d k x = bind (fetch_block d k) (look_at Unused d k x (search_full mark n d (k + 1)))
 
--- the blocks that the index doesn't have; where it has none free it has one at most, since it has room for the slots of one
+-- The blocks that the index doesn't have. If the index has none free it has one block at most, because it has room
+-- for the slots of one.
 abbrev pub seek_full : Option Acts → Loaded → P Searched
 seek_full mark l =
     or_next (first_of Unused l.inode l.index) l.index (search_full mark (most_blocks - 1 - l.index.blocks) l.inode l.index.blocks)
@@ -43,7 +45,7 @@ seek_free mark l = if nat_lt (slot_count l.inode) most_slots then search Unused 
 
 -- ---- a name entered
 
--- a slot lies in one block, so all of it was written or nothing
+-- a slot is in one block, so all of it was written or nothing
 abbrev pub entered_to : (sizes : Super) (d : ℕ) (e : Name) (n : ℕ) → Carry → (above.EntryResult → Option above.Mark) → IndexState
     → (slot : ℕ) → WriteResult → P (Handover above.EntryResult Carry)
 entered_to sizes d e n c m x slot w =
@@ -59,9 +61,8 @@ enter_in sizes d e n c m x slot =
     (dirent_len * slot) (spell_dirent (Used n e)) (record_in c d)) (entered_to sizes d e n c m x slot)
     else Ret (record { answer = above.NoSlot; carry = with_index c d x })
 
--- The first free slot, else a new last one, is written. It acts where the directory's record is put, also where no block was free; or,
--- where there is no slot, where
--- the last block is given back.
+-- The first free slot, else a new last one, is written. It acts when the directory's record is put, also if no block
+-- was free. If there is no slot, it acts when the last block is given back.
 abbrev pub enter : (sizes : Super) (d : ℕ) (e : Name) (n : ℕ) → Handler (Enter d e n)
 enter sizes d e n c m =
     bind (seek_free (acts (Enter d e n) above.Room m) (loaded_in c d))
@@ -73,7 +74,7 @@ enter sizes d e n c m =
 abbrev pub dots : (n d : ℕ) → List ℕ
 dots n d = spell_dirent (Used n dot) ++ spell_dirent (Used d dotdot)
 
--- they stand in one block; the index has none of the directory's blocks from there on
+-- they are in one block; the index has none of the directory's blocks from there on
 abbrev pub filled_to : (sizes : Super) (n d : ℕ) → Carry → (Bool → Option above.Mark) → WriteResult → P (Handover Bool Carry)
 filled_to sizes n d c m w =
     if w.upto == 2 * dirent_len then put_grown (Fill n d) above.Room m true sizes n c no_index w

@@ -1,4 +1,5 @@
--- The programs below of reading an open file. On a disk of these sizes; c: what the hart has of the inodes whose locks it has.
+-- The programs below of reading an open file. On a disk of these sizes; c: what the hart has of the inodes whose
+-- locks it has.
 use Rattle.std.specs.Prelude.{ℕ, ◌+◌, List, [], Option, Some}
 use Rattle.inodes_on_blocks.specs.Vocabulary.{Ret, Do, bind, Handover, Loaded, Super, LockedState, Refuses, Locks, load_unless, FilledMemory, read_from, put, LockResult, NotLocked, LocksIt, LockFile, LockOpen, ReadFile}
 use Rattle.fs_machine.specs.declared.files.OpenFile.{OpenFile}
@@ -9,7 +10,7 @@ use Rattle.inodes_on_blocks.specs.Basics.{Carry, Opened, Apart, Has, record_had,
 
 -- ---- locked, by a descriptor
 
--- the record in hand, and where the file stands
+-- the record in hand, and the file's offset
 abbrev pub with_file : {A : Type 0} → A → Carry → (fd n offset : ℕ) → Loaded → P (Handover A Carry)
 with_file a c fd n offset l = Ret (record { answer = a; carry = put c n (Has l (Opened fd offset)) })
 
@@ -18,7 +19,7 @@ file_locked sizes fd c (Refuses why) = Ret (record { answer = NotLocked (cause_o
 file_locked sizes fd c (Locks f content) =
     bind (load_unless sizes.inodestart f.number content) (with_file (LocksIt f.number f.offset) c fd f.number f.offset)
 
--- to read; it acts where the lock is had
+-- to read; it acts when the lock is taken
 abbrev pub lock_file : Super → (fd : ℕ) → Handler (LockFile fd)
 lock_file sizes fd c m = Do (steps.LockFile want.Read fd) (λ a. acts (LockFile fd) above.Room m) (file_locked sizes fd c)
 
@@ -39,6 +40,6 @@ give_read fd n offset count m c f =
     (λ a. acts (ReadFile fd n offset count) above.Room m)
     (λ a. Ret (record { answer = f.bytes; carry = put c n Apart }))
 
--- The part is read block by block, each as it was when the lock was had.
+-- The part is read block by block, each as it was when the lock was taken.
 abbrev pub read_file : (fd n offset count : ℕ) → Handler (ReadFile fd n offset count)
 read_file fd n offset count c m = bind (read_from (record_in c n) offset count []) (give_read fd n offset count m c)

@@ -1,4 +1,5 @@
--- Blocks recorded between two operations above, and blocks given back: where the hart that is changing their inode goes on.
+-- Blocks recorded between two operations above, and blocks given back: how the hart that is changing their inode goes
+-- on.
 use Rattle.std.specs.Prelude.{◌≡◌, ◌≢◌, ℕ, true, false, ◌<◌, ◌≤◌, ◌*◌, List, [], ◌∷◌, length, Some, None}
 use Rattle.inodes_on_blocks.specs.Vocabulary.{Super, recovered, holder_of, hart_count, IsData, is_marked, Ret, Wp, Both, joined, lock_holder, seen_of, free_block, free_numbers, Spent, size, most_recorded, if_kept, Inv}
 use Rattle.inodes_on_blocks.specs.Basics.{NamesOwned, World, log_of, tables_of, disk_of, inode_in, untyped, Shows, KeepsInode, Kept, buffer_in, undertaken, below, whole}
@@ -23,7 +24,8 @@ pub record KeepsRoom (h b : ℕ) (Knows Then : World → Type 0) : Type 0 where
   pub gives : GivesRoom h b Knows
   pub put : (bytes : List ℕ) (r : World) → Knows r → Then (world_with h b bytes r)
 
--- What changed of a hart's, from v to w, where it gave block b of inode n back: its other inodes and n's record stay, and n's other blocks.
+-- What changed of a hart's, from v to w, after it gave block b of inode n back. Its other inodes and n's record stay,
+-- and n's other blocks.
 pub record GaveBlock (h n b : ℕ) (v w : World) : Type 0 where
   pub inodes : (i : ℕ) → i ≢ n → lock_holder i (tables_of v) ≡ Some h → KeepsInode h i v w
   pub lock : lock_holder n (tables_of w) ≡ Some h
@@ -45,7 +47,7 @@ pub record GaveBlock (h n b : ℕ) (v w : World) : Type 0 where
   pub taken : (c : ℕ) → if_kept (w.taken c) h (seen_of (log_of w) c) ≡ if_kept (v.taken c) h (seen_of (log_of v) c)
   pub begun : undertaken h w ≡ undertaken h v
 
--- Where it goes on, from w, with what it knows of v.
+-- How it goes on, from w, with what it knows of v.
 pub record Gave (h n b : ℕ) (Stage : above.World → Type 0) (w v : Both World above.World) : Type 0 where
   pub since : GaveBlock h n b w.real v.real
   pub kept : Kept h w.seen v.seen
@@ -61,12 +63,13 @@ abbrev pub Avoids : ℕ → List ℕ → Type 0
 Avoids b [] = Unit {0}
 Avoids b (c ∷ cs) = (c ≢ b) × Avoids b cs
 
--- each of these that isn't 0 is a data block of inode n, and stands there once
+-- each of these that isn't 0 is a data block of inode n, and occurs there once
 abbrev pub Owns : Super → (ℕ → ℕ) → ℕ → List ℕ → Type 0
 Owns sizes owner n [] = Unit {0}
 Owns sizes owner n (b ∷ bs) = (b ≢ 0 → IsData sizes b × (owner b ≡ n) × Avoids b bs) × Owns sizes owner n bs
 
--- All that it had but blocks of inode n: its other inodes, n's record, the blocks that n has still, its buffers but the bitmap's.
+-- All that it had but blocks of inode n: its other inodes, n's record, the blocks that n has still, its buffers but
+-- the bitmap's.
 pub record GaveBlocks (h n : ℕ) (v w : World) : Type 0 where
   pub inodes : (i : ℕ) → i ≢ n → lock_holder i (tables_of v) ≡ Some h → KeepsInode h i v w
   pub lock : lock_holder n (tables_of w) ≡ Some h
@@ -84,10 +87,9 @@ pub record GaveBlocks (h n : ℕ) (v w : World) : Type 0 where
 
 -- ---- the laws
 
--- The program that gives a block of an inode back does so, whatever the other harts do, where the hart that runs it is changing the inode,
--- and what its
--- transaction has spent has the bitmap: then the block's bit is clear and the block nobody's, and the hart has all else that it had. No
--- operation acts above.
+-- The program that gives a block of an inode back does so, whatever the other harts do. The hart that runs it must be
+-- changing the inode, and what its transaction has spent must have the bitmap. Then the block's bit is clear and the
+-- block nobody's, and the hart has all else that it had. No operation acts above.
 abbrev pub BlocksAreGivenBack : Type 0
 BlocksAreGivenBack =
     (sizes : Super) (h n b : ℕ) (s : Spent) (w : Both World above.World) → h < hart_count → IsChanging h n w.seen → w.seen.keeper n ≡ Some h
@@ -98,7 +100,8 @@ BlocksAreGivenBack =
     → Wp (joined whole (below sizes)) h (λ es. es ≡ []) (λ a es x. (es ≡ []) × Gave h n b (IsChanging h n) w x × HasSpent sizes h s x.real)
     (free_block sizes.bmapstart b) 3 [] w
 
--- So does the program that gives back the blocks with these numbers, which are all that the inode has: then it has none.
+-- So does the program that gives back the blocks with these numbers, which are all that the inode has: then it has
+-- none.
 abbrev pub NumbersAreGivenBack : Type 0
 NumbersAreGivenBack =
     (sizes : Super) (h n : ℕ) (numbers : List ℕ) (s : Spent) (w : Both World above.World) → h < hart_count → IsChanging h n w.seen

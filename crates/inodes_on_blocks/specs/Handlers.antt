@@ -34,7 +34,8 @@ one op m lop answer carry = Do lop (λ a. acts op above.Room m) (λ a. Ret (reco
 
 -- ---- answers
 
--- a directory's reference that a walk drops stays, on the call's list; elsewhere the lock is taken in its place, to free the inode
+-- a directory's reference that a walk drops stays, on the call's list; elsewhere the lock is taken in its place, to
+-- free the inode
 abbrev pub is_listed : DroppedState → Bool
 is_listed Counts = false
 is_listed Keeps = true
@@ -50,7 +51,7 @@ abbrev pub had_of : Option Loaded → Had
 had_of None = Apart
 had_of (Some l) = Has l NothingMore
 
--- the lock of inode n, that is to be freed, came into hand
+-- the lock of inode n, which must be freed, came into hand
 abbrev pub with_dying : ℕ → Carry → DroppedState → Carry
 with_dying n c Counts = c
 with_dying n c Keeps = c
@@ -136,7 +137,7 @@ check_file fd c m = one (CheckFile fd) m (steps.CheckFile want.Write fd) cause_i
 abbrev pub say : Handler Say
 say c m = one Say m steps.Reply (λ a. a) (λ a. c)
 
--- the next descriptor from here on is the child's too, or, where there is none, the directory
+-- the next descriptor from here on is the child's too, or, if there is none, the directory
 abbrev pub lend : (child from : ℕ) → Handler (Lend child from)
 lend child from c m = one (Lend child from) m (steps.GiveDescriptor child from) lent_to (λ a. c)
 
@@ -148,14 +149,14 @@ lend_directory child c m = one (LendDirectory child) m (steps.GiveDescriptor chi
 abbrev pub release : (child : ℕ) → Handler (Release child)
 release child c m = one (Release child) m steps.Reply (λ a. a) (λ a. c)
 
--- a transaction is joined, where the log has room for it
+-- a transaction is joined, if the log has room for it
 abbrev pub join : Handler Join
 join c m = one Join m steps.Join (λ a. a) (λ a. c)
 
--- the same for the inode that a descriptor names, where that may be written
+-- the same for the inode that a descriptor names, if that may be written
 abbrev pub join_file : (fd : ℕ) → Handler (JoinFile fd)
 join_file fd c m = one (JoinFile fd) m (steps.JoinToWrite fd) joining_to (λ a. c)
 
--- it is left, with the commit where one begins
+-- it is left, with the commit if one begins
 abbrev pub leave : Handler Leave
 leave c m = Do steps.Leave (λ a. acts Leave above.Room m) (λ a. holding c (after_leave a))

@@ -13,8 +13,8 @@ pub record HasBuffer (h b : ℕ) (bytes : List ℕ) (w : World) : Type 0 where
   pub holder : holder_of b (log_of w).seats ≡ Some h
   pub has : kept b (log_of w).seats ≡ Some bytes
 
--- Nothing of the hart's changed but block b's buffer: its locks and what those inodes hold, its other buffers, its transaction, its
--- commit, its new inodes.
+-- Nothing of the hart's changed but block b's buffer. Its locks and what those inodes hold stay, and its other
+-- buffers, transaction, commit and new inodes.
 pub record SameBut (h b : ℕ) (v w : World) : Type 0 where
   pub inodes : (i : ℕ) → lock_holder i (tables_of v) ≡ Some h → KeepsInode h i v w
   pub no_more : (i : ℕ) → lock_holder i (tables_of w) ≡ Some h → lock_holder i (tables_of v) ≡ Some h
@@ -27,7 +27,7 @@ pub record SameBut (h b : ℕ) (v w : World) : Type 0 where
   pub begun : undertaken h w ≡ undertaken h v
   pub sizes : (log_of w).sizes ≡ (log_of v).sizes
 
--- Where a hart goes on after a block's buffer came into its hand, from w: what it knows of v.
+-- How a hart goes on after a block's buffer came into its hand, from w: what it knows of v.
 pub record IsFetched (h b : ℕ) (Stage : above.World → Type 0) (w v : Both World above.World) : Type 0 where
   pub since : SameBut h b w.real v.real
   pub kept : Kept h w.seen v.seen
@@ -38,7 +38,7 @@ pub record IsFetched (h b : ℕ) (Stage : above.World → Type 0) (w v : Both Wo
   -- its bytes are those that are seen of the block
   pub buffer : HasBuffer h b (seen_of (log_of v.real) b) v.real
 
--- the same where it was given back as it was
+-- the same if it was given back as it was
 pub record PutBack (h b : ℕ) (Stage : above.World → Type 0) (w v : Both World above.World) : Type 0 where
   pub since : SameBut h b w.real v.real
   pub kept : Kept h w.seen v.seen

@@ -1,8 +1,7 @@
--- What a disk holds of the nodes of a running file system, inode by inode. The blocks are read as recovery leaves them, so with an empty
--- log as
--- they stand.
---   nodes   by number: the live ones, and the dead ones (count 0) that something still refers to
---   owner   by block: the inode that names it, 0 for none
+-- What a disk holds of the nodes of a running file system, inode by inode. The blocks are read as recovery leaves
+-- them: with an empty log, as they are.
+--   - nodes   by number: the live ones, and the dead ones (count 0) that something still refers to
+--   - owner   by block: the inode that names it, 0 for none
 use Rattle.std.specs.Prelude.{◌≡◌, ◌≢◌, ℕ, zero, suc, ◌*◌, ◌<◌, ◌≤◌, ◌≤ℤ◌, pos, Bool, true, false, List, [], ◌∷◌, ◌++◌, length, map, All, Contains, Option, Some, None, if◌then◌else◌, nat_lt}
 use Rattle.inodes_on_blocks.specs.Vocabulary.{Dinode, Dirent, Used, block_len, dirent_len, sizes_of, DirectorySlot as Slot, Node, NodeKind, Directory, File, Device, Tree, is_live, raises, IsOnce, times, inode_of, is_free, numbers_of, numbers_by, named_by, last, block_number, content_of, slots_of, IsData, is_marked, largest_size, UpToLog}
 use Rattle.fs_layout.specs.declared.entry.Dirent.TheVariants.{Free}
@@ -111,7 +110,7 @@ pub record Holds (disk : List (List ℕ)) (nodes : Nodes) (owner : ℕ → ℕ) 
 
 -- ---- the tree
 
--- what is left of a node where only live ones count
+-- a node if it is live, and none else
 abbrev pub live_part : Option Node → Option Node
 live_part v = if is_live v then v else None
 

@@ -1,12 +1,12 @@
 -- The laws that join images and plain trees, and which check of an image gives which part of it.
---   superblock             there are two inodes and more; numbers of nodes lie below their number
---   root                   the root is a live directory, and all harts are in it
---   slots                  "." and ".." stand in front, no name stands twice, and slots name nodes alone
---   one tree               the root is its own ".." and has no other name; each other live directory has one name, in its "..", which is
---                          a live directory and nearer to the root
---   counts                 a live directory's is one more than that of the directories in it, any other node's is that of its names; so
--- what
---                          is dead has none
+--   - superblock   there are two inodes and more; numbers of nodes are below their number
+--   - root         the root is a live directory, and all harts are in it
+--   - slots        "." and ".." are in front, no name occurs twice, and slots name nodes alone
+--   - one tree     the root is its own ".." and has no other name. Each other live directory has one name, in its
+--                  "..". This is a live directory and nearer to the root.
+--   - counts       a live directory's is one more than that of the directories in it. Any other node's is that of its
+--                  names, so what is dead has none.
+--
 -- Nothing is open or held in an image's tree, whatever was checked.
 use Rattle.std.specs.Prelude.{◌≡◌, ℕ, List}
 use Rattle.inodes_on_blocks.specs.Vocabulary.{HasWholeBlocks, sizes_of, Tree, tree_of, IsNamedPart, IsWellFormed, node_of, tree_in}
@@ -18,9 +18,8 @@ use Rattle.inodes_on_blocks.specs.Holds.{Nodes, Holds, AreNodesOf, live_nodes, o
 abbrev pub TreesOfImagesAreWellFormed : Type 0
 TreesOfImagesAreWellFormed = (disk : List (List ℕ)) → IsWellFormed disk → trees.IsWellFormed (tree_of (tree_in disk))
 
--- A disk that is an image of a running tree: it passes all checks, and what it holds is the tree's live nodes with nothing open and all
--- harts
--- in the root; that is the named part of the running tree, and its own.
+-- A disk that is an image of a running tree: it passes all checks. What it holds is the tree's live nodes with
+-- nothing open and all harts in the root. That is the named part of the running tree, and its own.
 pub record IsImageOf (disk : List (List ℕ)) (nodes : Nodes) (t : Tree) : Type 0 where
   pub well_formed : IsWellFormed disk
   pub tree : tree_in disk ≡ at_rest (live_nodes nodes (sizes_of disk).ninodes)

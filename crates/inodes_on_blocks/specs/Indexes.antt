@@ -3,7 +3,7 @@ use Rattle.std.specs.Prelude.{ℕ, Option, slice_index_or, None}
 use Rattle.inodes_on_blocks.specs.Vocabulary.{Dirent, IndexState, IsIndex, Node, all_slots}
 use Rattle.inodes_on_blocks.specs.Holds.{entry_of}
 
--- a slot of a node as it is read; behind the last one they are free
+-- a slot of a node as it is read; after the last one they are free
 abbrev pub slot_read : Option Node → ℕ → Option Dirent
 slot_read v s = entry_of (slice_index_or (all_slots v) s None)
 

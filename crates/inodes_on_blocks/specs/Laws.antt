@@ -4,8 +4,8 @@ use Rattle.inodes_on_blocks.specs.Vocabulary.{HasWholeBlocks, block_at, Super, l
 use Rattle.tree_laws.specs.WellFormed as trees
 use Rattle.inodes_on_blocks.specs.Basics.{HoldsAt, IsImageOf, LeavesOthers, HasOwners, IsTreeOf, AreSeenAlike, IsSeenPut, IsRecoveredSo, is_joined, Ghost, shown, AreOnBlocks}
 
--- With no transaction outstanding the seen blocks are a well-formed image of the tree, and so is each disk that recovery would leave so. A
--- commit that is under way changes nothing that is seen.
+-- With no transaction outstanding the seen blocks are a well-formed image of the tree, and so is each disk that
+-- recovery would leave so. A commit that is under way changes nothing that is seen.
 abbrev pub QuietBlocksAreImages : Type 0
 QuietBlocksAreImages =
     (contents : List (List ℕ)) (seats : List SeatState) (sizes : Super) (members : List (Option ℕ)) (g : Ghost) (t : Tree)
@@ -38,7 +38,7 @@ JoinsKeepThem =
     → AreOnBlocks contents seats sizes members g
     → AreOnBlocks contents seats sizes (slice_set members h (Some k)) g
 
--- It leaves, where it is changing nothing.
+-- It leaves, if it is changing nothing.
 abbrev pub LeavesKeepThem : Type 0
 LeavesKeepThem =
     (contents : List (List ℕ)) (seats : List SeatState) (sizes : Super) (members : List (Option ℕ)) (g : Ghost) (h : ℕ)
@@ -53,7 +53,7 @@ ChangesMayBegin =
     → g.changing i ≡ None → is_joined members h ≡ true
     → AreOnBlocks contents seats sizes members (record g { changing = put g.changing i (Some h) })
 
--- It ends where the inode holds this node, whatever the nodes had for it.
+-- It ends when the inode holds this node, whatever the nodes had for it.
 abbrev pub ChangesMayEnd : Type 0
 ChangesMayEnd =
     (contents : List (List ℕ)) (seats : List SeatState) (sizes : Super) (members : List (Option ℕ)) (g : Ghost) (i h : ℕ) (v : Option Node)
@@ -61,9 +61,8 @@ ChangesMayEnd =
     → g.changing i ≡ Some h → 1 ≤ i → i < sizes.ninodes → HoldsAt (shown contents seats sizes) g.owner i v
     → AreOnBlocks contents seats sizes members (record g { nodes = put g.nodes i v; changing = put g.changing i None })
 
--- A disk with a well-formed image and nothing in its log, of which the cache has nothing else: its nodes are on the seen blocks, and
--- nobody is
--- changing one.
+-- A disk with a well-formed image and nothing in its log, of which the cache has nothing else. Its nodes are on the
+-- seen blocks, and nobody is changing one.
 abbrev pub MountedNodesAreOnBlocks : Type 0
 MountedNodesAreOnBlocks =
     (contents : List (List ℕ)) (seats : List SeatState) (members : List (Option ℕ)) → HasWholeBlocks contents → IsWellFormed contents

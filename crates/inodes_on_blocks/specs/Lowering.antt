@@ -1,4 +1,5 @@
--- The machine below as a layer under the machine of whole inodes: what a hart has in it, and what the others leave of that.
+-- The machine below as a layer under the machine of whole inodes: what a hart has in it, and what the others leave of
+-- that.
 use Rattle.std.specs.Prelude.{◌≡◌, ◌≢◌, ℕ, ◌<◌, List, length, Bool, true, false, Option, Some, None, is_some, slice_get, slice_index_or}
 use Rattle.inode_machine.specs.VersionOne as one
 use Rattle.inodes_on_blocks.specs.Vocabulary.{Dinode, Loaded, Super, count_of, is_held_by, holder_of, kept, has, Phase, Node, DirectorySlot, Name, same_name, all_slots, hart_count, descriptor_count, is_free, Machine, LowerLayer, lock_holder, LogPart, Outside, seen_of, Entry, go, if_kept, is_hart, own_of, Idle, KeepsFiles, Inv}
@@ -72,7 +73,8 @@ pub data Knowledge : Type 0 where
   -- by this descriptor it was locked, whose open file has this offset
   Opened : ℕ → ℕ → Knowledge
 
--- what it has of an inode: nothing, where the lock isn't its own; the record, and what it learned; or that it has freed it
+-- what it has of an inode: nothing, if the lock isn't its own; the record, and what it learned; or that it has freed
+-- it
 pub data Had : Type 0 where
   Apart : Had
   Has : Loaded → Knowledge → Had

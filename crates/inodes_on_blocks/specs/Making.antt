@@ -1,5 +1,5 @@
--- The program below of the operation that takes a new inode. On a disk of these sizes; c: what the hart has of the inodes whose locks it
--- has.
+-- The program below of the operation that takes a new inode. On a disk of these sizes; c: what the hart has of the
+-- inodes whose locks it has.
 use Rattle.std.specs.Prelude.{ℕ, zero, suc, ◌+◌, ◌<◌, ◌^◌, ℤ, List, Option, Some, None}
 use Rattle.inodes_on_blocks.specs.Vocabulary.{Super, Ret, Do, bind, unmarked, Handover, fetch, free_in, inode_blocks, new_record, with_dinode, InodeType, OfDirectory, OfFile, OfDevice, Claim}
 use Rattle.fs_machine.specs.Steps as steps
@@ -21,18 +21,20 @@ pub record HasInodes (sizes : Super) : Type 0 where
 abbrev pub answers : above.ClaimResult → Carry → P (Handover above.ClaimResult Carry)
 answers a c = Ret (record { answer = a; carry = c })
 
--- where so many blocks are still to be looked through, that this one has no free inode decides nothing
+-- a block without a free inode decides nothing, if more blocks must be looked through
 abbrev pub if_last : ℕ → Option Acts → Option Acts
 if_last zero mark = mark
 if_last (suc n) mark = None
 
--- It acts as a block is looked through: where a free inode is picked, where one has no place, and in the last block where there is none.
+-- It acts as a block is looked through. That is if a free inode is picked, if one has no place, and in the last block
+-- if there is none.
 abbrev pub claim_mark : (inode_type : InodeType) → (above.ClaimResult → Option above.Mark) → ℕ → steps.ClaimResult → Option Acts
 claim_mark inode_type m n (steps.Claims i) = acts (Claim inode_type) (above.Picks i) m
 claim_mark inode_type m n steps.NoPlace = acts (Claim inode_type) (above.RoomFor 0) m
 claim_mark inode_type m n steps.NoInode = if_last n (acts (Claim inode_type) above.Room m)
 
--- The inode's record goes into the block with its type; or the block is given back as it was; or it was given back, and it goes on.
+-- The inode's record goes into the block with its type. Or the block is given back as it was; or it was given back,
+-- and it goes on.
 abbrev pub claim_in : P (Handover above.ClaimResult Carry) → ℤ → (b : ℕ) → List ℕ → Carry → steps.ClaimResult
     → P (Handover above.ClaimResult Carry)
 claim_in more kind b block c (steps.Claims i) =
@@ -40,7 +42,7 @@ claim_in more kind b block c (steps.Claims i) =
 claim_in more kind b block c steps.NoPlace = Do (steps.Put b None) unmarked (λ _. answers above.NoPlace c)
 claim_in more kind b block c steps.NoInode = more
 
--- block b, of which q stand before it, and so many behind it
+-- block b, with q blocks before it and n after it
 abbrev pub claim_at : P (Handover above.ClaimResult Carry) → (sizes : Super) (inode_type : InodeType) → Carry
     → (above.ClaimResult → Option above.Mark) → (n q b : ℕ) → List ℕ → P (Handover above.ClaimResult Carry)
 claim_at more sizes inode_type c m n q b block =
@@ -53,7 +55,7 @@ claim_from (suc n) sizes inode_type c m q =
     bind (fetch (sizes.inodestart + q))
     (claim_at (claim_from n sizes inode_type c m (q + 1)) sizes inode_type c m n q (sizes.inodestart + q))
 
--- The table's blocks are looked through, rising: the first free inode without a reference is referred to, and its record put with the type
--- alone.
+-- The table's blocks are looked through, rising: the first free inode without a reference is referred to, and its
+-- record put with the type alone.
 abbrev pub claim : (sizes : Super) (inode_type : InodeType) → Handler (Claim inode_type)
 claim sizes inode_type c m = claim_from (inode_blocks sizes.ninodes) sizes inode_type c m 0

@@ -5,7 +5,7 @@ use Rattle.buffer_cache.specs.Limits.{hart_count}
 use Rattle.inodes_on_blocks.specs.Basics.{owner_in, left_in, World, disk_of, Shows, Stands, nothing}
 use Rattle.inode_machine.specs.World as above
 
--- a disk on which a mount may stand: whole blocks of bytes, a well-formed image, and nothing in its log
+-- a disk that can be mounted: whole blocks of bytes, a well-formed image, and nothing in its log
 pub record IsMountable (disk : List (List ℕ)) : Type 0 where
   pub whole : HasWholeBlocks disk
   pub bytes : HasBytes disk

@@ -1,5 +1,5 @@
--- The programs below of operations that change a directory's entries. On a disk of these sizes; c: what the hart has of the inodes whose
--- locks it has.
+-- The programs below of operations that change a directory's entries. On a disk of these sizes; c: what the hart has
+-- of the inodes whose locks it has.
 use Rattle.std.specs.Prelude.{ℕ, ◌/◌, ◌%◌, if◌then◌else◌, List, Option, Some}
 use Rattle.inodes_on_blocks.specs.Vocabulary.{option_map, unwrap_or, IndexState, Loaded, Named, Searched, search, cleared, with_dirent, with_slot, Super, dirents_per_block, Name, put, same_name, Ret, Do, bind, unmarked, Handover, fetch, FetchedBlock, fetch_block, inode_block, with_dinode, Clear}
 use Rattle.fs_layout.specs.declared.entry.Dirent.TheVariants.{Free}
@@ -8,8 +8,8 @@ use Rattle.inode_machine.specs.World as above
 use Rattle.inodes_on_blocks.specs.Basics.{P, Handler, acts, NothingMore, Finds, Opened, Had, Apart, Has, Emptied, Carry, record_in}
 use Rattle.fs_machine.specs.InMemory.{no_index}
 
--- The inode goes into its block as this record, and the hart has that of it from then on, with this index. There the operation acts, as
--- what lies outside made it.
+-- The inode goes into its block as this record, and the hart has that of it from then on, with this index. There the
+-- operation acts, with what came from outside.
 abbrev pub put_named : (op : above.Op) → above.Outside → (above.Answer op → Option above.Mark) → above.Answer op → (b n : ℕ) → Loaded
     → Carry → List ℕ → P (Handover (above.Answer op) Carry)
 put_named op outside m answer b n l c block =
@@ -46,6 +46,6 @@ abbrev pub clear_slot : (sizes : Super) (n : ℕ) (e : Name) → Carry → (abov
     → P (Handover (above.Answer (Clear n e)) Carry)
 clear_slot sizes n e c m at = bind (fetch_block (record_in c n) (at.0 / dirents_per_block)) (clear_in sizes n e c m at)
 
--- It acts where the record is put.
+-- It acts when the record is put.
 abbrev pub clear : (sizes : Super) (n : ℕ) (e : Name) → Handler (Clear n e)
 clear sizes n e c m = bind (slot_of (c n) e) (clear_slot sizes n e c m)

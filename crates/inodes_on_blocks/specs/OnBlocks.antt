@@ -9,8 +9,8 @@ use Rattle.inodes_on_blocks.specs.Seen.{AreSeen, seen_blocks}
 abbrev pub is_joined : List (Option ℕ) → ℕ → Bool
 is_joined members h = is_some (slice_index_or members h None)
 
--- What is known beside the code's state: the nodes; whose each block is; the bits that the mounted image had set for nothing; which hart is
--- changing an inode, if one is.
+-- What is known beside the code's state. It is the nodes, each block's owner, and the bits that the mounted image had
+-- set for nothing. It is also which hart is changing an inode, if one is.
 pub record Ghost : Type 0 where
   pub nodes : Nodes
   pub owner : ℕ → ℕ

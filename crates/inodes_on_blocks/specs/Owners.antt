@@ -1,10 +1,10 @@
--- Whose each block becomes where one is put: for the proof alone.
+-- Whose each block becomes when one is put: for the proof alone.
 use Rattle.std.specs.Prelude.{ℕ, List, [], Bool, false, ◌&&◌, ◌||◌, not, ◌==◌, nat_lt, if◌then◌else◌, Option, Some, None}
 use Rattle.inodes_on_blocks.specs.Vocabulary.{is_marked, named_by, last, is_hart}
 use Rattle.inodes_on_blocks.specs.Holds.{owner_upto}
 
--- by block: the inode whose it is; whether its bit is set though it is no inode's; and the hart that has set that, until an inode names
--- the block
+-- By block: the inode whose it is, and whether its bit is set though it is no inode's. Then the hart that has set
+-- that, until an inode names the block.
 pub record Owners : Type 0 where
   pub owner : ℕ → ℕ
   pub left : ℕ → Bool
@@ -34,6 +34,6 @@ inode_put lock h new o = record {
   taken = λ b. if is_named lock h new o b then None else o.taken b;
 }
 
--- after a put before the bitmap, of it, or behind it, where `bitmap` is its block
+-- after a put before the bitmap, of it, or after it, with `bitmap` as its block
 abbrev pub owners_put : (lock : ℕ → Option ℕ) → (h bitmap b : ℕ) → (old new : List (List ℕ)) → Owners → Owners
 owners_put lock h bitmap b old new o = if b == bitmap then bits_put h old new o else (if nat_lt b bitmap then inode_put lock h new o else o)

@@ -77,7 +77,7 @@ BytesCanBePut =
     → Becomes disk new owner owner i d (record d { size = max d.size (block_len * k + at + length written) })
     (record { count = count; kind = File (overwrite bytes (block_len * k + at) written) })
 
--- A slot of a directory, or one more behind its last.
+-- A slot of a directory, or one more after its last.
 abbrev pub SlotsCanBePut : Type 0
 SlotsCanBePut =
     (disk new : List (List ℕ)) (owner : ℕ → ℕ) (i s count : ℕ) (slots : List (Option Slot)) (slot : Option Slot) (entry : Dirent)

@@ -1,4 +1,5 @@
--- A put of one block of a disk that holds nodes, by what is put; what it leaves; and an inode that is being changed, before it is put.
+-- A put of one block of a disk that holds nodes, by what is put, and what it leaves. Then an inode that is being
+-- changed, before it is put.
 use Rattle.std.specs.Prelude.{◌≡◌, ◌≢◌, ℕ, suc, ◌+◌, ◌*◌, ◌/◌, ◌%◌, ◌<◌, ◌≤◌, ◌==◌, Bool, List, ◌∷◌, ◌++◌, take, drop, filter, length, slice_index, slice_set, All, Option, if◌then◌else◌}
 use Rattle.inodes_on_blocks.specs.Vocabulary.{Dinode, Dirent, block_len, dirent_len, dirents_per_block, inodes_per_block, overwrite, dinode_at, numbers_in, IsDirent, spell_dirent, recovered, sizes_of, DirectorySlot as Slot, Node, put, IsOnce, direct, inode_of, is_block, numbers_of, block_number, IsData, is_marked}
 use Rattle.inodes_on_blocks.specs.Holds.{HasContent, HasRoom, IsInode, IsOwned, NamesOwned, MarksBlocks, MarksNoOthers}
@@ -10,7 +11,7 @@ pub record IsPut (disk new : List (List ℕ)) (b : ℕ) : Type 0 where
   pub sizes : sizes_of new ≡ sizes_of disk
   pub others : (c : ℕ) → c ≢ b → recovered new c ≡ recovered disk c
 
--- the block that inode i stands in
+-- the block that has inode i's record
 abbrev pub inode_block : List (List ℕ) → ℕ → ℕ
 inode_block disk i = (sizes_of disk).inodestart + i / inodes_per_block
 
@@ -82,11 +83,12 @@ pub record IsSpare (disk : List (List ℕ)) (owner : ℕ → ℕ) (i : ℕ) (d :
   pub owned : IsOwned disk owner i b
   pub unnamed : All (λ c. c ≢ b) (numbers_of disk d)
 
--- the slots with this one at place s, or behind the last
+-- the slots with this one at place s, or after the last
 abbrev pub slots_with : List (Option Slot) → ℕ → Option Slot → List (Option Slot)
 slots_with slots s slot = take s slots ++ slot ∷ drop (suc s) slots
 
--- Inode d, as i's, has become e, which names the same blocks, and its node w. What it owns beside these is what it owned.
+-- Inode d, as i's, has become e, which names the same blocks, and its node w. What it owns beside these is what it
+-- owned.
 pub record Becomes (disk new : List (List ℕ)) (owner owner' : ℕ → ℕ) (i : ℕ) (d e : Dinode) (w : Node) : Type 0 where
   pub laid : IsLaidOut new owner' i e w
   pub numbers : numbers_of new e ≡ numbers_of disk d

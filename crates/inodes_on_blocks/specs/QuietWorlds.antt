@@ -8,10 +8,9 @@ use Rattle.inode_machine.specs.World as above
 abbrev pub IsQuiet : above.World → Type 0
 IsQuiet w = (h : ℕ) → h < hart_count → (w.desks h).joined ≡ false
 
--- Then the seen blocks are a well-formed image of the tree before it settles, whose live part it holds; and so is each disk that recovery
--- would leave so. What
--- has names in it has them in the tree as it settles too. A commit that is under way is in no one's transaction: nothing that is seen
--- changes by it.
+-- Then the seen blocks are a well-formed image of the tree before it settles, whose live part it holds. So is each
+-- disk that recovery would leave so. What has names in it has them in the tree as it settles too. A commit that is
+-- under way is in no one's transaction: nothing that is seen changes by it.
 abbrev pub QuietWorldsAreImages : Type 0
 QuietWorldsAreImages =
     (r : World) (w : above.World) → Shows r w → Inv w → IsQuiet w
@@ -20,7 +19,7 @@ QuietWorldsAreImages =
     → IsWellFormed disk × (tree_in disk ≡ tree_in (disk_of (log_of r))))
     × IsNamedPart (settle w.all) (tree_of (tree_in (disk_of (log_of r))))
 
--- So where every hart rests.
+-- So whenever every hart rests.
 abbrev pub RestingWorldsAreImages : Type 0
 RestingWorldsAreImages =
     (r : World) (w : above.World) → Shows r w → Inv w → ((h : ℕ) → Idle h w)

@@ -7,9 +7,9 @@ use Rattle.fs_machine.specs.declared.files.Want.TheVariants as want
 use Rattle.inode_machine.specs.World as above
 use Rattle.inodes_on_blocks.specs.Basics.{P, Handler, acts, Knowledge, NothingMore, Finds, Has, Carry}
 
--- ---- what a record tells
+-- ---- what a record says
 
--- its type, by the number that stands for it; a device's with the major
+-- its type, by its number; a device's with the major
 abbrev pub inode_type_at : (kind major : ℤ) → InodeType
 inode_type_at kind major = if is_number 1 kind then OfDirectory else (if is_number 2 kind then OfFile else OfDevice major)
 
@@ -20,7 +20,7 @@ natural (negsuc n) = 0
 abbrev pub face_in : Dinode → Face
 face_in d = record { inode_type = inode_type_at d.kind d.major; count = natural d.nlink; size = d.size }
 
--- ---- a descriptor's inode, locked to tell its state
+-- ---- a descriptor's inode, locked to answer its state
 
 -- the record in hand, and the answer by it
 abbrev pub stat_loaded : Carry → (n : ℕ) → Loaded → P (Handover (Option (ℕ × Face)) Carry)
@@ -30,7 +30,7 @@ abbrev pub stat_locked : Super → Carry → LockedState → P (Handover (Option
 stat_locked sizes c (Refuses why) = Ret (record { answer = None; carry = c })
 stat_locked sizes c (Locks f content) = bind (load_unless sizes.inodestart f.number content) (stat_loaded c f.number)
 
--- It acts where the lock is had: the inode that was seen then nobody else changes.
+-- It acts when the lock is taken: nobody else changes the inode that was seen then.
 abbrev pub stat_file : Super → (fd : ℕ) → Handler (StatFile fd)
 stat_file sizes fd c m = Do (LockFile want.Stat fd) (λ a. acts (StatFile fd) above.Room m) (stat_locked sizes c)
 
@@ -40,7 +40,7 @@ stat_file sizes fd c m = Do (LockFile want.Stat fd) (λ a. acts (StatFile fd) ab
 abbrev pub number_found : Option Found → Option ℕ
 number_found o = option_map (λ f. f.number) o
 
--- a slot that is used past the first two: where the inode is no directory there is none
+-- a slot that is used past the first two: if the inode is no directory there is none
 abbrev pub search_entries : Loaded → P Searched
 search_entries l = if is_directory l.inode then search Entry l else Ret (record { found = None; index = l.index })
 
@@ -65,7 +65,7 @@ looked (AtName e) c n l =
 looked AtEntries c n l =
     bind (search_entries l) (λ o. seen_record c n (record l { index = o.index }) NothingMore None (not (is_some o.found)))
 
--- It acts where the lock is had, as the other one does.
+-- It acts when the lock is taken, as the other one does.
 abbrev pub take : Super → (n : ℕ) → (looking : Query) → Handler (Take n looking)
 take sizes n looking c m =
     Do (Lock n) (λ a. acts (Take n looking) above.Room m) (λ content. bind (load_unless sizes.inodestart n content) (looked looking c n))

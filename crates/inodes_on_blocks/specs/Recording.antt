@@ -1,4 +1,5 @@
--- Blocks recorded by the hart that has an inode's lock, in its transaction: what it may record, and what such a put leaves.
+-- Blocks recorded by the hart that has an inode's lock, in its transaction: what it may record, and what such a put
+-- leaves.
 use Rattle.std.specs.Prelude.{◌≡◌, ◌≢◌, ◌⊎◌, ℕ, ◌<◌, ◌≤◌, List, length, true, false, Some, IsSome, None, Contains}
 use Rattle.inodes_on_blocks.specs.Vocabulary.{Dinode, bit_of, IsBytes, IsDinode, sizes_of, block_len, holder_of, kept, has, HasRoom, IsHome, Halted, IsData, is_marked, numbers_by, LogPart, Outside, put_block, seen_of, Put, After, with_bit, without_bit, inode_block, with_dinode, if_kept}
 use Rattle.inodes_on_blocks.specs.Basics.{HoldsAt, MarksBlocks, MarksNoOthers, IsBitPut, IsUntouched, HasOwners, is_joined, Owners, World, log_of, disk_of, owners_after, exec, Shows, TakenShow, Same}
@@ -40,8 +41,8 @@ pub record IsChanging (h n : ℕ) (g : above.World) : Type 0 where
 
 -- ---- the laws
 
--- A put that leaves the others' inodes so may be made, shows the same world above, in which the inode is being changed, and keeps what is
--- another hart's.
+-- A put that leaves the others' inodes so may be made, and keeps what is another hart's. It shows the same world
+-- above, in which the inode is being changed.
 abbrev pub RecordedPutsKeep : Type 0
 RecordedPutsKeep =
     (h b n : ℕ) (bytes : List ℕ) (r : World) (g : above.World) (x : Outside) → Shows r g → IsChanging h n g → CanPut h b bytes (log_of r)
@@ -100,7 +101,7 @@ NamingPutsLeave =
     → ((owners_with h (inode_block (log_of r).sizes.inodestart n) (with_record n d r) r).owner c ≡ n)
     × ((owners_with h (inode_block (log_of r).sizes.inodestart n) (with_record n d r) r).taken c ≡ None))
 
--- A block is marked where its bit is set in the bitmap as it is seen.
+-- A block is marked just if its bit is set in the bitmap as it is seen.
 abbrev pub MarksAreBits : Type 0
 MarksAreBits = (r : World) (g : above.World) → Shows r g → (c : ℕ)
     → is_marked (disk_of (log_of r)) c ≡ bit_of (seen_of (log_of r) (log_of r).sizes.bmapstart) c

@@ -1,7 +1,8 @@
--- The blocks of a running file system: each inode holds its node, but for those that a hart is changing in its transaction.
---   left       by block: a bit that the mounted image had set and that nothing named
---   changing   by inode: the hart that is changing it, if one is
---   joined     the harts that are in a transaction
+-- The blocks of a running file system: each inode holds its node, but for those that a hart is changing in its
+-- transaction.
+--   - left       by block: a bit that the mounted image had set and that nothing named
+--   - changing   by inode: the hart that is changing it, if one is
+--   - joined     the harts that are in a transaction
 use Rattle.std.specs.Prelude.{◌≡◌, ℕ, ◌<◌, ◌≤◌, Bool, true, ◌&&◌, ◌==◌, List, Option, Some, None}
 use Rattle.inodes_on_blocks.specs.Vocabulary.{HasWholeBlocks, sizes_of, Node, Hold, hart_count, Tree, IsData, is_marked, UpToLog}
 use Rattle.inodes_on_blocks.specs.Holds.{Nodes, HoldsAt, MarksBlocks, MarksNoOthers, live_part, owner_in}
@@ -35,6 +36,6 @@ pub record IsTreeOf (t : Tree) (ninodes : ℕ) (nodes : Nodes) (joined : ℕ →
   pub live : (n : ℕ) → live_part (t.nodes n) ≡ live_part (nodes n)
   pub raisers : (h : ℕ) (o : Hold) → h < hart_count → t.holds h ≡ Some o → o.raised ≡ true → joined h ≡ true
 
--- the bits of an image that stand for no block which an inode names
+-- the bits that an image has set for blocks which no inode names
 abbrev pub left_in : List (List ℕ) → ℕ → Bool
 left_in disk b = is_marked disk b && (owner_in disk b == 0)

@@ -34,14 +34,15 @@ ChangedNodesMayBeAny =
     → IsRunning disk nodes owner left changing joined → changing i ≡ Some h → 1 ≤ i → i < (sizes_of disk).ninodes
     → IsRunning disk (put nodes i v) owner left changing joined
 
--- It ends where the inode holds its node again.
+-- It ends when the inode holds its node again.
 abbrev pub ChangesMayEnd : Type 0
 ChangesMayEnd =
     (disk : List (List ℕ)) (nodes : Nodes) (owner : ℕ → ℕ) (left : ℕ → Bool) (changing : ℕ → Option ℕ) (joined : ℕ → Bool) (i : ℕ)
     → IsRunning disk nodes owner left changing joined → HoldsAt disk owner i (nodes i)
     → IsRunning disk nodes owner left (put changing i None) joined
 
--- A put for an inode that is being changed keeps all this: of its data block, of itself, of a bit for a block that it takes or gives back.
+-- A put for an inode that is being changed keeps all this. It is a put of its data block, of itself, or of a bit for
+-- a block that it takes or gives back.
 abbrev pub PutsKeepRunning : Type 0
 PutsKeepRunning =
     (disk new : List (List ℕ)) (nodes : Nodes) (owner owner' : ℕ → ℕ) (left : ℕ → Bool) (changing : ℕ → Option ℕ) (joined : ℕ → Bool)

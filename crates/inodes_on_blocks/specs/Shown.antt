@@ -31,7 +31,8 @@ unless_new (Some h) v = None
 abbrev pub on_blocks : (ℕ → Option ℕ) → (ℕ → Option Node) → ℕ → Option Node
 on_blocks new nodes n = unless_new (new n) (nodes n)
 
--- Until then its record is free, and not loaded; that hart keeps it, which is in a transaction, and nobody has its lock.
+-- Until then its record is free, and not loaded; that hart keeps it, which is in a transaction, and nobody has its
+-- lock.
 pub record IsNew (n h : ℕ) (l : LogPart) (lock keeper : ℕ → Option ℕ) (load : ℕ → Option Loaded) : Type 0 where
   pub low : 1 ≤ n
   pub bound : n < l.sizes.ninodes
@@ -41,9 +42,8 @@ pub record IsNew (n h : ℕ) (l : LogPart) (lock keeper : ℕ → Option ℕ) (l
   pub joined : is_joined l.members h ≡ true
   pub unloaded : load n ≡ None
 
--- What is loaded of an inode is as it is seen. One without links, to which a reference stands and which no hart keeps, is loaded; of one
--- without a type
--- nothing is.
+-- What is loaded of an inode is as it is seen. One without links that has a reference and that no hart keeps is
+-- loaded. Of one without a type nothing is.
 pub record LoadsShow (load : ℕ → Option Loaded) (l : LogPart) (refs : ℕ → ℕ) (lock keeper : ℕ → Option ℕ)
     (nodes : ℕ → Option Node) : Type 0 where
   pub seen : (n : ℕ) (d : Loaded) → load n ≡ Some d → d.inode ≡ inode_in l n
@@ -67,7 +67,7 @@ CommitShows (Some h) phase = phase ≢ Open
 
 -- ---- open files
 
--- one stands no further than a content may be long
+-- an offset is no further than a content may be long
 abbrev pub OffsetsShow : (ℕ → Option Entry) → Type 0
 OffsetsShow files = (k : ℕ) (e : Entry) → files k ≡ Some e → e.file.offset ≤ largest_size
 

@@ -54,7 +54,7 @@ file_of e =
       offset = e.file.offset;
     }
 
--- what is told of a file that is opened
+-- what is recorded of a file that is opened
 abbrev pub new_file : OpenFile → InodeType → NewFile
 new_file f inode_type = record { kind = kind_of inode_type; readable = f.readable; writable = f.writable }
 
@@ -135,8 +135,8 @@ pub record Shows (t : TablesState) (w : World) (load : ℕ → Option Loaded) : 
   -- what is referred to is an inode
   pub range : (n : ℕ) → 0 < w.refs n → (1 ≤ n) × (n < w.all.ninodes)
 
--- A step of the tables and an operation on whole inodes came to the same: both wait, or both ran, with answers that go
--- together, and the tables show the world again.
+-- A step of the tables and an operation on whole inodes agree. Both wait, or both ran, with answers that go together,
+-- and the tables show the world again.
 abbrev pub BothCame : {A B : Type 0} → (A → B → Type 0) → (A → ℕ → Option Loaded) → ExecResult A TablesState → ExecResult B World → Type 0
 BothCame Fits load Waits Waits = Unit {0}
 BothCame Fits load (Ran a t) (Ran b w) = Fits a b × Shows t w (load a)

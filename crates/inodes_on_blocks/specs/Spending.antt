@@ -21,14 +21,15 @@ recorded_blocks l = record { Spent = Spent; after = spent_after; Allowed = λ s.
 abbrev pub NoMore : Spent → Spent → Type 0
 NoMore s t = (l : LogPart) → used l s ≤ used l t
 
--- where s was spent before the step, r is after it: a block that s names is recorded, or one more; a transaction begins with nothing
+-- If s was spent before the step, r is after it. A block that s names is recorded, or one more; a transaction begins
+-- with nothing.
 abbrev pub LeadsTo : Super → Spent → steps.Op → Spent → Type 0
 LeadsTo sizes s (steps.Put b (Some bytes)) r = (IsSpent sizes s b × (r ≡ s)) ⊎ (r ≡ with_contents 1 s)
 LeadsTo sizes s steps.Join r = r ≡ unspent
 LeadsTo sizes s (steps.JoinToWrite fd) r = r ≡ unspent
 LeadsTo sizes s op r = r ≡ s
 
--- from s on the program comes to no more than t, whatever its steps answer
+-- from s on the program spends no more than t, whatever its steps answer
 abbrev pub Records : Super → {A : Type 0} → Spent → P A → Spent → Type 0
 Records sizes s (Ret a) t = NoMore s t
 Records sizes s (Do op m k) t =
@@ -72,9 +73,9 @@ pub record ProgramsSpend (sizes : Super) : Type 0 where
 
 -- ---- within a call's transactions
 
--- whatever the operation alone is shown to do above, under any history, this program does below, where the hart's transaction has spent no
--- more than s, and s with
--- what the operation spends is no more than it may; and then it has spent no more than that
+-- Whatever the operation alone is shown to do above, under any history, this program does below. The hart's
+-- transaction must have spent no more than s, and s with what the operation spends must be no more than it may. After
+-- it the transaction has spent no more than that.
 abbrev pub ActsWithin : Super → (l : Labels) → ℕ → (op : above.Op) → (above.Answer op → Option above.Mark) → Handler op → Type 1
 ActsWithin sizes l h op m p =
     (c : Carry) (s : Spent) (B : List l.Step → Type 0) (C : above.Answer op → List l.Step → above.World → Type 0) (es : List l.Step)
@@ -94,7 +95,8 @@ DoesItWithin sizes op p =
     → Wp (joined whole (below sizes)) h (IsDone op)
     (λ r es u. Below whole (below sizes) h (Answers op) r es u × HasSpent sizes h (spent_after op s) u.real) (p c m) (suc (more op)) [] w
 
--- A program that records what its operation spends, and does it where the transaction has room for that, leaves no more spent.
+-- A program that records what its operation spends leaves no more spent, if it does the operation when the
+-- transaction has room for that.
 abbrev pub ProgramsStayWithin : Type 0
 ProgramsStayWithin =
     (sizes : Super) (op : above.Op) (p : Handler op) → Spends sizes op p → DoesItSpending sizes op p → DoesItWithin sizes op p

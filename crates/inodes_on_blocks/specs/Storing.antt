@@ -1,5 +1,5 @@
--- The programs below of operations that change an inode's record. On a disk of these sizes; c: what the hart has of the inodes whose locks
--- it has.
+-- The programs below of operations that change an inode's record. On a disk of these sizes; c: what the hart has of
+-- the inodes whose locks it has.
 use Rattle.std.specs.Prelude.{ℕ, pos, List, Option, Some}
 use Rattle.inodes_on_blocks.specs.Vocabulary.{unwrap_or, IndexState, Loaded, Super, Dinode, unindexed, put, Ret, Do, bind, Handover, fetch, no_record, inode_block, with_dinode, Store}
 use Rattle.fs_machine.specs.Steps as steps

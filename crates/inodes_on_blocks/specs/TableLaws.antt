@@ -8,7 +8,7 @@ use Rattle.inode_machine.specs.VersionOne.{seen_in}
 use Rattle.inodes_on_blocks.specs.Basics.{loaded, BothCame, Runs, file_of, new_file, doubled_as, shut_as, given_as, refused_as}
 use Rattle.inodes_on_blocks.specs.ShownTables.{Shows}
 
--- a lock is tried of an inode to which a reference stands; it answers what is loaded
+-- the lock of an inode that has a reference is tried; it answers what is loaded
 abbrev pub LocksAreTaken : Type 0
 LocksAreTaken =
     (h n : ℕ) (looking : Query) (t : TablesState) (w : World) (load : ℕ → Option Loaded) → Shows t w load → 0 < w.refs n
@@ -21,7 +21,7 @@ LocksAreGiven =
     (h : ℕ) (v : Inode) (t : TablesState) (w : World) (load : ℕ → Option Loaded) → Shows t w load → w.lock v.number ≡ Some h
     → Shows (unlock_inode h v None t) (record w { lock = put w.lock v.number None }) (put load v.number v.content)
 
--- One reference more to an inode, where there is a place for it; to a path's start.
+-- One reference more to an inode, if there is a place for it; to a path's start.
 abbrev pub TablesCountReferences : Type 0
 TablesCountReferences =
     (h n : ℕ) (t : TablesState) (w : World) (load : ℕ → Option Loaded) → Shows t w load → 1 ≤ n → n < w.all.ninodes
@@ -39,7 +39,7 @@ DirectoriesAreStarts =
     (h : ℕ) (t : TablesState) (w : World) (load : ℕ → Option Loaded) → Shows t w load → h < hart_count
     → up_directory h t ≡ up_inode (start_number (w.desks h) false) t
 
--- One reference less. Where it is the last one nobody has the lock, and what is loaded tells whether the inode has links.
+-- One reference less. If it is the last one nobody has the lock, and what is loaded says whether the inode has links.
 pub record MayDie (n : ℕ) (w : World) (load : ℕ → Option Loaded) : Type 0 where
   pub some : 0 < w.refs n
   pub free : w.refs n ≡ 1 → w.lock n ≡ None
@@ -69,7 +69,7 @@ PlacesAreTaken =
     (h : ℕ) (t : TablesState) (w : World) (load : ℕ → Option Loaded) → Shows t w load → Runs h w → (w.desks h).hand ≡ None
     → BothCame (λ a b. a ≡ b) (λ a. load) (take_place h t) (exec h Room Slot w)
 
--- A file is opened there, at its beginning, by the lowest free descriptor; where there is none the place is given back.
+-- A file is opened there, at its beginning, by the lowest free descriptor; if there is none the place is given back.
 abbrev pub FilesAreOpened : Type 0
 FilesAreOpened =
     (h : ℕ) (f : OpenFile) (inode_type : InodeType) (t : TablesState) (w : World) (load : ℕ → Option Loaded) → Shows t w load
@@ -103,7 +103,7 @@ DescriptorsNameFiles =
     × (refusal_of want.Read (file_named h fd t) ≡ option_map refused_as (read_refused (entry_of w h fd)))
     × (refusal_of want.Write (file_named h fd t) ≡ option_map refused_as (write_refused (entry_of w h fd)))
 
--- The lock of the inode that a descriptor names is tried, to tell its state.
+-- The lock of the inode that a descriptor names is tried, to answer its state.
 abbrev pub FitsStat : (load : ℕ → Option Loaded) → Option Entry → LockedState → Type 0
 FitsStat load None a = a ≡ Refuses refused.BadDescriptor
 FitsStat load (Some e) a = a ≡ Locks (file_of e) (load e.file.number)
@@ -137,7 +137,7 @@ OffsetsAreMoved =
     → Shows (unlock_inode h v (Some (fd, e.file.offset + by)) t)
     (with_offset (record w { lock = put w.lock v.number None }) (slot_at w h fd) e by) (put load v.number v.content)
 
--- A hart's next descriptor is handed on to the child that it serves, or its directory where it has none.
+-- A hart's next descriptor is handed on to the child that it serves, or its directory if it has none.
 abbrev pub DescriptorsAreGiven : Type 0
 DescriptorsAreGiven =
     (h child from : ℕ) (t : TablesState) (w : World) (load : ℕ → Option Loaded) → Shows t w load → Inv w → Runs h w
@@ -151,7 +151,7 @@ DirectoriesAreGiven =
     → Asks h (LendDirectory child) w
     → BothCame (λ a b. a ≡ given.Directory b) (λ a. load) (give_next h child descriptor_count t) (exec h Room (LendDirectory child) w)
 
--- Where the child is released the tables stay.
+-- When the child is released the tables stay.
 abbrev pub ChildrenAreReleased : Type 0
 ChildrenAreReleased = (h child : ℕ) (t : TablesState) (w : World) (load : ℕ → Option Loaded) → Shows t w load → Inv w → Runs h w
     → Asks h (Release child) w → Shows t (released w h child) load

@@ -1,4 +1,4 @@
--- A block taken between two operations above: where the hart that is changing an inode goes on.
+-- A block taken between two operations above: how the hart that is changing an inode goes on.
 use Rattle.std.specs.Prelude.{◌≡◌, ◌≢◌, ℕ, true, ◌<◌, [], Option, Some, None}
 use Rattle.inodes_on_blocks.specs.Vocabulary.{Dinode, Super, recovered, Node, hart_count, IsData, is_marked, Wp, Both, joined, lock_holder, zeros, take_block, Spent, size, with_contents, most_recorded}
 use Rattle.inodes_on_blocks.specs.Basics.{HasContent, World, log_of, tables_of, disk_of, inode_in, Shows, Kept, Carry, InHand, Stands, below, whole}
@@ -15,8 +15,8 @@ pub record HasTaken (sizes : Super) (h b : ℕ) (r : World) : Type 0 where
   pub unowned : r.owner b ≡ 0
   pub zeros_are : recovered (disk_of (log_of r)) b ≡ zeros
 
--- Where it goes on, from w, at v: it is changing inode n still, whose record d names what it named, with the same content; and has its
--- other inodes, and no buffer.
+-- How it goes on, from w, at v. It is changing inode n still, whose record d names what it named, with the same
+-- content. It has its other inodes, and no buffer.
 pub record ChangesStill (h n : ℕ) (c : Carry) (d : Dinode) (x : Node) (w v : Both World above.World) : Type 0 where
   pub changing : IsChanging h n v.seen
   pub kept : Kept h w.seen v.seen
@@ -30,9 +30,9 @@ abbrev pub TookOne : Super → ℕ → Spent → Option ℕ → World → Type 0
 TookOne sizes h s None r = HasSpent sizes h s r
 TookOne sizes h s (Some b) r = HasTaken sizes h b r × HasSpent sizes h (with_contents 1 s) r
 
--- The program that takes a block does so for an inode that the hart is changing, whatever the other harts do, where what its transaction
--- has spent has the bitmap and
--- is less than ten blocks; or no block is free. No operation acts above.
+-- The program that takes a block does so for an inode that the hart is changing, whatever the other harts do. Or no
+-- block is free. What its transaction has spent must have the bitmap and be less than ten blocks. No operation acts
+-- above.
 abbrev pub BlocksAreTaken : Type 0
 BlocksAreTaken =
     (sizes : Super) (h n : ℕ) (c : Carry) (x : Node) (s : Spent) (w : Both World above.World) → h < hart_count → IsChanging h n w.seen

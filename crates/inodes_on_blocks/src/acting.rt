@@ -10,7 +10,7 @@ pub fn gives_act_once()
     ensures { (n : ℕ) → DoesIt (UnlockInode n) (give n) }
 {}
 
-/// And so where the inode becomes the hart's directory.
+/// And so if the inode becomes the hart's directory.
 pub fn settles_act_once()
     ensures { (n : ℕ) → DoesIt (SetDirectory n) (settle n) }
 {}
@@ -70,12 +70,13 @@ pub fn replies_act_once()
     ensures { DoesIt Say say }
 {}
 
-/// A transaction joined is one step, which waits where the log has no room.
+/// A transaction joined is one step, which waits if the log has no room.
 pub fn joins_act_once()
     ensures { DoesIt Join join }
 {}
 
-/// A transaction is left in one step; the writes of the commit that it begins are further steps, of which nothing is seen.
+/// A transaction is left in one step; the writes of the commit that it begins are further steps, of which nothing is
+/// seen.
 pub fn leaves_act_once()
     ensures { DoesIt Leave leave }
 {}
@@ -85,7 +86,7 @@ pub fn file_joins_act_once()
     ensures { (fd : ℕ) → DoesIt (JoinFile fd) (join_file fd) }
 {}
 
-/// The next descriptor handed on to a child is one step, or the directory where there is no descriptor.
+/// The next descriptor handed on to a child is one step, or the directory if there is no descriptor.
 pub fn lends_act_once()
     ensures { (child from : ℕ) → DoesIt (Lend child from) (lend child from) }
 {}

@@ -6,8 +6,8 @@ ghost use Rattle.inodes_on_blocks.specs.Files.{lock_file, lock_open, read_file};
 ghost use Rattle.inodes_on_blocks.specs.Acting.{DoesItAt};
 ghost use Rattle.inodes_on_blocks.specs.Writing.{WritesActOnce};
 
-/// The lock of what a descriptor names is taken to read it, at the moment at which it is had, and the inode read from its block
-/// behind that, where it isn't loaded; or the read is refused.
+/// The lock of what a descriptor names is taken to read it, and there the operation acts. After that the inode is
+/// read from its block, if it isn't loaded. Or the read is refused.
 pub fn locks_to_read_act_once()
     ensures { (sizes : Super) (fd : ℕ) → DoesItAt sizes (LockFile fd) (lock_file sizes fd) }
 {}
@@ -22,9 +22,9 @@ pub fn reads_act_once()
     ensures { (sizes : Super) (fd n offset count : ℕ) → DoesItAt sizes (ReadFile fd n offset count) (read_file fd n offset count) }
 {}
 
-/// A piece is written into a file, the blocks found or taken and then the record put, where nothing refuses it; it acts where the lock
-/// is given up, and the offset moves to where the bytes end that were written: all of them, or those before the block for which
-/// none was free.
+/// If nothing refuses it, a piece is written into a file: the blocks are found or taken, and then the record is put.
+/// It acts when the lock is given up, and the offset moves to the end of the written bytes. These are all bytes, or
+/// those before the block for which none was free.
 pub fn writes_act_once()
     ensures { (sizes : Super) → WritesActOnce sizes }
 {}

@@ -1,8 +1,9 @@
-//! The nodes of a running file system on the blocks that its log shows: what always holds of them, which puts and calls of
-//! the log keep it, and that they are a well-formed image of the tree whenever no transaction is outstanding.
+//! The nodes of a running file system on the blocks that its log shows. The laws say what always holds of them, and
+//! which puts and calls of the log keep it. They are a well-formed image of the tree whenever no transaction is
+//! outstanding.
 //!
-//! Beside them the tables that all harts share, each step of which is an operation on whole inodes, and the laws that join images
-//! and plain trees. The functions do nothing: each carries a law.
+//! Beside them are the tables that all harts share, each step of which is an operation on whole inodes. Other laws
+//! join images and plain trees. The functions do nothing: each carries a law.
 #![tactic(auto)]
 
 pub mod acting;
@@ -24,8 +25,8 @@ ghost use Rattle.inodes_on_blocks.specs.QuietWorlds.{QuietWorldsAreImages, Resti
 ghost use Rattle.inodes_on_blocks.specs.TableLaws.{ChildrenAreReleased, DescriptorsAreDoubled, DescriptorsAreGiven, DescriptorsAreShut, DescriptorsNameFiles, DirectoriesAreGiven, DirectoriesAreSettled, DirectoriesAreStarts, FilesAreLocked, FilesAreLockedToRead, FilesAreOpened, FreshTablesShow, LocksAreGiven, LocksAreTaken, OffsetsAreMoved, PlacesAreTaken, TablesCountReferences, ReferencesAreDropped, StartsAreCounted, WalksDropReferences};
 ghost use Rattle.inodes_on_blocks.specs.ImageLaws.{HeldTreesAreImages, ImagesHoldTheirTrees, TreesOfImagesAreWellFormed};
 
-/// Whenever no transaction is outstanding, the seen blocks are a well-formed image of the tree, and so is each disk that
-/// recovery would leave so.
+/// Whenever no transaction is outstanding, the seen blocks are a well-formed image of the tree, and so is each disk
+/// that recovery would leave so.
 pub fn quiet_blocks_are_images()
     ensures { QuietBlocksAreImages }
 {}
@@ -35,7 +36,8 @@ pub fn records_keep_them()
     ensures { RecordsKeepThem }
 {}
 
-/// What changes nothing that is seen outside the log keeps them: a buffer that is got, read or given back, a step of a commit.
+/// What changes nothing that is seen outside the log keeps them: a buffer that is got, read or given back, a step of
+/// a commit.
 pub fn unseen_changes_keep_them()
     ensures { UnseenChangesKeepThem }
 {}
@@ -55,7 +57,7 @@ pub fn changes_may_begin()
     ensures { ChangesMayBegin }
 {}
 
-/// A change ends where the inode holds a node, which is then its node.
+/// A change ends when the inode holds a node, which is then its node.
 pub fn changes_may_end()
     ensures { ChangesMayEnd }
 {}
@@ -70,24 +72,25 @@ pub fn mounts_show_their_trees()
     ensures { MountsShowTheirTrees }
 {}
 
-/// Whenever nobody is in a transaction the seen blocks are an image of the tree above, and so is each disk that recovery would
-/// leave so.
+/// Whenever nobody is in a transaction the seen blocks are an image of the tree above. So is each disk that recovery
+/// would leave so.
 pub fn quiet_worlds_are_images()
     ensures { QuietWorldsAreImages }
 {}
 
-/// So wherever every hart rests.
+/// So whenever every hart rests.
 pub fn resting_worlds_are_images()
     ensures { RestingWorldsAreImages }
 {}
 
-/// What a call's program may spend is room for its recorded puts: while the transaction has added no more to the group, each
-/// block that it says may be recorded, and then it has added no more still.
+/// What a call's program may spend is room for its recorded puts. While the transaction has added no more to the
+/// group, each block that it says may be recorded, and then it has added no more still.
 pub fn transactions_have_room()
     ensures { TransactionsHaveRoom }
 {}
 
-/// Wherever the machine below shows a world that holds, each reference of an open file or a current directory is counted.
+/// Whenever the machine below shows a world that holds, each reference of an open file or a current directory is
+/// counted.
 pub fn references_are_counted()
     ensures { ReferencesAreCounted }
 {}
@@ -97,7 +100,7 @@ pub fn waits_for_others()
     ensures { WaitsForOthers }
 {}
 
-/// The lock of a referenced inode is tried: it waits where the operation does, and else answers what is loaded.
+/// The lock of a referenced inode is tried: it waits if the operation does, and else answers what is loaded.
 pub fn locks_are_taken()
     ensures { LocksAreTaken }
 {}
@@ -107,7 +110,7 @@ pub fn locks_are_given()
     ensures { LocksAreGiven }
 {}
 
-/// A reference more is counted exactly where the operation finds a place in memory, and answered so.
+/// A reference more is counted just if the operation finds a place in memory, and the answer says so.
 pub fn tables_count_references()
     ensures { TablesCountReferences }
 {}
@@ -117,7 +120,7 @@ pub fn starts_are_counted()
     ensures { StartsAreCounted }
 {}
 
-/// A hart's current directory is where its relative paths start.
+/// A hart's relative paths start at its current directory.
 pub fn directories_are_starts()
     ensures { DirectoriesAreStarts }
 {}
@@ -147,7 +150,7 @@ pub fn descriptors_are_doubled()
     ensures { DescriptorsAreDoubled }
 {}
 
-/// A descriptor is shut, and its open file goes with the last one that names it, of any hart, or is on its way to one.
+/// A descriptor is shut. Its open file goes with the last one that names it, of any hart, or is on its way to one.
 pub fn descriptors_are_shut()
     ensures { DescriptorsAreShut }
 {}
@@ -157,7 +160,7 @@ pub fn directories_are_settled()
     ensures { DirectoriesAreSettled }
 {}
 
-/// A descriptor names the file that the operations see behind it, and is refused for what they refuse.
+/// A descriptor names the file that the operations see by it, and is refused for what they refuse.
 pub fn descriptors_name_files()
     ensures { DescriptorsNameFiles }
 {}
@@ -167,7 +170,7 @@ pub fn files_are_locked()
     ensures { FilesAreLocked }
 {}
 
-/// So it is to read of it, where that isn't refused.
+/// So it is to read of it, if that isn't refused.
 pub fn files_are_locked_to_read()
     ensures { FilesAreLockedToRead }
 {}
@@ -177,7 +180,7 @@ pub fn offsets_are_moved()
     ensures { OffsetsAreMoved }
 {}
 
-/// A hart's next descriptor is the child's too, or, where it has none, its directory; the child's old one is answered.
+/// A hart's next descriptor is the child's too, or, if it has none, its directory; the child's old one is answered.
 pub fn descriptors_are_given()
     ensures { DescriptorsAreGiven }
 {}
@@ -187,7 +190,7 @@ pub fn directories_are_given()
     ensures { DirectoriesAreGiven }
 {}
 
-/// Where a child is released the tables show the world as before.
+/// When a child is released the tables show the world as before.
 pub fn children_are_released()
     ensures { ChildrenAreReleased }
 {}
@@ -197,13 +200,13 @@ pub fn fresh_tables_show()
     ensures { FreshTablesShow }
 {}
 
-/// The tree of an image that passes the twelve checks is well formed: one tree of directories under the root, in which
-/// each count is the number of names, with nothing open and all harts in the root.
+/// The tree of an image that passes the twelve checks is well formed: one tree of directories under the root. In it
+/// each count is the number of names, nothing is open, and all harts are in the root.
 pub fn trees_of_images_are_well_formed()
     ensures { TreesOfImagesAreWellFormed }
 {}
 
-/// A disk that holds the nodes of a running tree passes the twelve checks, and its tree has just the live ones: the named
+/// A disk that holds the nodes of a running tree passes the twelve checks. Its tree has just the live ones: the named
 /// part of the running tree.
 pub fn held_trees_are_images()
     ensures { HeldTreesAreImages }

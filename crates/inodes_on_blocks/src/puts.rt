@@ -2,7 +2,7 @@
 
 ghost use Rattle.inodes_on_blocks.specs.PutLaws.{BlocksCanBeGivenBack, BlocksCanBeTaken, BytesCanBePut, CountsCanChange, DeadNodesMayGo, DirectNumbersCanBeSet, EmptyInodesAreLaidOut, FreedInodesAreHeld, HeldNodesAreLaidOut, InodePutsLeaveOthers, NoBlockIsOwed, NumbersCanBePut, PutNodesAreHeld, PutsLeaveOthers, SlotsCanBePut, SparesCanBePut, TablesCanBeSet, UntouchedChangesAreKept, UntouchedInodesAreKept};
 
-/// What an inode holds lies in the inode itself and in the blocks that are its own.
+/// What an inode holds is in the inode itself and in the blocks that are its own.
 pub fn untouched_inodes_are_kept()
     ensures { UntouchedInodesAreKept }
 {}
@@ -52,12 +52,13 @@ pub fn empty_inodes_are_laid_out()
     ensures { EmptyInodesAreLaidOut }
 {}
 
-/// Bytes that are put into a block of a file are bytes of its node: within its size, or from it on, over which it grows.
+/// Bytes that are put into a block of a file are bytes of its node. They are within its size, or from it on, and then
+/// it grows.
 pub fn bytes_can_be_put()
     ensures { BytesCanBePut }
 {}
 
-/// An entry that is put is the slot of the directory's node, or one more behind the last.
+/// An entry that is put is the slot of the directory's node, or one more after the last.
 pub fn slots_can_be_put()
     ensures { SlotsCanBePut }
 {}

@@ -1,12 +1,12 @@
-//! Blocks recorded for an inode that a hart is changing: each such put may be made, leaves what is the other harts', and the
-//! world above stays as it is shown.
+//! Blocks recorded for an inode that a hart is changing. Each such put may be made and leaves what is the other
+//! harts', and the world above stays as it is shown.
 
 ghost use Rattle.inodes_on_blocks.specs.Recording.{BitmapsPutBits, ClearedBitsLeave, DataPutsLeave, MarksAreBits, NamingPutsLeave, RecordPutsLeave, RecordedPutsKeep, SetBitsLeave};
 ghost use Rattle.inodes_on_blocks.specs.Giving.{BlocksAreGivenBack, NumbersAreGivenBack};
 ghost use Rattle.inodes_on_blocks.specs.Taking.{BlocksAreTaken};
 
-/// A block that is recorded for an inode, whose lock the hart has, in its transaction, leaves the others theirs and the world
-/// above as it is shown.
+/// A block is recorded for an inode whose lock the hart has, in its transaction. That leaves the others theirs and
+/// the world above as it is shown.
 pub fn recorded_puts_keep()
     ensures { RecordedPutsKeep }
 {}
@@ -26,17 +26,17 @@ pub fn set_bits_leave()
     ensures { SetBitsLeave }
 {}
 
-/// And the inode's block with its record, where the hart has taken no block.
+/// And the inode's block with its record, if the hart has taken no block.
 pub fn record_puts_leave()
     ensures { RecordPutsLeave }
 {}
 
-/// And the inode's block with its record, where this names blocks that the hart has taken: they are the inode's then.
+/// And the inode's block with its record, if this names blocks that the hart has taken: they are the inode's then.
 pub fn naming_puts_leave()
     ensures { NamingPutsLeave }
 {}
 
-/// A block is marked on the seen disk where its bit is set in the bitmap as it is seen.
+/// A block is marked on the seen disk just if its bit is set in the bitmap as it is seen.
 pub fn marks_are_bits()
     ensures { MarksAreBits }
 {}
@@ -46,7 +46,8 @@ pub fn bitmaps_put_bits()
     ensures { BitmapsPutBits }
 {}
 
-/// A block of the inode is given back whatever the other harts do, while at most one other buffer is in the hart's hand.
+/// A block of the inode is given back whatever the other harts do, while at most one other buffer is in the hart's
+/// hand.
 pub fn blocks_are_given_back()
     ensures { BlocksAreGivenBack }
 {}
@@ -56,7 +57,8 @@ pub fn numbers_are_given_back()
     ensures { NumbersAreGivenBack }
 {}
 
-/// A block is taken for the inode whatever the other harts do: it is the hart's, of zeros, until a record names it; or none is free.
+/// A block is taken for the inode whatever the other harts do. It is the hart's, of zeros, until a record names it;
+/// or none is free.
 pub fn blocks_are_taken()
     ensures { BlocksAreTaken }
 {}

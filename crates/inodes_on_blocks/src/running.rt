@@ -1,4 +1,4 @@
-//! Laws of the blocks of a running file system, where each inode holds its node but for those that a hart is changing in
+//! Laws of the blocks of a running file system: each inode holds its node but for those that a hart is changing in
 //! its transaction.
 
 ghost use Rattle.inodes_on_blocks.specs.RunningLaws.{ChangedNodesMayBeAny, ChangesMayBegin, ChangesMayEnd, ImagesCanRun, OthersMayJoinOrLeave, PutsKeepRunning, QuietBlocksAreImages};
@@ -18,12 +18,12 @@ pub fn changes_may_begin()
     ensures { ChangesMayBegin }
 {}
 
-/// While an inode is being changed its node may be any, since the blocks needn't hold it.
+/// While an inode is being changed its node may be any, because the blocks needn't hold it.
 pub fn changed_nodes_may_be_any()
     ensures { ChangedNodesMayBeAny }
 {}
 
-/// A change ends where the inode holds its node again.
+/// A change ends when the inode holds its node again.
 pub fn changes_may_end()
     ensures { ChangesMayEnd }
 {}

@@ -8,7 +8,7 @@ pub fn programs_spend()
     ensures { (sizes : Super) → ProgramsSpend sizes }
 {}
 
-/// A program that records what its operation spends leaves no more spent, where it does its operation.
+/// A program that records what its operation spends leaves no more spent, if it does its operation.
 pub fn programs_stay_within()
     ensures { ProgramsStayWithin }
 {}

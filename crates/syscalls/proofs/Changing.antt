@@ -126,7 +126,7 @@ module _ (path : List ℕ) where
           let turn = swapped (true, ns, None) (Locks d) Nothing s held in
           ((free_found (true, ns, None) (Locks d) s s tt turn, held.1.buffers, held.1.txn), λ a u e. claims_on inode_type s u turn a e)
 
-    -- what was claimed is forgotten where it is the directory
+    -- what was claimed is forgotten if it is the directory
     module _ (k : P Reply) (on : From (true, ns, None) Nothing Nothing k) where
       gives_either : (u : Having) → InHand (true, ns, None) (Locks d) Nothing u ⊎ InHand (true, ns, None) (Opens d) (Refers d) u → R (give_up d k) u
       gives_either u (inl held) = give_up_runs path ns d Nothing tt k on u held

@@ -67,7 +67,7 @@ module _ (t : Around) (y : Held) (s u : Having) where
       at : HeldAt (seat_of_reference n s.hand) t (Refers n) y s.hand s.notes
       at = at_reference t n y s apart held
 
-      -- it is found, where no lock is
+      -- it is found, if no lock is there
       pub reference_found : HasReference n s.hand
       reference_found = at.here.0
 
@@ -143,7 +143,7 @@ module _ (t : Around) (y : Held) (s u : Having) where
                 (subst (λ (o : Option (GuardState Inode)). IsHeldAt z (reference_at k s.hand) o (note_at k u.notes)) (sym (lock_there k None s.hand u.hand e)) (new (note_at k u.notes)))),
           )
 
-      -- where it becomes the current directory its reference is to the old one
+      -- if it becomes the current directory its reference is to the old one
       pub settled : (old : ℕ) → u.hand ≡ with_reference (seat_of_lock n s.hand) (Some old) (with_inode (seat_of_lock n s.hand) None s.hand) → u.notes ≡ s.notes → InHand t (Refers old) y u
       settled old e noted = (seat_of_lock n s.hand, at (seat_of_lock n s.hand) at_its_lock e)
         where
@@ -222,7 +222,7 @@ module _ (t : Around) (s u : Having) (held : InHand t Nothing Nothing s) where
         forget : (k : InodePlace) → HeldAt k (t.0, ns, t.2) (Locks n) Nothing u.hand s.notes → HeldAt k (t.0, ns, t.2) (Locks n) Nothing u.hand u.notes
         forget k held = record { here = held.here; there = held.there; txn = held.txn; listed = held.listed; buffers = held.buffers; aside = held.aside }
 
--- ---- a reference gone, where its lock stays
+-- ---- a reference gone, while its lock stays
 
 module _ (t : Around) (n : ℕ) (s u : Having) where
   -- the lock is there as before
@@ -242,7 +242,7 @@ module _ (t : Around) (n : ℕ) (s u : Having) where
     pub installed : u.hand ≡ with_reference (seat_of_reference n s.hand) None s.hand → u.notes ≡ s.notes → InHand t (Opens n) Nothing u
     installed e noted = (held.0, stays_locked held.0 Nothing held.1 (subst (λ (k : InodePlace). u.hand ≡ with_reference k None s.hand) (sym seat_found) e) noted)
 
-  -- where there is one at each seat, that at the first goes
+  -- if there is one at each seat, that at the first goes
   module _ (held : InHand t (Refers n) (Locks n) s) where
     first_there : s.hand.to_one ≡ Some n
     first_there = at held
@@ -266,7 +266,7 @@ module _ (t : Around) (n : ℕ) (s u : Having) where
             let turned : HeldAt One t (Locks n) (Refers n) s.hand s.notes = record { here = held.there; there = held.here; txn = held.txn; listed = held.listed; buffers = held.buffers; aside = held.aside } in
             inr (One, stays_locked One (Refers n) turned e noted)
 
--- ---- a reference aside, where both seats have one
+-- ---- a reference aside, if both seats have one
 
 module _ (t : Around) (n d : ℕ) (s u : Having) (held : InHand t (Locks d) (Refers n) s) where
   both_taken : HasFreeSeat s.hand → ⊥
@@ -283,7 +283,7 @@ module _ (t : Around) (n d : ℕ) (s u : Having) (held : InHand t (Locks d) (Ref
         (subst (λ (m : Notes). HeldAt held.0 (t.0, t.1, r) (Locks d) (Refers n) (with_aside r s.hand) m) (sym noted) (with_other_aside t (Locks d) (Refers n) s.hand s.notes held.0 r held.1)),
   )
 
--- ---- within a walk the last reference to a dead inode is listed, and one that is aside comes to its seat
+-- ---- within a walk the last reference to a dead inode is listed, and one that is aside moves to its seat
 
 module _ (t : Around) (n : ℕ) (y : Held) (s : Having) (apart : Apart n y) (held : InHand t (Refers n) y s) where
   replaced : (u : Having) → u.hand ≡ with_seated (seat_of_reference n s.hand) s.hand → u.notes ≡ s.notes → InHand (t.0, t.1, None) (seated t.2) y u

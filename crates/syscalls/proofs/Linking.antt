@@ -1,4 +1,5 @@
--- link runs with nothing in hand: at most its file, the directory that it walks from and what was found there are referred to.
+-- link runs with nothing in hand: at most its file, the directory that it walks from and what was found there are
+-- referred to.
 use Rattle.syscalls.proofs.Vocabulary.{◌≡◌, ◌<◌, ◌≤◌, ◌+◌, ◌-◌, ◌^◌, ℕ, suc, List, [], ◌∷◌, length, Bool, true, false, Option, Some, None, refl, arith, nat_lt, if◌then◌else◌, IsName, listed_places, Name, elements, count_limit, Cause, Exists, IsDirectory, NoEntry, TooManyLinks, Blocks, Directory, Reply, Do, unmarked, IsEmpty, Begin, Face, face_or, is_directory_type, is_live_face, bump_refused, bumps_if, link_at, link_found, link_in, link_name, link_program, link_raise, lower, named_on, P, WalkStop, done, drop, failed, full, give_up, is_there, looks_where, makes, own_step, start, stopped, tail, walk, walk_parent, IsCall, BeginsWith, Having, Runs}
 use Rattle.plain_tree.specs.declared.call.Call.TheVariants as calls
 use Rattle.plain_tree.specs.declared.step.Action.TheVariants as steps

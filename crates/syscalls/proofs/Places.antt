@@ -1,7 +1,7 @@
--- What stands in a place.
+-- What is in a place.
 use Rattle.syscalls.proofs.Vocabulary.{◌≡◌, ℕ, Bool, true, false, Option, Some, None, refl, sym, ap, subst, IsSome, GuardState, BufferState, Inode, State, emptied, IsEmpty, Hand, Place, First, Second, InodePlace, One, Two, HandFits, HasNothing, buffer_at, inode_at, Running, call_at}
 
--- a call is under way just where the place is busy
+-- a call is under way just if the place is busy
 pub busy_on : (b : Bool) (m : Running) (o : Option Running) → call_at b m ≡ o → IsSome o → b ≡ true
 busy_on true m o e is = refl
 busy_on false m o e is = absurd (let none : IsSome {T = Running} None = subst (IsSome {T = Running}) (sym e) is in cc none)

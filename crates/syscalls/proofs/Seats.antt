@@ -1,7 +1,8 @@
 -- What is in hand, seat by seat.
 use Rattle.syscalls.proofs.Vocabulary.{◌≡◌, ◌≢◌, ℕ, List, [], Bool, true, false, Option, Some, None, refl, sym, ap, ◌∙◌, subst, ◌==◌, if◌then◌else◌, is_some, IsSome, MatchOption, option_map, Name, eq_is, eq_self, GuardState, Inode, Hand, InodePlace, One, Two, inode_at, reference_at, with_aside, with_inode, with_listed, with_reference, with_txn, IsEmpty, HasNoBuffer, unloaded, without_content, note_at, HasFound, free_seat, locks, other, refers, seat_of_lock, seat_of_reference, Note, Notes, Having}
 
--- at a seat: nothing; a reference to inode n; its lock too, with the record, and also with a name that was found; or without the record; the lock alone
+-- At a seat: nothing, or a reference to inode n. Its lock too, with the record, and also with a name that was found;
+-- or without the record. Or the lock alone.
 pub data Held : Type 0 where
   Nothing : Held
   Refers : ℕ → Held
@@ -227,7 +228,7 @@ module _ (k : InodePlace) (h g : Hand) (m n : Notes) (noted : note_at (other k) 
       at One noted e = λ i. (with_reference One None (with_inode One None (e i)), noted i)
       at Two noted e = λ i. (with_reference Two None (with_inode Two None (e i)), noted i)
 
--- where that is the same
+-- if that is the same
 module _ (t : Around) (x z y : Held) (h g : Hand) (m n : Notes) where
   abbrev Aside : Type 0
   Aside = Option ℕ × Option (GuardState Inode) × Note

@@ -85,7 +85,7 @@ module _ (path : List ℕ) where
     pub leaves_directory : From (true, ns, r) (Locks d) y (leave_directory d ns k)
     leaves_directory = give_runs path unmarked (λ _. Do (above.WalkDown d) unmarked (λ last. k (with_last ns d last))) (true, ns, r) d y apart walks_down
 
-  -- .. for what was found in it, where a reference is kept beside the walk's, or none
+  -- .. for what was found in it, if a reference is kept beside the walk's, or none
   may_up : (kept : Option ℕ) (d : ℕ) (ns : List ℕ) (v : Having) → InHand (true, ns, None) (Locks d) (seated kept) v → MayRefer v.hand
   may_up None d ns v held = may_refer (true, ns, None) (Locks d) v v tt (swapped (true, ns, None) (Locks d) Nothing v held)
   may_up (Some n) d ns v held = inr held.1.aside

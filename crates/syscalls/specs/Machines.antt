@@ -18,11 +18,11 @@ pub record RunningFits (hart : ℕ) (s : State) (m : Running) : Type 0 where
 abbrev pub heard_of : Running → Option Heard
 heard_of m = heard_if m.control.ended m.control.heard
 
--- what was claimed for a call that is under way has no place in memory, and the call isn't told so yet
+-- what was claimed for a call that is under way has no place in memory, and the call doesn't hear of it yet
 abbrev pub lacks_place_at : Option Running → Bool
 lacks_place_at None = false
 lacks_place_at (Some m) = lacks_place m.control
 
--- what a step of it that ran tells; the call may have ended
+-- what a step of it that ran says; the call may have ended
 abbrev pub TellsOf : ℕ → Running → Option (Unit {0}) → Running → (old new : State) → Type 0
 TellsOf hart m out left = TellsBy lowered_left LoweredTells hart m.control m.hand out left.control left.hand

@@ -1,4 +1,4 @@
--- The place of a hart's call, and a step of what stands there.
+-- The place of a hart's call, and a step of what is there.
 use Rattle.std.specs.Prelude.{◌≡◌, ℕ, List, Bool, true, false, Option, Some, None}
 use Rattle.syscalls.specs.Vocabulary.{Super, Reply, Call, Heard, BeginsAsking, RestOrResult, Still, stepped_at, SteppedInPlace, Waits, Ran, Done, Stopped, State, state_of, Answers, CallsOnce, Moves, LeavesTied, Kind, Core, program, lowered, nothing}
 use Rattle.syscalls.specs.Machines.{Running, heard_of, running_of, RunningFits, TellsOf}
@@ -8,7 +8,8 @@ abbrev pub call_at : Bool → Running → Option Running
 call_at true m = Some m
 call_at false m = None
 
--- A call has begun there, on a disk of these sizes: all of its program is left, it has nothing in hand, and it asks its first operation.
+-- A call has begun there, on a disk of these sizes. All of its program is left, it has nothing in hand, and it asks
+-- its first operation.
 abbrev pub HasBegun : Super → Call → Option Running → Type 0
 HasBegun sizes call None = ⊥
 HasBegun sizes call (Some m) = (running_of m ≡ lowered sizes nothing (program call)) × ((hart : ℕ) (s : State) → RunningFits hart s m)
@@ -26,7 +27,8 @@ abbrev pub KeepsLast : SteppedInPlace Reply Kind → Option Heard → Option Hea
 KeepsLast (Done reply kind) was last = Unit {0}
 KeepsLast result was last = last ≡ was
 
--- What a step tells: one that ran, where the call has replied also that what it heard is left here; any other leaves all as it was.
+-- What a step says. If it ran, it says what TellsOf has. If the call has replied, it also says that what it heard is
+-- left here. Any other step leaves all as it was.
 abbrev pub TellsStep : ℕ → Running → SteppedInPlace Reply Kind → Running → Option Heard → (old new : State) → Type 0
 TellsStep hart m Waits left last old new = (left.control ≡ m.control) × (left.hand ≡ m.hand)
 TellsStep hart m (Ran kind) left last old new = TellsOf hart m None left old new

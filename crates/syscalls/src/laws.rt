@@ -3,7 +3,8 @@ ghost use Rattle.std.specs.Prelude.{ℕ, List, []};
 ghost use Rattle.syscalls.specs.Vocabulary.{Call, IsCall, path_of, RunsByParts, RunsAlone};
 ghost use Rattle.plain_tree.specs.declared.call.Call.TheVariants as calls;
 
-/// Each operation of these calls finds in hand what it asks, whatever those before it answered, and at the end nothing is in hand.
+/// Each operation of these calls finds in hand what it asks, whatever those before it answered, and at the end
+/// nothing is in hand.
 pub fn calls_find_what_they_ask()
     ensures close { (fd : ℕ) → RunsAlone [] (calls.Close fd) }
     ensures inherit { (child : ℕ) → RunsAlone [] (calls.Inherit child) }

@@ -1,5 +1,6 @@
-//! The call of a hart under way: any of the eleven, over whole inodes, run below part by part (xv6's sysfile.c and what it calls of fs.c).
-//! `laws` says what calls find in hand: each operation leaves there what the next ones ask.
+//! The call of a hart under way (xv6's sysfile.c and what it calls of fs.c). It is any of the eleven, over whole
+//! inodes, run below part by part. `laws` says what calls find in hand: each operation leaves there what the next
+//! ones ask.
 #![tactic(auto)]
 
 mod laws;

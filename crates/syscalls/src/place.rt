@@ -21,9 +21,9 @@ use plain_tree::{Call, Reply};
 use std::alloc::{AllocError, AllocFailed, Global};
 use std::marker::Model;
 
-/// The place of a hart's call. It is idle, or a call is under way there, with the part of its present operation and all that its hart has
-/// in hand. The memory for that is taken once: to begin a call takes none, and a call that has replied leaves the place as it found it. A
-/// contract sees the call under way, if one is.
+/// The place of a hart's call. It is idle, or a call is under way there, with the part of its present operation and
+/// all that its hart has in hand. The memory for that is taken once. To begin a call takes none, and a call that has
+/// replied leaves the place as it found it. A contract sees the call under way, if one is.
 ///
 /// Code that lets a place go doesn't compile: an idle one is ended, or any after all that harts share has ended.
 pub struct CallPlace {
@@ -44,12 +44,13 @@ impl Model for CallPlace {
     ghost invariant = { λ p. p.is_busy ≡ false → IsEmpty p.machine.value.hand };
 }
 
-// A call under way takes less than so many bytes, beside those of its call, of its list and of the buffers and inodes that it holds.
+// A call under way takes less than this number of bytes. The bytes of its call, of its list and of the buffers and
+// inodes that it holds don't count.
 const MOST_BYTES: usize = 1024;
 
 const _: () = prove!(size_of::<Machine<Lowered>>() < MOST_BYTES);
 
-// What stands in an idle place, and its memory.
+// What is in an idle place, and its memory.
 fn idle_machine(alloc: Global) -> Result<Machine<Lowered>, AllocError>
     ensures { IfOk result (λ m. IsEmpty m.hand) }
 {
@@ -62,7 +63,7 @@ fn idle_machine(alloc: Global) -> Result<Machine<Lowered>, AllocError>
     })
 }
 
-// Ends what stands in an idle place.
+// Ends what is in an idle place.
 fn end_machine(machine: Machine<Lowered>)
     requires { IsEmpty machine.hand }
 {
@@ -75,7 +76,7 @@ fn end_machine(machine: Machine<Lowered>)
 }
 
 impl CallPlace {
-    /// An idle place, and the memory for what is to stand there.
+    /// An idle place, and the memory for a call there.
     pub fn idle(alloc: Global) -> Result<CallPlace, AllocError>
         ensures { IfOk result (λ place. place ≡ None) }
     {
@@ -119,7 +120,8 @@ impl CallPlace {
         self.is_busy = true;
     }
 
-    /// One operation of the call under way. Once it has replied the place is idle, and `last` is what it heard in this step.
+    /// One operation of the call under way. Once it has replied the place is idle, and `last` is what it heard in
+    /// this step.
     #[inline(always)]
     pub fn step<D: Device>(
         &mut self,
@@ -146,14 +148,15 @@ impl CallPlace {
         }
     }
 
-    /// What the call under way heard in its last step, where an operation over whole inodes ended there.
+    /// What the call under way heard in its last step, if an operation over whole inodes ended there.
     pub fn heard(&self) -> Option<Heard>
         ensures { MatchOption self.now (Unit {0}) (λ call. result ≡ heard_of call) }
     {
         self.machine.control.heard()
     }
 
-    /// Whether a call is under way that claims an inode for which no place in memory was left, and is to be told so in its next step.
+    /// Whether a call is under way that claims an inode for which no place in memory was left, and its next step must
+    /// say so.
     pub fn lacks_place(&self) -> bool
         ensures { result ≡ lacks_place_at self.now }
     {

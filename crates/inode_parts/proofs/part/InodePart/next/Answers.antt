@@ -113,7 +113,7 @@ returns-in-WriteFile-clause-under c op start before =
 
 -- ---- what reads the call's text
 
--- what holds where it isn't over, with more that holds
+-- what holds if it isn't over, with more that holds
 beside_none : (o : Option Heard) (A B : Type 0) → IfNone o A → B → IfNone o (A × B)
 beside_none None A B a b = (a, b)
 beside_none (Some x) A B a b = tt
