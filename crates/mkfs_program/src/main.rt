@@ -1,9 +1,9 @@
 //! `mkfs IMAGE [--size N] [--inodes N] [--version N] [--force] [FILE..]`: writes an image with these files in its root.
 //! `mkfs --migrate OLD IMAGE [--size N] [--version N] [--force]`: writes an image of a later version with the tree of an old one.
 //!
-//! Faults are told in this order: the command line, with an IMAGE that is one of the FILEs, or a file that is no image (status 2), a FILE
-//! that can't be read, what can't be made, an IMAGE that can't be written (status 1). Want of memory is told where it comes,
-//! as a refusal to make (status 1).
+//! Faults are reported in this order. First the command line, with an IMAGE that is one of the FILEs, or a file that is no image (status 2).
+//! Then a FILE that can't be read, what can't be made, and an IMAGE that can't be written (status 1). Want of memory is
+//! reported when it comes, as a refusal to make (status 1).
 #![tactic(auto)]
 
 use block_device::MemoryDisk;
@@ -46,7 +46,7 @@ enum Fault<'a> {
     /// What can't be read, and why.
     #[error("{0:?}: {1}")]
     File(&'a str, io::Error),
-    /// The image would stand in the place of this FILE.
+    /// The image would replace this FILE.
     #[error("{0:?}: is a FILE, and would be replaced by the image")]
     Replaces(&'a str),
     /// The image can't be written.
@@ -67,7 +67,7 @@ enum Fault<'a> {
     /// The old image can't be read, and why.
     #[error("{0:?}: {1}")]
     OldImage(&'a str, ImageRefused),
-    /// The new image would stand in the place of the old one.
+    /// The new image would replace the old one.
     #[error("{0:?}: is the old image, and would be replaced by the new one")]
     ReplacesOld(&'a str),
     /// What is migrated has its files and inodes.
@@ -245,7 +245,7 @@ fn replaced<'a>(rt: &HostRuntime, image: &str, paths: &[&'a str]) -> Option<&'a 
         .copied()
 }
 
-// The place of the image, where it may be written there: nothing that is no image is replaced unasked.
+// The place of the image, if it may be written there: a file that is no image is replaced only if that is asked for.
 fn place_of<'a>(rt: &HostRuntime, matches: &'a ArgMatches) -> Result<&'a str, Fault<'a>> {
     let image = matches.get_str(IMAGE).unwrap_or("");
     if !matches.get_flag(FORCE) && is_other_file(rt, image) {
@@ -308,13 +308,13 @@ fn is_given(matches: &ArgMatches, id: &str) -> bool {
     matches.value_source(id) == Some(ValueSource::CommandLine)
 }
 
-// Where the parts of an image lie, of whichever version it is.
+// The places of an image's parts, of whichever version it is.
 fn layout_of(disk: &mut MemoryDisk) -> Result<Layout, MountFault> {
     let version = find_version(disk)?;
     find_layout(disk, version)
 }
 
-// The image that the old one is migrated to. Where its blocks don't suffice it is told how many would.
+// The image that the old one is migrated to. If its blocks don't suffice, the line says how many would.
 fn migrate_to<'a>(
     alloc: Global,
     old: &mut MemoryDisk,

@@ -103,7 +103,7 @@ AsksInOne first (ask.Take n q) = IsSoughtInOne first q
 AsksInOne first (ask.Enter d e n) = IsInOne first e
 AsksInOne first a = Unit {0}
 
--- one text stands behind the other
+-- one text is after the other
 abbrev pub IsNamedInTwo : List ℕ → List ℕ → Ask → Type 0
 IsNamedInTwo first second a = IsNamed (first ++ second) a × AsksInOne first a
 

@@ -108,6 +108,6 @@ begins_by trace t list lo rest id c s e at is can =
     let le : lo ≤ g.0.0 = comes_by trace lo rest id c g.0 at g.1 can.rises can.belongs g.3 in
     omega (arith, g.2)
 
--- Where a call has to go on, something has to come.
+-- If a call must go on, something must come.
 pub not_nothing : (trace : Trace) (t : Tree) (list : List Placed) (lo : ℕ) (id : ℕ) (c : TracedCall) (s : Stand) (e : ℕ) → slice_get trace.calls id ≡ Some c → IsOfCall c (acts_of id list) s (Some e) → CanEnd trace t list lo [] → ⊥
 not_nothing trace t list lo id c s e at is can = (goes_on c (acts_of id list) (acts_of id []) s e is (can.written id c at)).3 (acts_none id)

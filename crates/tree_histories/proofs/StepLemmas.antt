@@ -45,7 +45,7 @@ effect_same t h (Close fd) res par m n id f = refl
 effect_same t h (Fstat fd) res par m n id f = refl
 effect_same t h (Inherit child) res par m n id f = refl
 
--- a step that is to make a node, where it isn't refused
+-- a step that must make a node, if it isn't refused
 abbrev NeedsOne : Tree → ℕ → Action → Type 0
 NeedsOne t h s = (refusal t h s ≡ None) × (makes_node t s (parent t h (path_of s)) ≡ true)
 

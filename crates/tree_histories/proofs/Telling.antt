@@ -1,4 +1,4 @@
--- What is told where a call's mark is met: what the move tells.
+-- What is reported when a call's mark is met: what the move reports.
 use Rattle.tree_histories.proofs.Vocabulary.{◌≡◌, ℕ, ◌<◌, ◌^◌, ◌||◌, Bool, List, [], ◌∷◌, Option, Some, None, Result, Ok, Err, IfOk, if◌then◌else◌, refl, sym, ◌∙◌, ap, subst, option_map, Action, path_of, refused, Name, Tree, elements, is_absolute, look, put, settle, start_of, tree_of, root, NoMemory, Move, Stage, Begin, Look, GiveUpWalk, Own, fail, Made, begun, looked, look_made, made_by, Makes, mark_in, Mark, action_in, call_in, Deed, Walk, KeptTree, Under, hart_in, stage_of, walk_under, with_walk, ActedOn, IsActed, MayBegin, MayLook, MayLookOn, MayMake, Tells, TellsMove, TellsOf, OnlyMoves, TreeStep, true, walking, length, length-set, acts, is_nothing, IsNextWalk, IsWalk, is_on_new, step_in, walk_of, walk_on, IsActedAlone, Lead, LeadsBy, live_directory, name_from, parent, resolve, false, with_name}
 use Rattle.tree_laws.specs.Moves as moves
 use Rattle.path_walk.specs.declared.asks.Mark.TheVariants as mark
@@ -143,7 +143,7 @@ module _ (k : KeptTree) (h : ℕ) (u : Under) (is : hart_in k h ≡ Some u) wher
         λ may. tells_walk (Look new) (Some w2) (looked (tree_of k.tree) h W W.rest (look (tree_of k.tree).nodes W.at W.next) new 0) may.settled
         (made_there 0) b.0 b.1 b.2 None b.3 k' kept
 
-    -- where it may look, its directory is live
+    -- if it may look, its directory is live
     pub looks_live : MayMake (stage_of k) h (Look new) → live_directory ((tree_of k.tree).nodes w.directory) ≡ true
     looks_live may = live (sym walk_there) may.move.0
       where

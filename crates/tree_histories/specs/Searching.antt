@@ -69,7 +69,7 @@ pub record IsAt (base : TreeData) (t : Trace) (p : Position) : Type 0 where
 abbrev pub IsThrough : Position → Type 0
 IsThrough p = (id : ℕ) → slice_index_or p.ends id None ≡ None
 
--- A rest that makes the list explain the trace, where the tree is t after the list; its numbers may begin at lo.
+-- A rest that makes the list explain the trace, if the tree is t after the list; its numbers may begin at lo.
 pub record CanEnd (trace : Trace) (t : Tree) (list : List Placed) (lo : ℕ) (rest : List Placed) : Type 0 where
   pub rises : Rises lo rest
   pub leads : Leads t rest

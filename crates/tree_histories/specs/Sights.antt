@@ -15,12 +15,12 @@ abbrev pub FewSlotsIn : Option Node → Type 0
 FewSlotsIn None = Unit {0}
 FewSlotsIn (Some v) = FewSlots v.kind
 
--- it is seen as the machine of whole inodes sees it; the name that is looked for stands in one of two paths
+-- it is seen as the machine of whole inodes sees it; the name that is looked for is in one of two paths
 abbrev pub ShowsSo : Tree → ℕ → Query → List ℕ → List ℕ → Sight → Type 0
 ShowsSo t n looking path second s = n < 2 ^ 16 → FewSlotsIn (t.nodes n) → IsSought (path ++ second) looking → IsSoughtInOne path looking
     → sight_of s ≡ seen_in n (query_in (path ++ second) looking) (t.nodes n)
 
--- the answer of this operation, where it takes an inode's lock: what is seen of the inode, or that it is locked
+-- the answer of this operation, if it takes an inode's lock: what is seen of the inode, or that it is locked
 abbrev pub SeenFor : Tree → Option Op → Heard → Type 0
 SeenFor t (Some (Take n looking)) x = n < 2 ^ 16 → FewSlotsIn (t.nodes n) → sight_in x ≡ seen_in n looking (t.nodes n)
 SeenFor t (Some (LockFile fd)) x = x ≡ heard.Locked (locked.Locks 0 0)

@@ -62,7 +62,7 @@ walk_on s d es = record { step = s; at = d; next = first_of_them es; rest = othe
 abbrev pub left_to : Call → Walk → List Name
 left_to call w = elements (drop w.from (path_of (step_for call w.is_new)))
 
--- what a walk in code stands for
+-- what a walk in code represents
 abbrev pub walk_of : Call → Walk → moves.Walk
 walk_of call w = walk_on (step_for call w.is_new) w.directory (left_to call w)
 
@@ -85,7 +85,7 @@ abbrev pub IsWalk : Call → Option Walk → Action → ℕ → List Name → Ty
 IsWalk call o s d [] = o ≡ None
 IsWalk call o s d (e ∷ es) = option_map (walk_of call) o ≡ Some (walk_on s d (e ∷ es))
 
--- the walk goes on in what was found, where that is there and elements are left
+-- the walk goes on in what was found, if that is there and elements are left
 abbrev pub IsNextWalk : Call → Option Walk → moves.Walk → Option ℕ → Type 0
 IsNextWalk call o w None = o ≡ None
 IsNextWalk call o w (Some n) = IsWalk call o w.step n w.rest

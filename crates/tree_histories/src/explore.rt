@@ -213,7 +213,7 @@ fn search(alloc: Global, base: &Tree, trace: &Trace, hints: &[Hint]) -> Attempt<
 /// Where that leads nowhere, the steps of calls are tried from there, and then from the beginning, in every order that the
 /// trace allows, and for a new node every number. With the right hints, and mostly without any, a list is found at once;
 /// where no list explains, the time may grow with the power of the number of calls.
-/// The error is that memory is short, or that a step which is tried is to make a node where the table has more than
+/// of the number of calls. The error is that memory is short, or that a step which is tried must make a node while the
 /// 65,536 numbers.
 pub fn find_history(
     alloc: Global,

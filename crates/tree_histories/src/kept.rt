@@ -78,8 +78,8 @@ impl Model for Kept {
     ghost invariant = { λ k. length k.harts ≡ 8 };
 }
 
-// What the operation that was asked for answers where its lock is taken, as far as the tree shows it. What it finds there is read from
-// the device later, and nobody changes it in between.
+// What the operation that was asked for answers when its lock is taken, as far as the tree shows it. What it finds
+// there is read from the device later, and nobody changes it in between.
 fn seen(tree: &Tree, standing: &Standing) -> Heard
     ensures { (listed : List ℕ) → WholeFits listed standing.now.whole
         → SeenFor (tree_of tree.now) (asks (whole_of listed standing.now.whole)) result }

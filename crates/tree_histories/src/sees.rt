@@ -107,8 +107,8 @@ fn empty_in(node: &Node, query: &Query) -> bool
     }
 }
 
-/// What is seen of the node of this number where it is looked for this, in a call with this path and a second one behind it. It holds
-/// where the node's lock is free, or taken by who looks: nobody else has changes of it in hand.
+/// What is seen of the node of this number when this is looked for in it, in a call with this path and a second one
+/// after it. It holds if the node's lock is free, or taken by who looks: nobody else has changes of it in hand.
 pub(crate) fn sight(tree: &Tree, number: u32, query: &Query, path: &[u8], second: &[u8]) -> Sight
     ensures { ShowsSo (tree_of tree.now) number query.now path.now second.now result }
 {

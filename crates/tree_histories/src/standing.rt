@@ -257,7 +257,7 @@ impl Standing {
         self.whole.mark(heard)
     }
 
-    /// It goes on with what it heard; none where it has ended.
+    /// It goes on with what it heard; none if it has ended.
     pub(crate) fn hear(self, heard: &Heard) -> Option<Standing>
         ensures { HearsSo self heard.now result }
     {
@@ -293,7 +293,7 @@ impl Standing {
         start_of(path(&self.whole, is_on_new(&self.whole)), current)
     }
 
-    /// The walk at the start of its path, where the path has elements; `current` is the hart's directory.
+    /// The walk at the start of its path, if the path has elements; `current` is the hart's directory.
     pub(crate) fn start(&self, current: u16) -> Option<Walk>
         ensures { let path = path_of (action_in self.now.whole) in
             IsWalk (call_in self.now.whole) result (action_in self.now.whole) (if is_absolute path then root else current) (elements path) }
@@ -334,7 +334,7 @@ impl Standing {
         }
     }
 
-    /// The walk in this node, which it has found, where its path goes on.
+    /// The walk in this node, which it has found, if its path goes on.
     pub(crate) fn after(&self, walk: Walk, number: u16) -> Option<Walk>
         ensures { let before = walk_of (call_in self.now.whole) walk in
             IsWalk (call_in self.now.whole) result before.step number before.rest }

@@ -1,4 +1,4 @@
--- Two paths, one behind the other, as one text.
+-- Two paths, one after the other, as one text.
 use Rattle.whole_calls.proofs.Vocabulary.{◌≡◌, ℕ, ◌+◌, ◌-◌, ◌≤◌, List, ◌++◌, length, take, drop, refl, sym, subst, ap, ◌∙◌, inl, inr, arith, length-append, length-drop, append-nil, drop-append-le, take-append-le, drop-append-add, Name, AtName, Take, op_in, IsNamed, IsNamedInTwo, OnlySeeks, name_in, shifted, IsElement, IsInOne, IsName, first_in, second_in, text_in, Ask, Element, Whole}
 use Rattle.path_walk.specs.declared.asks.Ask.TheVariants as ask
 use Rattle.path_walk.specs.declared.asks.Query.TheVariants as query

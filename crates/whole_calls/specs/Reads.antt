@@ -18,7 +18,7 @@ FilledFrom old new reading.Lock x = new ≡ old
 FilledFrom old new (reading.Part n offset) x = new ≡ take (count_in x) new ++ drop (count_in x) old
 FilledFrom old new (reading.Says count) x = new ≡ old
 
--- where a part is to be read, as much of it is asked as the buffer has room for
+-- if a part must be read, as much of it is asked as the buffer has room for
 abbrev pub ReadAsks : List ℕ → Read → Ask → Type 0
 ReadAsks buffer (reading.Part n offset) (ask.ReadFile fd m at count) = count ≡ length buffer
 ReadAsks buffer c a = IsNamed buffer a

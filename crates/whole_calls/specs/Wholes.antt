@@ -13,7 +13,7 @@ use Rattle.whole_calls.specs.Writes.{WriteAsks, WriteFits, write_of}
 use Rattle.whole_calls.specs.declared.whole.Whole.{Whole}
 use Rattle.whole_calls.specs.declared.whole.Whole.TheVariants as whole
 
--- what is left of it, where its list is this
+-- the rest of it, if its list is this
 abbrev pub whole_of : List ℕ → Whole → P Reply
 whole_of ns (whole.Open path flags c) = open_of path flags ns c
 whole_of ns (whole.Read fd buf c) = read_of fd buf.items c
@@ -77,7 +77,7 @@ action_in (whole.Fstat fd c) = steps.Fstat fd
 action_in (whole.Close fd c) = steps.Close fd
 action_in (whole.Inherit child c) = steps.Inherit child
 
--- stepped in its place, with its answer where it has ended
+-- stepped in its place, with its answer if it has ended
 abbrev pub went_to : List ℕ → Whole → CallAnswer → Bool → P Reply
 went_to ns w a ended = stepped (whole_of ns w) (call_in w) a ended
 
@@ -98,7 +98,7 @@ WholeFits ns (whole.Fstat fd c) = Unit {0}
 WholeFits ns (whole.Close fd c) = Unit {0}
 WholeFits ns (whole.Inherit child c) = Unit {0}
 
--- what it asks stands in its text: a read alone asks to read, and a write to write
+-- what it asks is in its text: a read alone asks to read, and a write to write
 abbrev pub WholeAsks : Whole → Ask → Type 0
 WholeAsks (whole.Read fd buf c) a = ReadAsks buf.items c a
 WholeAsks (whole.Open path flags c) a = IsNamed path a

@@ -1,4 +1,4 @@
-//! link: the count goes up first, and down again where the name can't be entered.
+//! link: the count goes up first, and down again if the name can't be entered.
 ghost use Rattle.std.specs.Prelude.{◌≡◌, ◌≢◌, ◌≤◌, ◌+◌, ◌++◌, ℕ, All, List, Option, Some, length, false};
 ghost use Rattle.whole_calls.specs.Vocabulary.{elements, asks, entered_in, face_of, hears, mark_at, marked_as, op_in, reply_to, sight_of, stepped, IsNamedInTwo, IsElement, face_or, bump_refused, lower, named_on, give_up, tail, Heard};
 ghost use Rattle.plain_tree.specs.declared.call.Call.TheVariants as calls;
@@ -18,7 +18,7 @@ const COUNT_LIMIT: u16 = 32767;
 
 const NO_ENTRY: Answer = Answer::Failed(Cause::NoEntry);
 
-/// The number is that of what gets the name (xv6: `sys_link`).
+/// The number is that of what gets the name.
 #[derive(Clone, Copy)]
 pub enum Link {
     Join,

@@ -4,7 +4,7 @@ use Rattle.inode_machine.specs.World as world
 use Rattle.path_walk.specs.declared.walk.Goal.TheVariants as goals
 use Rattle.whole_calls.proofs.link.Link.ask.Goals as goal
 
--- an element of the new path, behind the old one
+-- an element of the new path, after the old one
 module _ (old new : List ℕ) (e x : Element) (few : length old + length new < 2 ^ 64)
     (is : length old + e.start < 2 ^ 64 → length old + e.end < 2 ^ 64 → length old + e.rest < 2 ^ 64 → x ≡ shifted (length old) e) (stands : IsElement new e) where
   behind : x ≡ shifted (length old) e
