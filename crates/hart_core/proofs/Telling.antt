@@ -12,7 +12,7 @@ pub stays_same : (o : Option Running) → StaysAt o o
 stays_same None = refl
 stays_same (Some m) = (refl, refl)
 
--- what stands in a place is what is put there
+-- a place holds what is put there
 pub set-own : (list : List (Option Running)) (h : ℕ) → list ≡ set list h (get_or list h None)
 set-own [] h = refl
 set-own (m ∷ ms) zero = refl

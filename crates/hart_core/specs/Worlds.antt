@@ -15,7 +15,7 @@ module _ {D : Type 0} (contents : D → List (List ℕ)) (failures : D → ℕ) 
   calls_of w = plain_at (block_calls sizes) (block_code sizes) running_of
       (record { state = shared_of contents failures w; children = children_in w.children }) w.stopped w.calls
 
-  -- an event makes these harts of those, and comes to this
+  -- an event makes these harts of those, and has this outcome
   abbrev pub Makes : Event Call Outside → HartsOf D → Outcome Kind Reply Refusal → HartsOf D → Type 0
   Makes event old came new =
       plain_makes (block_calls sizes) (block_code sizes) event (calls_of old) ≡ record { came = came; after = calls_of new }

@@ -21,24 +21,25 @@ pub enum Event {
     Step { hart: u8 },
 }
 
-/// What an event came to.
+/// The outcome of an event.
 #[derive(Drop)]
 pub enum Came {
     /// The call was started.
     Started,
     /// The call wasn't started, and nothing has changed.
     Refused(StartRefused),
-    /// What the step came to.
+    /// The outcome of the step.
     Stepped(Outcome),
 }
 
-/// A world after a list of events, what each of them came to, in their order, and how many of them a stop leaves.
+/// A world after a list of events, the outcome of each, in their order, and how many of them a stop leaves.
 pub struct Run<D: Device> {
     pub world: World<D>,
     pub outcomes: Vec<Came>,
     /// The number of the event, from 0 on, of the leave that began the commit of the last group whose head was written.
     pub cut: Option<u64>,
-    /// The number of the leave that began the commit in which the device failed to write the group's head: it may stand or not.
+    /// The number of the leave that began the commit in which the device failed to write the group's head: the disk
+    /// may have it or not.
     pub doubt: Option<u64>,
 }
 

@@ -13,8 +13,8 @@ use fs_machine::Core;
 use path_walk::Heard;
 use syscalls::CallPlace;
 
-/// A step of the call that stands in this place, if one does, unless the world has stopped. Once it has replied the place is idle, and
-/// what it heard in this step stands in `last`.
+/// A step of the call in this place, if there is one, unless the world has stopped. Once the call has replied the
+/// place is idle, and `last` has what it heard in this step.
 #[inline(always)]
 pub(crate) fn step<D: Device>(
     place: &mut CallPlace,

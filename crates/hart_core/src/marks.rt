@@ -55,7 +55,7 @@ pub fn last_of(count: u64) -> Option<u64>
     if count == 0 { None } else { Some(count - 1) }
 }
 
-/// The same of a doubt, where there is one.
+/// The same of a doubt, if there is one.
 pub fn doubt_of(doubt: Option<u64>) -> Option<u64>
     ensures { result ≡ doubt_of doubt }
 {

@@ -61,7 +61,7 @@ fn prepare<D: Device>(alloc: Global, device: &mut D) -> Result<Ready, MountFault
 }
 
 /// Eight harts at rest over the settled disk, and its sizes; or the device, with the image's first damage, its own failure, or want
-/// of memory. Nothing was written then, unless the device failed in the recovery or behind it.
+/// of memory. Nothing was written then, unless the device failed in the recovery or after it.
 pub(crate) fn mount_harts<D: Device>(
     alloc: Global,
     device: D,
