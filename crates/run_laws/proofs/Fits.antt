@@ -1,5 +1,5 @@
--- What is asked of whole inodes fits: a new one is a file or a directory, a name fits into an entry, and what is written is bytes, and some, and not too many.
--- And a mark says that there was no room just where the answer says so.
+-- What is asked of whole inodes fits: a new one is a file or a directory; a name fits into an entry; what is written
+-- is bytes, and some, and not too many. And a mark says that there was no room exactly when the answer says so.
 use Rattle.run_laws.proofs.Vocabulary.{◌≡◌, ◌<◌, ◌≤◌, ℕ, length, IsBytes, Ret, Do, P, Answer, Claim, Enter, WriteFile, IsMade, says_no_room, name_len}
 use Rattle.inode_machine.specs.World.{Op}
 use Rattle.call_programs.specs.Asks.{spoils}

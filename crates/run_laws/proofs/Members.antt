@@ -74,7 +74,7 @@ mapped f None = refl
 mapped f (Some blocks) = refl
 
 module _ (h : ℕ) (st : State) (o : Recorded) (was : Agrees h st.log o) where
-  -- so it is after a step, where that ran
+  -- so it is after a step, if that ran
   abbrev pub AgreesAfter : {A : Type 0} → (A → Recorded) → ExecResult A State → Type 0
   AgreesAfter f Waits = Unit {0}
   AgreesAfter f (Ran a t) = Agrees h t.log (f a)

@@ -123,7 +123,7 @@ module _ (sizes : Super) where
 
   -- ---- programs
 
-  -- where s covers what was recorded, t does after the program
+  -- if s covers what was recorded, t does after the program
   pub record Within (s : Spent) {A : Type 0} (p : P A) (t : Spent) : Type 0 where
     pub stays : (o : Recorded) → Covers o s → StaysSmall o p (λ a u. Covers u t)
 

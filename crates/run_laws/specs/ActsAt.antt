@@ -34,8 +34,9 @@ MarksOne {Op} {Answer} (Do op m k) = (a : Answer op) → ((is_some (m a) ≡ tru
 
 -- ---- the law
 
--- Where an inode's lock is taken, and where a transaction is left, the operation acts at its program's first step; the others do at the
--- last one. A claim alone acts between: where it picks an inode, or finds no place for one, the block goes back behind that.
+-- An operation that takes an inode's lock, or leaves a transaction, acts at its program's first step; the others do
+-- at the last one. A claim alone acts between: when it has picked an inode, or found no place for one, the block goes
+-- back after that.
 abbrev pub ActsAt : (op : above.Op) → P (Handover (above.Answer op) Carry) → Type 0
 ActsAt (Take n looking) p = MarksFirst p
 ActsAt (StatFile fd) p = MarksFirst p

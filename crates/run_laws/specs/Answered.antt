@@ -1,4 +1,4 @@
--- What a call is answered that there is none of, one of its operations has not found, where there was none.
+-- If a call is answered that there is none of a thing, one of its operations has not found it, when there was none.
 use Rattle.std.specs.Prelude.{◌≡◌, ℕ, List, ◌∷◌, ◌++◌, Some}
 use Rattle.std.specs.List.{All}
 use Rattle.run_laws.specs.Vocabulary.{Super, sizes_of, Full, Reply, Call, TracedCall, Theory, EventOf, PlacedStep, State, fresh, run, Chain, Outside, World, first_world, first, Came, Event, HartsOf, IsHistory, IsMounted, trace_in, WorldOf}

@@ -20,8 +20,9 @@ pub record HasBegunNothing (h : ℕ) (w : World) : Type 0 where
 abbrev pub CountsReferences : TablesState → World → Type 0
 CountsReferences t w = (n : ℕ) → references_of n t ≡ count_by (is_file_of n) t.files + sum_below hart_count (λ h. (w.harts h).refs n)
 
--- Nothing is left of any call. The references to each inode are as many as open files and current directories have; no place is taken for
--- a file that isn't open; and the blocks as they are seen are a well-formed image, whose link counts no link has raised.
+-- Nothing remains of any call. Open files and current directories account for all references to each inode. No place
+-- is taken for a file that isn't open. The blocks as they are seen are a well-formed image, whose link counts no link
+-- has raised.
 pub record NothingIsLeft (s : State) : Type 0 where
   pub references : (n : ℕ) → references_of n s.tables ≡ owed n s.tables
   pub places : (k : ℕ) → slice_get s.tables.files k ≢ Some Taken
@@ -42,7 +43,7 @@ module _ {D : Type 0} (contents : D → List (List ℕ)) (failures : D → ℕ) 
     pub few : (h n : ℕ) → h < hart_count → (w.harts h).refs n ≤ reference_limit
     -- a hart without a call
     pub idle : (h : ℕ) → get_or new.calls h None ≡ None → HasBegunNothing h w
-    -- where no hart has one; and then no failure of the device has stopped them
+    -- if no hart has one; and then no failure of the device has stopped them
     pub all : AreIdle new.calls → (new.stopped ≡ false) × NothingIsLeft (shared_of contents failures new)
 
   -- So it is wherever a history of a run leads, from a world as a mount left it.

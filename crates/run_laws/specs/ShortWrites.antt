@@ -1,4 +1,5 @@
--- Where a write ends for want of a block: just before that block of the content, whatever its steps are answered.
+-- The place at which a write ends for want of a block: just before that block of the content, whatever its steps are
+-- answered.
 use Rattle.std.specs.Prelude.{◌≡◌, ◌⊎◌, ℕ, ◌+◌, ◌*◌, ◌<◌, max, slice_index, List, length, Option}
 use Rattle.run_laws.specs.Vocabulary.{Super, Handover, Carry, Short, handlers}
 use Rattle.fs_layout.specs.declared.inode.Dinode.{Dinode}

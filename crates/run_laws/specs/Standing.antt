@@ -1,4 +1,4 @@
--- What stands after a call that found no room.
+-- What stays after a call that found no room.
 use Rattle.std.specs.Prelude.{◌≡◌, ℕ, List, Some}
 use Rattle.std.specs.List.{All}
 use Rattle.run_laws.specs.Vocabulary.{sizes_of, Full, Reply, Call, TracedCall, EventOf, fresh, run, Outside, first, Came, Event, HartsOf, IsHistory, IsMounted, trace_in, WorldOf}
