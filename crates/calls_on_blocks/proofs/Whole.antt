@@ -135,7 +135,7 @@ module _ (sizes : Super) (events : List (Event Call Outside)) (start : State (bl
         ]
       ]
 
-  -- ---- no mark stands in a transaction
+  -- ---- no mark is in a transaction
 
   abbrev IsQuiet : ℕ → Type 0
   IsQuiet k = joined (log_at sizes (state k)).members ≡ 0
@@ -180,7 +180,8 @@ module _ (sizes : Super) (events : List (Event Call Outside)) (start : State (bl
 
   -- ---- a commit ends before its hart replies
 
-  -- Of the commit that hart h began with event i: at some event behind it, up to n, its head had been written; or it is under way, or the world has stopped.
+  -- Of the commit that hart h began with event i: at some event after it, up to n, its head had been written; or it
+  -- is under way, or the world has stopped.
   abbrev Goes : (i h n : ℕ) → Type 0
   Goes i h n =
       ((later : ℕ) × (more : ℕ) × (i + 1 + later + more ≡ n) × (is_settled (log_at sizes (state (i + 1 + later))).phase ≡ true))

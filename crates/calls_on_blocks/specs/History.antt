@@ -35,7 +35,7 @@ block_moves sizes =
       limit = T.limit;
     }
 
--- what a mount gives: the blocks, where no hart has a child, and the tree that they show
+-- what a mount gives: the blocks, with no hart that has a child, and the tree that they show
 abbrev pub first : List (List ℕ) → ℕ → Both World above.World
 first disk failures = record { real = record { blocks = mounted disk failures; children = λ h. None }; seen = first_world disk }
 
@@ -52,7 +52,7 @@ MountsHaveOneHistory =
     (disk : List (List ℕ)) (failures : ℕ) (events : List (Event Call Outside)) → RunsOn disk failures events → NoneClimbs events
     → HasOneHistory (block_moves (sizes_of disk)) (tree_in disk) (first disk failures) events
 
--- And where one hart alone makes calls, for any paths.
+-- And if one hart alone makes calls, for any paths.
 abbrev pub OneHartHasOneHistory : Type 0
 OneHartHasOneHistory =
     (disk : List (List ℕ)) (failures h : ℕ) (events : List (Event Call Outside)) → RunsOn disk failures events → Alone h events

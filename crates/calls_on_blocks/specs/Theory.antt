@@ -75,7 +75,7 @@ abbrev pub others_refusal : ℕ → Call → (ℕ → Bool) → SharedState → 
 others_refusal h (Inherit child) busy s = child_refusal h child busy s
 others_refusal h call busy s = None
 
--- ---- what a start comes to
+-- ---- the result of a start
 
 -- why hart h's call doesn't begin: a child starts nothing; then what is wrong with the call, and last what the other harts do
 abbrev pub start_refusal : ℕ → Call → (ℕ → Bool) → SharedState → Option Refusal
