@@ -14,7 +14,7 @@ read_count answers.Done = 0
 read_count (answers.Failed cause) = 0
 read_count (answers.Full what) = 0
 
--- the buffer has its length, and its bytes behind the first n
+-- the buffer has its length, and its bytes after the first n
 abbrev pub KeepsAfter : ℕ → List ℕ → List ℕ → Type 0
 KeepsAfter n given back = (length back ≡ length given) × (drop n back ≡ drop n given)
 

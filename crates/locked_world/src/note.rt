@@ -6,7 +6,7 @@ use fs_machine::Kind;
 use hart_core::{StartRefused, Stop};
 use plain_tree::Reply;
 
-// What an event came to. The call of a start, and a reply, stand in lists of their own.
+// The outcome of an event. The call of a start, and a reply, are in lists of their own.
 #[derive(Clone, Copy)]
 pub(crate) enum What {
     Started,
