@@ -1,5 +1,5 @@
--- The kernel may be shared by threads, and a seat may go to another one. Said part by part, since a search through all that stands under the
--- lock would be too long.
+-- The kernel may be shared by threads, and a seat may go to another one. Each part has its own proof, because a
+-- search through all that is under the lock would be too long.
 use mathlib.Core.List.{List, [], ◌∷◌}
 use denote.RattleType.{RattleType}
 use denote.Param.Send.{IsSend, IsSync, view_send, sendable}

@@ -28,7 +28,7 @@ const LOOKS: u32 = 64;
 // longer than many steps do. So each worker makes many events before another one has the lock, when several want it.
 const ASIDE: u64 = 1000;
 
-// What stands under the lock: the world, and how many workers wait for others.
+// What is under the lock: the world, and how many workers wait for others.
 struct Inside<L: Ledger> {
     locked: Box<Locked<L>>,
     waiting: usize,
@@ -247,8 +247,8 @@ impl<L: Ledger, G: Gate + Drop> Kernel<L, G> {
         Ok((kernel, seats_of(alloc, parts)))
     }
 
-    /// Ends the kernel, without a call of the device. `Ok` only where each seat's replies are those of its hart in the list, in their
-    /// order; as many calls were started and answered then, together, as the seats count.
+    /// Ends the kernel, without a call of the device. `Ok` only if each seat's replies are those of its hart in the
+    /// list, in their order. As many calls were started and answered then, together, as the seats count.
     #[tactic(auto, using(crate::proofs::Listed::all_seats))]
     pub fn close(self, seats: [Seat<L>; 8]) -> Result<Closed<L>, Strange<L>>
         requires { L.parts ≡ 8 }
@@ -313,7 +313,7 @@ impl<L: Ledger, G: Gate + Drop> Kernel<L, G> {
         }
     }
 
-    /// Goes on with a call that was stopped. It is stopped again where nothing has changed.
+    /// Goes on with a call that was stopped. It is stopped again if nothing has changed.
     pub fn resume<R: Wait>(
         &self,
         rt: &R,
@@ -392,7 +392,7 @@ impl<L: Ledger, G: Gate + Drop> Kernel<L, G> {
         unreachable!()
     }
 
-    // Gives the lock up, and wakes those who wait where what was done may have freed what they wait for.
+    // Gives the lock up, and wakes those who wait, if what was done may have freed what they wait for.
     fn leave(&self, guard: MutexGuard<'_, Inside<L>>, may_free: bool) {
         let wakes = may_free && guard.waiting > 0;
         drop(guard);
