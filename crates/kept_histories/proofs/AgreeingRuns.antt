@@ -1,4 +1,4 @@
--- A run whose events are told to the keeper: what it keeps agrees with the theory from beginning to end.
+-- A run whose events the keeper notes: what it keeps agrees with the theory from beginning to end.
 use Rattle.std.specs.Prelude.{◌<◌, ◌+◌, ◌-◌, ◌^◌, ℕ, suc, List, [], ◌∷◌, Option, length}
 use Rattle.calls_on_blocks.proofs.Vocabulary.{sym, subst, arith}
 use Rattle.atomic_programs.specs.Calls.{Event, State, next, run, with_answer}

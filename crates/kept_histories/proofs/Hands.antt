@@ -1,5 +1,5 @@
--- What a call has in hand as its program runs over whole inodes: the program takes the lock of an inode that it has counted up, where the
--- mark depends on what is seen of it.
+-- What a call has in hand as its program runs over whole inodes: the program takes the lock of an inode that it has
+-- counted up, if the mark depends on what is seen of it.
 use Rattle.std.specs.Prelude.{◌≡◌, ◌⊎◌, ◌≤◌, ℕ, ◌+◌, ◌-◌, ◌==◌, Bool, true, false, Option, Some, None}
 use Rattle.atomic_programs.specs.Prog.{Ret, Do}
 use Rattle.inode_machine.specs.Inodes.{Query, AtNothing, AtName, AtEntries}

@@ -70,7 +70,7 @@ module _ (u : UnderWay) (v : Under) (x : Heard) (text : List ℕ) (a : above.Ans
   reads_next (whole.Close fd c) ns t e = absurd t
   reads_next (whole.Inherit child c) ns t e = absurd t
 
-  -- what is left of the kept call is that too, or both are at their reply
+  -- the rest of the kept call is that too, or both are at their reply
   kept_next : (Do op m k ≡ hears (text_in v.whole) (whole_of v.listed v.whole) x)
       ⊎ ((r q : Reply) × (Do op m k ≡ programs.say r) × (hears (text_in v.whole) (whole_of v.listed v.whole) x ≡ programs.say q))
   kept_next = elim kept [
