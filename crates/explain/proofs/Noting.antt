@@ -1,4 +1,4 @@
--- A keeper that was told of each event of a run has kept it.
+-- A keeper that noted each event of a run has kept it.
 use Rattle.explain.proofs.Vocabulary.{◌≡◌, ℕ, List, [], ◌∷◌, subst, ◌∙◌, Came, Event}
 use Rattle.std.specs.Option.{option_map}
 use Rattle.std.specs.Prelude.{◌+◌, ◌-◌, ◌^◌, ◌<◌, ◌≤◌, min, ◌++◌, length, Bool, Option, Some, None, slice_get}
