@@ -37,7 +37,7 @@ IsUnprinted (faults.Read e) = ⊥
 IsUnprinted (faults.Line n why) = ⊥
 IsUnprinted (faults.Stopped stop) = ⊥
 
--- or nothing is printed, since the run isn't the one that was told
+-- or nothing is printed, because the run isn't the one that the harts' replies show
 abbrev pub IsUntoldRun : ThreadsFault → Option (List ℕ) → Option (List ℕ) → Type 0
 IsUntoldRun (Console fault) out out' = IsUnprinted fault
 IsUntoldRun Device out out' = ⊥
@@ -47,7 +47,8 @@ abbrev pub TellsRun : Mode → List ℕ → List (List Call) → Result (List �
 TellsRun mode image calls (Ok disk) out out' = IsToldRun mode image calls disk out out'
 TellsRun mode image calls (Err fault) out out' = IsUntoldRun fault out out'
 
--- Why there is no run of this script. Nothing is printed but where memory was refused, or what is printed can't be written.
+-- Why there is no run of this script. Nothing is printed unless memory was refused, or what is printed can't be
+-- written.
 abbrev pub IsNoRun : Option (List ℕ) → ThreadsFault → Option (List ℕ) → Option (List ℕ) → Type 0
 IsNoRun script (Console faults.Memory) out out' = Unit {0}
 IsNoRun script (Console (faults.Write e)) out out' = Unit {0}
@@ -58,7 +59,7 @@ IsNoRun script (Console (faults.Stopped stop)) out out' = ⊥
 IsNoRun script Device out out' = out' ≡ out
 IsNoRun script Strange out out' = out' ≡ out
 
--- The calls that a script asks for are made on this image, and the run is told; or there is none.
+-- The calls that a script asks for are made on this image, and the run is printed; or there is none.
 abbrev pub RunsThreads : Mode → List ℕ → Option (List ℕ) → Result (List ℕ) ThreadsFault → Option (List ℕ) → Option (List ℕ) → Type 0
 RunsThreads mode image script (Ok disk) out out' =
     (calls : List (List Call)) × IsAsked script calls × IsToldRun mode image calls disk out out'

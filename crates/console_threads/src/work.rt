@@ -207,7 +207,7 @@ fn seats_of<L: Ledger>(worked: [Worked<L>; 8]) -> ([Seat<L>; 8], Option<Broke>)
     (seats, broke)
 }
 
-/// Each hart's thread makes its calls in their order, and then the kernel ends. `Ok` only where each came to its end.
+/// Each hart's thread makes its calls in their order, and then the kernel ends. `Ok` only if each reached its end.
 pub fn run_calls<L: Ledger + Send + Sync, R: Threads + Wait + Sync>(
     rt: &R,
     kernel: Kernel<L, NoGate>,
