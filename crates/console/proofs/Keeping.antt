@@ -5,7 +5,7 @@ use Rattle.console.specs.declared.fault.ConsoleFault.TheVariants as faults
 use Rattle.console.proofs.Chaining.{Chain, lines_chain, prompts_all_chain}
 use Rattle.console.proofs.Noting.{IsKept, IsRun, events_kept, kept_first, kept_run}
 
--- One history of a run that began with this file system is another one, where histories are wanted.
+-- One history of a run that began with this file system is another one, if histories are wanted.
 module _ {D : Type 0} (contents : D → List (List ℕ)) (failures : D → ℕ) (mode : Mode) (one other : HistoryBeside) (s : SessionOf D)
     (again : mode.explain ≡ true → (first kept : Option KeptTree) (run : KeptRun) (t : SessionOf D) → IsRun contents failures s.world.sizes s.world.harts first run t.world.harts kept → (text : List ℕ) → one first (known_at t kept) run text → other first (known_at t kept) run text) where
   module _ (first kept : Option KeptTree) where

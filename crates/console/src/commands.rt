@@ -25,14 +25,14 @@ use std::io::Write;
 /// The harts, in the order of a turn.
 pub const ALL_HARTS: [u8; 8] = [0, 1, 2, 3, 4, 5, 6, 7];
 
-/// What stands beside a file system while a script is run: the calls that harts are still to start, and what is noted.
+/// What a script's run keeps beside a file system: the calls that harts still have to start, and what is noted.
 #[derive(Drop)]
 pub struct ScriptState {
     pub queues: Queues,
     pub notes: Notes,
 }
 
-// Makes an event, tells and notes it. The copy is the event again, where events are kept.
+// Makes an event, prints and notes it. The copy is the event again, if events are kept.
 fn happen<D: Device, W: Write>(
     session: &mut Session<D>,
     running: &mut ScriptState,

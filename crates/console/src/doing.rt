@@ -80,7 +80,7 @@ impl Doing {
     }
 }
 
-/// What a hart does after an event of its own, of this call, that came to this.
+/// What a hart does after an event of its own, of this call, with this outcome.
 pub fn done_after(verb: Verb, came: &Came, doing: Option<Doing>) -> Option<Doing>
     ensures { result ≡ done_after verb came.now doing }
 {

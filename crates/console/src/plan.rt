@@ -8,7 +8,7 @@ use fs_machine::Kind;
 /// More turns than any call takes.
 const MOST_TURNS: u64 = u64::MAX;
 
-/// The steps end where so many of this kind have run, counted from the call's start.
+/// The steps end when this many steps of this kind have run, counted from the call's start.
 #[derive(Clone, Copy, PartialEq, Eq, Debug)]
 pub struct Until {
     pub kind: Kind,
