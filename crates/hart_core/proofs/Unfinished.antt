@@ -173,7 +173,7 @@ module _ (f : TracedCall → TracedCall) (keeps : (c : TracedCall) → is_nothin
         let none : length left - length left ≡ 0 = omega arith in
         (λ i. remove (m.places_is i) (m.kept_is i)) ∙ remove-append_right left (length m.front ∷ right) (length left) (length left) refl (omega arith) ∙ ap (λ n. left ++ remove (length m.front ∷ right) n) none
 
-    -- it is finished now
+    -- it is finished in this step
     ends_one : (place : ℕ) → place ≡ get_or places kept place → is_nothing (f m.call).finished ≡ false → Ending whole (set calls place (f m.call)) (remove places kept) kept
     ends_one place at done = record {
       front = m.front ++ m.call ∷ [];

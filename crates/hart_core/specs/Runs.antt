@@ -103,8 +103,8 @@ abbrev pub IsExplained : TreeData → Trace → Type 0
 IsExplained base t = (list : List Placed) × Explains base t list
 
 module _ {D : Type 0} (contents : D → List (List ℕ)) (failures : D → ℕ) where
-  -- If the world was mounted, and each step found room in some history of the run, one list of tree steps explains
-  -- all calls that were started, from the image's tree. That holds if no path climbs, or one hart has made all calls.
+  -- The world must be mounted, and some history of the run have room at each step. Then one list of tree steps
+  -- explains all calls that were started, from the image's tree, if no path climbs or one hart has made all calls.
   abbrev pub OneHistory : WorldOf D → List Event → List Came → HartsOf D → Type 0
   OneHistory w events outcomes new =
       (device : D) (history : List (EventOf Call Outside)) → IsMounted contents failures device w

@@ -10,7 +10,7 @@ use Rattle.hart_core.specs.Harts.{HartsOf}
 use Rattle.hart_core.specs.Runs.{IsHistory, IsMounted, FoundRoom, NoneClimbs, OneHart, trace_in}
 use Rattle.hart_core.specs.Worlds.{WorldOf, calls_of}
 
--- the number of the last of so many events
+-- the number of the last of n events
 abbrev pub last_of : ℕ → Option ℕ
 last_of zero = None
 last_of (suc n) = Some n
@@ -80,8 +80,8 @@ module _ {D : Type 0} (contents : D → List (List ℕ)) (failures : D → ℕ) 
 
   -- There is a history of the run as follows, if the world was mounted. The cut and the doubt are what its events
   -- mark. Nobody is in a transaction after the events up to them. The cut has each step that began a commit, once its
-  -- hart has replied. If no step in it found no room, and no path climbs or one hart has made all calls, then the
-  -- disk holds a beginning of the one list that explains the run.
+  -- hart has replied. The disk holds a beginning of the one list that explains the run, if no step found no room, and
+  -- no path climbs or one hart has made all calls.
   pub record RunLeavesABeginning (w : WorldOf D) (events : List Event) (outcomes : List Came) (new : HartsOf D)
       (cut doubt : Option ℕ) : Type 0 where
     pub history : List (EventOf Call Outside)

@@ -27,7 +27,7 @@ module _ {D : Type 0} (contents : D → List (List ℕ)) (failures : D → ℕ) 
   -- The harts are as some list of events leaves them, of a disk that was mounted, whose sizes these are; and calls run on those.
   pub record IsWorld (w : HartsOf D) : Type 0 where
     pub disk : List (List ℕ)
-    -- so often the device had failed then
+    -- how often the device had failed then
     pub count : ℕ
     pub mountable : IsMountable disk
     pub sizes_are : sizes ≡ sizes_of disk

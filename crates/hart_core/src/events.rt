@@ -15,9 +15,9 @@ use plain_tree::Call;
 /// A start or a step of one hart.
 #[derive(Clone, Drop)]
 pub enum Event {
-    /// The hart is to start this call.
+    /// The hart is asked to start this call.
     Start { hart: u8, call: Call },
-    /// The hart's call is to make one step.
+    /// The hart's call is asked to make one step.
     Step { hart: u8 },
 }
 

@@ -28,7 +28,8 @@ fn is_open(phase: Phase) -> bool
     }
 }
 
-/// After so many events, the last of which found the commit there, at the write of the group's head or not, and left it here.
+/// After `count` events. The last one found the commit in phase `before`, at the write of the group's head or not,
+/// and left it in phase `after`.
 pub fn note(marks: Marks, count: u64, before: Phase, at_point: bool, after: Phase) -> Marks
     ensures { result ≡ marks_told count before at_point after marks }
 {
@@ -48,7 +49,7 @@ pub fn note(marks: Marks, count: u64, before: Phase, at_point: bool, after: Phas
     }
 }
 
-/// The number of the last of so many events.
+/// The number of the last of `count` events.
 pub fn last_of(count: u64) -> Option<u64>
     ensures { result ≡ last_of count }
 {

@@ -121,11 +121,11 @@ fn run_all<D: Device, O: Observer>(
 /// first; if memory is short for that, the world is handed back as it was.
 ///
 /// Each event makes of the world what `World::event` says: so the run has a history, of what the device answered in
-/// each step. If the world was mounted, and no step found no room, also of a call that hasn't replied yet, one list
-/// of tree steps explains the trace of these events and outcomes, from the image's tree. That holds as long as no
-/// path of a call that was started has the element "..", and for any paths if one hart alone has started calls. The
-/// tree on the disk, as recovery sees it, is then what has names in the tree after a beginning of that list. That
-/// beginning is the steps of the events up to the cut, or up to the doubt.
+/// each step. If the world was mounted, one list of tree steps explains the trace of these events and outcomes, from
+/// the image's tree. That holds as long as no step found no room, also of a call that hasn't replied yet. No path of
+/// a call that was started may have the element "..", unless one hart alone has started calls. The tree on the disk,
+/// as recovery sees it, is then what has names in the tree after a beginning of that list. That beginning is the
+/// steps of the events up to the cut, or up to the doubt.
 pub fn run<D: Device>(
     alloc: Global,
     world: World<D>,
