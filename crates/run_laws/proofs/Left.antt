@@ -73,7 +73,7 @@ module _ (disk : List (List ℕ)) (failures : ℕ) (events : List (Event Call Ou
       ap (λ (es : List (Event Call Outside)). marks_after S es start no_marks) (first_more n lt)
       ∙ marks_more S (take n events) (event n) start no_marks
 
-  -- each disk that recovery would leave so has the tree after as many events as there are entries
+  -- each disk that recovery would leave so has the tree after the events that the list's length counts
   abbrev Image : List Placed → Blocks → Type 0
   Image list blocks = (d : List (List ℕ)) → length d ≡ length disk → IsRecoveredSo S blocks d → HasTreeOf disk (state (length list)) d
 

@@ -45,7 +45,7 @@ one_more_in (Some k ∷ ms) (suc h) = one_more_in ms h
 
 -- ---- and the steps
 
--- the hart is in a transaction by the log just where it is by its steps
+-- the hart is in a transaction by the log exactly if it is by its steps
 abbrev pub Agrees : ℕ → LogPart → Recorded → Type 0
 Agrees h l o = is_in (slice_get l.members h) ≡ is_some o
 

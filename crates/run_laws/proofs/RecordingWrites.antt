@@ -213,7 +213,7 @@ module _ (sizes : Super) where
           upto sizes (more x) (twice (2 * k) 2 (2 * suc k) s (omega arith))
           (again (at + length (front_of at bytes)) (drop (length (front_of at bytes)) bytes) x)
 
-  -- so many at most
+  -- two blocks for each of n at most
   writes_few : (k n : ℕ) (at : ℕ) (bytes : List ℕ) (d : Dinode) (s : Spent) → IsSpent sizes s sizes.bmapstart → k ≤ n → size s + 2 * n ≤ 10
       → Within sizes s (write_blocks k sizes at bytes d) (with_contents (2 * n) s)
   writes_few k n at bytes d s bitmap le few =

@@ -17,12 +17,12 @@ abbrev pub MarksNone : {Op : Type 0} {Answer : Op → Type 0} {M A : Type 0} →
 MarksNone (Ret a) = Unit {0}
 MarksNone {Op} {Answer} (Do op m k) = (a : Answer op) → (m a ≡ None) × MarksNone (k a)
 
--- the first one is marked, and no other
+-- only the first one is marked
 abbrev pub MarksFirst : {Op : Type 0} {Answer : Op → Type 0} {M A : Type 0} → Prog Op Answer M A → Type 0
 MarksFirst (Ret a) = ⊥
 MarksFirst {Op} {Answer} (Do op m k) = (a : Answer op) → (is_some (m a) ≡ true) × MarksNone (k a)
 
--- the last one is, and no other
+-- only the last one is
 abbrev pub MarksLast : {Op : Type 0} {Answer : Op → Type 0} {M A : Type 0} → Prog Op Answer M A → Type 0
 MarksLast (Ret a) = ⊥
 MarksLast {Op} {Answer} (Do op m k) = (a : Answer op) → ((is_some (m a) ≡ true) × IsAtEnd (k a)) ⊎ ((m a ≡ None) × MarksLast (k a))

@@ -46,7 +46,7 @@ WritesAreMade =
     → IsStep t h (record { op = WriteFile fd n offset bytes; answer = wrote; mark = mark; told = told }) u
     → by_write fd bytes wrote ≡ Wrote fd b ∷ [] → HasWritten t h fd b u
 
--- And one that is answered that there was no block for all of its bytes has written fewer than it was to.
+-- And one that is answered that there was no block for all of its bytes has written fewer than it was asked to.
 abbrev pub ShortWritesAreShort : Type 0
 ShortWritesAreShort =
     (t u : World) (h fd n offset k : ℕ) (bytes : List ℕ) (mark : Option Mark) (told : Option Deed)

@@ -5,9 +5,9 @@ use Rattle.fs_machine.specs.Steps.{State}
 
 -- ---- one hart
 
--- Hart h has begun nothing. It holds no inode for a link, and so has raised no link count for a name to come. It refers to its current
--- directory, once, and to no other inode: to those of its open files these refer. It keeps no inode, as it keeps one that it has locked,
--- has made or is to free; and no place for an open file.
+-- Hart h has begun nothing. It holds no inode for a link, and so has raised no link count for a name to come. It
+-- refers to its current directory, once, and to no other inode: its open files refer to theirs. It keeps no inode, as
+-- it keeps one that it has locked, has made or has to free; and no place for an open file.
 pub record HasBegunNothing (h : ℕ) (w : World) : Type 0 where
   pub link : w.all.holds h ≡ None
   pub references : (n : ℕ) → (w.harts h).refs n ≡ one_if ((w.desks h).directory == n)

@@ -53,9 +53,9 @@ abbrev pub NameFits : above.Op → Type 0
 NameFits (Enter d e n) = length e ≤ name_len
 NameFits op = Unit {0}
 
--- Whatever the program of an operation on whole inodes is answered. If it ends for want of a block it has read the
--- bitmap, and no bit was clear. If it ends for want of an inode it has read each inode's block, and the inode was in
--- use, or could not be claimed.
+-- Whatever the program of an operation on whole inodes is answered, it has looked everywhere. If it ends for want of
+-- a block it has read the bitmap, and no bit was clear. If it ends for want of an inode it has read each inode's
+-- block, and the inode was in use, or could not be claimed.
 abbrev pub SearchesSeeAll : Type 0
 SearchesSeeAll =
     (sizes : Super) (c : Carry) (op : above.Op) (m : above.Answer op → Option above.Mark) (es : List AnsweredStep)

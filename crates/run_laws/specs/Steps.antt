@@ -15,8 +15,8 @@ with_outcome DidWait later = later
 with_outcome DidStop later = later
 with_outcome WasStopped later = later
 
--- How many steps of hart h's call ran, if these are the events after the call's start, the oldest first, with their
--- outcomes: up to its reply, or all if it has not replied.
+-- How many steps of hart h's call ran, up to its reply, or all if it has not replied. These are the events after the
+-- call's start, the oldest first, with their outcomes.
 abbrev pub steps_ran : {Call Outside What Reply Refusal : Type 0} → ℕ → List (Event Call Outside) → List (Outcome What Reply Refusal) → ℕ
 steps_ran h [] outcomes = 0
 steps_ran h (e ∷ es) [] = 0

@@ -135,7 +135,8 @@ module _ (sizes : Super) where
 
   -- ---- an event
 
-  -- Hart h's step ran, and made this of the state; was and now: what each hart's call is in before it, and after it.
+  -- Hart h's step ran, and made this of the state; `was` and `now`: what each hart's call is in before it, and after
+  -- it.
   pub record RunsAStep (h : ℕ) (x : Outside) (s : State (block_calls sizes)) (made : Made (block_calls sizes))
       (was now : ℕ → Option UnderWay) : Type 0 where
     pub under : UnderWay

@@ -28,7 +28,7 @@ AllDescriptorsAreTaken w h = (fd : ℕ) → fd < descriptor_count → IsSome ((w
 abbrev pub IsFullDirectory : Option Node → Type 0
 IsFullDirectory v = (length (all_slots v) ≡ slot_limit) × All IsSome (all_slots v)
 
--- so is the directory in which the operation was to enter a name
+-- so is the directory in which the operation enters a name
 abbrev pub EntersInFull : World → Op → Type 0
 EntersInFull w (Enter d e n) = IsFullDirectory (w.disk d)
 EntersInFull w op = ⊥
@@ -61,8 +61,8 @@ module _ (disk : List (List ℕ)) (failures : ℕ) (events : List (EventOf Call 
       LeadsThroughWants (sizes_of disk) (first_world disk) (operations_made (sizes_of disk) s) (unreserved s.world.seen)
 
 module _ {D : Type 0} (contents : D → List (List ℕ)) (failures : D → ℕ) where
-  -- If this world is as a mount left it, in each history of a run an operation is answered that there is no room only
-  -- in a world that has none: the world to which the operations before it lead.
+  -- It holds of this world if it is as a mount left it, and of each history of a run. An operation is answered that
+  -- there is no room only in a world that has none: the world to which the operations before it lead.
   abbrev pub NoRoomOnlyWhereThereIsNone : WorldOf D → Type 0
   NoRoomOnlyWhereThereIsNone w =
       (device : D) (events : List Event) (came : List Came) (new : HartsOf D) (history : List (EventOf Call Outside))

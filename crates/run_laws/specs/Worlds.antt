@@ -6,7 +6,7 @@ use Rattle.run_laws.specs.Laws.{BeginsRun, RefinesWholeInodes, operations_of}
 use Rattle.run_laws.specs.WholeInodes.{IsRunOfCall, Operation, lowered_inode_calls}
 
 -- these operations are a run of the call's program, which ends with this reply, and one of them wanted what that says
--- there is none of; or they begin one, if it has none yet
+-- is missing; or they begin one, if it has no reply yet
 abbrev pub RunsTo : Call → List Operation → Option (ℕ × Reply) → Type 0
 RunsTo call es (Some r) = IsRunOfCall call es r.1
 RunsTo call es None = BeginsRun call es

@@ -26,11 +26,11 @@ ghost use Rattle.run_laws.specs.StepBounds.{CallsTakeFewSteps, RunsTakeFewSteps}
 use block_device::Device;
 use hart_core::World;
 
-/// Of every list of events of any harts on a mounted disk, with a device that fails at any moment or never: whole
-/// operations on inodes, one after the other, lead from the image's tree to what the blocks show. Each finished
-/// call's own are a run of its program, with the reply that was given, and are made between the call's start and its
-/// return. If that reply is that there is no room, one of them wanted it. It is so also if paths climb, and after a
-/// step found no room.
+/// Whole operations on inodes, one after the other, lead from the image's tree to what the blocks show. It is so of
+/// every list of events of any harts on a mounted disk, with a device that fails at any moment or never. Each
+/// finished call's own are a run of its program, with the reply that was given, and are made between the call's start
+/// and its return. If that reply is that there is no room, one of them wanted it. It is so also if paths climb, and
+/// after a step found no room.
 pub fn runs_refine_whole_inodes()
     ensures { RunsRefineWholeInodes }
 {}
@@ -81,20 +81,20 @@ pub fn room_is_told_by_answers<D: Device>(world: &World<D>)
     let _ = world;
 }
 
-/// In such a run an operation on whole inodes is answered that there is no room only if there is none, in the world
-/// to which the operations before it lead.
-///  - no place in memory: fifty inodes or more are referred to;
-///  - no place for an open file: all hundred are taken;
-///  - no descriptor: the hart's sixteen have open files;
-///  - no slot: the directory has 17,152 and each is used.
+/// In such a run an operation on whole inodes finds no room only if there is none, in the world to which the
+/// operations before it lead:
+/// - no place in memory: fifty inodes or more are referred to;
+/// - no place for an open file: all hundred are taken;
+/// - no descriptor: the hart's sixteen have open files;
+/// - no slot: the directory has 17,152 and each is used.
 pub fn no_room_only_where_there_is_none<D: Device>(world: &World<D>)
     ensures { NoRoomOnlyWhereThereIsNone D.contents D.failures world.now }
 {
     let _ = world;
 }
 
-/// So a call is answered that there is no place in memory, no open file, no descriptor or no slot of a directory only
-/// if one of its operations wanted that, in a world that has none.
+/// So a call may be answered that there is no place in memory, no open file, no descriptor or no slot of a directory.
+/// Then one of its operations wanted that, in a world that has none.
 pub fn calls_find_none_where_there_is_none<D: Device>(world: &World<D>)
     ensures { CallsFindNoneWhereThereIsNone D.contents D.failures world.now }
 {
@@ -119,26 +119,28 @@ pub fn calls_without_room_take_back<D: Device>(world: &World<D>)
     let _ = world;
 }
 
-/// Whatever the steps on the blocks are answered of which an operation on whole inodes is made. If it ends for want
-/// of a block, it has read the bitmap, and no bit below the size was clear there. If it ends for want of an inode, it
-/// has read the block of each inode of the disk. Each had a type there, or was among those of which none could be
-/// claimed. That is answered only if there is a reference to each of those.
+/// Whatever the steps on the blocks are answered, an operation on whole inodes that is made of them has looked
+/// everywhere. If it ends for want of a block, it has read the bitmap, and no bit below the size was clear there. If
+/// it ends for want of an inode, it has read the block of each inode of the disk. Each had a type there, or was among
+/// those of which none could be claimed. The answer that none could be claimed is given only if there is a reference
+/// to each of those.
 pub fn searches_see_all()
     ensures sees_all { SearchesSeeAll }
     ensures finds_references { ClaimsFindReferences }
 {}
 
-/// Whatever the steps of its program on the blocks are answered: a write may be answered that there was no block for
-/// all of its bytes. Then it has written just those before one block of the content. The inode lacked that block, as
-/// its record and its indirect block had it, and no bit of the bitmap was clear for it.
+/// Whatever the steps of its program on the blocks are answered, a short write ends before a missing block. It is
+/// answered that there was no block for all of its bytes, and has written just those before one block of the content.
+/// The inode lacked that block, as its record and its indirect block had it, and no bit of the bitmap was clear for
+/// it.
 pub fn short_writes_end_before_missing()
     ensures { ShortWritesEndBeforeMissing }
 {}
 
-/// So in each run of a mounted world. A call is answered that there is no block only if one of its steps, between its
-/// start and its return, had the bitmap with no clear bit below the size. It is answered that there is no inode only
-/// if its steps had the block of each inode of the disk. Each inode had a type there, or there was a reference to it
-/// when the block's free ones were to be claimed.
+/// So it is in each run of a mounted world. If a call is answered that there is no block, one of its steps had the
+/// bitmap with no clear bit below the size. That step was between the call's start and its return. If it is answered
+/// that there is no inode, its steps had the block of each inode of the disk. Each inode had a type there, or there
+/// was a reference to it when the block's free ones were to be claimed.
 pub fn calls_look_everywhere<D: Device>(world: &World<D>)
     ensures { CallsLookEverywhere D.contents D.failures world.now }
 {
@@ -177,7 +179,7 @@ pub fn idle_harts_have_begun_nothing<D: Device>(world: &World<D>)
 }
 
 /// And if no hart has a call, each inode on the disk whose count is 0 is that of an open file or of a current
-/// directory: what has lost its last name is freed once nobody uses it. Whatever its program's steps are answered,
+/// directory. So what has lost its last name is freed once nobody uses it. Whatever its program's steps are answered,
 /// the last step of a freeing puts the inode's block as it was read, with a record of the inode that has no type.
 pub fn nothing_is_lost<D: Device>(world: &World<D>)
     ensures lost { NothingIsLost D.contents D.failures world.now }
@@ -186,9 +188,9 @@ pub fn nothing_is_lost<D: Device>(world: &World<D>)
     let _ = world;
 }
 
-/// Of every list of events of any harts on a mounted disk, with a device that fails at any moment or never: no call that they begin
-/// takes more steps that ran than its own limit, and no call's limit is above 1,000,000. A step that waits doesn't count; that a call
-/// goes on is not said.
+/// No call takes more steps that ran than its own limit, and no call's limit is above 1,000,000. It is so of every
+/// list of events of any harts on a mounted disk, with a device that fails at any moment or never. A step that waits
+/// doesn't count; that a call goes on is not said.
 pub fn calls_take_few_steps()
     ensures { CallsTakeFewSteps }
 {}
