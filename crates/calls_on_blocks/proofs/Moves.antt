@@ -87,8 +87,8 @@ module _ (n h : ℕ) (s : State) (m : Marks) (whole : IsWholeLog s.log) where
   abbrev pub IsTold : {A : Type 0} → ExecResult A State → Marks → Type 0
   IsTold d m' = marks_told (n + 1) l.phase (at_point l) (came_to s d).log.phase m ≡ m'
 
-  -- What an event does to the log and to the marks, at an operation with outcome d: it is neither a leave nor a write
-  -- of a commit; a leave, which ran; or a write of a commit. The disk has as many blocks.
+  -- What an event does to the log and to the marks, at an operation with outcome d. It is neither a leave nor a write
+  -- of a commit; or a leave, which ran; or a write of a commit. The disk has its old count of blocks.
   abbrev pub Goes : {A : Type 0} → ExecResult A State → Marks → Type 0
   Goes d m' =
       (length (came_to s d).log.contents ≡ length l.contents)

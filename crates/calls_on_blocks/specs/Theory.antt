@@ -28,7 +28,8 @@ served_calls = calls_that serves
 
 -- ---- starts
 
--- the first fault of a call itself: a path's length, then its zero bytes, of each path in turn; or how much is to be read or written
+-- the first fault of a call itself: a path's length, then its zero bytes, of each path in turn; or the count of bytes
+-- to read or write
 abbrev pub path_fault : List ℕ → Option Refusal
 path_fault path = if nat_lt path_limit (length path) then Some PathTooLong else (if has_zero path then Some ZeroInPath else None)
 

@@ -1,6 +1,6 @@
-//! The calls on the blocks of a file system: each call's program over whole inodes as a program below, what every
-//! list of events makes of them, and what the disk is if a mounted file system stops at any event. The functions do
-//! nothing: each carries a law.
+//! The calls on the blocks of a file system. They have each call's program over whole inodes as a program below, what
+//! every list of events makes of them, and what the disk is if a mounted file system stops at any event. The
+//! functions do nothing: each carries a law.
 #![tactic(auto)]
 
 ghost use Rattle.calls_on_blocks.specs.Laws.{CallsAreLawful, CodeIsOfIt};
@@ -21,10 +21,10 @@ pub fn code_is_of_it()
     ensures { CodeIsOfIt }
 {}
 
-/// The headline, of definitions: for every list of events of any harts on a mounted disk, with a device that fails at
-/// any moment or never, one list of tree steps explains all calls that were started, from the image's tree. Each
-/// finished call's entries are its written sequence and make its reply, and each is placed between the call's start
-/// and return. It is so as long as no step found no room and no path has the element "..".
+/// The headline, of definitions: one list of tree steps explains all calls that were started, from the image's tree.
+/// It is so for every list of events of any harts on a mounted disk, with a device that fails at any moment or never.
+/// Each finished call's entries are its written sequence and make its reply, and each is placed between the call's
+/// start and return. It is so as long as no step found no room and no path has the element "..".
 pub fn mounts_have_one_history()
     ensures { MountsHaveOneHistory }
 {}
@@ -34,15 +34,15 @@ pub fn one_hart_has_one_history()
     ensures { OneHartHasOneHistory }
 {}
 
-/// Each event of a run on a mounted disk, whatever its paths, makes the move that it places as code makes it on a
-/// tree that is kept beside the run. If it places none, tree and walks stay. It is so as long as no step found no
-/// room.
+/// Each event of a run on a mounted disk, whatever its paths, makes the move that it places. Code makes the same move
+/// on a tree that is kept beside the run. If the event places none, tree and walks stay. It is so as long as no step
+/// found no room.
 pub fn mounts_make_moves()
     ensures { MountsMakeMoves }
 {}
 
-/// If a mounted file system stops, in the middle of calls or of a commit, by the device's failure or not, its disk
-/// passes all checks as recovery sees it: it can be mounted again.
+/// A mounted file system may stop in the middle of calls or of a commit, by the device's failure or not. Then its
+/// disk passes all checks as recovery sees it: it can be mounted again.
 pub fn stops_leave_images()
     ensures { StopsLeaveImages }
 {}
