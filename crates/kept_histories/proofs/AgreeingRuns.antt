@@ -23,7 +23,7 @@ use Rattle.kept_histories.proofs.Events.{event_agrees}
 use Rattle.kept_histories.proofs.KeptHistory.{history_in}
 
 module _ {D : Type 0} (contents : D → List (List ℕ)) (failures : D → ℕ) (sizes : Super) (under : ℕ → ℕ → Option UnderWay) where
-  -- after so many events: it agrees, and the history is of so many events
+  -- after n events: it agrees, and the history is of n events
   pub record AgreesAt (n : ℕ) (s : State (block_calls sizes)) (b : History) (w : HartsOf D) (k : KeptTree) : Type 0 where
     pub agrees : Agrees contents failures sizes s b w k (under n)
     pub counted : IsCounted n b

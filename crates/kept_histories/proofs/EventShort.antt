@@ -1,5 +1,5 @@
--- The event that is the first to find no room: it is a hart's step, and either the kept tree knows of it then, or the
--- hart's call is just after a claim whose want of room it hears in its next step. No other event finds none.
+-- The event that is the first to find no room is a hart's step. Either the kept tree knows of it then, or the hart's
+-- call is just after a claim whose want of room it hears in its next step. No other event finds none.
 use Rattle.std.specs.Prelude.{◌≡◌, ◌⊎◌, ℕ, Bool, true, false, not, ◌&&◌, List, Option, Some, None, get_or, nat_lt, ◌==◌}
 use Rattle.calls_on_blocks.proofs.Vocabulary.{refl, sym, ◌∙◌, ap, subst, inl, inr}
 use Rattle.atomic_programs.specs.Calls.{Began, Begins, DidEnd, DidRun, DidStop, DidWait, Event, EventOutcome, Made, Refused, Refuses, Started, WasIdle, WasStopped, Run, Start, State, Step, Theory, begun, busy_in, makes, moved, next, start_run, step_prog, step_run, step_unless, tried, with_answer}

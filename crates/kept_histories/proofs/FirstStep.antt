@@ -1,4 +1,4 @@
--- An operation that takes an inode's lock, if its program goes on after the first step: the settled tree has the
+-- An operation takes an inode's lock, and its program goes on after the first step: then the settled tree has the
 -- inode as the world above has it on its disk.
 use Rattle.std.specs.Prelude.{◌≡◌, ◌⊎◌, ◌<◌, ◌≤◌, ◌&&◌, ◌==◌, nat_lt, ℕ, Bool, true, false, if◌then◌else◌, IsSome, Option, Some, None}
 use Rattle.std.specs.Option.{option_map}

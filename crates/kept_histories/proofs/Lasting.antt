@@ -1,5 +1,5 @@
 -- What is known of want of room stays known. A call just after a claim for which there was no place in memory stays
--- at that point until it hears so in its next step, and then that is known.
+-- at that point. In its next step it hears so, and then that is known.
 use Rattle.std.specs.Prelude.{◌≡◌, ◌≢◌, ◌⊎◌, ℕ, suc, Bool, true, false, ◌||◌, List, [], ◌∷◌, length, Option, Some, None, get_or}
 use Rattle.std.specs.List.{list_any}
 use Rattle.std.specs.Option.{option_map}

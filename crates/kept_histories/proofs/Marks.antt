@@ -1,5 +1,5 @@
--- The kept tree's marks are the theory's. Either what a step places is one move, and then the kept tree's mark makes
--- that; or both make none, and then the mark doesn't say that there was no room.
+-- The kept tree's marks are the theory's. If what a step places is one move, the kept tree's mark makes that. Else
+-- both make none, and then the mark doesn't say that there was no room.
 use Rattle.std.specs.Prelude.{◌≡◌, ◌⊎◌, ℕ, Bool, true, false, ◌||◌, List, [], ◌∷◌, Option, Some, None}
 use Rattle.std.specs.Option.{option_map}
 use Rattle.calls_on_blocks.proofs.Vocabulary.{refl, sym, ◌∙◌, ap, subst, inl, inr}

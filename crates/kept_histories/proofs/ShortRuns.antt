@@ -107,7 +107,8 @@ module _ (disk : List (List ℕ)) (count : ℕ) (whole : List (Event Call Outsid
         by true e = not_both (next L f (at past)).world.seen.clean (ap (λ (z : State L). z.world.seen.clean) (sym (then_at past f)) ∙ back e) bad
 
   module _ {D : Type 0} (contents : D → List (List ℕ)) (failures : D → ℕ) where
-    -- at its end: each step found room, and all agrees; no operation under way is to give back the block of a claim without place
+    -- at its end: each step found room, and all agrees; no operation under way has to give back the block of a claim
+    -- without place
     pub record EndsWithRoom (new : HartsOf D) (k : KeptTree) : Type 0 where
       pub clean : (so_far disk count whole).world.seen.clean ≡ true
       pub book : History

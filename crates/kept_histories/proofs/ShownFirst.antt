@@ -77,7 +77,7 @@ never_refused h w u m (Some e) None why may none ran = by (w.lock e.file.number)
     by (Some g) q = cc q
 
 module _ (sizes : Super) (h : ℕ) (w : W) (shows : Shows w.real.blocks w.seen) (inv : Inv w.seen) where
-  -- what is in hand is shared, and what was counted up just now is alive
+  -- what is in hand is shared, and what was counted up last is alive
   seen_taken : (n : ℕ) (looking : Query) (c : Carry) (m : Sight → Option Mark) (g : Option Hands) → TakesInHand g n looking → Holds h g w.seen
       → GoesOn sizes h w (ShownAlike (settle w.seen.all) w.seen n) (handlers sizes c (Take n looking) m)
   seen_taken n looking c m None takes holds = absurd takes

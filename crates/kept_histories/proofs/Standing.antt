@@ -1,4 +1,4 @@
--- A hart's call in code is as far as the operation under way: its control asks for the same operation, and the rest
+-- A hart's call in code is as far as the operation under way. Its control asks for the same operation, and the rest
 -- of the part is the rest of the operation's program. So it is after each step.
 use Rattle.std.specs.Prelude.{◌≡◌, ℕ, List, [], Bool, true, false, Option, Some, None}
 use Rattle.calls_on_blocks.proofs.Vocabulary.{refl, sym, ◌∙◌, ap, subst}
@@ -28,7 +28,7 @@ use Rattle.kept_histories.proofs.Controls.{Answers, at_end, goes_on_still, plain
 use Rattle.kept_histories.proofs.ReadRooms.{RoomOf, room_asked}
 use Rattle.kept_histories.proofs.Basics.{none_some}
 
--- what a part's end is to the operation
+-- what the operation sees in a part's end
 abbrev pub handed : (op : above.Op) → Handover Message Carry → Handover (above.Answer op) Carry
 handed op r = record { answer = answer_by op r.answer; carry = r.carry }
 

@@ -1,5 +1,5 @@
--- A step of a call in code is the step of the theory: its operation has the same answer, and after it the call is as
--- far as the operation then under way.
+-- A step of a call in code is the step of the theory: its operation has the same answer. After it the call is as far
+-- as the operation then under way.
 use Rattle.std.specs.Prelude.{◌≡◌, ℕ, List, [], ◌∷◌, ◌++◌, Bool, true, false, Option, Some, None}
 use Rattle.calls_on_blocks.proofs.Vocabulary.{refl, sym, ◌∙◌, ap, subst}
 use Rattle.calls_on_blocks.proofs.Lawful.{is_code}
