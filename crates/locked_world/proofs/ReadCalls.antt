@@ -79,7 +79,7 @@ module _ (sizes : Super) (fd : ℕ) (buffer : List ℕ) where
   abbrev HandsIt : Reply → Type 0
   HandsIt = HandsBack (Read fd buffer)
 
-  -- so many bytes at most were read
+  -- no more bytes were read than the buffer has
   abbrev Fits : Handover (List ℕ) Carry → Type 0
   Fits r = length r.answer ≤ length buffer
 

@@ -38,7 +38,7 @@ contents d = blocks_of d.bytes
 abbrev pub failures : Fuse → ℕ
 failures d = d.faults
 
--- the image on a disk that passes so many calls
+-- the image on a disk whose fuse passes a count of calls
 abbrev pub disk_of : StoredRun → Fuse
 disk_of s = record { bytes = s.image; left = s.fuse; faults = 0 }
 
@@ -46,7 +46,7 @@ disk_of s = record { bytes = s.image; left = s.fuse; faults = 0 }
 abbrev pub device_of : WorldOf Fuse → Fuse
 device_of w = w.harts.core.log.cache.device
 
--- calls lead from the image, on a disk that passes so many, to this one
+-- calls lead from the image, on a disk with that fuse, to this one
 abbrev pub ComesFromImage : StoredRun → Fuse → Type 0
 ComesFromImage s d = ComesByCalls IsFusedCall (disk_of s) d
 

@@ -70,7 +70,8 @@ fn keeps_after(count: u32, given: &[u8], back: &[u8]) -> bool
     back.len() == given.len() && after(back, count) == after(given, count)
 }
 
-/// Whether the reply's call is the one given, but for the bytes that a read has read: as many at the beginning of its buffer as it was answered.
+/// Whether the reply's call is the one given, but for the bytes that a read has read: these are at the beginning of
+/// its buffer, in the number that it was answered.
 pub fn is_handed_back(given: &Call, reply: &Reply) -> bool
     ensures { IsTrue result ↔ HandsBack given.now reply.now }
 {

@@ -14,9 +14,9 @@ use std::marker::Model;
 /// A stored event, with its call lent.
 #[derive(Clone, Copy)]
 pub enum EventRef<'a> {
-    /// The hart was to start this call.
+    /// The hart was asked to start this call.
     Start { hart: u8, call: &'a Call },
-    /// The hart's call was to make one step.
+    /// The hart's call was asked to make one step.
     Step { hart: u8 },
 }
 

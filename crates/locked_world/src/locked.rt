@@ -175,8 +175,8 @@ impl<L: Ledger> Receipt<L> {
 }
 
 impl<L: Ledger> Locked<L> {
-    /// A world mounted on a disk of this image that passes so many calls and then fails, with no events; and a share for each hart. It
-    /// answers the image's first damage, a failure of the device, or want of memory.
+    /// A world mounted on a disk of this image that passes `fuse` calls and then fails, with no events; and a share
+    /// for each hart. It answers the image's first damage, a failure of the device, or want of memory.
     pub fn new(
         alloc: Global,
         blank: Blank,
@@ -319,8 +319,8 @@ impl<L: Ledger> Locked<L> {
         let _ = &self.world;
     }
 
-    /// Ends the world at any moment, without a call of the device, and leaves its disk. As many calls were started and answered, together,
-    /// as the shares count.
+    /// Ends the world at any moment, without a call of the device, and leaves its disk. The shares together count the
+    /// calls that were started and answered.
     pub fn end(self, shares: [Share<L>; 8]) -> Closed<L>
         requires { L.parts ≡ 8 }
         ensures same { result ≡ closed_of self }
