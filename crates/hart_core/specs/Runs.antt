@@ -103,8 +103,9 @@ abbrev pub IsExplained : TreeData → Trace → Type 0
 IsExplained base t = (list : List Placed) × Explains base t list
 
 module _ {D : Type 0} (contents : D → List (List ℕ)) (failures : D → ℕ) where
-  -- The world must be mounted, and some history of the run have room at each step. Then one list of tree steps
-  -- explains all calls that were started, from the image's tree, if no path climbs or one hart has made all calls.
+  -- Let the world be mounted, and let each step of some history of the run have found room. Then one list of tree
+  -- steps explains all calls that were started, from the image's tree, if no path climbs or one hart has made all
+  -- calls.
   abbrev pub OneHistory : WorldOf D → List Event → List Came → HartsOf D → Type 0
   OneHistory w events outcomes new =
       (device : D) (history : List (EventOf Call Outside)) → IsMounted contents failures device w
