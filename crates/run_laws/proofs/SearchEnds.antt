@@ -77,7 +77,7 @@ module _ (sizes : Super) where
   seen_front es xs ys is DiskInodes saw = λ n some below. in_use_front es xs ys is n (saw n some below)
   seen_front es xs ys is Directory saw = tt
 
-  -- k is where the write ended, or no block was seen
+  -- the write ended at k, or no block was seen
   none_or : (es xs ys : List AnsweredStep) → es ≡ xs ++ ys → (w : WriteResult) (k : ℕ) → SawNoBlock sizes xs ⊎ (w.upto ≡ k)
       → SawNoBlock sizes es ⊎ (w.upto ≡ k)
   none_or es xs ys is w k (inl saw) = inl (saw_front sizes es xs ys is saw)

@@ -5,8 +5,8 @@ use Rattle.run_laws.specs.Vocabulary.{sizes_of, Reply, Call, TracedCall, Theory,
 use Rattle.run_laws.specs.Laws.{BeginsRun, RefinesWholeInodes, operations_of}
 use Rattle.run_laws.specs.WholeInodes.{IsRunOfCall, Operation, lowered_inode_calls}
 
--- these operations are a run of the call's program, which ends with this reply, and one of them wanted what that says
--- is missing; or they begin one, if it has no reply yet
+-- These operations are a run of the call's program, which ends with this reply. If the reply says that there is none
+-- of a thing, one of them wanted it. If there is no reply yet, they begin a run.
 abbrev pub RunsTo : Call → List Operation → Option (ℕ × Reply) → Type 0
 RunsTo call es (Some r) = IsRunOfCall call es r.1
 RunsTo call es None = BeginsRun call es

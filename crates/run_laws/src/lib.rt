@@ -44,10 +44,10 @@ pub fn worlds_refine_whole_inodes<D: Device>(world: &World<D>)
     let _ = world;
 }
 
-/// In such a run each operation on whole inodes is made once within its own program on the blocks, at a step where it
-/// is marked to act. Its answer is the one that the program ends with, by which the call goes on. A finished call has
-/// made all of its operations so, and ends with its reply. It is so of a call under way, as far as it has come. Only
-/// of an operation whose program hasn't ended yet is no answer compared.
+/// In such a run each operation on whole inodes is made once within its own program on the blocks, at a step that is
+/// marked for it to act. Its answer is the one that the program ends with, by which the call goes on. A finished call
+/// has made all of its operations so, and ends with its reply. It is so of a call under way, as far as it has come.
+/// Only of an operation whose program hasn't ended yet is no answer compared.
 pub fn calls_go_on_as_they_acted<D: Device>(world: &World<D>)
     ensures { CallsGoOnAsTheyActed D.contents D.failures world.now }
 {
@@ -160,8 +160,8 @@ pub fn transactions_record_at_most_ten_blocks<D: Device>(world: &World<D>)
 /// A run has one list of tree steps, which is a function of its events with the device's answers, and only grows.
 /// After each event, if the world is stopped there, the list so far is a beginning of that of the whole run. It
 /// explains the calls and the replies so far. The disk's tree is what has names in the tree after a beginning of that
-/// same list: the entries of the events up to the cut, or up to the doubt. It is so as long as no step found no room,
-/// and no path climbs or one hart alone makes calls.
+/// same list. That beginning is the entries of the events up to the cut, or up to the doubt. It is so as long as no
+/// step found no room, and no path climbs or one hart alone makes calls.
 pub fn runs_have_one_list<D: Device>(world: &World<D>)
     ensures { RunsHaveOneList D.contents D.failures world.now }
 {
