@@ -1,5 +1,5 @@
-//! The calls on the blocks of a file system. They have each call's program over whole inodes as a program below, what
-//! every list of events makes of them, and what the disk is if a mounted file system stops at any event. The
+//! The calls on the blocks of a file system: each call's program over whole inodes as a program below. The laws say
+//! what every list of events makes of them, and what the disk is if a mounted file system stops at any event. The
 //! functions do nothing: each carries a law.
 #![tactic(auto)]
 
