@@ -1,4 +1,4 @@
--- An operation takes an inode's lock, and its program goes on after the first step: then the settled tree has the
+-- When an operation takes an inode's lock, its program may go on after the first step. Then the settled tree has the
 -- inode as the world above has it on its disk.
 use Rattle.std.specs.Prelude.{◌≡◌, ◌⊎◌, ◌<◌, ◌≤◌, ◌&&◌, ◌==◌, nat_lt, ℕ, Bool, true, false, if◌then◌else◌, IsSome, Option, Some, None}
 use Rattle.std.specs.Option.{option_map}
