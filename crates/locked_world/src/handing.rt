@@ -70,8 +70,8 @@ fn keeps_after(count: u32, given: &[u8], back: &[u8]) -> bool
     back.len() == given.len() && after(back, count) == after(given, count)
 }
 
-/// Whether the reply's call is the one given, but for the bytes that a read has read: these are at the beginning of
-/// its buffer, in the number that it was answered.
+/// Whether the reply's call is the one given, but for the bytes that a read has read. These are at the beginning of
+/// its buffer, and their number is the answer.
 pub fn is_handed_back(given: &Call, reply: &Reply) -> bool
     ensures { IsTrue result ↔ HandsBack given.now reply.now }
 {
