@@ -49,7 +49,7 @@ kernel_sync L G g s = declared_sync (kernel.the_type L G g) (search (inside_send
 pub seat_send : (L : RattleType) (g : LedgerGhosts L.Denot) → IsSend L → IsSend (seat.the_row L g)
 seat_send L g s = view_send _ _ _ _ _ (declared_send (held.the_type L g) (search (share.the_send, reply.the_send, sendable, crosses) depth 60 fits 20000))
 
--- ---- tuples and closures of so many parts
+-- ---- tuples and closures of any count of parts
 
 abbrev EachSend : List RattleType → Type 0
 EachSend [] = Unit {0}

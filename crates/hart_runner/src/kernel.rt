@@ -24,8 +24,9 @@ use std::time::Duration;
 // How often a worker looks for the lock before it sleeps until it is free.
 const LOOKS: u32 = 64;
 
-// So many microseconds it sleeps between two looks. What a step works on is in the cache of the processor that made the last one, and to move it takes
-// longer than many steps do. So each worker makes many events before another one has the lock, when several want it.
+// How many microseconds a worker sleeps between two looks. What a step works on is in the cache of the processor that
+// made the last one, and to move it takes longer than many steps do. So each worker makes many events before another
+// one has the lock, when several want it.
 const ASIDE: u64 = 1000;
 
 // What is under the lock: the world, and how many workers wait for others.
@@ -211,8 +212,8 @@ impl<L: Ledger> BusySeat<L> {
 }
 
 impl<L: Ledger, G: Gate + Drop> Kernel<L, G> {
-    /// A kernel over this image, on a disk that passes so many calls and then fails, and a seat for each hart. It answers the image's
-    /// first damage, a failure of the device, or want of memory.
+    /// A kernel over this image, on a disk that passes `fuse` calls and then fails, and a seat for each hart. It
+    /// answers the image's first damage, a failure of the device, or want of memory.
     pub fn open(
         alloc: Global,
         blank: Blank,
@@ -248,7 +249,7 @@ impl<L: Ledger, G: Gate + Drop> Kernel<L, G> {
     }
 
     /// Ends the kernel, without a call of the device. `Ok` only if each seat's replies are those of its hart in the
-    /// list, in their order. As many calls were started and answered then, together, as the seats count.
+    /// list, in their order. The seats together then count the calls that were started and answered.
     #[tactic(auto, using(crate::proofs::Listed::all_seats))]
     pub fn close(self, seats: [Seat<L>; 8]) -> Result<Closed<L>, Strange<L>>
         requires { L.parts ≡ 8 }
