@@ -33,14 +33,14 @@ fn kept_or_found(
     find_history(alloc, base, trace, &hints)
 }
 
-/// Mounts a copy of the image in memory, runs these events, and hands out a list of tree steps that explains what they
-/// showed of calls: event number, call, step and answer each. Without events the list is empty.
+/// Mounts a copy of the image in memory, runs these events, and hands out a list of tree steps that explains what
+/// they showed of calls. It has event number, call, step and answer of each. Without events the list is empty.
 ///
 /// Why it is refused:
-///  - the image's first damage;
-///  - 71 if a step found no room, also in a call that hasn't replied, and also if a path climbs as well;
-///  - 72 if each step found room and the path of a call that was started has the element "..";
-///  - 33 if memory was refused.
+/// - the image's first damage;
+/// - 71 if a step found no room, also in a call that hasn't replied, and also if a path climbs as well;
+/// - 72 if each step found room and the path of a call that was started has the element "..";
+/// - 33 if memory was refused.
 ///
 /// The events run beside a tree, on which each operation makes its move as it acts: the list is made of these moves.
 /// Each step is there with its answer at the event at which it acted. The failing steps of walks are at the event of
