@@ -11,7 +11,7 @@ use Rattle.console.specs.Queues.{QueuedCalls, none_left, queued}
 
 -- ---- the call that a line says; a read is handed zeros to fill, a fill writes the letter x
 
--- as many as are asked for, or one more than a call may have
+-- the bytes that are asked for, or one more than a call may have
 abbrev pub part_of : ℕ → ℕ → List ℕ
 part_of count byte = replicate (min count 524289) byte
 

@@ -58,7 +58,8 @@ waits_text false = codes "\n"
 abbrev pub progress_text : Doing → List ℕ
 progress_text d = step_text d.last ++ locks_text (locks_of d) ++ joined_text (is_joined d) ++ waits_text d.waits
 
--- a hart that has a call: which, its last step, what it has since, and whether the step that was tried since waited
+-- a hart that has a call: which, its last step, the locks and the transaction that it has, and whether the step that
+-- was tried next waited
 abbrev pub doing_text : ℕ → Option Doing → List ℕ
 doing_text hart None = []
 doing_text hart (Some d) = decimal hart ++ codes " " ++ word_of d.verb ++ child_text d.verb ++ progress_text d

@@ -11,7 +11,7 @@ use Rattle.console.specs.declared.doing.Doing.{Doing}
 use Rattle.console.specs.Numbers.{kind_place}
 
 -- ---- what a hart's call has done so far: which call it is, how many of its steps of each kind have run, which was
--- the last, and whether one has waited after it
+-- the last, and whether one waited after it
 
 -- counted up to the greatest u32
 abbrev pub one_more : ℕ → ℕ
@@ -23,11 +23,11 @@ begun verb = record { verb = verb; ran = replicate 12 0; last = None; waits = fa
 abbrev pub count_of : Kind → Doing → ℕ
 count_of kind d = get_or d.ran (kind_place kind) 0
 
--- how many inodes' locks it has: it has taken so many more than it has given up
+-- how many inodes' locks it has: those that it has taken, less those that it has given up
 abbrev pub locks_of : Doing → ℕ
 locks_of d = count_of kinds.Lock d - count_of kinds.Unlock d
 
--- it has joined a transaction, and not left it since
+-- it has joined a transaction, and not left it
 abbrev pub is_joined : Doing → Bool
 is_joined d = nat_lt (count_of kinds.Leave d) (count_of kinds.Join d)
 

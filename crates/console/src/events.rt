@@ -13,7 +13,7 @@ use std::io::Write;
 /// How wide the column of a hart is.
 const COLUMN: usize = 8;
 
-/// As many spaces as the last column has before it.
+/// The spaces before the last column.
 const SPACES: [u8; 56] = [b' '; 56];
 
 /// The names of the columns.

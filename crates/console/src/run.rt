@@ -114,7 +114,7 @@ fn check<W: Write>(alloc: Global, disk: MemoryDisk, out: &mut W) -> Result<Memor
 
 /// Runs a script on a file system that is mounted: what its lines say (`RunsReader`), in their order, each once, up
 /// to the first in which a call is stopped. Answers are written as they come, and none if a line is bad. If a history
-/// is wanted, it is one of the outcomes of the script's events, from `base` on, the tree that the file system has.
+/// is wanted, it explains the outcomes of the script's events, from `base` on, the tree that the file system has.
 /// Else `base` isn't looked at.
 pub fn run_on<D: Device, R: Read + Drop, W: Write>(
     alloc: Global,

@@ -51,7 +51,7 @@ pub fn hart_in(event: &Event) -> u8
     }
 }
 
-// A hart that there is does this now.
+// The hart, if there is one of this number, does this next.
 fn put_doing(doing: &mut [Option<Doing>; HARTS], hart: u8, next: Option<Doing>)
     ensures { doing.new ≡ set doing.old hart next }
 {
@@ -171,7 +171,7 @@ impl<D: Device> Session<D> {
         came
     }
 
-    /// From now on a tree is kept beside it.
+    /// From this call on a tree is kept beside it.
     pub(crate) fn keep(&mut self, keeper: Keeper)
         ensures { self.new ≡ with_beside keeper self.old }
     {
