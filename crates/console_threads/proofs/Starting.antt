@@ -1,4 +1,4 @@
--- The calls that a hart was to start, event after event.
+-- The calls that a hart was asked to start, event after event.
 use Rattle.console_threads.proofs.Vocabulary.{◌≡◌, ℕ, ◌+◌, ◌<◌, ◌≤◌, List, [], ◌∷◌, ◌++◌, length, drop, get_or, ap, sym, ◌∙◌, arith, length-drop, ◌↔◌, ◌≢◌, at_drop_all, at_drop_more, Event, Call, started_by, starts_in}
 
 module _ (hart : ℕ) (events : List Event) (asked : List Call) where

@@ -15,9 +15,9 @@ pub record IsPrinted (mode : Mode) (image : List ℕ) (run : StoredRun) (out out
   pub lines : Appends out between (harts_text run.events run.outcomes eight_harts)
   pub ends : PrintsAll mode (history_on image) (noted_in (no_notes mode) run.events run.outcomes) between (Ok tt) out'
 
--- A run on this image leaves this disk, one that doesn't fail, and is printed. Each hart was to start its calls, and all that were started
--- are answered. One
--- list of tree steps explains them, if no step found no room and no path climbs.
+-- A run on this image leaves this disk, one that doesn't fail, and is printed. Each hart was asked to start its
+-- calls, and all that were started are answered. One list of tree steps explains them, if no step found no room and
+-- no path climbs.
 pub record IsToldRun (mode : Mode) (image : List ℕ) (calls : List (List Call)) (disk : List ℕ) (out out' : Option (List ℕ)) : Type 0 where
   pub run : ClosedRun
   pub image_is : run.stored.image ≡ image
@@ -28,7 +28,7 @@ pub record IsToldRun (mode : Mode) (image : List ℕ) (calls : List (List Call))
   pub explained : HasOneHistory run
   pub printed : IsPrinted mode image run.stored out out'
 
--- memory was refused, or what is to be printed can't be written
+-- memory was refused, or the output can't be written
 abbrev pub IsUnprinted : ConsoleFault → Type 0
 IsUnprinted faults.Memory = Unit {0}
 IsUnprinted (faults.Write e) = Unit {0}

@@ -49,7 +49,7 @@ EachAnswered run [] (calls ∷ more) = ⊥
 EachAnswered run (hart ∷ harts) [] = ⊥
 EachAnswered run (hart ∷ harts) (calls ∷ more) = AnswersSome calls (replies_of hart run) × EachAnswered run harts more
 
--- of these calls of the eight harts, and as many calls were started as were answered
+-- of these calls of the eight harts, and the started calls and the answered ones are equal in number
 pub record AllAnswered (calls : List (List Call)) (run : StoredRun) : Type 0 where
   pub each : EachAnswered run eight_harts calls
   pub none_left : count_of run ≡ sum_by (λ hart. 2 * length (replies_of hart run)) eight_harts

@@ -98,7 +98,7 @@ fn run_open<L: Ledger + Send + Sync, R: Threads + Wait + Sync, S: Read + Drop, W
     tell(alloc, mode, image, copies, closed, out)
 }
 
-// Prints what is to be printed of a run on this image, in which these calls were asked for, and gives its disk.
+// Prints a run on this image, in which these calls were asked for, and gives its disk.
 fn tell<L: Ledger, W: Write>(
     alloc: Global,
     mode: Mode,

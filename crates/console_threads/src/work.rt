@@ -14,7 +14,7 @@ use std::sync::ledger::Ledger;
 use std::thread;
 use std::thread::Threads;
 
-/// A hart's seat, and the calls that it is to make.
+/// A hart's seat, and the calls that it has to make.
 #[derive(Drop)]
 pub struct Task<L: Ledger> {
     seat: Seat<L>,
