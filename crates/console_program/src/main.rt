@@ -1,9 +1,13 @@
 //! `console [IMAGE] [--schedule listed|round] [--prompt] [--threads] [--last N] [--timeline] [--explain] [--check] [--save FILE]`: runs a script from standard input on a file system, and prints its answers;
 //! with `--prompt` each line is answered when it is typed.
 //!
-//! Faults are reported in this order: the command line (status 2), an IMAGE file that can't be read, a FILE that
-//! can't be written, an image that isn't taken (status 1), the script (status 1 or 2), and what only writing FILE
-//! shows (status 1). Want of memory is reported when it comes (status 3).
+//! Faults are reported in this order:
+//! - the command line (status 2);
+//! - an IMAGE file that can't be read, a FILE that can't be written, an image that isn't taken (status 1);
+//! - the script (status 1 or 2);
+//! - what only writing FILE shows (status 1).
+//!
+//! Want of memory is reported when it comes (status 3).
 #![tactic(auto)]
 
 use clap::ArgMatches;
