@@ -1,4 +1,4 @@
--- What a step tells of the call of its hart.
+-- What a step shows of the call of its hart.
 use Rattle.hart_core.proofs.Vocabulary.{◌≡◌, ℕ, zero, suc, List, [], ◌∷◌, ◌++◌, Super, HartsOf, Option, Some, None, refl, sym, ◌∙◌, ap, subst, get_or, set, slice_get, Reply, Kind, Core, Heard, state_of, Running, StepsAt}
 use Rattle.atomic_programs.specs.declared.machines.SteppedInPlace.TheVariants.{Waits, Ran, Done, Stopped}
 use Rattle.fs_machine.specs.Steps.{State}

@@ -1,4 +1,4 @@
--- Events, and what they come to.
+-- Events, and their outcomes.
 use Rattle.hart_core.specs.Vocabulary.{Reply, Call, EventOf, StartOf, StepOf, OutcomeOf, WasStarted, WasRefused, Kind, Outside, Passes, State, Refusal}
 use Rattle.hart_core.specs.declared.events.Event.{Event}
 use Rattle.hart_core.specs.declared.events.Event.TheVariants as event

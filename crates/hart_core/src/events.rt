@@ -1,4 +1,4 @@
-// Events, and what they come to.
+// Events, and their outcomes.
 ghost use Rattle.std.specs.Prelude.{◌≡◌};
 ghost use Rattle.hart_core.specs.Vocabulary.{with_answer, CallsOnce};
 ghost use Rattle.hart_core.specs.Events.{event_of, came_of, said_of};

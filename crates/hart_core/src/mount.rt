@@ -1,4 +1,4 @@
-// How the harts come to be over a device.
+// How a mount makes the harts over a device.
 ghost use Rattle.std.specs.Prelude.{◌≡◌, IfOk, IfErr};
 ghost use Rattle.hart_core.specs.Vocabulary.{HasBytes, HasWholeBlocks, ComesByCalls, sizes_of, buffer_count, unused_from, IsPlaced, IsWellFormed, faults_with};
 ghost use Rattle.fs_machine.specs.Fresh.{fresh};
