@@ -10,7 +10,7 @@ use Rattle.run_laws.proofs.SearchEnds.{dots_spelled, spelled}
 
 -- ---- how many blocks
 
--- a slot's bytes lie in one
+-- a slot's bytes are in one
 slot_block : (slot : ℕ) → blocks_between (dirent_len * slot) (dirent_len * slot + dirent_len) ≤ 1
 slot_block slot = let many = many_between (dirent_len * slot) (dirent_len * slot + dirent_len) (omega arith) in omega (arith, many)
 

@@ -31,7 +31,7 @@ step_clean t u h e s same =
     ∙ after_clean h e.mark s.before s.after e.answer (exec h s.outside e.op s.before) (goes_on h s.outside e.op s.before) s.goes
     ∙ (λ i. not (same i) && (s.from i).clean)
 
--- ---- marks tell what answers do
+-- ---- marks say what answers do
 
 in_run : (most : ℕ) {A : Type 0} (p : P machine A) (es : List Operation) (r : A) (x : Operation) → AllFitUpTo most p → IsRunOf p es r → In x es → spoils x.mark ≡ says_no_room x.op x.answer
 in_run most (Ret a) [] r x f g i = absurd i

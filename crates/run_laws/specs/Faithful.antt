@@ -150,7 +150,7 @@ module _ (disk : List (List ℕ)) (failures : ℕ) (events : List (EventOf Call 
     pub under_way : (h : ℕ) (r : Run noted) → ran.running h ≡ Some r → AreOf (sizes_of disk) r.call None (notes_of r.start)
 
 module _ {D : Type 0} (contents : D → List (List ℕ)) (failures : D → ℕ) where
-  -- So it is in each history of a run of this world, where it is as a mount left it.
+  -- So it is in each history of a run of this world, if the world is as a mount left it.
   abbrev pub CallsGoOnAsTheyActed : WorldOf D → Type 0
   CallsGoOnAsTheyActed w =
       (device : D) (events : List Event) (came : List Came) (new : HartsOf D) (made : List (EventOf Call Outside))

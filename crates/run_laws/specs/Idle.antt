@@ -46,7 +46,7 @@ module _ {D : Type 0} (contents : D → List (List ℕ)) (failures : D → ℕ) 
     -- if no hart has one; and then no failure of the device has stopped them
     pub all : AreIdle new.calls → (new.stopped ≡ false) × NothingIsLeft (shared_of contents failures new)
 
-  -- So it is wherever a history of a run leads, from a world as a mount left it.
+  -- So it is after each history of a run, from a world as a mount left it.
   abbrev pub IdleHartsHaveBegunNothing : WorldOf D → Type 0
   IdleHartsHaveBegunNothing w =
       (device : D) (events : List Event) (came : List Came) (new : HartsOf D) (history : List (EventOf Call Outside))

@@ -87,7 +87,7 @@ module _ (sizes : Super) (all : List MadeStep) (f : FinishedCall (block_calls si
       → (es : List MadeStep) × AreItsOwn es × ((n : ℕ) → 1 ≤ n → n < sizes.ninodes → IsInUse sizes es n)
 
 module _ {D : Type 0} (contents : D → List (List ℕ)) (failures : D → ℕ) where
-  -- So it is with each finished call in each history of a run of this world, where it is as a mount left it.
+  -- So it is with each finished call in each history of a run of this world, if the world is as a mount left it.
   abbrev pub CallsLookEverywhere : WorldOf D → Type 0
   CallsLookEverywhere w =
       (device : D) (events : List Event) (came : List Came) (new : HartsOf D) (history : List (EventOf Call Outside))

@@ -19,7 +19,7 @@ CallsTakeFewSteps =
     → OfEachCall AreFew events (outcomes (block_calls (sizes_of disk)) events (fresh (block_calls (sizes_of disk)) (first disk failures)))
 
 module _ {D : Type 0} (contents : D → List (List ℕ)) (failures : D → ℕ) where
-  -- So it is in each run of this world, where it is as a mount left it.
+  -- So it is in each run of this world, if the world is as a mount left it.
   abbrev pub RunsTakeFewSteps : WorldOf D → Type 0
   RunsTakeFewSteps w =
       (device : D) (events : List Event) (came : List Came) (new : HartsOf D) → IsMounted contents failures device w

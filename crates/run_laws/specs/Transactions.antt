@@ -58,7 +58,7 @@ module _ (made : List MadeStep) where
       → IsSome (recorded_in e.hart before)
 
 module _ {D : Type 0} (contents : D → List (List ℕ)) (failures : D → ℕ) where
-  -- So it is with the steps of each history of a run of this world, where it is as a mount left it.
+  -- So it is with the steps of each history of a run of this world, if the world is as a mount left it.
   abbrev pub TransactionsRecordAtMostTen : WorldOf D → Type 0
   TransactionsRecordAtMostTen w =
       (device : D) (events : List Event) (came : List Came) (new : HartsOf D) (history : List (EventOf Call Outside))

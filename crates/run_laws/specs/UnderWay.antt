@@ -215,7 +215,7 @@ StepsPlaceInTime =
     → PlacesAt sizes h x s made was now (time_of r.under.op) (none_ran r.under.ran) r (r.rest r.answer)
 
 module _ {D : Type 0} (contents : D → List (List ℕ)) (failures : D → ℕ) where
-  -- So it is in each history of a run of this world, where it is as a mount left it.
+  -- So it is in each history of a run of this world, if the world is as a mount left it.
   abbrev pub MovesAreMadeAsOperationsAct : WorldOf D → Type 0
   MovesAreMadeAsOperationsAct w =
       (device : D) (events : List Event) (came : List Came) (new : HartsOf D) (made : List (EventOf Call Outside))
