@@ -19,7 +19,7 @@ module _ (sizes : Super) where
   pub record EventGoes (s t : State T) (m m' : Marks) : Type 0 where
     pub whole : IsWholeLog (log_at t)
     pub long : length (log_at t).contents ≡ length (log_at s).contents
-    -- the marks are what the log's phases tell
+    -- the marks are what the log's phases say
     pub told : marks_told (s.now + 1) (log_at s).phase (at_point (log_at s)) (log_at t).phase m ≡ m'
     pub goes :
         (Moved false false (log_at s) (log_at t) × (m' ≡ m))

@@ -83,7 +83,7 @@ module _ (n h : ℕ) (s : State) (m : Marks) (whole : IsWholeLog s.log) where
   abbrev l : LogPart
   l = s.log
 
-  -- the marks are what the log's phases tell
+  -- the marks are what the log's phases say
   abbrev pub IsTold : {A : Type 0} → ExecResult A State → Marks → Type 0
   IsTold d m' = marks_told (n + 1) l.phase (at_point l) (came_to s d).log.phase m ≡ m'
 

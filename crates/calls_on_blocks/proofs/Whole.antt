@@ -140,7 +140,7 @@ module _ (sizes : Super) (events : List (Event Call Outside)) (start : State (bl
   abbrev IsQuiet : ℕ → Type 0
   IsQuiet k = joined (log_at sizes (state k)).members ≡ 0
 
-  -- all that the marks tell
+  -- all that the marks say
   record AreQuiet (m : Marks) : Type 0 where
     pub begun : IsQuiet m.begun
     pub cut : IsQuiet m.cut

@@ -1,4 +1,4 @@
--- What a mounted file system's runs come to: one list of tree steps.
+-- The result of a mounted file system's runs: one list of tree steps.
 use Rattle.std.specs.Prelude.{ℕ, List, ◌∷◌, ◌++◌, None}
 use Rattle.calls_on_blocks.specs.Vocabulary.{Super, sizes_of, Call, tree_in, Event, AllHonest, fresh, run, Both, Outside, MoveMachine, HasOneHistory, NoneClimbs, Alone, IsMountable, first_world, mounted}
 use Rattle.inode_machine.specs.World as above

@@ -24,8 +24,8 @@ disk_after disk failures events = (state_after disk failures events).world.real.
 abbrev pub marks_at : List (List ℕ) → ℕ → List (Event Call Outside) → Marks
 marks_at disk failures events = marks_after (sizes_of disk) events (fresh (block_calls (sizes_of disk)) (first disk failures)) no_marks
 
--- Wherever it is stopped, in the middle of calls or of a commit, by the device's failure or not, the disk passes all checks, as recovery
--- sees it.
+-- It may stop in the middle of calls or of a commit, by the device's failure or not. Then the disk passes all checks,
+-- as recovery sees it.
 abbrev pub StopsLeaveImages : Type 0
 StopsLeaveImages = (disk : List (List ℕ)) (failures : ℕ) (events : List (Event Call Outside)) → AreEventsOn disk failures events
     → IsWellFormed (disk_after disk failures events)
