@@ -97,7 +97,7 @@ sort (Claim inode_type) = inr (inr (inl (refl, refl, (refl, λ m fine a. fine a)
 sort Leave = inr (inr (inr (λ a. refl)))
 sort op = inr (inl (refl, refl))
 
--- a claim whose block is given back is one, and its mark says that there was no room where it is answered so
+-- a claim whose block is given back is one, and its mark says that there was no room if it is answered so
 claim_spoils : (op : above.Op) (m : above.Answer op → Option above.Mark) (left : P (Handover (above.Answer op) Carry)) → GivesBackOf op left
     → ((a : above.Answer op) → spoils (m a) ≡ says_no_room op a) → (t : InodeType) × (op ≡ Claim t) × (spoils (m (answer_to [] op (heard.Claimed claimed.NoPlace))) ≡ true)
 claim_spoils (Claim t) m left gives tells = (t, refl, tells above.NoPlace)

@@ -34,7 +34,7 @@ no_end : {X : Type 0} (op : above.Op) (m : above.Answer op → Option above.Mark
     → ◌≡◌ {A = programs.P Reply} (Do op m k) (Ret r) → X
 no_end op m k r e = absurd (let q : Some op ≡ None = ap asks e in cc)
 
--- what is answered doesn't lie in the text, but for a read
+-- what is answered isn't in the text, but for a read
 pub same_heard : (op : above.Op) (m : above.Answer op → Option above.Mark) → IsFineOp op m → (text other : List ℕ) (x : Heard) → answer_to text op x ≡ answer_to other op x
 same_heard (ReadFile fd n offset count) m fine text other x = absurd fine
 same_heard op m fine text other x = refl

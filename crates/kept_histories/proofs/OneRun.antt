@@ -305,7 +305,7 @@ module _ {D : Type 0} (contents : D → List (List ℕ)) (failures : D → ℕ) 
   abbrev start : State (block_calls w.sizes)
   start = fresh (block_calls w.sizes) (first (contents w.harts.core.log.cache.device) (failures w.harts.core.log.cache.device))
 
-  -- what the events of a history come to in the theory
+  -- the outcomes of a history's events in the theory
   outcomes_as : (device : D) (events : List HartEvent) (came : List Came) (new : HartsOf D) (a : List (Event Call Outside)) → IsMounted contents failures device w
       → IsHistory contents failures w.sizes w.harts events came new a → all_by_kind (block_calls w.sizes) (block_code w.sizes) (outcomes (block_calls w.sizes) a start) ≡ outcomes_of came
   outcomes_as device events came new a mounted is =

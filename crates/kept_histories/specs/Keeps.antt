@@ -1,4 +1,4 @@
--- What a keeper makes of a run's events: the tree, the walks and the list that it keeps go on as each event tells.
+-- What a keeper makes of a run's events: the tree, the walks and the list that it keeps go on as each event says.
 use Rattle.std.specs.Prelude.{◌≡◌, ◌<◌, ◌-◌, ◌^◌, ℕ, List, [], ◌∷◌, Option, None}
 use Rattle.fs_layout.specs.declared.superblock.Super.{Super}
 use Rattle.hart_core.specs.Harts.{HartsOf}
