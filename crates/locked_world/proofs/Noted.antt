@@ -1,4 +1,4 @@
--- One note more, and what notes tell.
+-- One note more, and what notes say.
 use Rattle.locked_world.proofs.Vocabulary.{◌≡◌, ℕ, zero, suc, ◌+◌, ◌<◌, ◌≤◌, Bool, true, false, if◌then◌else◌, ◌==◌, Option, Some, None, List, [], ◌∷◌, ◌++◌, length, map, drop, get_or, refl, sym, ap, ◌∙◌, subst, arith, append-nil, append_assoc, length-append, slice_get, Reply, Call, Event, Came, Given, Note, What, all_shown, shown, replied_by, replies_in, past, each, takers, is_start, is_reply, starts, replies, event_at, came_at, event_noted, came_noted, noted_events, noted_outcomes, noted_pairs, answered, IsNoted, given_to}
 use Rattle.locked_world.specs.declared.note.What.TheVariants as what
 use Rattle.locked_world.specs.Stories.{first}
@@ -110,14 +110,14 @@ shown_step h k what.Done cs (g ∷ gs) harts rest e ih =
     let there : harts ≡ map (λ (g : Given). g.hart) gs = (let q = e in cc (q)) in
     (λ j. (if h == here j then g.reply ∷ [] else []) ++ ih gs there j)
 
--- the replies that notes tell are those that are kept
+-- the replies in the notes are those that are kept
 pub told_replies : (h : ℕ) (ns : List Note) (cs : List Call) (gs : List Given) → answered ns ≡ map (λ (g : Given). g.hart) gs → replies_in h (all_shown (noted_events ns cs) (noted_outcomes ns gs)) ≡ given_to h gs
 told_replies h [] cs [] e = refl
 told_replies h [] cs (g ∷ gs) e = absurd (omega (arith, ap length e))
 told_replies h (n ∷ ns) cs gs e =
     shown_step h n.hart n.what cs gs (answered ns) (λ zs. replies_in h (all_shown (noted_events ns (past (starts n) cs)) (noted_outcomes ns zs))) e (λ zs m. told_replies h ns (past (starts n) cs) zs m)
 
--- ---- what one note more tells
+-- ---- what one note more says
 
 module _ (ns ns' : List Note) (cs : List Call) (gs : List Given) (n : Note) where
   pub plain_event : ns' ≡ ns ++ n ∷ [] → IsNoted ns cs gs → is_start n.what ≡ false → (es : List Event) → noted_events ns cs ≡ es → noted_events ns' cs ≡ es ++ event_at n.hart None ∷ []

@@ -38,7 +38,7 @@ FitsBlock (steps.Get b) a = IfSome a (λ bytes. length bytes ≤ block_len)
 FitsBlock (steps.Read b) a = length a ≤ block_len
 FitsBlock op a = Unit {0}
 
--- Wherever the program ends, it ends so.
+-- If the program ends, it ends so.
 abbrev pub EndsWith : {A : Type 0} → (A → Type 0) → P A → Type 0
 EndsWith Is (Ret a) = Is a
 EndsWith Is (Do op m k) = (a : Answer op) → FitsBlock op a → EndsWith Is (k a)

@@ -61,7 +61,7 @@ starts n = is_start n.what
 abbrev pub replies : Note → Bool
 replies n = is_reply n.what
 
--- the event of a hart, with a call where it is a start
+-- the event of a hart, with a call if it is a start
 abbrev pub event_at : ℕ → Option Call → Event
 event_at h None = event.Step h
 event_at h (Some call) = event.Start h call
