@@ -26,7 +26,7 @@ none_climbs (c ∷ cs) none =
 pub nowhere : (base : TreeData) (t u : Trace) → t ≡ u → any_climbs t.calls ≡ false → ((list : List Placed) → Explains base t list → ⊥) → (any_climbs u.calls ≡ false) × ((list : List Placed) → Explains base u list → ⊥)
 nowhere base t u same flat none = subst (λ (v : Trace). (any_climbs v.calls ≡ false) × ((list : List Placed) → Explains base v list → ⊥)) same (flat, none)
 
--- a keeper that has a list tells why that isn't handed out
+-- a keeper that has a list says why that isn't handed out
 pub knows : (o : Option KeptTree) (list : List Placed) (why : ExplainRefused) → IsListOf o list → KnowsWhy o why
 knows None list why is = absurd is
 knows (Some k) list why is = tt

@@ -17,8 +17,8 @@ pub record StartsOn (image : List ℕ) (w : WorldOf (List ℕ)) : Type 0 where
   pub well : IsWellFormed (blocks_of image)
   pub mounted : IsMounted blocks_of never image w
 
--- A run of these events on a disk in memory with these bytes: the world as a mount leaves it, what the events come to, the harts that they
--- leave.
+-- A run of these events on a disk in memory with these bytes: the world as a mount leaves it, the events' outcomes,
+-- and the harts that they leave.
 pub record RunOn (image : List ℕ) (events : List Event) : Type 0 where
   pub world : WorldOf (List ℕ)
   pub outcomes : List Came
@@ -47,9 +47,9 @@ module _ (image : List ℕ) (events : List Event) (r : RunOn image events) where
   abbrev pub NeverFoundRoom : Type 0
   NeverFoundRoom = (history : List (EventOf Call Outside)) → IsOneOf history → RoomIn history → ⊥
 
--- Each step of such a run found room, and the list explains what the run shows of calls, from the image's tree. It is the run's own: that of
--- each of its histories. Wherever the run is stopped, the list so far is a beginning of it, and the disk's tree is what has names in the tree
--- after a beginning of it.
+-- Each step of such a run found room, and the list explains what the run shows of calls, from the image's tree. It is
+-- the run's own: that of each of its histories. If the run stops at any event, the list so far is a beginning of it.
+-- Then the disk's tree is what has names in the tree after a beginning of it.
 pub record OwnsRun (image : List ℕ) (events : List Event) (list : List Placed) : Type 0 where
   pub run : RunOn image events
   pub room : EachFoundRoom image events run

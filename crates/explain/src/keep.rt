@@ -151,7 +151,7 @@ fn copied(call: &Call) -> Result<Call, AllocError>
     call.clone()
 }
 
-/// Tells a keeper of a run of these events.
+/// Reports a run of these events to a keeper.
 #[derive(Drop)]
 pub(crate) struct Telling<'a> {
     pub(crate) keeper: Keeper,
