@@ -1,4 +1,5 @@
--- What tells the history of a run in one way tells it in another, of a run that was made and kept: and so on an image.
+-- If a text shows the history of a run in one way, it shows it in another, of a run that was made and kept: and so on
+-- an image.
 use Rattle.std.specs.Prelude.{◌⊎◌, ◌^◌}
 use Rattle.console.proofs.Vocabulary.{◌≡◌, ◌<◌, ℕ, Bool, true, false, List, length, Option, Some, None, Result, Ok, Err, refl, sym, ap, ◌∙◌, subst, inl, inr, blocks_of, tree_in, TreeData, KeptTree, nothing_kept, HasKept, RunOn, StartsOn, never, never_of, owned, refused_by_run, Mode, ConsoleFault, IfTold, IsPrintedAndNoted, HistoryBeside, TellsHistory, WhereSet, HasNoList, IsFound, IsOwn, IsUnfound, history_from, history_of, CourseOf, KeptRun, NotesOf, all_noted, no_notes, none_kept, run_in, PromptsReader, EndsSo, PrintsAll, RunsReader, RunsScript, EventOfCall, SessionOf, with_beside, known_at, some_lacks_place, was_told}
 use Rattle.console.specs.declared.fault.ConsoleFault.TheVariants as faults

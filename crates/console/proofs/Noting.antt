@@ -90,7 +90,7 @@ module _ {D : Type 0} (contents : D → List (List ℕ)) (failures : D → ℕ) 
   KeepsTo events outcomes now beside =
       (k k' : KeptTree) → begun ≡ Some k → beside ≡ Some k' → KeepsRun contents failures sizes first k events outcomes now k'
 
-  -- a run is kept, and has come to these harts
+  -- a run is kept, and has led to these harts
   pub record IsKept (kept : Option KeptRun) (beside : Option KeptTree) (now : HartsOf D) : Type 0 where
     pub run : KeptRun
     pub is : kept ≡ Some run
@@ -147,7 +147,7 @@ module _ {D : Type 0} (contents : D → List (List ℕ)) (failures : D → ℕ) 
         keeps = idle_keeps was.run.events was.run.outcomes old new o o' x goes;
       }
 
-  -- an event is noted, where it is one
+  -- what happened is noted, if it is an event
   event_kept : (n : NotesOf) (s t : SessionOf D) (x : EventOfCall) → s.world.sizes ≡ sizes → IsKept n.kept s.beside s.world.harts → Happens contents failures s x t → IsKept (noted n x).kept t.beside t.world.harts
   event_kept n s t x is was happens =
       by x.came

@@ -19,7 +19,7 @@ entries_text (entry ∷ entries) = entry_line entry ++ entries_text entries
 abbrev pub why_line : ExplainRefused → List ℕ
 why_line why = codes "history refused " ++ decimal (number_of why) ++ codes " " ++ name_of why ++ codes "\n"
 
--- which texts tell the history of a run
+-- which texts show the history of a run
 abbrev pub History : Type 1
 History = KeptRun → List ℕ → Type 0
 

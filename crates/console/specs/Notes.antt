@@ -38,7 +38,7 @@ pub record NotesOf : Type 0 where
 abbrev pub no_events : KeptRun
 no_events = record { events = []; outcomes = [] }
 
--- where it is wanted
+-- if it is wanted
 abbrev pub none_kept : Bool → Option KeptRun
 none_kept true = Some no_events
 none_kept false = None

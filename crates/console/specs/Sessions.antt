@@ -10,8 +10,8 @@ use Rattle.console.specs.declared.verb.Verb.{Verb}
 use Rattle.console.specs.declared.doing.Doing.{Doing}
 use Rattle.console.specs.Numbers.{kind_place}
 
--- ---- what a hart's call has done so far: which call it is, how many of its steps of each kind have run, which was
--- the last, and whether one waited after it
+-- ---- what a hart's call has done so far: its word, the count of its steps of each kind, its last step, and whether
+-- one waited after it
 
 -- counted up to the greatest u32
 abbrev pub one_more : ℕ → ℕ
@@ -111,7 +111,8 @@ module _ {D : Type 0} (contents : D → List (List ℕ)) (failures : D → ℕ) 
   abbrev pub Hears : WorldOf D → ℕ → Option Event → Came → Option KeptTree → Option KeptTree → Type 0
   Hears w hart copy c old new = IfSome new (λ kept. HearsOf w hart copy c old new)
 
-  -- The tree that is kept beside a file system goes on as the event tells, or is kept no more: so after a step of a hart without a call.
+  -- The tree that is kept beside a file system goes on as the event says, or is kept no more: so after a step of a
+  -- hart without a call.
   abbrev pub KeepsBeside : SessionOf D → EventOfCall → SessionOf D → Type 0
   KeepsBeside s x t =
       IfSome t.beside (λ kept. (is_event x.came ≡ true) × NotesEvent contents failures (λ old c heard new. HasNoted old x.event c heard new)

@@ -145,7 +145,7 @@ fn turns<D: Device, W: Write>(
     Ok(last)
 }
 
-// Tells of each hart that has a call that it waits.
+// Prints of each hart that has a call that it waits.
 fn tell_waits<D: Device, W: Write>(
     session: &Session<D>,
     out: &mut W,
@@ -161,7 +161,7 @@ fn tell_waits<D: Device, W: Write>(
     Ok(())
 }
 
-// Tells of a hart that has a call that it waits.
+// Prints of a hart that has a call that it waits.
 fn tell_wait<D: Device, W: Write>(
     session: &Session<D>,
     out: &mut W,
@@ -176,7 +176,7 @@ fn tell_wait<D: Device, W: Write>(
     }
 }
 
-// Turns until one in which nothing moved; then tells who waits.
+// Turns until one in which nothing moved; then prints who waits.
 fn settle<D: Device, W: Write>(
     alloc: Global,
     session: &mut Session<D>,

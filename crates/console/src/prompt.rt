@@ -92,7 +92,7 @@ fn read_line<R: BufRead>(typed: &mut R, line: &mut Vec<u8>) -> Result<bool, Cons
     }
 }
 
-// Tells that a line is bad, and why.
+// Prints that a line is bad, and why.
 fn tell_bad<W: Write>(
     alloc: Global,
     out: &mut W,
@@ -170,7 +170,7 @@ fn run_typed<D: Device, W: Write>(
     tell_hint(out, hart)
 }
 
-// Does what is asked. Tells whether more lines are read.
+// Does what is asked. Says whether more lines are read.
 fn do_asked<D: Device, W: Write>(
     alloc: Global,
     session: &mut Session<D>,
@@ -200,7 +200,7 @@ fn do_asked<D: Device, W: Write>(
     }
 }
 
-// Answers the line of this number. Tells whether more are read.
+// Answers the line of this number. Says whether more are read.
 fn answer<D: Device, W: Write>(
     alloc: Global,
     session: &mut Session<D>,
@@ -223,7 +223,7 @@ fn answer<D: Device, W: Write>(
     }
 }
 
-// Asks for the line of this number, reads and answers it. Tells whether more are read.
+// Asks for the line of this number, reads and answers it. Says whether more are read.
 fn prompt_line<D: Device, R: BufRead, W: Write>(
     alloc: Global,
     session: &mut Session<D>,

@@ -261,7 +261,7 @@ fn write_rest<W: Write>(
     write_wanted(alloc, out, mode, base, &notes, keeper)
 }
 
-// The history of the run, where it is wanted.
+// The history of the run, if it is wanted.
 fn write_wanted<W: Write>(
     alloc: Global,
     out: &mut W,
@@ -311,7 +311,7 @@ pub fn finish_on<W: Write>(
     write_wanted_on(alloc, out, mode, image, notes)
 }
 
-// The history of the events on this image, where it is wanted.
+// The history of the events on this image, if it is wanted.
 fn write_wanted_on<W: Write>(
     alloc: Global,
     out: &mut W,

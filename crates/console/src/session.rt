@@ -156,8 +156,8 @@ impl<D: Device> Session<D> {
         self.world.phase()
     }
 
-    /// Makes an event, of a call with this word, and tells it to the keeper. The copy is the event again; without one nothing is kept from
-    /// then on.
+    /// Makes an event, of a call with this word, and reports it to the keeper. The copy is the event again; without
+    /// one nothing is kept from then on.
     pub(crate) fn event(&mut self, verb: Verb, event: Event, copy: &Option<Event>) -> Came
         requires { IfSome copy.now (λ again. again ≡ event) }
         ensures { Happens D.contents D.failures self.old (record { event = event; verb = verb; came = result }) self.new }
