@@ -1,4 +1,4 @@
--- Why a script's threads don't come to their end, and the exit status of a program that tells so.
+-- Why a script's threads don't reach their end, and the exit status of a program that says so.
 use Rattle.std.specs.Prelude.{ℕ, List}
 use Rattle.console_threads.specs.Vocabulary.{IsWellFormed, MountFault, One, JudgesImage}
 use Rattle.image_tree.specs.declared.fault.MountFault.TheVariants as mounts

@@ -21,7 +21,7 @@ pub struct Task<L: Ledger> {
     calls: Vec<Call>,
 }
 
-/// Why a hart didn't come to the end of its calls.
+/// Why a hart didn't reach the end of its calls.
 #[derive(Clone, Copy, PartialEq, Eq, Debug)]
 pub enum Broke {
     Memory,
@@ -191,7 +191,7 @@ fn tasks_of<L: Ledger>(seats: [Seat<L>; 8], calls: [Vec<Call>; 8]) -> [Task<L>; 
     ]
 }
 
-// The seats, and why the first hart that didn't come to its end didn't.
+// The seats, and why the first hart that didn't reach its end didn't.
 #[tactic(auto, using(hart_runner::proofs::Eight::eight))]
 fn seats_of<L: Ledger>(worked: [Worked<L>; 8]) -> ([Seat<L>; 8], Option<Broke>)
     ensures seats { map (λ w. w.seat) worked ≡ result.0 }
