@@ -28,7 +28,7 @@ use std::sync::Wait;
 use std::thread::Threads;
 use thiserror::Error;
 
-/// Why the console didn't come to its end.
+/// Why the console didn't reach its end.
 #[derive(Debug, Drop, Error)]
 enum Fault<'a> {
     /// The command line has a word that is no text.
