@@ -162,8 +162,8 @@ Follows (Ok false) old next new = Unit {0}
 Follows (Err fault) old next new = Unit {0}
 
 module _ {D : Type 0} (contents : D → List (List ℕ)) (failures : D → ℕ) where
-  -- A line of a script does what it does there. It may only start a call on a hart whose call has made no step. Then
-  -- it prints besides what makes those steps.
+  -- A line of a script does what it does there. If it just starts a call, on a hart whose call has made no step, it
+  -- also prints what makes those steps.
   abbrev pub does_line : Line → Behaviour (RunOf D) (Unit {0})
   does_line l s = followed_by (line contents failures l) (λ u. prints (λ t. hint_of (stepless (started_on l) s.session.doing))) s
 

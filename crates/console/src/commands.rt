@@ -145,7 +145,7 @@ fn turns<D: Device, W: Write>(
     Ok(last)
 }
 
-// Prints of each hart that has a call that it waits.
+// For each hart that has a call, prints that it waits.
 fn tell_waits<D: Device, W: Write>(
     session: &Session<D>,
     out: &mut W,
@@ -161,7 +161,7 @@ fn tell_waits<D: Device, W: Write>(
     Ok(())
 }
 
-// Prints of a hart that has a call that it waits.
+// Prints that a hart waits, if it has a call.
 fn tell_wait<D: Device, W: Write>(
     session: &Session<D>,
     out: &mut W,

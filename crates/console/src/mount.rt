@@ -32,7 +32,7 @@ fn base_of(alloc: Global, wanted: bool, disk: &mut MemoryDisk) -> Result<Tree, C
     Ok(base)
 }
 
-/// Mounts a disk. If its tree is wanted, it is taken before.
+/// Mounts a disk. If its tree is wanted, it is taken before the mount.
 pub fn mount_disk(alloc: Global, wanted: bool, disk: MemoryDisk) -> Result<Mounted, ConsoleFault>
     ensures mounted { IfOk result (λ m. IsMountedOn wanted disk m.base m.session) }
     ensures refused { IfErr result (RefusesDisk (blocks_of disk)) }

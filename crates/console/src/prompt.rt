@@ -153,8 +153,8 @@ fn write_hint<W: Write>(out: &mut W, hart: u8) -> io::Result<()>
     )
 }
 
-// Runs a line of a script. It may only start a call on a hart whose call was started and has made no step. Then it
-// prints besides what makes those steps.
+// Runs a line of a script. If the line just starts a call, on a hart whose call was started and has made no step, it
+// also prints what makes those steps.
 fn run_typed<D: Device, W: Write>(
     alloc: Global,
     session: &mut Session<D>,

@@ -29,7 +29,6 @@ pub fn write_state<D: Device, W: Write>(
 // Of each hart that has a call: which, the hart that an inherit holds, the kind of its last step, and how many
 // inodes' locks it has. Also whether it is in a transaction, and whether the step that was tried after its last one
 // waited.
-// waited.
 fn write_calls<D: Device, W: Write>(
     session: &Session<D>,
     out: &mut W,
