@@ -16,7 +16,8 @@ settled_open Halted e = absurd (let x : false ≡ true = e in cc)
 -- ---- an operation
 
 module _ (n h : ℕ) (s : State) (was : Option ℕ) (m : Marks) where
-  -- It begins no commit, and the one that was under way is so still, or has ended; or it begins one, where none waited for its head.
+  -- It begins no commit, and the one that was under way still is, or has ended. Or it begins one, when none waited
+  -- for its head.
   abbrev pub CommitsBy : (op : Op) → ExecResult (Answer op) State → Type 0
   CommitsBy op Waits = (marks_by n s.log op Waits m).begun ≡ m.begun
   CommitsBy op (Ran a t) =

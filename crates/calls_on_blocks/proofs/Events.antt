@@ -14,11 +14,12 @@ module _ (sizes : Super) where
   abbrev pub log_at : State T → LogPart
   log_at = log_of sizes
 
-  -- What an event makes of it: it is whole still, and as long; no leave and no write of a commit; or a leave that ran; or a write of a commit.
+  -- What an event makes of it: it is whole still, and as long. The event is no leave and no write of a commit; or a
+  -- leave that ran; or a write of a commit.
   pub record EventGoes (s t : State T) (m m' : Marks) : Type 0 where
     pub whole : IsWholeLog (log_at t)
     pub long : length (log_at t).contents ≡ length (log_at s).contents
-    -- the marks are what the log's phases tell
+    -- the marks are what the log's phases say
     pub told : marks_told (s.now + 1) (log_at s).phase (at_point (log_at s)) (log_at t).phase m ≡ m'
     pub goes :
         (Moved false false (log_at s) (log_at t) × (m' ≡ m))

@@ -37,7 +37,7 @@ module _ (N : MoveMachine) (moving : IsMoving N) (Ok : ℕ → Call → Type 0) 
     pub may : AllMayStart Ok turns
     pub shown_is : map shown_of turns ≡ shown
 
-  -- its list leads to the tree as it stands, and explains what was shown
+  -- its list leads to the tree as it is, and explains what was shown
   pub leads : (s : State L) (shown : List Shown) (list : List Placed) → Book s shown list → Chain (tree_of base) list (N.tree s.world).tree
   leads s shown list b =
       subst (λ (l : List Placed). Chain (tree_of base) l (N.tree s.world).tree) b.list_is

@@ -15,9 +15,9 @@ itself disk = disk
 abbrev pub log_in : LogPart → LogState (List (List ℕ))
 log_in l = record { cache = record { device = l.contents; seats = l.seats }; sizes = l.sizes; group = l.group; members = l.members; phase = l.phase }
 
--- ---- marks, by where the commit is
+-- ---- marks, by the phase of the commit
 
--- it is where it was
+-- the phase is as it was
 pub told_same : (n len : ℕ) (p : Phase) (m : Marks) → marks_told n p (is_point len p) p m ≡ m
 told_same n len Open m = refl
 told_same n len (Staging i) m = refl
@@ -48,7 +48,7 @@ told_wrote n len Halted m begun = absurd (begun.1 refl)
 
 -- ---- operations
 
--- the state after an operation, also where it waited
+-- the state after an operation, also if it waited
 abbrev pub came_to : {A : Type 0} → State → ExecResult A State → State
 came_to s Waits = s
 came_to s (Ran a t) = t
@@ -83,12 +83,12 @@ module _ (n h : ℕ) (s : State) (m : Marks) (whole : IsWholeLog s.log) where
   abbrev l : LogPart
   l = s.log
 
-  -- the marks are what the log's phases tell
+  -- the marks are what the log's phases say
   abbrev pub IsTold : {A : Type 0} → ExecResult A State → Marks → Type 0
   IsTold d m' = marks_told (n + 1) l.phase (at_point l) (came_to s d).log.phase m ≡ m'
 
-  -- What an event does to the log and to the marks, at an operation that came to d: it is neither a leave nor a write of a commit; a leave, which
-  -- ran; or a write of a commit. The disk has as many blocks.
+  -- What an event does to the log and to the marks, at an operation with outcome d. It is neither a leave nor a write
+  -- of a commit; or a leave, which ran; or a write of a commit. The disk has its old count of blocks.
   abbrev pub Goes : {A : Type 0} → ExecResult A State → Marks → Type 0
   Goes d m' =
       (length (came_to s d).log.contents ≡ length l.contents)

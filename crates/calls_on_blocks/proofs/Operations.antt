@@ -26,7 +26,7 @@ keeps h v w xs o = record { same = o.same; rests = o.rests; opens = o.opens }
 -- ---- the operations
 
 module _ (sizes : Super) (h : ℕ) where
-  -- an operation's program acts at one moment, where the hart's transaction has room for what it records
+  -- an operation's program acts at one moment, if the hart's transaction has room for what it records
   abbrev pub Within : (op : above.Op) → (above.Answer op → Option above.Mark) → Type 1
   Within op m = AtomicWithin machine (layer sizes) (handlers sizes) (recorded_blocks history) (λ r s. HasSpent sizes h s r.blocks) h op m
 

@@ -8,7 +8,8 @@ use Rattle.calls_on_blocks.proofs.Beside.{laws_beside}
 use Rattle.calls_on_blocks.proofs.Operations.{history, keeps}
 use Rattle.calls_on_blocks.proofs.Reserving.{part, blocks_reserved, stopped_reserved, lender_other, other_children, child_reserved, unreserved, has_none}
 
--- A start that begins its call: the hart is one, no call under way reserves it, the call is served, and the others let it begin; and it leaves what it should.
+-- A start that begins its call, and leaves what it should. The hart is one, no call under way reserves it, the call
+-- is served, and the others let it begin.
 pub record BeginsHere {S : Type 0} (h : ℕ) (call : Call) (busy : ℕ → Bool) (s : SharedState) (t u : S) : Type 0 where
   pub hart : nat_lt h hart_count ≡ true
   pub free : reserved busy s.children h ≡ false
@@ -72,7 +73,7 @@ may_serve h child busy s e = by (nat_lt child hart_count) ((child == h) || (busy
 pub lower_laws : (sizes : Super) → LowerLaws machine (layer sizes)
 lower_laws sizes = laws_beside sizes (below_laws sizes history keeps)
 
--- where the call itself begins above
+-- if the call itself begins above
 start_begins : (h : ℕ) (call : Call) (busy : ℕ → Bool) (g u : above.World) → nat_lt h hart_count ≡ true → (g.desks h).lender ≡ None → serves call ≡ true → begin_call h call busy g ≡ Begins u → begin_if (serves call) h call busy g ≡ Begins u
 start_begins h call busy g u hart free here begins =
     λ i. theory.only_if (hart i) NoSuchHart (theory.only_if (is_nothing (free i)) Busy (theory.only_if (here i) (why_not (call_wrong call)) (begins i)))

@@ -33,7 +33,7 @@ module _ (disk : List (List ℕ)) (failures : ℕ) (mountable : IsMountable disk
   unfolding sizes_of
   good = let up_to_log = mountable.well.0.0.0.0.0.0.0.0.0 in up_to_log.0.0.1.1
 
-  -- the disk as it stands is one that recovery would leave as it is recovered
+  -- of the disk as it is, recovery would make the recovered blocks
   pub itself_stored : (l : LogPart) → IsWholeLog l → l.sizes ≡ sizes → IsRecoveredSo sizes (recovered_of itself (log_in l)) l.contents
   itself_stored l whole same = record {
     sizes_are = whole.log.place.sizes_are ∙ same;
@@ -41,7 +41,7 @@ module _ (disk : List (List ℕ)) (failures : ℕ) (mountable : IsMountable disk
     blocks = λ b lt out. refl;
   }
 
-  -- where nobody is in a transaction, and the device hasn't failed
+  -- if nobody is in a transaction, and the device hasn't failed
   pub quiet_stored : (s : State T) → Sound T s → s.stopped ≡ false → (log s).sizes ≡ sizes → length (log s).contents ≡ length disk → joined (log s).members ≡ 0
       → Stored (λ d. IsWellFormed d × IsNamedPart (T.M.tree s.world).tree (tree_of (tree_in d))) (seen_of itself (log_in (log s)))
   quiet_stored s sound runs same long none d long_d so =

@@ -1,4 +1,4 @@
--- The marks of a run, by where its events take the commit.
+-- The marks of a run, by the phase to which its events take the commit.
 use Rattle.calls_on_blocks.proofs.Vocabulary.{◌≡◌, List, [], ◌∷◌, refl, ap, ◌∙◌, Super, sizes_of, Call, Marks, no_marks, Event, State, AllHonest, fresh, next, Sound, sound_run, Outside, IsWholeLog, mounts_show_their_trees, first, block_calls, marks_after, marks_next, noted, log_at, told_between, MarksAreTold}
 use Rattle.calls_on_blocks.proofs.Events.{event_goes}
 use Rattle.calls_on_blocks.proofs.Stops.{first_sound}

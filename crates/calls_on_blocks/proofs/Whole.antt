@@ -96,7 +96,7 @@ module _ (sizes : Super) (events : List (Event Call Outside)) (start : State (bl
   honest_at : (n : ℕ) → n < length events → IsHonest T (event n) (state n)
   honest_at n lt = honest_next T n events (Step 0 Passes) start lt honest
 
-  -- its log is whole, and so many events there were
+  -- its log is whole, and there were n events
   abbrev IsAt : ℕ → Type 0
   IsAt n = IsWholeLog (log_at sizes (state n)) × ((state n).now ≡ n)
 
@@ -135,12 +135,12 @@ module _ (sizes : Super) (events : List (Event Call Outside)) (start : State (bl
         ]
       ]
 
-  -- ---- no mark stands in a transaction
+  -- ---- no mark is in a transaction
 
   abbrev IsQuiet : ℕ → Type 0
   IsQuiet k = joined (log_at sizes (state k)).members ≡ 0
 
-  -- all that the marks tell
+  -- all that the marks say
   record AreQuiet (m : Marks) : Type 0 where
     pub begun : IsQuiet m.begun
     pub cut : IsQuiet m.cut
@@ -180,7 +180,8 @@ module _ (sizes : Super) (events : List (Event Call Outside)) (start : State (bl
 
   -- ---- a commit ends before its hart replies
 
-  -- Of the commit that hart h began with event i: at some event behind it, up to n, its head had been written; or it is under way, or the world has stopped.
+  -- Of the commit that hart h began with event i: at some event after it, up to n, its head had been written. Or the
+  -- commit is under way, or the world has stopped.
   abbrev Goes : (i h n : ℕ) → Type 0
   Goes i h n =
       ((later : ℕ) × (more : ℕ) × (i + 1 + later + more ≡ n) × (is_settled (log_at sizes (state (i + 1 + later))).phase ≡ true))
@@ -250,7 +251,7 @@ module _ (disk : List (List ℕ)) (failures : ℕ) (events : List (Event Call Ou
   abbrev start : State L
   start = first_state disk failures on.mountable
 
-  -- all events are the first ones of so many
+  -- the first `all` events are all events
   marks_all : marks_after sizes_here (take all events) start no_marks ≡ marks_at disk failures events
   marks_all = ap (λ (es : List (Event Call Outside)). marks_after sizes_here es start no_marks) (take_all all events (omega arith))
 

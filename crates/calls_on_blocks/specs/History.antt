@@ -1,4 +1,4 @@
--- What a mounted file system's runs come to: one list of tree steps.
+-- The result of a mounted file system's runs: one list of tree steps.
 use Rattle.std.specs.Prelude.{ℕ, List, ◌∷◌, ◌++◌, None}
 use Rattle.calls_on_blocks.specs.Vocabulary.{Super, sizes_of, Call, tree_in, Event, AllHonest, fresh, run, Both, Outside, MoveMachine, HasOneHistory, NoneClimbs, Alone, IsMountable, first_world, mounted}
 use Rattle.inode_machine.specs.World as above
@@ -35,7 +35,7 @@ block_moves sizes =
       limit = T.limit;
     }
 
--- what a mount gives: the blocks, where no hart has a child, and the tree that they show
+-- what a mount gives: the blocks, with no hart that has a child, and the tree that they show
 abbrev pub first : List (List ℕ) → ℕ → Both World above.World
 first disk failures = record { real = record { blocks = mounted disk failures; children = λ h. None }; seen = first_world disk }
 
@@ -52,7 +52,7 @@ MountsHaveOneHistory =
     (disk : List (List ℕ)) (failures : ℕ) (events : List (Event Call Outside)) → RunsOn disk failures events → NoneClimbs events
     → HasOneHistory (block_moves (sizes_of disk)) (tree_in disk) (first disk failures) events
 
--- And where one hart alone makes calls, for any paths.
+-- And if one hart alone makes calls, for any paths.
 abbrev pub OneHartHasOneHistory : Type 0
 OneHartHasOneHistory =
     (disk : List (List ℕ)) (failures h : ℕ) (events : List (Event Call Outside)) → RunsOn disk failures events → Alone h events

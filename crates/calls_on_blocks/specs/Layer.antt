@@ -1,4 +1,4 @@
--- The machine below as a layer under the calls: beside the blocks stands whom each hart's call reserves.
+-- The machine below as a layer under the calls: beside the blocks it has whom each hart's call reserves.
 use Rattle.std.specs.Prelude.{◌≡◌, ◌<◌, ℕ, Option, Some}
 use Rattle.calls_on_blocks.specs.Vocabulary.{Super, hart_count, ExecResult, exec_result_in, LowerLayer, Outside, Op, Answer, Blocks, exec_blocks, below}
 use Rattle.fs_machine.specs.Steps as steps

@@ -13,7 +13,7 @@ progress_of false = Wrote
 abbrev pub at_point : LogPart → Bool
 at_point l = is_point (length l.group) l.phase
 
--- after event n, in which an operation came to this, over this log
+-- after event n, in which an operation had this outcome, over this log
 abbrev pub marks_by : ℕ → LogPart → (op : Op) → ExecResult (Answer op) State → Marks → Marks
 marks_by n l Leave (Ran left s) m = after_leave n left m
 marks_by n l Commit (Ran ended s) m = after_write (at_point l) (progress_of ended) m
@@ -40,7 +40,7 @@ module _ (sizes : Super) where
   marks_after [] s m = m
   marks_after (e ∷ es) s m = marks_after es (next (block_calls sizes) e s) (marks_next e s m)
 
--- ---- the same by where the commit is
+-- ---- the same by the phase of the commit
 
 -- The last of n events took the commit from one phase, at the point or not, to another.
 abbrev pub marks_told : ℕ → Phase → Bool → Phase → Marks → Marks

@@ -16,7 +16,7 @@ pub record AreEventsOn (disk : List (List ℕ)) (failures : ℕ) (events : List 
 abbrev pub state_after : (disk : List (List ℕ)) → ℕ → List (Event Call Outside) → State (block_calls (sizes_of disk))
 state_after disk failures events = run (block_calls (sizes_of disk)) events (fresh (block_calls (sizes_of disk)) (first disk failures))
 
--- the disk as it stands then
+-- the disk as it is then
 abbrev pub disk_after : List (List ℕ) → ℕ → List (Event Call Outside) → List (List ℕ)
 disk_after disk failures events = (state_after disk failures events).world.real.blocks.state.log.contents
 
@@ -24,15 +24,14 @@ disk_after disk failures events = (state_after disk failures events).world.real.
 abbrev pub marks_at : List (List ℕ) → ℕ → List (Event Call Outside) → Marks
 marks_at disk failures events = marks_after (sizes_of disk) events (fresh (block_calls (sizes_of disk)) (first disk failures)) no_marks
 
--- Wherever it is stopped, in the middle of calls or of a commit, by the device's failure or not, the disk passes all checks, as recovery
--- sees it.
+-- It may stop in the middle of calls or of a commit, by the device's failure or not. Then the disk passes all checks,
+-- as recovery sees it.
 abbrev pub StopsLeaveImages : Type 0
 StopsLeaveImages = (disk : List (List ℕ)) (failures : ℕ) (events : List (Event Call Outside)) → AreEventsOn disk failures events
     → IsWellFormed (disk_after disk failures events)
 
--- One list of tree steps explains the run. The entries of its first k events, for a k that the marks tell, are a beginning of it; and the
--- disk's tree is
--- what has names in the tree to which they lead.
+-- One list of tree steps explains the run. The entries of its first k events, for a k that the marks give, are a
+-- beginning of it. The disk's tree is what has names in the tree to which they lead.
 pub record LeavesABeginning (disk : List (List ℕ)) (failures : ℕ) (events : List (Event Call Outside)) : Type 0 where
   pub history : HasOneHistory (block_moves (sizes_of disk)) (tree_in disk) (first disk failures) events
   pub k : ℕ
@@ -46,17 +45,17 @@ pub record LeavesABeginning (disk : List (List ℕ)) (failures : ℕ) (events : 
   pub leads : Chain (tree_of (tree_in disk)) (before k history.list) tree
   pub named : IsNamedPart tree (tree_of (tree_in (disk_after disk failures events)))
 
--- So it is where no step found no room and no path climbs,
+-- So it is if no step found no room and no path climbs,
 abbrev pub StopsLeaveABeginning : Type 0
 StopsLeaveABeginning = (disk : List (List ℕ)) (failures : ℕ) (events : List (Event Call Outside)) → RunsOn disk failures events
     → NoneClimbs events → LeavesABeginning disk failures events
 
--- and, for any paths, where one hart alone makes calls.
+-- and, for any paths, if one hart alone makes calls.
 abbrev pub OneHartLeavesABeginning : Type 0
 OneHartLeavesABeginning = (disk : List (List ℕ)) (failures h : ℕ) (events : List (Event Call Outside)) → RunsOn disk failures events
     → Alone h events → LeavesABeginning disk failures events
 
--- The marks are known by where each event takes the log's commit.
+-- The marks are known by the phase to which each event takes the log's commit.
 abbrev pub MarksAreTold : Type 0
 MarksAreTold =
     (disk : List (List ℕ)) (failures : ℕ) (events : List (Event Call Outside)) → AreEventsOn disk failures events

@@ -28,7 +28,8 @@ served_calls = calls_that serves
 
 -- ---- starts
 
--- the first fault of a call itself: a path's length, then its zero bytes, of each path in turn; or how much is to be read or written
+-- the first fault of a call itself: a path's length, then its zero bytes, of each path in turn; or the count of bytes
+-- to read or write
 abbrev pub path_fault : List ℕ → Option Refusal
 path_fault path = if nat_lt path_limit (length path) then Some PathTooLong else (if has_zero path then Some ZeroInPath else None)
 
@@ -75,7 +76,7 @@ abbrev pub others_refusal : ℕ → Call → (ℕ → Bool) → SharedState → 
 others_refusal h (Inherit child) busy s = child_refusal h child busy s
 others_refusal h call busy s = None
 
--- ---- what a start comes to
+-- ---- the result of a start
 
 -- why hart h's call doesn't begin: a child starts nothing; then what is wrong with the call, and last what the other harts do
 abbrev pub start_refusal : ℕ → Call → (ℕ → Bool) → SharedState → Option Refusal

@@ -9,7 +9,7 @@ use Rattle.calls_on_blocks.specs.Stops.{AreEventsOn, marks_at, state_after}
 abbrev pub state_up_to : (disk : List (List ℕ)) → ℕ → List (Event Call Outside) → ℕ → State (block_calls (sizes_of disk))
 state_up_to disk failures events n = state_after disk failures (take n events)
 
--- After so many events as a mark tells no hart is in a transaction: none is stored in part.
+-- After the count of events that a mark gives, no hart is in a transaction: none is stored in part.
 abbrev pub MarksPartNone : Type 0
 MarksPartNone =
     (disk : List (List ℕ)) (failures : ℕ) (events : List (Event Call Outside)) → AreEventsOn disk failures events → (k : ℕ)

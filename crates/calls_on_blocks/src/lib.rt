@@ -1,6 +1,6 @@
-//! The calls on the blocks of a file system: each call's program over whole inodes as a program below, what every list of
-//! events makes of them, and what the disk is where a mounted file system stops at any event. The functions do nothing: each
-//! carries a law.
+//! The calls on the blocks of a file system: each call's program over whole inodes as a program below. The laws say
+//! what every list of events makes of them, and what the disk is if a mounted file system stops at any event. The
+//! functions do nothing: each carries a law.
 #![tactic(auto)]
 
 ghost use Rattle.calls_on_blocks.specs.Laws.{CallsAreLawful, CodeIsOfIt};
@@ -9,9 +9,9 @@ ghost use Rattle.calls_on_blocks.specs.Stops.{MarksAreTold, OneHartLeavesABeginn
 ghost use Rattle.calls_on_blocks.specs.Whole.{CutsHaveReplies, MarksPartNone};
 ghost use Rattle.calls_on_blocks.specs.Heads.{LogsLeaveGoodHeads, LogsMayBegin};
 
-/// Each call that is served is right on the blocks: whatever the other harts do and wherever the device fails, each of its
-/// operations may be made where it is made, it leaves to the others what is theirs, and it ends with its written sequence, in
-/// time and with nothing in hand.
+/// Each call that is served is right on the blocks, whatever the other harts do and whenever the device fails. Each
+/// of its operations may be made when it is made. The call leaves to the others what is theirs, and it ends with its
+/// written sequence, in time and with nothing in hand.
 pub fn calls_are_lawful()
     ensures { CallsAreLawful }
 {}
@@ -21,51 +21,53 @@ pub fn code_is_of_it()
     ensures { CodeIsOfIt }
 {}
 
-/// The headline, of definitions: for every list of events of any harts on a mounted disk, with a device that fails at any moment or
-/// never, one list of tree steps explains all calls that were started, from the image's tree; each finished call's entries are its
-/// written sequence and make its reply, and each is placed between the call's start and return; as long as no step found no room and
-/// no path has the element "..".
+/// The headline, of definitions: one list of tree steps explains all calls that were started, from the image's tree.
+/// It is so for every list of events of any harts on a mounted disk, with a device that fails at any moment or never.
+/// Each finished call's entries are its written sequence and make its reply, and each is placed between the call's
+/// start and return. It is so as long as no step found no room and no path has the element "..".
 pub fn mounts_have_one_history()
     ensures { MountsHaveOneHistory }
 {}
 
-/// Where one hart alone makes calls the same holds for any paths.
+/// If one hart alone makes calls, the same holds for any paths.
 pub fn one_hart_has_one_history()
     ensures { OneHartHasOneHistory }
 {}
 
-/// Each event of a run on a mounted disk, whatever its paths, makes the move that it places as code makes it on a tree that is kept
-/// beside the run, and where it places none tree and walks stay; as long as no step found no room.
+/// Each event of a run on a mounted disk, whatever its paths, makes the move that it places. Code makes the same move
+/// on a tree that is kept beside the run. If the event places none, tree and walks stay. It is so as long as no step
+/// found no room.
 pub fn mounts_make_moves()
     ensures { MountsMakeMoves }
 {}
 
-/// Wherever a mounted file system is stopped, in the middle of calls or of a commit, by the device's failure or not, its disk
-/// passes all checks as recovery sees it: it can be mounted again.
+/// A mounted file system may stop in the middle of calls or of a commit, by the device's failure or not. Then its
+/// disk passes all checks as recovery sees it: it can be mounted again.
 pub fn stops_leave_images()
     ensures { StopsLeaveImages }
 {}
 
-/// Crash safety, of definitions: the tree on that disk is what has names in the tree after a beginning of the one list of tree steps
-/// that explains the run: the entries of its first events, up to the leave that began the last commit whose header has stood; as
-/// long as no step found no room and no path has the element "..".
+/// Crash safety, of definitions: the tree on that disk is what has names in the tree after a beginning of the one
+/// list of tree steps that explains the run. That beginning is the entries of its first events, up to the leave that
+/// began the last commit whose header was on the disk. It is so as long as no step found no room and no path has the
+/// element "..".
 pub fn stops_leave_a_beginning()
     ensures { StopsLeaveABeginning }
 {}
 
-/// Where one hart alone makes calls the same holds for any paths.
+/// If one hart alone makes calls, the same holds for any paths.
 pub fn one_hart_leaves_a_beginning()
     ensures { OneHartLeavesABeginning }
 {}
 
-/// The marks of its events are known by where each takes the log's commit: so code that sees the log before and after an event keeps
-/// them.
+/// The marks of its events are known by the phase to which each takes the log's commit: so code that sees the log
+/// before and after an event keeps them.
 pub fn marks_are_told()
     ensures { MarksAreTold }
 {}
 
-/// After so many events as a mark tells no hart is in a transaction: so none is stored in part. And once a hart has replied whose
-/// leave began a commit, that leave is not behind the cut.
+/// After the count of events that a mark gives, no hart is in a transaction: so none is stored in part. And once a
+/// hart has replied whose leave began a commit, that leave isn't after the cut.
 pub fn marks_leave_all_whole()
     ensures transactions { MarksPartNone }
     ensures replies { CutsHaveReplies }

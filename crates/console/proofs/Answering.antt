@@ -83,7 +83,7 @@ first_line : (line : List ℕ) (lines : List (List ℕ)) → Some line ≡ first
 first_line line [] is = ([], cc)
 first_line line (other ∷ lines) is = (lines, let same : line ≡ other = cc in ap (λ l. l ∷ lines) same)
 
--- all lines, where the first is known
+-- all lines, if the first is known
 all_none : (typed : Option (List ℕ)) → IfSome typed (λ bytes. None ≡ first_of (typed_lines bytes)) → IfSome typed (λ bytes. [] ≡ typed_lines bytes)
 all_none None is = tt
 all_none (Some bytes) is = no_lines (typed_lines bytes) is

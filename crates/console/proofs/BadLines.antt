@@ -11,7 +11,7 @@ use Rattle.script.specs.declared.command.Front.{Front}
 pub course_read : (schedule : Schedule) (front : Front) (text : List ℕ) → GivesFront front text → script_course schedule text ≡ or_bad (option_map number_told front.bad) (course_of schedule (map numbered front.lines.items))
 course_read schedule front text gives i = or_bad (sym gives.bad i) (course_of schedule (sym gives.lines i))
 
--- what is wrong before it is told, and not that
+-- what is wrong before it is reported, and not that
 pub fails_before : (fault : ConsoleFault) (bad : Option ℕ) (course : Result CourseOf ℕ) → FailsTo fault course → FailsTo fault (or_bad bad course)
 fails_before fault None course fails = fails
 fails_before fault (Some n) (Err m) fails = fails

@@ -13,7 +13,7 @@ module _ {D : Type 0} (contents : D → List (List ℕ)) (failures : D → ℕ) 
   kept_same None e came = refl
   kept_same (Some run) e came = refl
 
-  -- a copy of the event is the event, where events are kept
+  -- a copy of the event is the event, if events are kept
   copied : (n : NotesOf) (hart : ℕ) (what : Option What) (e : Event) (came : Came) → with_what n hart what (copy_for n.kept e) came ≡ with_what n hart what (Some e) came
   copied n hart None e came = refl
   copied n hart (Some what) e came = ap (λ k. record (with_note n hart what (Some e) came) { kept = k }) (kept_same n.kept e came)

@@ -1,4 +1,4 @@
--- The device has failed once more where an operation stops.
+-- The device has failed once more when an operation stops.
 use Rattle.console.proofs.Vocabulary.{◌≡◌, ℕ, ◌+◌, min, Bool, true, false, List, Option, Some, None, refl, most_faults, get_of, SeatState, Got, joined_count as joined, limit_of, turn_is_out, join_waits, SlotState, GuardState, lock_of, ExecResult, Waits, Ran, Stops, Loaded, Inode, NewFile, OpenFile, RefusedState as Refused, Want, TablesState, file_named, place_named, place_of, Outside, Passes, Fails, got_by, join_if, read_block, commit_if, write_log, State, Op, Join, JoinToWrite, Leave, Get, Read, Put, Commit, Lock, LockFile, LockOpen, Unlock, SetDirectory, Up, Claim, Down, CheckFile, TakePlace, TakeDescriptor, Double, Close, GiveDescriptor, Reply, Number, Directory, Held, Walked, Freed, exec, in_log, in_tables, joins, join_unless, lock_open, with_open, claims, claim_first}
 use Rattle.buffer_cache.specs.declared.got.Got.TheVariants as got
 use Rattle.fs_machine.specs.declared.files.Want.TheVariants as want

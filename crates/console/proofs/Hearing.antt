@@ -1,4 +1,4 @@
--- What a keeper was told of an event is what the event tells.
+-- What a keeper noted of an event is what the event says.
 use Rattle.console.proofs.Vocabulary.{◌≡◌, ℕ, true, List, Option, Some, None, IfSome, refl, ◌∙◌, sym, subst, with_answer, Event, Came, event_of, came_of, said_of, shared_of, Makes, Answers, HasNoted, KeptTree, NotesEvent, heard_by, heard_in, Hears, hart_in, is_event}
 use Rattle.hart_core.specs.Telling.{TellsEvent, hart_of}
 use Rattle.hart_core.specs.Worlds.{WorldOf}

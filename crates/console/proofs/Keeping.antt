@@ -1,11 +1,12 @@
--- What tells the history of a run in one way tells it in another, of a run that was made and kept: and so on an image.
+-- If a text shows the history of a run in one way, it shows it in another, of a run that was made and kept: and so on
+-- an image.
 use Rattle.std.specs.Prelude.{◌⊎◌, ◌^◌}
 use Rattle.console.proofs.Vocabulary.{◌≡◌, ◌<◌, ℕ, Bool, true, false, List, length, Option, Some, None, Result, Ok, Err, refl, sym, ap, ◌∙◌, subst, inl, inr, blocks_of, tree_in, TreeData, KeptTree, nothing_kept, HasKept, RunOn, StartsOn, never, never_of, owned, refused_by_run, Mode, ConsoleFault, IfTold, IsPrintedAndNoted, HistoryBeside, TellsHistory, WhereSet, HasNoList, IsFound, IsOwn, IsUnfound, history_from, history_of, CourseOf, KeptRun, NotesOf, all_noted, no_notes, none_kept, run_in, PromptsReader, EndsSo, PrintsAll, RunsReader, RunsScript, EventOfCall, SessionOf, with_beside, known_at, some_lacks_place, was_told}
 use Rattle.console.specs.declared.fault.ConsoleFault.TheVariants as faults
 use Rattle.console.proofs.Chaining.{Chain, lines_chain, prompts_all_chain}
 use Rattle.console.proofs.Noting.{IsKept, IsRun, events_kept, kept_first, kept_run}
 
--- One history of a run that began with this file system is another one, where histories are wanted.
+-- One history of a run that began with this file system is another one, if histories are wanted.
 module _ {D : Type 0} (contents : D → List (List ℕ)) (failures : D → ℕ) (mode : Mode) (one other : HistoryBeside) (s : SessionOf D)
     (again : mode.explain ≡ true → (first kept : Option KeptTree) (run : KeptRun) (t : SessionOf D) → IsRun contents failures s.world.sizes s.world.harts first run t.world.harts kept → (text : List ℕ) → one first (known_at t kept) run text → other first (known_at t kept) run text) where
   module _ (first kept : Option KeptTree) where

@@ -81,7 +81,7 @@ mounted_on wanted bytes device base s same well rests sizes idle is = record {
 
 -- ---- what is run on it
 
--- the tree is the image's where a history is wanted
+-- the tree is the image's if a history is wanted
 wanted_base : (b : Bool) (base tree : TreeData) → b ≡ true → WhereSet b (base ≡ tree) (Unit {0}) → base ≡ tree
 wanted_base true base tree is same = same
 wanted_base false base tree is same = absurd (cc is)

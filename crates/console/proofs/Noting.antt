@@ -1,5 +1,5 @@
--- What notes keep of events is a run of them, of which what is kept beside was kept: a step without a call, which isn't noted, changes
--- nothing, and nothing is kept any more.
+-- What notes keep of events is a run of them, of which what is kept beside was kept. A step without a call, which
+-- isn't noted, changes nothing, and nothing is kept after it.
 use Rattle.console.proofs.Vocabulary.{◌≡◌, ℕ, Bool, true, false, List, [], ◌∷◌, ◌++◌, Option, Some, None, refl, sym, ◌∙◌, ap, subst, Super, Call, Ret, Do, ExecResult, Waits, Ran, Stops, Theory, Began, Refuses, Begins, EventOf, Start, Step, OutcomeOf, Started, Refused, WasIdle, DidWait, DidRun, DidEnd, DidStop, WasStopped, with_answer, Code, Plain, PlainMade, UnmarkedProgram, plain_makes, plain_start, plain_begun, plain_step, plain_unless, plain_prog, plain_tried, plain_moved, Outside, block_calls, block_code, Event, Came, event_of, came_of, said_of, HartsOf, shared_of, HasHistory, Answers, Makes, calls_of, history_more, no_history, KeptRun, NotesOf, all_noted, none_kept, noted, run_in, what_of, with_kept, with_what, SessionOf, EventOfCall, Happens, hart_in, is_event, IfSome, KeptTree, HasNoted, NotesEvent, heard_in}
 use Rattle.explain.specs.Vocabulary.{Heard}
 use Rattle.kept_histories.specs.Keeps.{KeepsEvent, KeepsRun}
@@ -58,7 +58,7 @@ module _ (L : Theory) (C : Code L) where
 
 -- ---- from these harts on, and from what was kept beside them
 
--- where something is kept after an event, it was before
+-- if something is kept after an event, it was before
 record WasKept (o : Option KeptTree) (e : Event) (c : Came) (x : Option Heard) (k' : KeptTree) : Type 0 where
   pub kept : KeptTree
   pub is : o ≡ Some kept
@@ -69,7 +69,7 @@ was_kept None e c x k' noted = absurd noted
 was_kept (Some k) e c x k' noted = record { kept = k; is = refl; keeps = noted }
 
 module _ {D : Type 0} (contents : D → List (List ℕ)) (failures : D → ℕ) (sizes : Super) where
-  -- an event that the keeper was told of
+  -- an event that the keeper noted
   abbrev Notes : Event → HartsOf D → KeptTree → Came → HartsOf D → KeptTree → Type 0
   Notes e old k c new k' = NotesEvent contents failures (λ a d x b. KeepsEvent a e d x b) sizes e old k c new k'
 
@@ -90,7 +90,7 @@ module _ {D : Type 0} (contents : D → List (List ℕ)) (failures : D → ℕ) 
   KeepsTo events outcomes now beside =
       (k k' : KeptTree) → begun ≡ Some k → beside ≡ Some k' → KeepsRun contents failures sizes first k events outcomes now k'
 
-  -- a run is kept, and has come to these harts
+  -- a run is kept, and has led to these harts
   pub record IsKept (kept : Option KeptRun) (beside : Option KeptTree) (now : HartsOf D) : Type 0 where
     pub run : KeptRun
     pub is : kept ≡ Some run
@@ -147,7 +147,7 @@ module _ {D : Type 0} (contents : D → List (List ℕ)) (failures : D → ℕ) 
         keeps = idle_keeps was.run.events was.run.outcomes old new o o' x goes;
       }
 
-  -- an event is noted, where it is one
+  -- what happened is noted, if it is an event
   event_kept : (n : NotesOf) (s t : SessionOf D) (x : EventOfCall) → s.world.sizes ≡ sizes → IsKept n.kept s.beside s.world.harts → Happens contents failures s x t → IsKept (noted n x).kept t.beside t.world.harts
   event_kept n s t x is was happens =
       by x.came

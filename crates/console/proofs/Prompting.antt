@@ -14,7 +14,7 @@ pub calls_end : (known : Option (List ℕ)) (harts : List ℕ) (doing : List (Op
 unfolding calls_text
 calls_end known harts doing i le = subst (λ hs. Appends known known (calls_text hs doing)) (sym (at_drop_all (λ hs. hs) harts i le)) (appends_nothing known)
 
--- ---- all lines, and what stands behind them
+-- ---- all lines, and what comes after them
 
 module _ {D : Type 0} (contents : D → List (List ℕ)) (failures : D → ℕ) (help : List ℕ) where
   pub lines_answered : (mode : Mode) (history : HistoryBeside) (s from to t : SessionOf D) (typed : Option (List ℕ)) (queues left : QueuedCalls) (beside shown : Option KeptTree) (ends result : Result (Unit {0}) ConsoleFault) (out between out' : Option (List ℕ)) (first notes : NotesOf)

@@ -2,7 +2,7 @@
 use Rattle.console.proofs.Vocabulary.{◌≡◌, ℕ, ◌+◌, ◌-◌, ◌<◌, ◌≤◌, List, [], ◌∷◌, ◌++◌, length, drop, get_or, set, map, Option, Some, None, Result, Ok, Err, ap, sym, ◌∙◌, arith, length-drop, option_map, option_to_list, at_drop_all, at_drop_more, drop-map, map-append, map-set, get_or-map, get_or_past, nil_from_length, length-map, map-set_same, ScriptLine, line_said, numbered, Memory, FailsTo, QueuedCalls, TakesNext, left_to, or_line, queued, started_in, with_last, with_start}
 use Rattle.script.specs.Said as said
 
--- nothing is there where the first was sought in vain
+-- the list is empty if its first was sought in vain
 none_there : {X : Type 0} (xs ys : List X) → xs ≡ ys → ys ≡ drop 1 xs → xs ≡ []
 none_there xs ys same rest =
     let long : length xs ≡ length xs - 1 = ap length (same ∙ rest) ∙ length-drop 1 xs in

@@ -13,7 +13,7 @@ whole_text (Some bytes) limit items is few =
     let count : length items ≡ min limit (length bytes) = ap length is ∙ length-take limit bytes in
     is ∙ take_all limit bytes (omega (arith, count, few))
 
--- a call was stopped, and all else is told
+-- a call was stopped, and all else is printed
 pub stopped_so : (mode : Mode) (history : History) (notes : NotesOf) (ended : Result (Unit {0}) ConsoleFault) (stop : Stop) (told result : Result (Unit {0}) ConsoleFault) (out out' : Option (List ℕ)) → ended ≡ Err (faults.Stopped stop)
     → PrintsAll mode history notes out told out' → result ≡ or_stopped stop told → EndsSo mode history notes ended out result out'
 stopped_so mode history notes ended stop told result out out' was printed is = subst (λ r. EndsSo mode history notes r out result out') (sym was) (told, printed, is)

@@ -9,7 +9,7 @@ use Rattle.console.proofs.Failing.{Raises, exec_raises}
 
 -- ---- an event
 
--- the device has failed once more where an operation stops
+-- the device has failed once more when an operation stops
 abbrev RaisesShared : {A : Type 0} → ℕ → ExecResult A SharedState → Type 0
 RaisesShared n Waits = Unit {0}
 RaisesShared n (Ran a s) = Unit {0}
@@ -24,7 +24,7 @@ module _ (sizes : Super) where
   abbrev Harts : Type 0
   Harts = Plain (block_calls sizes) (block_code sizes)
 
-  -- in these harts, which haven't stopped, the event comes to this
+  -- in these harts, which haven't stopped, the event has this outcome
   abbrev pub CalmBy : Harts → Outcome Kind Reply Refusal → Harts → Type 0
   CalmBy p Started a = a.stopped ≡ false
   CalmBy p (Refused why) a = a.stopped ≡ false
@@ -76,7 +76,7 @@ module _ {D : Type 0} (contents : D → List (List ℕ)) (failures : D → ℕ) 
   never : {P : Type 0} (a b : ℕ) → a ≡ 0 → b ≡ 0 → a ≡ min (b + 1) most_faults → P
   never a b none_a none_b rises = absurd (omega (arith, none_a, none_b, rises))
 
-  -- what an event came to
+  -- the outcome of an event
   pub came_calm : (s t : SessionOf D) (x : EventOfCall) → s.world.harts.stopped ≡ false → Happens contents failures s x t → (t.world.harts.stopped ≡ false) × ((stop : Stop) → flow_of x.came ≡ Err (faults.Stopped stop) → ⊥)
   came_calm s t x still happens = by x.came (subst (λ m. CalmBy s.world.sizes (calls_of contents failures s.world.sizes s.world.harts) m.came m.after) happens.makes (makes_calm s.world.sizes _ (calls_of contents failures s.world.sizes s.world.harts) still))
     where

@@ -1,4 +1,4 @@
--- A history is told, or why there is none.
+-- A history is printed, or why there is none.
 use Rattle.std.specs.Prelude.{◌^◌}
 use Rattle.console.proofs.Vocabulary.{◌≡◌, ◌<◌, ℕ, false, List, length, Option, Result, Ok, Err, refl, subst, inl, inr, OnOk, Appends, Came, Event, Trace, trace_in, any_climbs, KeptTree, HandsOutKept, SawRoom, Placed, Explains, TreeData, OwnsRun, IsRefusedBy, IsRefusedSo, ExplainRefused, ConsoleFault, IsWritten, HasLine, History, TellsHistory, TellsWhy, entries_text, history_kept, history_on, why_line, KeptRun}
 use Rattle.explain.specs.declared.refused.ExplainRefused.TheVariants as refused

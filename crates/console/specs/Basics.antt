@@ -1,4 +1,4 @@
--- The words that most of this crate's other definitions stand on.
+-- The words that most of this crate's other definitions use.
 pub use Rattle.console.specs.Images.{bytes_for}
 pub use Rattle.console.specs.Lines.{CourseOf, TellsLine, called, script_course}
 pub use Rattle.console.specs.Notes.{KeptRun, NotesOf, no_notes, rows_in, run_in}

@@ -23,7 +23,7 @@ abbrev pub in_case : {S A : Type 0} → Bool → Behaviour S A → Behaviour S A
 in_case true this other = this
 in_case false this other = other
 
--- after the first part, which came to this in u, the second one; a fault is the end
+-- after the first part, with this result in u, the second one; a fault is the end
 abbrev pub GoesOn : {S A B : Type 0} → (A → Behaviour S B) → List EventOfCall → List ℕ → Result A ConsoleFault → S → List EventOfCall
     → List ℕ → Result B ConsoleFault → S → Type 0
 GoesOn second first front (Ok a) u events text result t =
@@ -64,7 +64,8 @@ prints words s events text result t = (events ≡ []) × (text ≡ words s) × (
 
 -- ---- a behaviour that was run, with a writer and notes
 
--- at its end, and where a call was stopped, all is printed and noted; where writing failed, or memory was refused, some of it
+-- at its end, and if a call was stopped, all is printed and noted; if writing failed, or memory was refused, some of
+-- it
 abbrev pub IfTold : {A : Type 0} → Result A ConsoleFault → Type 0 → Type 0
 IfTold (Ok a) P = P
 IfTold (Err (faults.Stopped stop)) P = P

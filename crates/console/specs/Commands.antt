@@ -51,7 +51,7 @@ pub record RunOf (D : Type 0) : Type 0 where
 abbrev pub state : {D : Type 0} → SessionOf D → QueuedCalls → RunOf D
 state session left = record { session = session; left = left }
 
--- the turn moved where anything in it did, and else waited where anything did
+-- the turn moved if anything in it did, and else waited if anything did
 abbrev pub joined : Flow → Flow → Flow
 joined Moves flow = Moves
 joined Rests flow = flow
@@ -59,12 +59,12 @@ joined Waits Moves = Moves
 joined Waits Waits = Waits
 joined Waits Rests = Waits
 
--- so many steps of this kind have run, where that ends the steps
+-- enough steps of this kind have run, if that ends the steps
 abbrev pub is_enough : Option Until → Doing → Bool
 is_enough None d = false
 is_enough (Some until) d = if nat_lt (count_of until.kind d) until.steps then false else true
 
--- turns go on as long as the last one moved: where whoever had something to do waited, the next would be the same
+-- turns go on as long as the last one moved: if every hart with something to do waited, the next would be the same
 abbrev pub goes_on : Flow → Bool
 goes_on Moves = true
 goes_on Waits = false
@@ -92,7 +92,7 @@ wait_text hart None = []
 wait_text hart (Some d) = decimal hart ++ codes " waits\n"
 
 module _ {D : Type 0} (contents : D → List (List ℕ)) (failures : D → ℕ) where
-  -- the event is made, told and noted
+  -- the event is made, printed and noted
   pub record HappensSo (e : Event) (verb : Verb) (s : RunOf D) (events : List EventOfCall) (text : List ℕ)
       (result : Result Flow ConsoleFault) (t : RunOf D) : Type 0 where
     pub came : Came
@@ -140,7 +140,7 @@ module _ {D : Type 0} (contents : D → List (List ℕ)) (failures : D → ℕ) 
   tells_flow harts Moves = gives tt
   tells_flow harts Rests = gives tt
 
-  -- turns until one in which nothing moved; what waits then is told
+  -- turns until one in which nothing moved; what waits then is printed
   unfoldable pub settles : Plan → List ℕ → Behaviour (RunOf D) (Unit {0})
   settles plan harts = followed_by (turns plan harts plan.most Moves) (tells_flow harts)
 

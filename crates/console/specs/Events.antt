@@ -30,7 +30,7 @@ answer_cell IsDone = codes "ok"
 answer_cell (Failed cause) = numbered_text (codes "failed") (cause_number cause) (cause_name cause)
 answer_cell (Full full) = numbered_text (codes "full") (full_number full) (full_name full)
 
--- what stands in a hart's column: a wait in brackets, a reply with its answer
+-- the text in a hart's column: a wait in brackets, a reply with its answer
 abbrev pub cell : What → List ℕ
 cell (Start verb) = codes "start " ++ word_of verb
 cell (Refused why) = refused_text why

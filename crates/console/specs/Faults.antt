@@ -1,4 +1,4 @@
--- Why a script doesn't come to its end, and the exit status of a program that tells so.
+-- Why a script doesn't reach its end, and the exit status of a program that says so.
 use Rattle.std.specs.Prelude.{ℕ}
 use Rattle.console.specs.Vocabulary.{MountFault, ScriptFault}
 use Rattle.image_tree.specs.declared.fault.MountFault.TheVariants as mounts

@@ -19,7 +19,7 @@ entries_text (entry ∷ entries) = entry_line entry ++ entries_text entries
 abbrev pub why_line : ExplainRefused → List ℕ
 why_line why = codes "history refused " ++ decimal (number_of why) ++ codes " " ++ name_of why ++ codes "\n"
 
--- which texts tell the history of a run
+-- which texts show the history of a run
 abbrev pub History : Type 1
 History = KeptRun → List ℕ → Type 0
 
@@ -34,9 +34,9 @@ HasLine (refused.Damaged d) = Unit {0}
 HasLine refused.FullSeen = Unit {0}
 HasLine refused.Climbs = Unit {0}
 
--- ---- of what events came to, from a tree on, and of what is kept beside them at the end
+-- ---- of events' outcomes, from a tree on, and of what is kept beside them at the end
 
--- a list that explains what the run showed; it is the one that was kept, where that does
+-- a list that explains what the run showed; it is the one that was kept, if that does
 pub record IsFound (base : TreeData) (kept : Option KeptTree) (run : KeptRun) (text : List ℕ) : Type 0 where
   pub list : List Placed
   pub explains : Explains base (trace_in run.events run.outcomes) list
@@ -94,7 +94,7 @@ module _ (image : List ℕ) (run : KeptRun) where
     pub outcomes : made.outcomes ≡ run.outcomes
     pub never : NeverFoundRoom image run.events made
 
-  -- it has none: why these events on this image have none, and why what they came to in this very run has none
+  -- it has none: why these events on this image have none, and why their outcomes in this very run have none
   pub record HasNoList (text : List ℕ) : Type 0 where
     pub why : ExplainRefused
     pub has_line : HasLine why
@@ -118,7 +118,7 @@ IsUntold (Err (faults.Read e)) = ⊥
 IsUntold (Err (faults.Line n why)) = ⊥
 IsUntold (Err (faults.Stopped stop)) = ⊥
 
--- the history of the run is printed behind all else
+-- the history of the run is printed after all else
 pub record IsTold (history : History) (run : KeptRun) (result : Result (Unit {0}) ConsoleFault) (out out' : Option (List ℕ)) : Type 0 where
   pub text : List ℕ
   pub is_history : history run text
@@ -128,6 +128,6 @@ pub record IsTold (history : History) (run : KeptRun) (result : Result (Unit {0}
 abbrev pub TellsHistory : History → KeptRun → Result (Unit {0}) ConsoleFault → Option (List ℕ) → Option (List ℕ) → Type 0
 TellsHistory history run result out out' = IsTold history run result out out' ⊎ IsUntold result
 
--- why there is none is printed, where that has a line
+-- why there is none is printed, if that has a line
 abbrev pub TellsWhy : ExplainRefused → Result (Unit {0}) ConsoleFault → Option (List ℕ) → Option (List ℕ) → Type 0
 TellsWhy why result out out' = (HasLine why × (result ≡ Ok tt) × Appends out out' (why_line why)) ⊎ IsUntold result

@@ -18,8 +18,8 @@ bytes_for (Some bytes) = bytes.items
 abbrev pub disk_for : Option (Vec ℕ Global) → List (List ℕ)
 disk_for image = blocks_of (bytes_for image)
 
--- As an image of which version a disk is taken: where it is only examined, of the one that its magic number says; and a script runs on
--- images of version 1.
+-- The version of image as which a disk is taken. If it is only examined, it is the one that its magic number says; a
+-- script runs on images of version 1.
 abbrev pub taken_as : Bool → List (List ℕ) → Version
 taken_as check disk = if check then version_of disk else One
 
@@ -34,8 +34,8 @@ RefusesDisk disk (Line n why) = ⊥
 RefusesDisk disk (Stopped s) = ⊥
 RefusesDisk disk Memory = Unit {0}
 
--- Why a run on a disk in memory, taken as an image of a version, has no end. A refused image is refused for its first damage; all else is
--- told of an image that is mounted, and this disk never fails.
+-- Why a run on a disk in memory, taken as an image of a version, has no end. A refused image is refused for its first
+-- damage. All else is reported of a mounted image, and this disk never fails.
 abbrev pub JudgesImage : Version → List (List ℕ) → ConsoleFault → Type 0
 JudgesImage v disk (Image (mounts.Damaged d)) = images.IsFirstDamage v disk d
 JudgesImage v disk (Image mounts.DeviceFault) = ⊥

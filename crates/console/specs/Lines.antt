@@ -11,7 +11,7 @@ use Rattle.console.specs.Queues.{QueuedCalls, none_left, queued}
 
 -- ---- the call that a line says; a read is handed zeros to fill, a fill writes the letter x
 
--- as many as are asked for, or one more than a call may have
+-- the bytes that are asked for, or one more than a call may have
 abbrev pub part_of : ℕ → ℕ → List ℕ
 part_of count byte = replicate (min count 524289) byte
 
@@ -57,7 +57,7 @@ script_course schedule text = or_bad (bad_in text) (course_of schedule (front_in
 
 -- ---- what is answered of lines
 
--- the line that is told is the bad one
+-- a reported line is the bad one
 abbrev pub TellsLine : ℕ → ConsoleFault → Type 0
 TellsLine n (faults.Line m why) = m ≡ n
 TellsLine n faults.Memory = Unit {0}
@@ -74,7 +74,7 @@ IsMemory (faults.Read e) = ⊥
 IsMemory (faults.Write e) = ⊥
 IsMemory (faults.Stopped s) = ⊥
 
--- a fault where something was to be had, or a line is bad, unless memory was refused
+-- a fault when something was to be had, or a line is bad, unless memory was refused
 abbrev pub FailsTo : {A : Type 0} → ConsoleFault → Result A ℕ → Type 0
 FailsTo fault (Ok a) = IsMemory fault
 FailsTo fault (Err n) = TellsLine n fault

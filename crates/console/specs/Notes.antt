@@ -1,5 +1,5 @@
--- What is noted of events, for the lines of --last and the columns of --timeline; and the events themselves with what they came to, for
--- --explain.
+-- What is noted of events, for the lines of --last and the columns of --timeline; and the events themselves with
+-- their outcomes, for --explain.
 use Rattle.std.specs.Prelude.{ℕ, ◌+◌, Bool, true, false, List, [], ◌∷◌, ◌++◌, Option, Some, None}
 use Rattle.console.specs.Vocabulary.{Came, Event, Outcome, Mode, TailView, tail, with_event}
 use Rattle.hart_core.specs.declared.events.Came.TheVariants as came
@@ -23,12 +23,12 @@ what_of verb came.Started = Some (Start verb)
 what_of verb (came.Refused why) = Some (Refused why)
 what_of verb (came.Stepped outcome) = what_of_step outcome
 
--- events in their order, and what each came to
+-- events in their order, and the outcome of each
 pub record KeptRun : Type 0 where
   pub events : List Event
   pub outcomes : List Came
 
--- the last notes, and how many there were in all; all notes, where there is a timeline; and the whole run, where it is kept
+-- the last notes, and how many there were in all; all notes, if there is a timeline; and the whole run, if it is kept
 pub record NotesOf : Type 0 where
   pub tail : TailView Note
   pub timeline : Option (List Note)
@@ -38,7 +38,7 @@ pub record NotesOf : Type 0 where
 abbrev pub no_events : KeptRun
 no_events = record { events = []; outcomes = [] }
 
--- where it is wanted
+-- if it is wanted
 abbrev pub none_kept : Bool → Option KeptRun
 none_kept true = Some no_events
 none_kept false = None
@@ -60,12 +60,12 @@ abbrev pub rows_in : Option (List Note) → List Note
 rows_in None = []
 rows_in (Some notes) = notes
 
--- the copy that is to be kept, where events are kept
+-- the copy to keep, if events are kept
 abbrev pub copy_for : Option KeptRun → Event → Option Event
 copy_for None event = None
 copy_for (Some run) event = Some event
 
--- the event, of which there is a copy, and what it came to
+-- the event, of which there is a copy, and its outcome
 abbrev pub with_kept : Option KeptRun → Option Event → Came → Option KeptRun
 with_kept None copy came = None
 with_kept (Some run) None came = Some run

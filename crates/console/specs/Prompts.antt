@@ -17,9 +17,9 @@ use Rattle.console.specs.Basics.{bytes_for, NotesOf, no_notes, QueuedCalls, none
 use Rattle.console.specs.Runs.{EndsSo, RunsNone}
 use Rattle.console.specs.Scripts.{HandsOut, TakesNoImage}
 
--- ---- what is told
+-- ---- what is printed
 
--- what stands before each line
+-- what comes before each line
 abbrev pub mark : List ℕ
 mark = codes "> "
 
@@ -58,7 +58,8 @@ waits_text false = codes "\n"
 abbrev pub progress_text : Doing → List ℕ
 progress_text d = step_text d.last ++ locks_text (locks_of d) ++ joined_text (is_joined d) ++ waits_text d.waits
 
--- a hart that has a call: which, its last step, what it has since, and whether the step that was tried since waited
+-- a hart that has a call: which, its last step, the locks and the transaction that it has, and whether the step that
+-- was tried next waited
 abbrev pub doing_text : ℕ → Option Doing → List ℕ
 doing_text hart None = []
 doing_text hart (Some d) = decimal hart ++ codes " " ++ word_of d.verb ++ child_text d.verb ++ progress_text d
@@ -68,7 +69,7 @@ unfoldable pub calls_text : List ℕ → List (Option Doing) → List ℕ
 calls_text [] doing = []
 calls_text (hart ∷ harts) doing = doing_text hart (doing_at hart doing) ++ calls_text harts doing
 
--- where the log's commit is
+-- how far the log's commit is
 abbrev pub phase_text : Phase → List ℕ
 phase_text Open = codes "log open\n"
 phase_text (Staging copied) = codes "log commits, " ++ decimal copied ++ codes " copied into it\n"
@@ -88,7 +89,7 @@ started_on (Upto hart kind steps) = None
 started_on (End hart) = None
 started_on All = None
 
--- where it has a call that was started, and has made no step
+-- if it has a call that was started, and has made no step
 abbrev pub without_step : ℕ → Option Doing → Option ℕ
 without_step hart None = None
 without_step hart (Some d) = if is_nothing d.last then Some hart else None
@@ -124,11 +125,11 @@ IsReadOrFails (Err (faults.Stopped stop)) = ⊥
 unfoldable pub reads : {S : Type 0} → Behaviour S (Unit {0})
 reads s events text result t = DoesNothing s events text t × IsReadOrFails result
 
--- a line that asks nothing that there is is told, with why, and changes nothing
+-- a line that asks for nothing that exists is reported, with why, and changes nothing
 unfoldable pub tells_bad : {S : Type 0} → ℕ → Behaviour S (Unit {0})
 tells_bad n s events text result t = (why : List ℕ) × prints (λ u. bad_text n why) s events text result t
 
--- a bad line is told, or that isn't written, or there is no memory to say why
+-- a bad line is reported, or that isn't written, or there is no memory to say why
 abbrev pub TellsBad : ℕ → Result (Unit {0}) ConsoleFault → Option (List ℕ) → Option (List ℕ) → Type 0
 TellsBad n (Ok u) out out' = (why : List ℕ) × Appends out out' (bad_text n why)
 TellsBad n (Err (faults.Write e)) out out' = Unit {0}
@@ -153,7 +154,7 @@ abbrev pub first_of : List (List ℕ) → Option (List ℕ)
 first_of [] = None
 first_of (line ∷ lines) = Some line
 
--- where more lines are read, one was
+-- if more lines are read, one was
 abbrev pub Follows : Result Bool ConsoleFault → Option (List ℕ) → Option (List ℕ) → Option (List ℕ) → Type 0
 Follows (Ok true) old None new = ⊥
 Follows (Ok true) old (Some line) new = IsFirst old line new
@@ -161,13 +162,13 @@ Follows (Ok false) old next new = Unit {0}
 Follows (Err fault) old next new = Unit {0}
 
 module _ {D : Type 0} (contents : D → List (List ℕ)) (failures : D → ℕ) where
-  -- A line of a script does what it does there. Where it only starts a call on a hart that has one that has made no step, it is told besides
-  -- what makes them.
+  -- A line of a script does what it does there. If it just starts a call, on a hart whose call has made no step, it
+  -- also prints what makes those steps.
   abbrev pub does_line : Line → Behaviour (RunOf D) (Unit {0})
   does_line l s = followed_by (line contents failures l) (λ u. prints (λ t. hint_of (stepless (started_on l) s.session.doing))) s
 
 module _ {D : Type 0} (contents : D → List (List ℕ)) (failures : D → ℕ) (help : List ℕ) where
-  -- What is asked is done. It comes to whether more lines are read.
+  -- What is asked is done. Its result is whether more lines are read.
   abbrev pub does : Asked → Behaviour (RunOf D) Bool
   does Nothing = gives true
   does Help = followed_by (prints (λ s. help)) (λ u. gives true)
@@ -211,7 +212,7 @@ module _ {D : Type 0} (contents : D → List (List ℕ)) (failures : D → ℕ) 
     pub are_typed : IfSome typed (λ bytes. lines ≡ typed_lines bytes)
     pub runs : Runs (prompts_all n lines) s out notes result t out' notes'
 
-  -- the lines are answered, a tree is kept beside them, and then the last events are told, and the history
+  -- the lines are answered, a tree is kept beside them, and then the last events and the history are printed
   pub record PromptsLines (mode : Mode) (history : HistoryBeside) (s : SessionOf D) (typed : Option (List ℕ))
       (result : Result (Unit {0}) ConsoleFault) (t : SessionOf D) (out out' : Option (List ℕ)) : Type 0 where
     pub left : QueuedCalls

@@ -38,7 +38,7 @@ abbrev pub or_line : ℕ → (QueuedCalls → Result QueuedCalls ℕ) → Option
 or_line n rest None = Err n
 or_line n rest (Some left) = rest left
 
--- each line's call stands behind those of its hart; or the number of the first line that is no start of a hart's call
+-- each line's call comes after those of its hart; or the number of the first line that is no start of a hart's call
 unfoldable pub queued : QueuedCalls → List NumberedLine → Result QueuedCalls ℕ
 queued left [] = Ok left
 queued left (line ∷ lines) = or_line line.number (λ more. queued more lines) (with_start left (started_in line.says))

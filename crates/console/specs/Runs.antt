@@ -24,7 +24,7 @@ IsUnwritten (Err (faults.Read e)) = ⊥
 IsUnwritten (Err (faults.Line n why)) = ⊥
 IsUnwritten (Err (faults.Stopped stop)) = ⊥
 
--- behind all else the history of the run, where it is wanted
+-- after all else the history of the run, if it is wanted
 abbrev pub TellsWanted : Mode → History → NotesOf → Option (List ℕ) → Result (Unit {0}) ConsoleFault → Option (List ℕ) → Type 0
 TellsWanted mode history notes out result out' =
     WhereSet mode.explain (TellsHistory history (run_in notes.kept) result out out') ((result ≡ Ok tt) × (out' ≡ out))
@@ -35,12 +35,12 @@ PrintsAll mode history notes out result out' =
     ((between : Option (List ℕ)) × Appends out between (end_text mode notes) × TellsWanted mode history notes between result out')
     ⊎ IsUnwritten result
 
--- that a call was stopped, where nothing worse is to be told
+-- that a call was stopped, if nothing worse must be reported
 abbrev pub or_stopped : Stop → Result (Unit {0}) ConsoleFault → Result (Unit {0}) ConsoleFault
 or_stopped stop (Ok u) = Err (faults.Stopped stop)
 or_stopped stop (Err fault) = Err fault
 
--- All this is told at the script's end, and where a call was stopped.
+-- All this is printed at the script's end, and if a call was stopped.
 abbrev pub EndsSo : Mode → History → NotesOf → Result (Unit {0}) ConsoleFault → Option (List ℕ) → Result (Unit {0}) ConsoleFault
     → Option (List ℕ) → Type 0
 EndsSo mode history notes (Ok u) out result out' = PrintsAll mode history notes out result out'
@@ -76,7 +76,7 @@ IsReadFault (Err (faults.Line n why)) = ⊥
 IsReadFault (Err (faults.Stopped stop)) = ⊥
 
 module _ {D : Type 0} (contents : D → List (List ℕ)) (failures : D → ℕ) where
-  -- the lines are run, a tree is kept beside them, and then the last events are told, and the history
+  -- the lines are run, a tree is kept beside them, and then the last events and the history are printed
   pub record RunsLines (mode : Mode) (history : HistoryBeside) (s : SessionOf D) (course : CourseOf)
       (result : Result (Unit {0}) ConsoleFault) (t : SessionOf D) (out out' : Option (List ℕ)) : Type 0 where
     pub left : QueuedCalls

@@ -22,14 +22,14 @@ pub record TakesNoImage {A : Type 0} (result : Result A ConsoleFault) (out out' 
   pub untaken : IsUntaken result
   pub silent : out' ≡ out
 
--- The file system is as a mount of a disk in memory with these bytes leaves it, and no hart has a call. The tree is the image's, where it
--- is wanted.
+-- The file system is as a mount of a disk in memory with these bytes leaves it, and no hart has a call. The tree is
+-- the image's, if it is wanted.
 pub record IsMountedOn (wanted : Bool) (bytes : List ℕ) (base : TreeData) (s : SessionOf (List ℕ)) : Type 0 where
   pub starts : StartsOn bytes s.world
   pub idle : s.doing ≡ replicate 8 None
   pub base_is : WhereSet wanted (base ≡ tree_in (blocks_of bytes)) (Unit {0})
 
--- a disk is handed out where the script came to its end, else the fault
+-- a disk is handed out if the script reached its end, else the fault
 abbrev pub HandsOut : {D : Type 0} → D → Result (Unit {0}) ConsoleFault → Result D ConsoleFault → Type 0
 HandsOut disk (Ok u) result = result ≡ Ok disk
 HandsOut disk (Err fault) result = result ≡ Err fault

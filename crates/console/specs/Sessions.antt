@@ -10,8 +10,8 @@ use Rattle.console.specs.declared.verb.Verb.{Verb}
 use Rattle.console.specs.declared.doing.Doing.{Doing}
 use Rattle.console.specs.Numbers.{kind_place}
 
--- ---- what a hart's call has done so far: which call it is, how many of its steps of each kind have run, which was the last, and whether
--- one waited since
+-- ---- what a hart's call has done so far: its word, the count of its steps of each kind, its last step, and whether
+-- one waited after it
 
 -- counted up to the greatest u32
 abbrev pub one_more : ℕ → ℕ
@@ -23,11 +23,11 @@ begun verb = record { verb = verb; ran = replicate 12 0; last = None; waits = fa
 abbrev pub count_of : Kind → Doing → ℕ
 count_of kind d = get_or d.ran (kind_place kind) 0
 
--- how many inodes' locks it has: it has taken so many more than it has given up
+-- how many inodes' locks it has: those that it has taken, less those that it has given up
 abbrev pub locks_of : Doing → ℕ
 locks_of d = count_of kinds.Lock d - count_of kinds.Unlock d
 
--- it has joined a transaction, and not left it since
+-- it has joined a transaction, and not left it
 abbrev pub is_joined : Doing → Bool
 is_joined d = nat_lt (count_of kinds.Leave d) (count_of kinds.Join d)
 
@@ -53,7 +53,7 @@ done_after verb (came.Stepped outcome) d = stepped outcome d
 
 -- ---- what happens
 
--- an event, which call it is of, and what it came to
+-- an event, which call it is of, and its outcome
 pub record EventOfCall : Type 0 where
   pub event : Event
   pub verb : Verb
@@ -79,8 +79,8 @@ is_event came.Started = true
 is_event (came.Refused why) = true
 is_event (came.Stepped outcome) = is_event_step outcome
 
--- The file system, what each hart's call has done so far, and the tree that is kept beside it, where a keeper is told of its events and
--- memory wasn't refused to it.
+-- The file system, what each hart's call has done so far, and the tree that is kept beside it. There is such a tree
+-- if a keeper notes its events and memory wasn't refused to it.
 pub record SessionOf (D : Type 0) : Type 0 where
   pub world : WorldOf D
   pub doing : List (Option Doing)
@@ -89,7 +89,7 @@ pub record SessionOf (D : Type 0) : Type 0 where
 abbrev pub with_beside : {D : Type 0} → Option KeptTree → SessionOf D → SessionOf D
 with_beside beside s = record { world = s.world; doing = s.doing; beside = beside }
 
--- what a keeper has, where there is one
+-- what a keeper has, if there is one
 abbrev pub beside_in : Option (Option KeptTree) → Option KeptTree
 beside_in None = None
 beside_in (Some kept) = kept
@@ -99,7 +99,7 @@ abbrev pub known_at : {D : Type 0} → SessionOf D → Option KeptTree → Optio
 known_at s kept = option_map (ended (some_lacks_place s.world.harts)) kept
 
 module _ {D : Type 0} (contents : D → List (List ℕ)) (failures : D → ℕ) where
-  -- A keeper was told of an event that came to this, of which there is a copy: what it was, and what the hart's call heard.
+  -- A keeper noted an event with this outcome, of which there is a copy: what it was, and what the hart's call heard.
   pub record HearsOf (w : WorldOf D) (hart : ℕ) (copy : Option Event) (c : Came) (old new : Option KeptTree) : Type 0 where
     pub event : Event
     pub copied : copy ≡ Some event
@@ -111,13 +111,14 @@ module _ {D : Type 0} (contents : D → List (List ℕ)) (failures : D → ℕ) 
   abbrev pub Hears : WorldOf D → ℕ → Option Event → Came → Option KeptTree → Option KeptTree → Type 0
   Hears w hart copy c old new = IfSome new (λ kept. HearsOf w hart copy c old new)
 
-  -- The tree that is kept beside a file system goes on as the event tells, or is kept no more: so after a step of a hart without a call.
+  -- The tree that is kept beside a file system goes on as the event says, or is kept no more: so after a step of a
+  -- hart without a call.
   abbrev pub KeepsBeside : SessionOf D → EventOfCall → SessionOf D → Type 0
   KeepsBeside s x t =
       IfSome t.beside (λ kept. (is_event x.came ≡ true) × NotesEvent contents failures (λ old c heard new. HasNoted old x.event c heard new)
       s.world.sizes x.event s.world.harts s.beside x.came t.world.harts t.beside)
 
-  -- the event makes one file system of the other, and comes to this
+  -- the event makes one file system of the other, and has this outcome
   pub record Happens (s : SessionOf D) (x : EventOfCall) (t : SessionOf D) : Type 0 where
     pub makes : Makes contents failures s.world.sizes
         (with_answer (event_of x.event) (said_of x.came (shared_of contents failures t.world.harts))) s.world.harts

@@ -25,14 +25,14 @@ use std::io::Write;
 /// The harts, in the order of a turn.
 pub const ALL_HARTS: [u8; 8] = [0, 1, 2, 3, 4, 5, 6, 7];
 
-/// What stands beside a file system while a script is run: the calls that harts are still to start, and what is noted.
+/// What a script's run keeps beside a file system: the calls that harts still have to start, and what is noted.
 #[derive(Drop)]
 pub struct ScriptState {
     pub queues: Queues,
     pub notes: Notes,
 }
 
-// Makes an event, tells and notes it. The copy is the event again, where events are kept.
+// Makes an event, prints and notes it. The copy is the event again, if events are kept.
 fn happen<D: Device, W: Write>(
     session: &mut Session<D>,
     running: &mut ScriptState,
@@ -145,7 +145,7 @@ fn turns<D: Device, W: Write>(
     Ok(last)
 }
 
-// Tells of each hart that has a call that it waits.
+// For each hart that has a call, prints that it waits.
 fn tell_waits<D: Device, W: Write>(
     session: &Session<D>,
     out: &mut W,
@@ -161,7 +161,7 @@ fn tell_waits<D: Device, W: Write>(
     Ok(())
 }
 
-// Tells of a hart that has a call that it waits.
+// Prints that a hart waits, if it has a call.
 fn tell_wait<D: Device, W: Write>(
     session: &Session<D>,
     out: &mut W,
@@ -176,7 +176,7 @@ fn tell_wait<D: Device, W: Write>(
     }
 }
 
-// Turns until one in which nothing moved; then tells who waits.
+// Turns until one in which nothing moved; then prints who waits.
 fn settle<D: Device, W: Write>(
     alloc: Global,
     session: &mut Session<D>,

@@ -14,7 +14,7 @@ pub struct Doing {
     ran: [u32; KINDS],
     /// The kind of the last step that ran.
     pub last: Option<Kind>,
-    /// Whether it was tried to make a step since, which waited.
+    /// Whether the step that was tried after that waited.
     pub waits: bool,
 }
 
@@ -38,7 +38,7 @@ impl Doing {
         self.ran[kind_place(kind)]
     }
 
-    /// How many inodes' locks it has: it has taken so many more than it has given up.
+    /// How many inodes' locks it has: those that it has taken, less those that it has given up.
     pub fn locks(&self) -> u32
         ensures { result ≡ locks_of self.now }
     {
@@ -46,7 +46,7 @@ impl Doing {
             .saturating_sub(self.count(Kind::Unlock))
     }
 
-    /// Whether it is in a transaction: it has joined one, and not left it since.
+    /// Whether it is in a transaction: it has joined one, and not left it.
     pub fn is_joined(&self) -> bool
         ensures { result ≡ is_joined self.now }
     {
@@ -80,7 +80,7 @@ impl Doing {
     }
 }
 
-/// What a hart does after an event of its own, of this call, that came to this.
+/// What a hart does after an event of its own, of this call, with this outcome.
 pub fn done_after(verb: Verb, came: &Came, doing: Option<Doing>) -> Option<Doing>
     ensures { result ≡ done_after verb came.now doing }
 {

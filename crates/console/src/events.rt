@@ -13,7 +13,7 @@ use std::io::Write;
 /// How wide the column of a hart is.
 const COLUMN: usize = 8;
 
-/// As many spaces as the last column has before it.
+/// The spaces before the last column.
 const SPACES: [u8; 56] = [b' '; 56];
 
 /// The names of the columns.
@@ -85,7 +85,7 @@ fn write_number<W: Write>(out: &mut W, number: u64) -> io::Result<()>
     write!(out, "{number:6}  ")
 }
 
-// What stands before the column of a hart.
+// What comes before the column of a hart.
 fn write_spaces<W: Write>(out: &mut W, hart: u8) -> io::Result<()>
     ensures { OnOk result (Appends (W.contents out.old) (W.contents out.new) (replicate (min (8 * hart) 56) 32)) }
 {

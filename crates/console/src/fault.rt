@@ -1,4 +1,4 @@
-//! Why a script didn't come to its end.
+//! Why a script didn't reach its end.
 ghost use Rattle.std.specs.Prelude.{◌≡◌};
 ghost use Rattle.console.specs.Faults.{status_of};
 
@@ -20,7 +20,7 @@ pub enum Unread {
     Input(io::Error),
 }
 
-/// Why a script didn't come to its end.
+/// Why a script didn't reach its end.
 #[derive(Debug, Drop, Error)]
 pub enum ConsoleFault {
     /// The image isn't taken.

@@ -14,7 +14,8 @@ pub enum Flow {
 }
 
 impl Flow {
-    /// Whether a turn may come to anything after one with this flow: where all that had something to do waited, the next is the same.
+    /// Whether a turn may do anything after one with this flow: if all that had something to do waited, the next is
+    /// the same.
     pub fn goes_on(self) -> bool
         ensures { result ≡ goes_on self }
     {

@@ -15,8 +15,8 @@ use std::io;
 use std::io::Write;
 
 /// Prints a list of tree steps that explains, from this tree on, what the run that is kept showed of calls, a line a step; or why there is
-/// none. The list is that of the keeper, who was told of the run's events as they were made, and of its end: there is none where it knows
-/// of a step without room.
+/// none. The list is that of the keeper, who noted the run's events as they were made, and its end. There is none if
+/// the keeper knows of a step without room.
 pub fn write_history<W: Write>(
     alloc: Global,
     out: &mut W,

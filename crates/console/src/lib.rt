@@ -1,8 +1,8 @@
 //! The console: scripts of calls on a file system with eight harts, and what they print.
 //!
-//! The events that a script makes of a `World` are those that its lines say, each line once and in order, up to a call that is stopped;
-//! what is printed is what they came to. With a bad line nothing happens. Lines that are typed at a prompt do the same, one by one, and
-//! only a bad one does nothing.
+//! The events that a script makes of a `World` are those that its lines say, each line once and in order, up to a
+//! call that is stopped. Their outcomes are printed. With a bad line nothing happens. Lines that are typed at a
+//! prompt do the same, one by one, and only a bad one does nothing.
 #![tactic(auto)]
 
 mod commands;

@@ -91,7 +91,8 @@ fn started_in(command: Command) -> Option<(u8, CallLine)>
     }
 }
 
-// As many of these bytes as are asked for; of too many one more than a call may have, so that the call is refused.
+// The count of these bytes that is asked for; of too many, one more than a call may have, so that the call is
+// refused.
 fn part_of(alloc: Global, count: u32, byte: u8) -> Result<Bytes, AllocError>
     ensures { IfOk result (λ bytes. bytes ≡ part_of count byte) }
 {

@@ -19,7 +19,7 @@ pub struct Mounted {
     pub session: Session<MemoryDisk>,
 }
 
-// The tree of a disk's image, where it is wanted; else one without nodes.
+// The tree of a disk's image, if it is wanted; else one without nodes.
 fn base_of(alloc: Global, wanted: bool, disk: &mut MemoryDisk) -> Result<Tree, ConsoleFault>
     ensures tree { IfOk result (λ tree. WhereSet wanted (tree ≡ tree_in (blocks_of disk.old)) (Unit {0})) }
     ensures blocks { IfOk result (λ _. blocks_of disk.new ≡ blocks_of disk.old) }
@@ -32,7 +32,7 @@ fn base_of(alloc: Global, wanted: bool, disk: &mut MemoryDisk) -> Result<Tree, C
     Ok(base)
 }
 
-/// Mounts a disk, whose tree is taken before where it is wanted.
+/// Mounts a disk. If its tree is wanted, it is taken before the mount.
 pub fn mount_disk(alloc: Global, wanted: bool, disk: MemoryDisk) -> Result<Mounted, ConsoleFault>
     ensures mounted { IfOk result (λ m. IsMountedOn wanted disk m.base m.session) }
     ensures refused { IfErr result (RefusesDisk (blocks_of disk)) }

@@ -12,7 +12,7 @@ use script::{Mode, Tail};
 use std::alloc::{AllocError, Global};
 use std::marker::Model;
 
-/// What an event came to.
+/// The outcome of an event.
 #[derive(Clone, Copy, PartialEq, Eq, Debug)]
 pub enum What {
     Start(Verb),
@@ -55,7 +55,7 @@ pub fn what_of_step(outcome: &Outcome) -> Option<What>
     }
 }
 
-/// Events in their order, and what each came to.
+/// Events in their order, and the outcome of each.
 #[derive(Drop)]
 pub struct Kept {
     events: Vec<Event>,
@@ -70,7 +70,8 @@ impl Model for Kept {
     ghost view = { λ k. record { events = k.events.items; outcomes = k.outcomes.items } };
 }
 
-/// What is noted of the last events, and how many there were; of all, where a timeline is wanted; and the whole run, where it is wanted.
+/// What is noted of the last events, and how many there were; of all, if a timeline is wanted; and the whole run, if
+/// it is wanted.
 #[derive(Drop)]
 pub struct Notes {
     tail: Tail<Note>,
@@ -94,7 +95,7 @@ impl Model for Notes {
     } };
 }
 
-// Puts a note behind those of the timeline.
+// Puts a note after those of the timeline.
 fn add_row(timeline: &mut Option<Vec<Note>>, note: Note) -> Result<(), AllocError>
     ensures { OnOk result (option_map (λ v. v.items) timeline.new ≡ with_row (option_map (λ v. v.items) timeline.old) note) }
 {
@@ -104,7 +105,7 @@ fn add_row(timeline: &mut Option<Vec<Note>>, note: Note) -> Result<(), AllocErro
     Ok(())
 }
 
-// Puts an event, of which there is a copy, and what it came to behind those that are kept.
+// Puts an event, of which there is a copy, and its outcome after those that are kept.
 fn keep(kept: &mut Option<Kept>, copy: Option<Event>, came: Came) -> Result<(), AllocError>
     ensures { OnOk result (kept.new ≡ with_kept kept.old copy came) }
 {
@@ -116,7 +117,8 @@ fn keep(kept: &mut Option<Kept>, copy: Option<Event>, came: Came) -> Result<(), 
 }
 
 impl Notes {
-    /// Of no event, with room for the last ones that the mode asks for. Where it asks for a history the whole run is kept too.
+    /// Of no event, with room for the last ones that the mode asks for. If it asks for a history, the whole run is
+    /// kept too.
     pub fn new(alloc: Global, mode: Mode) -> Result<Notes, AllocError>
         ensures { IfOk result (λ n. n ≡ no_notes mode) }
     {
@@ -141,7 +143,7 @@ impl Notes {
         })
     }
 
-    /// A copy of an event, where events are kept.
+    /// A copy of an event, if events are kept.
     pub fn copy_of(&self, event: &Event) -> Result<Option<Event>, AllocError>
         ensures { IfOk result (λ copy. copy ≡ copy_for self.now.kept event.now) }
     {
@@ -151,7 +153,7 @@ impl Notes {
         }
     }
 
-    /// The step of a hart, where events are kept.
+    /// The step of a hart, if events are kept.
     pub fn step_of(&self, hart: u8) -> Option<Event>
         ensures { result ≡ copy_for self.now.kept (Step hart) }
     {
@@ -161,8 +163,8 @@ impl Notes {
         }
     }
 
-    /// Notes an event of a hart, and keeps this copy, with what the event came to, where events are kept. There is no room for more than a
-    /// u64 can count.
+    /// Notes an event of a hart, and keeps this copy, with the event's outcome, if events are kept. There is no room
+    /// for more than a u64 can count.
     pub fn note(
         &mut self,
         hart: u8,
@@ -194,7 +196,7 @@ impl Notes {
         }
     }
 
-    /// What each of the events that are kept came to.
+    /// The outcomes of the events that are kept.
     pub fn kept_outcomes(&self) -> &[Came]
         ensures { result.now ≡ (run_in self.now.kept).outcomes }
     {
@@ -204,7 +206,7 @@ impl Notes {
         }
     }
 
-    /// All events, the oldest first, where a timeline is wanted.
+    /// All events, the oldest first, if a timeline is wanted.
     pub fn timeline(&self) -> &[Note]
         ensures { result.now ≡ rows_in self.now.timeline }
     {

@@ -8,7 +8,7 @@ use fs_machine::Kind;
 /// More turns than any call takes.
 const MOST_TURNS: u64 = u64::MAX;
 
-/// The steps end where so many of this kind have run, counted from the call's start.
+/// The steps end when this many steps of this kind have run, counted from the call's start.
 #[derive(Clone, Copy, PartialEq, Eq, Debug)]
 pub struct Until {
     pub kind: Kind,
@@ -16,7 +16,7 @@ pub struct Until {
 }
 
 impl Until {
-    /// Whether so many have run.
+    /// Whether these steps have run.
     pub fn is_enough(until: Option<Until>, doing: &Doing) -> bool
         ensures { result ≡ is_enough until doing.now }
     {
@@ -27,7 +27,7 @@ impl Until {
     }
 }
 
-/// Turns that are made one after the other: at most so many, and as long as anything moves.
+/// Turns that are made one after the other: at most `most`, and as long as anything moves.
 #[derive(Clone, Copy, PartialEq, Eq, Debug)]
 pub struct Plan {
     pub until: Option<Until>,
@@ -45,7 +45,7 @@ impl Plan {
         }
     }
 
-    /// Up to so many steps of a kind.
+    /// Up to this count of steps of a kind.
     pub fn up_to(kind: Kind, steps: u32) -> Plan
         ensures { result ≡ up_to kind steps }
     {
@@ -55,7 +55,7 @@ impl Plan {
         }
     }
 
-    /// So many steps, up to a wait.
+    /// This count of steps, up to a wait.
     pub fn in_steps(steps: u32) -> Plan
         ensures { result ≡ in_steps steps }
     {

@@ -22,10 +22,10 @@ use std::alloc::Global;
 use std::io;
 use std::io::{BufRead, Write};
 
-/// What stands before each line.
+/// What comes before each line.
 const MARK: &str = "> ";
 
-/// What is told of the lines that can be typed.
+/// The help: the lines that can be typed.
 pub const HELP: &str = "\
 H open PATH FLAGS  starts on hart H, 0 to 7: opens PATH; 0 reads, 1 writes, 2 both, 0x200 makes, 0x400 empties
 H read FD N        reads up to N bytes
@@ -92,7 +92,7 @@ fn read_line<R: BufRead>(typed: &mut R, line: &mut Vec<u8>) -> Result<bool, Cons
     }
 }
 
-// Tells that a line is bad, and why.
+// Prints that a line is bad, and why.
 fn tell_bad<W: Write>(
     alloc: Global,
     out: &mut W,
@@ -153,7 +153,8 @@ fn write_hint<W: Write>(out: &mut W, hart: u8) -> io::Result<()>
     )
 }
 
-// Runs a line of a script. Where it only starts a call on a hart that has one that was started and has made no step, tells what makes them.
+// Runs a line of a script. If the line just starts a call, on a hart whose call was started and has made no step, it
+// also prints what makes those steps.
 fn run_typed<D: Device, W: Write>(
     alloc: Global,
     session: &mut Session<D>,
@@ -169,7 +170,7 @@ fn run_typed<D: Device, W: Write>(
     tell_hint(out, hart)
 }
 
-// Does what is asked. Tells whether more lines are read.
+// Does what is asked. Says whether more lines are read.
 fn do_asked<D: Device, W: Write>(
     alloc: Global,
     session: &mut Session<D>,
@@ -199,7 +200,7 @@ fn do_asked<D: Device, W: Write>(
     }
 }
 
-// Answers the line of this number. Tells whether more are read.
+// Answers the line of this number. Says whether more are read.
 fn answer<D: Device, W: Write>(
     alloc: Global,
     session: &mut Session<D>,
@@ -222,7 +223,7 @@ fn answer<D: Device, W: Write>(
     }
 }
 
-// Asks for the line of this number, reads and answers it. Tells whether more are read.
+// Asks for the line of this number, reads and answers it. Says whether more are read.
 fn prompt_line<D: Device, R: BufRead, W: Write>(
     alloc: Global,
     session: &mut Session<D>,
@@ -266,9 +267,10 @@ fn prompt_all<D: Device, R: BufRead, W: Write>(
     Err(ConsoleFault::Memory)
 }
 
-/// Answers the lines that are typed, on a file system that is mounted: each does what it does in a script alone, from what the lines
-/// before it left, and is answered before the next is read; a bad line is told with its number, and changes nothing. It ends at the
-/// input's end, at the line quit, and with a call that is stopped. Behind all answers stands what stands behind a script's.
+/// Answers the lines that are typed, on a file system that is mounted. Each does what it does in a script alone, from
+/// what the lines before it left, and is answered before the next is read. A bad line is reported with its number,
+/// and changes nothing. It ends at the input's end, at the line quit, and with a call that is stopped. After all
+/// answers it prints what comes after a script's.
 pub fn prompt_on<D: Device, R: BufRead, W: Write>(
     alloc: Global,
     session: &mut Session<D>,

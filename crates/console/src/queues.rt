@@ -46,7 +46,7 @@ impl Queues {
         }
     }
 
-    /// Puts a call behind those of its hart.
+    /// Puts a call after those of its hart.
     pub fn put(&mut self, hart: u8, call: CallLine) -> Result<(), AllocError>
         requires { hart < HARTS }
         ensures { OnOk result (self.new ≡ with_last hart (call_said call) self.old) }

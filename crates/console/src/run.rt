@@ -34,7 +34,7 @@ use std::io::{Read, Write};
 /// The longest script, in bytes.
 pub const LONGEST_SCRIPT: u64 = 16_777_216;
 
-/// How many blocks and inodes the image has that is made where none is given.
+/// How many blocks and inodes the image has that is made if none is given.
 const FRESH_SIZE: u32 = 2000;
 
 const FRESH_INODES: u32 = 200;
@@ -71,7 +71,7 @@ pub fn run_script<R: Read + Drop, W: Write>(
     out: &mut W,
 ) -> Result<MemoryDisk, ConsoleFault>
     ensures runs { RunsImage mode image (R.remaining script) result (W.contents out.old) (W.contents out.new) }
-    // A refused image is refused for its first damage alone; all else is told of a mounted one.
+    // A refused image is refused for its first damage alone; all else is reported of a mounted one.
     ensures mounted { IfOk result (λ disk. images.IsWellFormed (taken_as mode.check (disk_for image)) (disk_for image)) }
     ensures refused { IfErr result (JudgesImage (taken_as mode.check (disk_for image)) (disk_for image)) }
 {
@@ -112,9 +112,10 @@ fn check<W: Write>(alloc: Global, disk: MemoryDisk, out: &mut W) -> Result<Memor
     Ok(disk)
 }
 
-/// Runs a script on a file system that is mounted: what its lines say (`RunsReader`), in their order, each once, up to the first in
-/// which a call is stopped. Answers are written as they come, and none where a line is bad. Where a history is wanted it is one of what the
-/// script's events come to, from `base` on, the tree that the file system has; else that isn't looked at.
+/// Runs a script on a file system that is mounted: what its lines say (`RunsReader`), in their order, each once, up
+/// to the first in which a call is stopped. Answers are written as they come, and none if a line is bad. If a history
+/// is wanted, it explains the outcomes of the script's events, from `base` on, the tree that the file system has.
+/// Else `base` isn't looked at.
 pub fn run_on<D: Device, R: Read + Drop, W: Write>(
     alloc: Global,
     session: &mut Session<D>,
@@ -198,7 +199,8 @@ fn run_course<D: Device, W: Write>(
     finish(alloc, out, mode, base, running, keeper, ended)
 }
 
-/// The state of a script with these calls to be started, where nothing is noted. Beside the file system this tree is kept from now on.
+/// The state of a script that has to start these calls, with nothing noted. Beside the file system this tree is kept
+/// from then on.
 pub fn script_state<D: Device>(
     alloc: Global,
     session: &mut Session<D>,
@@ -218,7 +220,7 @@ pub fn script_state<D: Device>(
     Ok(ScriptState { queues, notes })
 }
 
-/// Prints what stands behind all answers, where the lines came to their end or a call was stopped.
+/// Prints what comes after all answers, if the lines reached their end or a call was stopped.
 pub fn finish<W: Write>(
     alloc: Global,
     out: &mut W,
@@ -259,7 +261,7 @@ fn write_rest<W: Write>(
     write_wanted(alloc, out, mode, base, &notes, keeper)
 }
 
-// The history of the run, where it is wanted.
+// The history of the run, if it is wanted.
 fn write_wanted<W: Write>(
     alloc: Global,
     out: &mut W,
@@ -294,8 +296,8 @@ fn write_kept<W: Write>(
     }
 }
 
-/// Prints what stands behind all answers of events on this image that came to their end, of which no keeper was told. Where a history is
-/// wanted they are run once more.
+/// Prints what comes after all answers of events on this image that reached their end, and that no keeper noted. If a
+/// history is wanted, they are run once more.
 pub fn finish_on<W: Write>(
     alloc: Global,
     out: &mut W,
@@ -309,7 +311,7 @@ pub fn finish_on<W: Write>(
     write_wanted_on(alloc, out, mode, image, notes)
 }
 
-// The history of the events on this image, where it is wanted.
+// The history of the events on this image, if it is wanted.
 fn write_wanted_on<W: Write>(
     alloc: Global,
     out: &mut W,
@@ -326,7 +328,7 @@ fn write_wanted_on<W: Write>(
     }
 }
 
-// What stands after all answers. Before a history is sought, which may take long, all that was written is handed on.
+// What comes after all answers. Before a history is sought, which may take long, all that was written is handed on.
 fn write_end<W: Write>(out: &mut W, mode: Mode, notes: &Notes) -> io::Result<()>
     ensures { OnOk result (Appends (W.contents out.old) (W.contents out.new) (end_text mode notes.now)) }
 {

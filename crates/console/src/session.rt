@@ -22,7 +22,8 @@ use std::marker::Model;
 /// How many harts there are.
 pub const HARTS: usize = 8;
 
-/// A mounted file system, what each hart's call has done so far, and who keeps a tree beside it, where that is kept. It must be unmounted.
+/// A mounted file system, what each hart's call has done so far, and who keeps a tree beside it, if one is kept. It
+/// must be unmounted.
 pub struct Session<D: Device> {
     world: World<D>,
     doing: [Option<Doing>; HARTS],
@@ -50,7 +51,7 @@ pub fn hart_in(event: &Event) -> u8
     }
 }
 
-// A hart that there is does this now.
+// The hart, if there is one of this number, does this next.
 fn put_doing(doing: &mut [Option<Doing>; HARTS], hart: u8, next: Option<Doing>)
     ensures { doing.new ≡ set doing.old hart next }
 {
@@ -60,7 +61,7 @@ fn put_doing(doing: &mut [Option<Doing>; HARTS], hart: u8, next: Option<Doing>)
     }
 }
 
-// Whether what came to this is an event. A step of a hart without a call is none.
+// Whether what has this outcome is an event. A step of a hart without a call is none.
 fn is_event(came: &Came) -> bool
     ensures { result ≡ is_event came.now }
 {
@@ -79,7 +80,7 @@ fn is_event_step(outcome: &Outcome) -> bool
     }
 }
 
-// What the hart's call heard in an event that came to this.
+// What the hart's call heard in an event with this outcome.
 fn heard_in<D: Device>(world: &World<D>, hart: u8, came: &Came) -> Option<Heard>
     ensures heard { result ≡ heard_in came.now (heard_by world.now hart) }
     ensures fits { AreHarts (shared_of D.contents D.failures world.now.harts) world.now.harts.calls }
@@ -99,8 +100,8 @@ fn note(keeper: &mut Option<Keeper>, event: &Event, came: &Came, heard: Option<H
     }
 }
 
-// Tells the keeper of the event that came to this last. Without a copy of it nothing is kept any more; and after a step of a hart without a
-// call, which isn't made.
+// Hands the keeper the last event, with this outcome. Without a copy of it nothing more is kept; nor after a step of
+// a hart without a call, which isn't made.
 fn hear<D: Device>(
     world: &World<D>,
     keeper: &mut Option<Keeper>,
@@ -136,7 +137,7 @@ impl<D: Device> Session<D> {
         }
     }
 
-    /// What a hart's call has done so far, where it has one.
+    /// What a hart's call has done so far, if it has one.
     pub(crate) fn doing(&self, hart: u8) -> Option<Doing>
         ensures { result ≡ doing_at hart self.now.doing }
     {
@@ -148,15 +149,15 @@ impl<D: Device> Session<D> {
         }
     }
 
-    /// Where the log's commit is.
+    /// How far the log's commit is.
     pub(crate) fn phase(&self) -> Phase
         ensures { result ≡ self.now.world.harts.core.log.phase }
     {
         self.world.phase()
     }
 
-    /// Makes an event, of a call with this word, and tells it to the keeper. The copy is the event again; without one nothing is kept from
-    /// then on.
+    /// Makes an event, of a call with this word, and reports it to the keeper. The copy is the event again; without
+    /// one nothing is kept from then on.
     pub(crate) fn event(&mut self, verb: Verb, event: Event, copy: &Option<Event>) -> Came
         requires { IfSome copy.now (λ again. again ≡ event) }
         ensures { Happens D.contents D.failures self.old (record { event = event; verb = verb; came = result }) self.new }
@@ -170,14 +171,14 @@ impl<D: Device> Session<D> {
         came
     }
 
-    /// From now on a tree is kept beside it.
+    /// From this call on a tree is kept beside it.
     pub(crate) fn keep(&mut self, keeper: Keeper)
         ensures { self.new ≡ with_beside keeper self.old }
     {
         self.keeper = Some(keeper);
     }
 
-    /// Hands back who kept the tree, and was told that the run has ended. It is kept no more.
+    /// Hands back who kept the tree, and noted that the run has ended. It is kept no more.
     pub(crate) fn hand_back(&mut self) -> Option<Keeper>
         ensures kept { beside_in result ≡ known_at self.old self.old.beside }
         ensures left { self.new ≡ with_beside None self.old }

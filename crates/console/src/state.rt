@@ -1,4 +1,4 @@
-//! How far each hart's call has come, and where the log's commit is, for whoever types lines.
+//! How far each hart's call has come, and how far the log's commit is, for whoever types lines.
 ghost use Rattle.std.specs.Prelude.{◌≡◌, ◌++◌, OnOk, codes, decimal};
 ghost use Rattle.console.specs.Vocabulary.{Appends};
 ghost use Rattle.console.specs.Prompts.{calls_text, child_text, doing_text, joined_text, locks_text, phase_text, progress_text, state_text, step_text, waits_text};
@@ -14,7 +14,7 @@ use group_log::Phase;
 use std::io;
 use std::io::Write;
 
-/// A line for each of these harts that has a call, and one of the log: where its commit is.
+/// A line for each of these harts that has a call, and one of the log: how far its commit is.
 pub fn write_state<D: Device, W: Write>(
     session: &Session<D>,
     out: &mut W,
@@ -26,8 +26,9 @@ pub fn write_state<D: Device, W: Write>(
     write_phase(out, session.phase())
 }
 
-// Of each hart that has a call: which, and the hart that an inherit holds, the kind of its last step, how many inodes' locks it has,
-// whether it is in a transaction, and whether the step that was tried since waited.
+// Of each hart that has a call: which, the hart that an inherit holds, the kind of its last step, and how many
+// inodes' locks it has. Also whether it is in a transaction, and whether the step that was tried after its last one
+// waited.
 fn write_calls<D: Device, W: Write>(
     session: &Session<D>,
     out: &mut W,

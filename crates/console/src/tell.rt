@@ -1,4 +1,4 @@
-//! What an event came to, told and noted.
+//! The outcome of an event, printed and noted.
 ghost use Rattle.std.specs.Prelude.{◌≡◌, OnOk};
 ghost use Rattle.console.specs.Vocabulary.{Appends, told_line};
 ghost use Rattle.console.specs.Behaviours.{IfTold};
@@ -16,7 +16,8 @@ use script::{write_numbered, write_reply};
 use std::io;
 use std::io::Write;
 
-/// Prints the line of an event of this hart, of a call with this word, where it has one, and notes it, with its copy. A stop is a fault.
+/// Prints the line of an event of this hart, of a call with this word, if it has one, and notes it, with its copy. A
+/// stop is a fault.
 pub fn tell<W: Write>(
     hart: u8,
     verb: Verb,
@@ -37,7 +38,7 @@ pub fn tell<W: Write>(
     flow
 }
 
-// The line of an event, where it has one.
+// The line of an event, if it has one.
 fn write_came<W: Write>(out: &mut W, hart: u8, verb: Verb, came: &Came) -> io::Result<()>
     ensures { OnOk result (Appends (W.contents out.old) (W.contents out.new) (told_of hart verb came.now)) }
 {

@@ -17,7 +17,7 @@ pub enum Verb {
     Dup,
     Fstat,
     Close,
-    /// Of which hart it is to be the parent.
+    /// The hart whose parent it becomes.
     Inherit(u8),
 }
 

@@ -1,9 +1,14 @@
 //! `console [IMAGE] [--schedule listed|round] [--prompt] [--threads] [--last N] [--timeline] [--explain] [--check] [--save FILE]`: runs a script from standard input on a file system, and prints its answers;
 //! with `--prompt` each line is answered when it is typed.
 //!
-//! Faults are told in this order: the command line (status 2), an IMAGE file that can't be read, a FILE that can't be
-//! written, an image that isn't taken (status 1), the script (status 1 or 2), and what only writing FILE shows (status 1).
-//! Want of memory is told where it comes (status 3). After the line of a damaged image one on standard error says where the damage is.
+//! Faults are reported in this order:
+//! - the command line (status 2);
+//! - an IMAGE file that can't be read, a FILE that can't be written, an image that isn't taken (status 1);
+//! - the script (status 1 or 2);
+//! - what only writing FILE shows (status 1).
+//!
+//! Want of memory is reported when it comes (status 3). After the line of a damaged image, one on standard error says
+//! where the damage is.
 #![tactic(auto)]
 
 use block_device::MemoryDisk;
@@ -28,7 +33,7 @@ use std::sync::Wait;
 use std::thread::Threads;
 use thiserror::Error;
 
-/// Why the console didn't come to its end.
+/// Why the console didn't reach its end.
 #[derive(Debug, Drop, Error)]
 enum Fault<'a> {
     /// The command line has a word that is no text.
@@ -132,7 +137,8 @@ impl<'a> Fault<'a> {
     }
 }
 
-// A refused image is told on standard output, and on standard error where it is damaged; after a stop its line is there already.
+// A refused image is reported on standard output, and on standard error where it is damaged; after a stop its line is
+// there already.
 fn tell(rt: &HostRuntime, fault: &Fault) -> io::Result<()> {
     match fault {
         Fault::Run(ConsoleFault::Image(_)) => println!(rt; "{fault}"),
@@ -161,7 +167,7 @@ fn running_option(matches: &ArgMatches) -> Option<&'static str> {
         .copied()
 }
 
-// How to run, where what is asked for goes together.
+// How to run, if what is asked for goes together.
 fn mode_in(matches: &ArgMatches) -> Result<Mode, Fault<'static>> {
     let Some(mode) = mode_of(matches) else {
         return Err(Fault::Schedule);

@@ -9,7 +9,7 @@ call_more calls all call line lines rest is split whole =
     ∙ ap (λ ls. calls ++ map (λ l. called (call_said l)) ls) (sym split)
     ∙ whole
 
--- nothing is there where the first was sought in vain
+-- the list is empty if its first was sought in vain
 pub none_there : {X : Type 0} (xs ys : List X) → xs ≡ ys → ys ≡ drop 1 xs → xs ≡ []
 none_there xs ys same rest =
     let long : length xs ≡ length xs - 1 = ap length (same ∙ rest) ∙ length-drop 1 xs in

@@ -43,7 +43,7 @@ untold (faults.Read e) is = absurd is
 untold (faults.Line n why) is = absurd is
 untold (faults.Stopped stop) is = absurd is
 
--- what stands behind the lines could not be printed
+-- what comes after the lines could not be printed
 unended : (mode : Mode) (image : List ℕ) (notes : NotesOf) (fault : ConsoleFault) (between end : Option (List ℕ)) → PrintsAll mode (history_on image) notes between (Err fault) end → IsUnprinted fault
 unended mode image notes fault between end (inl printed) = wanted mode.explain printed.2
   where

@@ -1,8 +1,8 @@
--- The calls that a hart was to start, event after event.
+-- The calls that a hart was asked to start, event after event.
 use Rattle.console_threads.proofs.Vocabulary.{◌≡◌, ℕ, ◌+◌, ◌<◌, ◌≤◌, List, [], ◌∷◌, ◌++◌, length, drop, get_or, ap, sym, ◌∙◌, arith, length-drop, ◌↔◌, ◌≢◌, at_drop_all, at_drop_more, Event, Call, started_by, starts_in}
 
 module _ (hart : ℕ) (events : List Event) (asked : List Call) where
-  -- what is left of the events starts what is left of the calls
+  -- the rest of the events starts the rest of the calls
   abbrev pub Left : ℕ → ℕ → Type 0
   Left i seen = starts_in hart (drop i events) ≡ drop seen asked
 

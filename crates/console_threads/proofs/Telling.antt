@@ -36,7 +36,7 @@ hart_end es cs known hs i le = subst (λ ks. Appends known known (harts_text es 
 
 -- ---- notes
 
--- the copy is kept where events are
+-- the copy is kept if events are
 pub with_copy : (n : NotesOf) (hart : ℕ) (what : What) (event : Event) (came : Came) → with_note n hart what (copy_for n.kept event) came ≡ with_note n hart what (Some event) came
 with_copy n hart what event came = by n.kept
   where

@@ -6,7 +6,7 @@ pub each_of_eight : {L : _} (ts : List (Task L)) → length ts ≡ 8 → (a b c 
 each_of_eight ts n a b c d e f g h p q r p' q' r' p'' q'' s t u v w x y z one two three four five six seven last =
     subst (λ all. EachWorked all (s ∷ t ∷ u ∷ v ∷ w ∷ x ∷ y ∷ z ∷ [])) (sym (eight ts n a b c d e f g h p q r p' q' r' p'' q'')) (one, (two, (three, (four, (five, (six, (seven, (last, tt))))))))
 
--- a hart that came to the end of its calls
+-- a hart that reached the end of its calls
 pub whole : {L : _} (task : Task L) (made : List Call) (s : SeatV) → made ≡ task.calls.items → HasMadeAll task.seat made s → HasWorked task (record { seat = s; broke = None })
 whole task made s same all = (ap (λ (v : SeatV). v.hart) all.seat, subst (λ calls. HasMadeAll task.seat calls s) same all)
 

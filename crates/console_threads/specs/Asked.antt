@@ -13,7 +13,7 @@ pub record Asks (text : List ℕ) (calls : List (List Call)) : Type 0 where
 abbrev pub IsAsked : Option (List ℕ) → List (List Call) → Type 0
 IsAsked script calls = (text : List ℕ) × IfSome script (λ bytes. text ≡ bytes) × Asks text calls
 
--- a line is told only where it is the bad one
+-- a reported line is the bad one
 abbrev pub IsUnasked : Option (List ℕ) → ConsoleFault → Type 0
 IsUnasked script (faults.Line n why) = (text : List ℕ) × IfSome script (λ bytes. text ≡ bytes) × (script_course Round text ≡ Err n)
 IsUnasked script (faults.Read e) = Unit {0}

@@ -1,4 +1,4 @@
--- Why a script's threads don't come to their end, and the exit status of a program that tells so.
+-- Why a script's threads don't reach their end, and the exit status of a program that says so.
 use Rattle.std.specs.Prelude.{ℕ, List}
 use Rattle.console_threads.specs.Vocabulary.{IsWellFormed, MountFault, One, JudgesImage}
 use Rattle.image_tree.specs.declared.fault.MountFault.TheVariants as mounts
@@ -19,13 +19,14 @@ status_of (Console fault) = console.status_of fault
 status_of Device = 3
 status_of Strange = 3
 
--- A refused image is refused for its first damage; all else is told of an image that is mounted, but a disk that fails at once.
+-- A refused image is refused for its first damage; all else is reported of a mounted image, but a disk that fails at
+-- once.
 abbrev pub JudgesRun : List (List ℕ) → ThreadsFault → Type 0
 JudgesRun disk (Console fault) = JudgesImage One disk fault
 JudgesRun disk Device = Unit {0}
 JudgesRun disk Strange = IsWellFormed disk
 
--- a hart didn't come to its end, or was told another thing
+-- a hart didn't reach its end, or was answered another thing
 abbrev pub IsBroken : ThreadsFault → Type 0
 IsBroken (Console faults.Memory) = Unit {0}
 IsBroken Device = Unit {0}

@@ -1,4 +1,4 @@
--- The calls that harts were to start, in a list of events.
+-- The calls that harts were asked to start, in a list of events.
 use Rattle.std.specs.Prelude.{◌≡◌, ℕ, List, [], ◌∷◌, ◌++◌, ◌==◌, if◌then◌else◌}
 use Rattle.console_threads.specs.Vocabulary.{Event, Start, Step, Call}
 
@@ -11,7 +11,7 @@ unfoldable pub starts_in : ℕ → List Event → List Call
 starts_in hart [] = []
 starts_in hart (event ∷ events) = started_by hart event ++ starts_in hart events
 
--- each of these harts was to start its calls, each once and in their order, and no others
+-- each of these harts was asked to start only its own calls, each once and in their order
 abbrev pub EachStarted : List Event → List ℕ → List (List Call) → Type 0
 EachStarted events [] [] = Unit {0}
 EachStarted events [] (calls ∷ more) = ⊥

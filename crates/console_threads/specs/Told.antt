@@ -1,4 +1,4 @@
--- What is printed and noted of a run that has ended: its events, with what each came to.
+-- What is printed and noted of a run that has ended: its events, with the outcome of each.
 use Rattle.std.specs.Prelude.{ℕ, List, [], ◌∷◌, ◌++◌, ◌==◌, if◌then◌else◌, Option, Some, None}
 use Rattle.console_threads.specs.Vocabulary.{Came, Event, Outcome, Call, reply_line, told_line, What, NotesOf, what_of, what_of_step, with_what, hart_in, refused_text, verb_of, word_of}
 use Rattle.hart_core.specs.declared.events.Came.TheVariants as came

@@ -17,7 +17,7 @@ pub record HasReply (s : SeatV) (call : Call) (t : SeatV) : Type 0 where
   pub is_of : HandsBack call reply
   pub seat : t ≡ record { hart = s.hart; replies = s.replies ++ reply ∷ []; count = s.count + 2 }
 
--- or it is as it was, where the start was refused
+-- or it is as it was, if the start was refused
 abbrev pub HasMade : SeatV → Call → SeatV → Type 0
 HasMade s call t = (t ≡ s) ⊎ HasReply s call t
 
@@ -27,7 +27,7 @@ pub record HasMadeAll (s : SeatV) (calls : List Call) (t : SeatV) : Type 0 where
   pub are_of : AnswersSome calls replies
   pub seat : t ≡ record { hart = s.hart; replies = s.replies ++ replies; count = s.count + 2 * length replies }
 
--- of a hart's work, where it came to its end
+-- of a hart's work, if it reached its end
 abbrev pub HasWorked : {L : _} → Task L → Worked L → Type 0
 HasWorked task worked = (worked.seat.hart ≡ task.seat.hart) × IfNone worked.broke (HasMadeAll task.seat task.calls.items worked.seat)
 
@@ -49,7 +49,7 @@ EachAnswered run [] (calls ∷ more) = ⊥
 EachAnswered run (hart ∷ harts) [] = ⊥
 EachAnswered run (hart ∷ harts) (calls ∷ more) = AnswersSome calls (replies_of hart run) × EachAnswered run harts more
 
--- of these calls of the eight harts, and as many calls were started as were answered
+-- of these calls of the eight harts, and the started calls and the answered ones are equal in number
 pub record AllAnswered (calls : List (List Call)) (run : StoredRun) : Type 0 where
   pub each : EachAnswered run eight_harts calls
   pub none_left : count_of run ≡ sum_by (λ hart. 2 * length (replies_of hart run)) eight_harts

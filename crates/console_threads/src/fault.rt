@@ -1,4 +1,4 @@
-//! Why a script's threads didn't come to their end.
+//! Why a script's threads didn't reach their end.
 ghost use Rattle.std.specs.Prelude.{◌≡◌};
 ghost use Rattle.console_threads.specs.Faults.{status_of};
 
@@ -7,7 +7,7 @@ use image_tree::MountFault;
 use std::alloc::AllocError;
 use thiserror::Error;
 
-/// Why a script's threads didn't come to their end.
+/// Why a script's threads didn't reach their end.
 #[derive(Debug, Drop, Error)]
 pub enum ThreadsFault {
     /// As without threads.

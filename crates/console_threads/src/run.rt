@@ -24,9 +24,10 @@ use std::sync::Wait;
 use std::sync::ledger::{Blank, Ledger};
 use std::thread::Threads;
 
-/// Mounts the image, or a fresh one, has a thread for each of the eight harts make the calls of its lines, and hands out the disk. When
-/// all have come to their end, the answers are printed hart by hart, in each hart's order, and then what else is wanted of the run.
-/// Neither the schedule is looked at, nor whether the image is only to be examined. Faults are found in the order image, script.
+/// Mounts the image, or a fresh one, has a thread for each of the eight harts make the calls of its lines, and hands
+/// out the disk. When all have reached their end, the answers are printed hart by hart, in each hart's order. The
+/// rest of what is wanted of the run comes after them. The schedule doesn't count, nor whether the image must only be
+/// examined. Faults are found in the order image, script.
 pub fn run_threads<R: Threads + Wait + Sync, S: Read + Drop, W: Write>(
     rt: &R,
     alloc: Global,
@@ -98,7 +99,7 @@ fn run_open<L: Ledger + Send + Sync, R: Threads + Wait + Sync, S: Read + Drop, W
     tell(alloc, mode, image, copies, closed, out)
 }
 
-// Prints what is to be printed of a run on this image, in which these calls were asked for, and gives its disk.
+// Prints a run on this image, in which these calls were asked for, and gives its disk.
 fn tell<L: Ledger, W: Write>(
     alloc: Global,
     mode: Mode,

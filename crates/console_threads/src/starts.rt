@@ -6,7 +6,7 @@ ghost use Rattle.console_threads.specs.Worked.{eight_harts};
 use hart_core::Event;
 use plain_tree::Call;
 
-/// Whether each hart was to start its calls, each once and in their order, and no others.
+/// Whether each hart was asked to start only its own calls, each once and in their order.
 #[tactic(auto, using(hart_runner::proofs::Eight::eight))]
 pub fn are_started(events: &[Event], asked: [Vec<Call>; 8]) -> bool
     ensures { IsTrue result → EachStarted events.now eight_harts (map (λ v. v.items) asked) }
@@ -22,7 +22,7 @@ pub fn are_started(events: &[Event], asked: [Vec<Call>; 8]) -> bool
         && is_started(7, events, h.as_slice())
 }
 
-// Whether this hart was to start these calls.
+// Whether this hart was asked to start these calls.
 fn is_started(hart: u8, events: &[Event], asked: &[Call]) -> bool
     ensures { IsTrue result ↔ (starts_in hart events.now ≡ asked.now) }
 {
@@ -38,7 +38,7 @@ fn is_started(hart: u8, events: &[Event], asked: &[Call]) -> bool
     seen == asked.len()
 }
 
-// The call that a hart was to start at this event.
+// The call that a hart was asked to start at this event.
 fn started_by<'a>(hart: u8, event: &'a Event) -> Option<&'a Call>
     ensures { MatchOption result (started_by hart event.now ≡ []) (λ call. started_by hart event.now ≡ call.now ∷ []) }
 {

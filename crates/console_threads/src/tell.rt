@@ -40,7 +40,7 @@ fn write_hart<W: Write>(
     Ok(())
 }
 
-// The line of an event, where it is one of this hart.
+// The line of an event, if it is one of this hart.
 fn write_for<W: Write>(out: &mut W, hart: u8, event: &Event, came: &Came) -> io::Result<()>
     ensures { OnOk result (Appends (W.contents out.old) (W.contents out.new) (line_for hart event.now came.now)) }
 {
@@ -51,7 +51,7 @@ fn write_for<W: Write>(out: &mut W, hart: u8, event: &Event, came: &Came) -> io:
     }
 }
 
-// The line of an event, where it has one: a refused start, or a reply.
+// The line of an event, if it has one: a refused start, or a reply.
 fn write_line<W: Write>(out: &mut W, event: &Event, came: &Came) -> io::Result<()>
     ensures { OnOk result (Appends (W.contents out.old) (W.contents out.new) (line_of event.now came.now)) }
 {

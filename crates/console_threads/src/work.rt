@@ -14,14 +14,14 @@ use std::sync::ledger::Ledger;
 use std::thread;
 use std::thread::Threads;
 
-/// A hart's seat, and the calls that it is to make.
+/// A hart's seat, and the calls that it has to make.
 #[derive(Drop)]
 pub struct Task<L: Ledger> {
     seat: Seat<L>,
     calls: Vec<Call>,
 }
 
-/// Why a hart didn't come to the end of its calls.
+/// Why a hart didn't reach the end of its calls.
 #[derive(Clone, Copy, PartialEq, Eq, Debug)]
 pub enum Broke {
     Memory,
@@ -191,7 +191,7 @@ fn tasks_of<L: Ledger>(seats: [Seat<L>; 8], calls: [Vec<Call>; 8]) -> [Task<L>; 
     ]
 }
 
-// The seats, and why the first hart that didn't come to its end didn't.
+// The seats, and why the first hart that didn't reach its end didn't.
 #[tactic(auto, using(hart_runner::proofs::Eight::eight))]
 fn seats_of<L: Ledger>(worked: [Worked<L>; 8]) -> ([Seat<L>; 8], Option<Broke>)
     ensures seats { map (λ w. w.seat) worked ≡ result.0 }
@@ -207,7 +207,7 @@ fn seats_of<L: Ledger>(worked: [Worked<L>; 8]) -> ([Seat<L>; 8], Option<Broke>)
     (seats, broke)
 }
 
-/// Each hart's thread makes its calls in their order, and then the kernel ends. `Ok` only where each came to its end.
+/// Each hart's thread makes its calls in their order, and then the kernel ends. `Ok` only if each reached its end.
 pub fn run_calls<L: Ledger + Send + Sync, R: Threads + Wait + Sync>(
     rt: &R,
     kernel: Kernel<L, NoGate>,

@@ -1,4 +1,4 @@
--- A keeper that was told of each event of a run has kept it.
+-- A keeper that noted each event of a run has kept it.
 use Rattle.explain.proofs.Vocabulary.{◌≡◌, ℕ, List, [], ◌∷◌, subst, ◌∙◌, Came, Event}
 use Rattle.std.specs.Option.{option_map}
 use Rattle.std.specs.Prelude.{◌+◌, ◌-◌, ◌^◌, ◌<◌, ◌≤◌, min, ◌++◌, length, Bool, Option, Some, None, slice_get}
@@ -43,7 +43,7 @@ module _ {D : Type 0} (contents : D → List (List ℕ)) (failures : D → ℕ) 
     pub is : o ≡ Some kept
     pub run : KeepsRun contents failures sizes old kept es cs new k'
 
-  -- so many events were noted before
+  -- the events in `past` were noted before
   pub noted_run : (past : List Event) (old : HartsOf D) (t : Telling) (es : List Event) (cs : List Came) (new : HartsOf D) (t' : Telling) (k' : KeptTree)
       → t.events.now ≡ past ++ es → t.place ≡ length past → length (past ++ es) < 2 ^ 64 → NotesRun contents failures TellsKeeper sizes old t es cs new t' → t'.keeper ≡ Some k'
       → KeptFrom old t.keeper es cs new k'

@@ -1,4 +1,4 @@
--- What a list that explains a trace, or its want, says of the run that came to the trace.
+-- What a list that explains a trace, or its want, says of the run with this trace.
 use Rattle.explain.proofs.Vocabulary.{◌≡◌, ℕ, false, List, [], ◌∷◌, Result, Ok, Err, subst, ◌∙◌, inl, inr, MatchResult, Vec, All, Global, or_parts, All-cons, All-nil, blocks_of, Placed, Trace, TracedCall, call_climbs, Explains, TreeData, tree_in, Came, Event, trace_in, explained, any_climbs, Played, ExplainRefused, IsFoundFor, IsRefusedFor, IsRefusedMount, IsRefusedSo, RunOn, never, IsPlayed}
 use Rattle.explain.specs.declared.refused.ExplainRefused.TheVariants as refused
 use Rattle.std.specs.Prelude.{◌↔◌, ◌<◌, ◌^◌, length, IfOk, Option, Some, None}
@@ -26,7 +26,7 @@ none_climbs (c ∷ cs) none =
 pub nowhere : (base : TreeData) (t u : Trace) → t ≡ u → any_climbs t.calls ≡ false → ((list : List Placed) → Explains base t list → ⊥) → (any_climbs u.calls ≡ false) × ((list : List Placed) → Explains base u list → ⊥)
 nowhere base t u same flat none = subst (λ (v : Trace). (any_climbs v.calls ≡ false) × ((list : List Placed) → Explains base v list → ⊥)) same (flat, none)
 
--- a keeper that has a list tells why that isn't handed out
+-- a keeper that has a list says why that isn't handed out
 pub knows : (o : Option KeptTree) (list : List Placed) (why : ExplainRefused) → IsListOf o list → KnowsWhy o why
 knows None list why is = absurd is
 knows (Some k) list why is = tt
@@ -89,7 +89,7 @@ module _ (image : List ℕ) (events : List Event) (few : length events < 2 ^ 64)
   never_of None keeps saw = absurd saw
   never_of (Some k) keeps saw = none_found k (keeps k refl) saw
 
-  -- why there is no list, where the keeper knows of no step without room
+  -- why there is no list, if the keeper knows of no step without room
   refused_run : (o : Option KeptTree) → HasKept o → SawRoom o → (e : ExplainRefused) → KnowsWhy o e → IsRefusedFor (tree_in (blocks_of image)) (trace_in events run.outcomes) e → IsRefusedSo image events e
   refused_run o keeps room refused.NoMemory tells is = tt
   refused_run o keeps room (refused.Damaged d) tells is = absurd is

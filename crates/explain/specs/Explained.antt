@@ -17,8 +17,8 @@ pub record StartsOn (image : List ℕ) (w : WorldOf (List ℕ)) : Type 0 where
   pub well : IsWellFormed (blocks_of image)
   pub mounted : IsMounted blocks_of never image w
 
--- A run of these events on a disk in memory with these bytes: the world as a mount leaves it, what the events come to, the harts that they
--- leave.
+-- A run of these events on a disk in memory with these bytes: the world as a mount leaves it, the events' outcomes,
+-- and the harts that they leave.
 pub record RunOn (image : List ℕ) (events : List Event) : Type 0 where
   pub world : WorldOf (List ℕ)
   pub outcomes : List Came
@@ -26,7 +26,7 @@ pub record RunOn (image : List ℕ) (events : List Event) : Type 0 where
   pub starts : StartsOn image world
   pub history : HasHistory blocks_of never world.sizes world.harts events outcomes new
 
--- What a keeper has that was told of each event of the run, from the image's tree on, and of its end.
+-- What a keeper has that noted each event of the run, from the image's tree on, and its end.
 pub record KeepsToTheEnd (image : List ℕ) (events : List Event) (r : RunOn image events) (k : KeptTree) : Type 0 where
   pub kept : KeptTree
   pub keeps : KeepsRun blocks_of never r.world.sizes r.world.harts (nothing_kept (tree_in (blocks_of image))) events r.outcomes r.new kept
@@ -47,9 +47,9 @@ module _ (image : List ℕ) (events : List Event) (r : RunOn image events) where
   abbrev pub NeverFoundRoom : Type 0
   NeverFoundRoom = (history : List (EventOf Call Outside)) → IsOneOf history → RoomIn history → ⊥
 
--- Each step of such a run found room, and the list explains what the run shows of calls, from the image's tree. It is the run's own: that of
--- each of its histories. Wherever the run is stopped, the list so far is a beginning of it, and the disk's tree is what has names in the tree
--- after a beginning of it.
+-- Each step of such a run found room, and the list explains what the run shows of calls, from the image's tree. It is
+-- the run's own: that of each of its histories. If the run stops at any event, the list so far is a beginning of it.
+-- Then the disk's tree is what has names in the tree after a beginning of it.
 pub record OwnsRun (image : List ℕ) (events : List Event) (list : List Placed) : Type 0 where
   pub run : RunOn image events
   pub room : EachFoundRoom image events run
@@ -84,9 +84,8 @@ IsRefusedSo image events (refused.Damaged d) = IsFirstDamage (blocks_of image) d
 IsRefusedSo image events refused.FullSeen = FindsNoRoom image events
 IsRefusedSo image events refused.Climbs = HasClimbed image events
 
--- Why there is no list that explains this trace from this tree: a reply in it found no room, or none explains it though no path climbs; or
--- the path of a
--- call has the element "..", or memory was refused.
+-- Why there is no list that explains this trace from this tree. A reply in it found no room, or none explains it
+-- though no path climbs; or the path of a call has the element ".."; or memory was refused.
 abbrev pub IsRefusedFor : TreeData → Trace → ExplainRefused → Type 0
 IsRefusedFor base t refused.NoMemory = Unit {0}
 IsRefusedFor base t (refused.Damaged d) = ⊥
@@ -102,7 +101,7 @@ IsRefusedBy o base t why = (SawNoRoom o × (why ≡ refused.FullSeen)) ⊎ (SawR
 abbrev pub IsFoundFor : Option KeptTree → TreeData → Trace → Result (Vec Placed Global) ExplainRefused → Type 0
 IsFoundFor o base t found = MatchResult found (λ v. SawRoom o × Explains base t v.items) (λ why. IsRefusedBy o base t why)
 
--- how the refusal of a mount in memory is told
+-- the refusal for a mount in memory that was refused
 abbrev pub refused_by : MountFault → ExplainRefused
 refused_by (faults.Damaged d) = refused.Damaged d
 refused_by faults.DeviceFault = refused.NoMemory

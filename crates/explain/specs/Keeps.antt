@@ -25,7 +25,7 @@ abbrev pub SawRoom : Option KeptTree → Type 0
 SawRoom None = Unit {0}
 SawRoom (Some k) = k.full ≡ false
 
--- of a keeper to which memory was refused nothing else is told
+-- a keeper to which memory was refused gives no other reason
 abbrev pub KnowsWhy : Option KeptTree → ExplainRefused → Type 0
 KnowsWhy None refused.NoMemory = Unit {0}
 KnowsWhy None (refused.Damaged d) = ⊥
@@ -33,12 +33,12 @@ KnowsWhy None refused.FullSeen = ⊥
 KnowsWhy None refused.Climbs = ⊥
 KnowsWhy (Some k) why = Unit {0}
 
--- where what was kept explains the trace, just that is handed out
+-- if what was kept explains the trace, just that is handed out
 abbrev pub HandsOut : Option KeptTree → TreeData → Trace → List Placed → Type 0
 HandsOut None base t list = ⊥
 HandsOut (Some k) base t list = Explains base t k.list → list ≡ k.list
 
--- it was told of the event, or has nothing by now
+-- it has noted the event, or has nothing after it
 abbrev pub HasNoted : Option KeptTree → Event → Came → Option Heard → Option KeptTree → Type 0
 HasNoted before e c heard None = Unit {0}
 HasNoted None e c heard (Some k') = ⊥

@@ -4,14 +4,14 @@ use Rattle.explain.specs.Vocabulary.{Global, blocks_of, NoMemory, Placed, Trace,
 use Rattle.explain.specs.declared.play.Played.{Played}
 use Rattle.explain.specs.Explained.{KeepsToTheEnd, RunOn}
 
--- A run of the events on the image came to these outcomes, and the base is the image's tree.
+-- A run of the events on the image had these outcomes, and the base is the image's tree.
 pub record IsPlayed (image : List ℕ) (events : List Event) (p : Played) : Type 0 where
   pub run : RunOn image events
   pub outcomes : p.outcomes.items ≡ run.outcomes
   pub base : p.base ≡ tree_in (blocks_of image)
-  -- the keeper was told of each event, from that tree on, and of the end
+  -- the keeper noted each event, from that tree on, and the end
   pub keeps : (k : KeptTree) → p.keeper ≡ Some k → KeepsToTheEnd image events run k
 
--- a list that explains the trace, or none only where there is none
+-- a list that explains the trace, or none only if there is none
 abbrev pub IsFound : TreeData → Trace → Result (Option (Vec Placed Global)) NoMemory → Type 0
 IsFound base t found = IfOk found (λ o. MatchOption o ((list : List Placed) → Explains base t list → ⊥) (λ v. Explains base t v.items))

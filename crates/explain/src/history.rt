@@ -1,4 +1,4 @@
-// The history of a run.
+//! The history of a run.
 ghost use Rattle.std.specs.Prelude.{◌≡◌, false, IfOk, MatchResult};
 ghost use Rattle.std.specs.Option.{MatchOption};
 ghost use Rattle.explain.specs.Vocabulary.{any_climbs, trace_in, Explains};
@@ -15,8 +15,8 @@ use plain_tree::{NoMemory, Placed, Trace, Tree, check};
 use std::alloc::Global;
 use tree_histories::{any_climbs, any_full, find_history, hints_of, replays};
 
-// The list that was kept, where it explains the trace; else one that is sought, by its steps first. To make these once more takes less
-// time than `check`, which goes through the list for each call.
+// The list that was kept, if it explains the trace; else one that is sought, by its steps first. To make these once
+// more takes less time than `check`, which goes through the list for each call.
 fn kept_or_found(
     alloc: Global,
     base: &Tree,
@@ -33,17 +33,19 @@ fn kept_or_found(
     find_history(alloc, base, trace, &hints)
 }
 
-/// Mounts a copy of the image in memory, runs these events, and hands out a list of tree steps that explains what they
-/// showed of calls: event number, call, step and answer each. Without events the list is empty.
+/// Mounts a copy of the image in memory, runs these events, and hands out a list of tree steps that explains what
+/// they showed of calls. It has event number, call, step and answer of each. Without events the list is empty.
 ///
-/// It is refused by the image's first damage; by 71 where a step found no room, also in a call that hasn't replied, and also where a path
-/// climbs as well; by 72 where each step found room and the path of a call that was started has the element ".."; by 33 where memory was
-/// refused.
+/// Why it is refused:
+/// - the image's first damage;
+/// - 71 if a step found no room, also in a call that hasn't replied, and also if a path climbs as well;
+/// - 72 if each step found room and the path of a call that was started has the element "..";
+/// - 33 if memory was refused.
 ///
-/// The events run beside a tree, on which each operation makes its move as it acts: the list is the one that comes about so, each step
-/// with its answer at the event at which it acted, and the failing steps of walks at the event of the unlink that removed their directory.
-/// It is the run's own, of which the disk holds a beginning wherever the run is stopped. That takes as long as the run and the steps on
-/// the tree, twice.
+/// The events run beside a tree, on which each operation makes its move as it acts: the list is made of these moves.
+/// Each step is there with its answer at the event at which it acted. The failing steps of walks are at the event of
+/// the unlink that removed their directory. It is the run's own list, of which the disk holds a beginning wherever
+/// the run stops. That takes as long as the run and the steps on the tree, twice.
 pub fn explain(alloc: Global, image: &[u8], events: &[Event]) -> Result<Vec<Placed>, ExplainRefused>
     ensures { MatchResult result (λ v. OwnsRun image.now events.now v.items) (λ e. IsRefusedSo image.now events.now e) }
 {
@@ -55,11 +57,13 @@ pub fn explain(alloc: Global, image: &[u8], events: &[Event]) -> Result<Vec<Plac
     explain_noted(alloc, &base, events, &outcomes, keeper)
 }
 
-/// The same of events that were noted as they were made of a mounted world, with what each came to; the world isn't run again. `base`
-/// is the tree of the image that was mounted, and the keeper was told of each event, and of the end.
+/// The same of events that were noted as they were made of a mounted world, with the outcome of each; the world isn't
+/// run again. `base` is the tree of the image that was mounted, and the keeper must have noted each event, and the
+/// end.
 ///
-/// Whatever is passed, a list that is handed out explains these events and outcomes from this tree: it is the keeper's, where that does.
-/// With another keeper it may take long. 71 also where the keeper knows of a step without room.
+/// Whatever is passed, a list that is handed out explains these events and outcomes from this tree: it is the
+/// keeper's, if that explains them. With another keeper it may take long. 71 also if the keeper knows of a step
+/// without room.
 pub fn explain_noted(
     alloc: Global,
     base: &Tree,

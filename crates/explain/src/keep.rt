@@ -1,4 +1,4 @@
-// The tree kept beside a run.
+//! The tree kept beside a run.
 ghost use Rattle.std.specs.Option.{option_map};
 ghost use Rattle.std.specs.Prelude.{◌≡◌, false, IfOk, IsTrue, None, Some};
 ghost use Rattle.explain.specs.Keeps.{HasNoted, IsListOf, SawNoRoom, SawRoom};
@@ -13,8 +13,8 @@ use std::alloc::{AllocError, Global};
 use std::marker::Model;
 use tree_histories::Kept;
 
-/// Is told of a run's events as they are made, and keeps a tree beside it, with the list of the tree steps that the run makes. A contract
-/// sees what is kept, or nothing where memory was refused once.
+/// Notes a run's events as they are made, and keeps a tree beside it, with the list of the tree steps that the run
+/// makes. A contract sees what is kept, or nothing if memory was refused once.
 #[derive(Drop)]
 pub struct Keeper {
     alloc: Global,
@@ -45,7 +45,7 @@ impl Keeper {
         })
     }
 
-    /// The run's next event came to this. `heard` is what its hart's call has heard then (`World::heard`).
+    /// The run's next event had this outcome. `heard` is what its hart's call has heard then (`World::heard`).
     pub fn note(&mut self, event: &Event, came: &Came, heard: Option<Heard>)
         ensures { HasNoted self.old event.now came.now heard self.new }
     {
@@ -66,7 +66,8 @@ impl Keeper {
         }
     }
 
-    /// Whether some step found no room, also of a call that hasn't replied: the keeper is told of each event and of the run's end.
+    /// Whether some step found no room, also of a call that hasn't replied: the keeper notes each event and the run's
+    /// end.
     pub(crate) fn is_full(&self) -> bool
         ensures full { IsTrue result → SawNoRoom self.now }
         ensures room { result ≡ false → SawRoom self.now }
@@ -98,7 +99,7 @@ fn keep_start(kept: &mut Kept, alloc: Global, hart: u8, call: &Call) -> Result<(
     }
 }
 
-// The hart's step came to this.
+// The hart's step had this outcome.
 fn keep_step(
     kept: &mut Kept,
     alloc: Global,
@@ -122,7 +123,7 @@ fn keep_step(
     Ok(())
 }
 
-// The event came to this.
+// The event had this outcome.
 fn keep_event(
     kept: &mut Kept,
     alloc: Global,
@@ -150,7 +151,7 @@ fn copied(call: &Call) -> Result<Call, AllocError>
     call.clone()
 }
 
-/// Tells a keeper of a run of these events.
+/// Reports a run of these events to a keeper.
 #[derive(Drop)]
 pub(crate) struct Telling<'a> {
     pub(crate) keeper: Keeper,

@@ -1,5 +1,5 @@
 //! The history of a run handed out: a list of tree steps that explains what a list of events showed of calls.
-//! Else the image's first damage is told; or that some step found no room, or that the path of a call climbs.
+//! Else it gives the image's first damage; or that some step found no room, or that the path of a call climbs.
 //! The events are run to that end; or they were noted as they were made.
 #![tactic(auto)]
 

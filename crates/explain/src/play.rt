@@ -1,4 +1,4 @@
-// A run in memory.
+//! A run in memory.
 ghost use Rattle.std.specs.Prelude.{◌≡◌, IfOk, MatchResult};
 ghost use Rattle.explain.specs.Vocabulary.{blocks_of, fault_count_of, tree_in};
 ghost use Rattle.explain.specs.Explained.{IsRefusedMount, StartsOn, refused_by};
@@ -13,7 +13,7 @@ use image_versions::Version;
 use plain_tree::Tree;
 use std::alloc::{AllocError, Global};
 
-/// The tree of an image, what events came to on it, and what was kept beside them.
+/// The tree of an image, the outcomes of events on it, and what was kept beside them.
 #[derive(Drop)]
 pub(crate) struct Played {
     pub(crate) base: Tree,
@@ -28,7 +28,7 @@ fn disk(alloc: Global, image: &[u8]) -> Result<MemoryDisk, AllocError>
     Ok(MemoryDisk::new(Vec::from_slice(alloc, image)?))
 }
 
-// How it is told that an image wasn't taken. A disk in memory never fails.
+// The refusal for an image that wasn't taken. A disk in memory never fails.
 fn refusal(fault: MountFault) -> ExplainRefused
     requires { 0 ≡ fault_count_of fault 0 }
     ensures { result ≡ refused_by fault }

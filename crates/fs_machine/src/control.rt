@@ -1,4 +1,4 @@
-// Controls, and a step of any of them.
+//! Controls, and a step of any of them.
 ghost use Rattle.std.specs.Prelude.{◌≡◌, ◌<◌, ℕ, Option, Some, None, IfSome, IfNone};
 ghost use Rattle.atomic_programs.specs.Prog.{asks};
 ghost use Rattle.fs_machine.specs.Steps.{Op as StepOp, Answer as StepAnswer, state_of};

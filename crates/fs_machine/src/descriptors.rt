@@ -1,4 +1,4 @@
-// One function for each operation on descriptors and open files.
+//! One function for each operation on descriptors and open files.
 ghost use Rattle.std.specs.Prelude.{◌≡◌, ◌≤◌, IfErr};
 ghost use Rattle.fs_machine.specs.Vocabulary.{Ran as ItRan};
 ghost use Rattle.fs_machine.specs.Files.{IsDirectory};

@@ -1,4 +1,4 @@
-// What each hart has of the tables.
+//! What each hart has of the tables.
 ghost use Rattle.std.specs.Prelude.{◌≡◌, ◌<◌, ◌≤◌, None, IfSome, is_some, length, position, replicate, slice_get, slice_index};
 ghost use Rattle.fs_machine.specs.Vocabulary.{list_any};
 ghost use Rattle.fs_machine.specs.Lists.{change_at, first_empty, next_full};

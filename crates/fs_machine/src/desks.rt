@@ -1,4 +1,4 @@
-// The steps on descriptors and open files.
+//! The steps on descriptors and open files.
 ghost use Rattle.std.specs.Prelude.{◌≡◌, ◌<◌, if◌then◌else◌, Some, None, IfSome, IfErr, position, slice_get, slice_set};
 ghost use Rattle.fs_machine.specs.Vocabulary.{Ran};
 ghost use Rattle.fs_machine.specs.Tables.{open_at};

@@ -1,4 +1,4 @@
-// Inodes in memory, and references to them.
+//! Inodes in memory, and references to them.
 ghost use Rattle.std.specs.Prelude.{◌≡◌, ◌+◌, ◌-◌, ◌<◌, ◌^◌, ◌↔◌, Some, None, IsSome, IsTrue, IfOk, IfSome, position, replicate, slice_get, slice_set};
 ghost use Rattle.fs_machine.specs.Tables.{is_for, is_unused, one_more, one_less};
 ghost use Rattle.fs_machine.specs.Lists.{change_at};

@@ -1,4 +1,4 @@
-// A block's buffer, taken and valid.
+//! A block's buffer, taken and valid.
 ghost use Rattle.std.specs.Prelude.{◌≡◌, ℕ, List, None, IfSome, IfNone};
 ghost use Rattle.fs_machine.specs.Hands.{with_buffer};
 ghost use Rattle.fs_machine.specs.Ops.{IsAfter, answer_in};

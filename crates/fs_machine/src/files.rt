@@ -1,4 +1,4 @@
-// Open files.
+//! Open files.
 ghost use Rattle.std.specs.Prelude.{◌≡◌};
 ghost use Rattle.fs_machine.specs.Files.{is_free};
 

@@ -1,4 +1,4 @@
-// What a child is given of its parent's desk.
+//! What a child is given of its parent's desk.
 ghost use Rattle.std.specs.Prelude.{◌≡◌, ◌+◌, ◌<◌, ◌≤◌, ◌^◌, IfSome, slice_get};
 ghost use Rattle.fs_machine.specs.Vocabulary.{Ran};
 ghost use Rattle.fs_machine.specs.Inodes.{directory_of};

@@ -1,4 +1,4 @@
-// What a hart has in hand between two operations.
+//! What a hart has in hand between two operations.
 ghost use Rattle.std.specs.Prelude.{◌≡◌, ◌≢◌, [], Some, None, IfOk, IsSome, is_some};
 ghost use Rattle.fs_machine.specs.Vocabulary.{MatchOption, option_map, option_map_or};
 ghost use Rattle.std.specs.Borrow.{sem};

@@ -1,4 +1,4 @@
-// One function for each operation on inodes in memory.
+//! One function for each operation on inodes in memory.
 ghost use Rattle.std.specs.Prelude.{◌≡◌, ◌<◌, ◌^◌, Some, None, IfSome, IfNone};
 ghost use Rattle.fs_machine.specs.Vocabulary.{Ran as ItRan};
 ghost use Rattle.fs_machine.specs.Inodes.{Counts};

@@ -1,4 +1,4 @@
-// The kinds of step.
+//! The kinds of step.
 
 /// What a step does.
 #[derive(Clone, Copy, PartialEq, Eq, Debug)]

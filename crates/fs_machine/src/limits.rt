@@ -1,4 +1,4 @@
-// The numbers of the tables.
+//! The numbers of the tables.
 
 /// How many inodes there may be in memory.
 pub const MEMORY_INODES: usize = 50;

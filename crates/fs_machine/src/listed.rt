@@ -1,4 +1,4 @@
-// References that a call keeps to its end.
+//! References that a call keeps to its end.
 ghost use Rattle.std.specs.Prelude.{◌≡◌, ◌<◌, List, [], ◌∷◌, ◌++◌, length, IfOk, MatchOption};
 
 use crate::entries::Reference;

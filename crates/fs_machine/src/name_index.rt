@@ -1,4 +1,4 @@
-// What is known of a directory's names while it is in memory.
+//! What is known of a directory's names while it is in memory.
 ghost use Rattle.std.specs.Prelude.{◌≡◌, ◌<◌, ◌≤◌, ◌∷◌, ◌++◌, [], length, take, insert, remove, IfOk};
 ghost use Rattle.fs_machine.specs.InMemory.{no_index};
 

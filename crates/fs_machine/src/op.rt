@@ -1,4 +1,4 @@
-// Operations as a control asks for them, by places in the hand, and what they come to.
+//! Operations as a control asks for them, by places in the hand, and what they come to.
 ghost use Rattle.std.specs.Prelude.{◌≡◌};
 ghost use Rattle.fs_machine.specs.Ops.{yes_in};
 

@@ -1,4 +1,4 @@
-// Operations on inodes, references and descriptors, made of what is in hand; and any of them.
+//! Operations on inodes, references and descriptors, made of what is in hand; and any of them.
 ghost use Rattle.std.specs.Prelude.{◌≡◌, ◌<◌};
 ghost use Rattle.fs_machine.specs.Steps.{state_of};
 ghost use Rattle.fs_machine.specs.Premises.{May};

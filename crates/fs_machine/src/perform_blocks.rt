@@ -1,4 +1,4 @@
-// Operations on transactions and buffers, made of what is in hand.
+//! Operations on transactions and buffers, made of what is in hand.
 ghost use Rattle.std.specs.Prelude.{◌≡◌};
 ghost use Rattle.fs_machine.specs.Steps.{state_of};
 ghost use Rattle.fs_machine.specs.Premises.{May};

@@ -1,4 +1,4 @@
-// The end of all that harts share.
+//! The end of all that harts share.
 ghost use Rattle.std.specs.Prelude.{◌≡◌, ◌<◌};
 ghost use Rattle.fs_machine.specs.Vocabulary.{GuardState, BufferState, IsHeld};
 ghost use Rattle.fs_machine.specs.declared.entries.Inode.{Inode as InodeState};

@@ -1,4 +1,4 @@
-// What all harts share, and one function for each operation on blocks.
+//! What all harts share, and one function for each operation on blocks.
 ghost use Rattle.std.specs.Prelude.{◌≡◌, ◌≢◌, ◌<◌, ℕ, List, Some, None, IsSome, IfSome, IfNone};
 ghost use Rattle.fs_machine.specs.Vocabulary.{IfHeld, IsHeld, IfWaits, Ran as ItRan};
 ghost use Rattle.fs_machine.specs.LogPart.{Outside};

@@ -1,4 +1,4 @@
-// What the steps on descriptors and open files answer.
+//! What the steps on descriptors and open files answer.
 use crate::entries::Reference;
 use crate::files::Refused;
 

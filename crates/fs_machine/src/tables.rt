@@ -1,4 +1,4 @@
-// The tables, and the steps on inodes in memory.
+//! The tables, and the steps on inodes in memory.
 ghost use Rattle.std.specs.Prelude.{◌≡◌, ◌≢◌, ◌+◌, ◌<◌, ◌^◌, Some, None, IsSome, IfSome, IfNone, IfOk, is_some, length, replicate, slice_get, slice_set};
 ghost use Rattle.sleep_lock.specs.SleepLock.{GuardState, filled};
 ghost use Rattle.sleep_lock.specs.Row.{lock_of};

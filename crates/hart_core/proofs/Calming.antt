@@ -64,7 +64,7 @@ module _ (N : MoveMachine) (g : ℕ) (refused : (call : Call) (busy : ℕ → Bo
   abbrev L : Theory
   L = theory_of N
 
-  -- an event that asks for a call only where one was started, and leads where e leads
+  -- an event that asks for a call only if one was started, and leads to the same state as e
   pub record Calms (e : Event Call N.Outside) (s : State L) (made : Made L) : Type 0 where
     pub event : Event Call N.Outside
     pub after : next L event s ≡ made.after

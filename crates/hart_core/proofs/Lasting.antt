@@ -26,7 +26,7 @@ module _ {D : Type 0} (contents : D → List (List ℕ)) (failures : D → ℕ) 
     sized = is.sized;
   }
 
-  -- the disk as it stands
+  -- the disk as it is
   pub world_left : IsWellFormed (contents w.core.log.cache.device)
   world_left =
       let n : Super = sizes_of is.disk in

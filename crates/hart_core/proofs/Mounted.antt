@@ -12,7 +12,7 @@ settled_so first middle last same blocks empty sizes well tree named freed =
     (record { blocks = blocks; empty = empty; sizes = sizes; well = well; tree = tree; named = named; freed = freed })
 
 module _ {D : Type 0} (contents : D → List (List ℕ)) (failures : D → ℕ) (first middle last : D) (same : contents middle ≡ contents first) (count : failures middle ≡ failures first) where
-  -- memory was refused behind the examination
+  -- memory was refused after the examination
   refused : (fault : MountFault) → fault ≡ NoMemory → HandsBack contents failures first middle fault
   refused fault is = subst (λ (f : MountFault). HandsBack contents failures first middle f) (sym is) (record {
     judges = tt;
@@ -26,7 +26,7 @@ module _ {D : Type 0} (contents : D → List (List ℕ)) (failures : D → ℕ) 
   refused_memory (Ok x) is = tt
   refused_memory (Err fault) is = refused fault is
 
-  -- the device failed behind the examination
+  -- the device failed after the examination
   pub handed_back : (fault : MountFault) → fault ≡ DeviceFault → IsWellFormed (contents last) → tree_in (contents last) ≡ tree_in (contents middle)
       → failures last ≡ fault_count_of DeviceFault (failures middle) → HandsBack contents failures first last fault
   handed_back fault is well tree faults = subst (λ (f : MountFault). HandsBack contents failures first last f) (sym is) (record {

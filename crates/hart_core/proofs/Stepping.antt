@@ -77,7 +77,7 @@ nones n h = none_of n h
 pub all_idle : (s : State) → AreHarts s (replicate 8 None)
 all_idle s = record { long = refl; fits = λ h. subst (HartFits s h) (sym (nones 8 h)) tt }
 
--- a hart leaves what is another's where it changes nothing
+-- a hart that changes nothing leaves what is another's
 pub leaves_same : (h : ℕ) (s : State) → LeavesTied h s s
 leaves_same h s = record { buffers = λ guard other tied. tied; inodes = λ guard other locked. locked }
 
@@ -109,7 +109,7 @@ begun h s b calls two call at is =
     start_gives blocks code running_of s b calls h None (Some call) (set calls h None) two at refl (is ∙ sym (set-set calls h None (Some call))) (running_of call) Started s b
     (λ i. record { came = Started; left = Some (plain_same (running_of call) i); shared = s; stopped = b })
 
--- the same as it stands in its place
+-- the same of the call in its place
 pub begun_in : (sizes : Super) (call : Call) (h : ℕ) (s : State) (b : Bool) (calls two : List (Option Running)) (place : Option Running) → HasBegun sizes call place → slice_get calls h ≡ Some None → two ≡ set calls h place
     → plain_makes blocks code (Start h (plain ((block_calls sizes).program call))) (record { shared = s; stopped = b; running = λ k. program_at running_of (get_or calls k None) })
     ≡ record { came = Started; after = record { shared = s; stopped = b; running = λ k. program_at running_of (get_or two k None) } }

@@ -1,4 +1,4 @@
--- What a step tells of the call of its hart.
+-- What a step shows of the call of its hart.
 use Rattle.hart_core.proofs.Vocabulary.{◌≡◌, ℕ, zero, suc, List, [], ◌∷◌, ◌++◌, Super, HartsOf, Option, Some, None, refl, sym, ◌∙◌, ap, subst, get_or, set, slice_get, Reply, Kind, Core, Heard, state_of, Running, StepsAt}
 use Rattle.atomic_programs.specs.declared.machines.SteppedInPlace.TheVariants.{Waits, Ran, Done, Stopped}
 use Rattle.fs_machine.specs.Steps.{State}
@@ -12,7 +12,7 @@ pub stays_same : (o : Option Running) → StaysAt o o
 stays_same None = refl
 stays_same (Some m) = (refl, refl)
 
--- what stands in a place is what is put there
+-- a place holds what is put there
 pub set-own : (list : List (Option Running)) (h : ℕ) → list ≡ set list h (get_or list h None)
 set-own [] h = refl
 set-own (m ∷ ms) zero = refl

@@ -29,7 +29,7 @@ one_more places cs c are is =
     let last : unfinished_from (0 + length cs) (c ∷ []) ≡ length cs ∷ [] = open_first (0 + length cs) c [] is ∙ ap (λ ps. (0 + length cs) ∷ ps) (none_from (0 + length cs + 1)) ∙ ap (λ n. n ∷ []) (let same : 0 + length cs ≡ length cs = omega arith in same) in
     rw (in_both 0 cs (c ∷ []), last, ← are) refl
 
--- The first of these calls that isn't finished, where the first of all has this place.
+-- The first of these calls that isn't finished, if the first of all has this place.
 record Next (n : ℕ) (cs : List TracedCall) : Type 0 where
   pub passed : List TracedCall
   pub call : TracedCall
@@ -80,7 +80,7 @@ module _ (f : TracedCall → TracedCall) (keeps : (c : TracedCall) → is_nothin
     | inr done ↦ (let rest = keeps_all (n + 1) cs (sym (done_first n c cs done) ∙ none) in rw (keeps c done, rest) refl)
   ]
 
-  -- It was done to the calls of the front; the places of what is left of them stand before those of the rest.
+  -- It was done to the calls of the front; the places of those still unfinished there come before those of the rest.
   pub record Ending (whole calls : List TracedCall) (places : List ℕ) (kept : ℕ) : Type 0 where
     pub front : List TracedCall
     pub rest : List TracedCall
@@ -173,7 +173,7 @@ module _ (f : TracedCall → TracedCall) (keeps : (c : TracedCall) → is_nothin
         let none : length left - length left ≡ 0 = omega arith in
         (λ i. remove (m.places_is i) (m.kept_is i)) ∙ remove-append_right left (length m.front ∷ right) (length left) (length left) refl (omega arith) ∙ ap (λ n. left ++ remove (length m.front ∷ right) n) none
 
-    -- it is finished now
+    -- it is finished in this step
     ends_one : (place : ℕ) → place ≡ get_or places kept place → is_nothing (f m.call).finished ≡ false → Ending whole (set calls place (f m.call)) (remove places kept) kept
     ends_one place at done = record {
       front = m.front ++ m.call ∷ [];

@@ -1,4 +1,4 @@
--- A step waits only where it must.
+-- A step waits only when it must.
 use Rattle.hart_core.proofs.Vocabulary.{◌≡◌, ◌≢◌, ◌==◌, if◌then◌else◌, ℕ, Bool, true, false, List, length, Option, Some, None, Some-inj, is_some, refl, sym, ◌∙◌, ap, subst, inl, inr, get_or, MatchOption, Super, Theory, Step, EventOutcome, Started, Refused, WasIdle, DidWait, DidRun, DidEnd, DidStop, WasStopped, makes, Run, step_run, step_unless, Do, asks, plain, OfNext, Code, Plain, PlainMade, PlainHonest, P, Reply, Running, running_of, program_at, prog_of, by_kind, plain_makes, erase-makes, honest_event, OpenFile, file_named, holder_of, IsElsewhere, May, MayWait, turn_is_out, empty_hand, block_calls, block_code, is_code, HartsOf, MustWait, NextMustWait, WaitsByTheRule, copied_next, IsWorld}
 use Rattle.hart_core.specs.Vocabulary.{TablesState, Phase, option_map, buffer_holder}
 use Rattle.std.specs.Prelude.{slice_index}

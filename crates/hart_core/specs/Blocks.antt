@@ -1,5 +1,6 @@
--- The block machine: what harts whose calls are programs of operations make of all that they share, an operation a step. Nothing is said
--- here of what the calls come to; where each operation may be made is asked, and by nothing given.
+-- The block machine: what harts whose calls are programs of operations make of all that they share, an operation a
+-- step. Nothing is said here of the calls' results. The machine asks when each operation may be made, and doesn't
+-- show it.
 use Rattle.std.specs.Prelude.{◌≡◌, ℕ, [], false}
 use Rattle.hart_core.specs.Vocabulary.{Reply, Machine, Theory, Begins, Code, Plain, MayOf, Kind, Outside, State, Op, Answer, exec, kind_of, May, Honest, MayWait, P}
 

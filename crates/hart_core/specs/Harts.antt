@@ -1,4 +1,4 @@
--- What harts' machines over all that they share stand for.
+-- What harts' machines over all that they share represent.
 use Rattle.std.specs.Prelude.{◌≡◌, ℕ, Bool, List, length, Option, None, get_or, is_some, replicate}
 use Rattle.hart_core.specs.Vocabulary.{hart_count, Reply, OutcomeOf, WasIdle, DidWait, DidRun, DidEnd, DidStop, WasStopped, PlaceFits, plain_at, Kind, Core, Outside, Passes, Fails, State, state_of, Running, running_of, RunningFits}
 use Rattle.hart_core.specs.declared.outcome.Outcome.{Outcome}
@@ -6,7 +6,7 @@ use Rattle.hart_core.specs.declared.outcome.Outcome.TheVariants as outcome
 use Rattle.hart_core.specs.declared.outcome.Stop.TheVariants as stop
 use Rattle.hart_core.specs.Blocks.{blocks, code, Programs}
 
--- what a hart's step came to, in the words of the block machine
+-- the outcome of a hart's step, in the words of the block machine
 abbrev pub outcome_of : {Refusal : Type 0} → Outcome → OutcomeOf Kind Reply Refusal
 outcome_of outcome.Idle = WasIdle
 outcome_of outcome.Waits = DidWait

@@ -1,4 +1,4 @@
--- What a mount comes to.
+-- The result of a mount.
 use Rattle.std.specs.Prelude.{◌≡◌, ◌≢◌, ℕ, false, List, [], None, replicate}
 use Rattle.hart_core.specs.Vocabulary.{HasBytes, HasWholeBlocks, block_at, logged, recovered, sizes_of, IsOutsideLog, buffer_count, hart_count, unused_from, Open, IsPlaced, MountFault, DeviceFault, IsWellFormed, JudgesFault, fault_count_of, tree_in, AreFreed, AreNamed}
 use Rattle.fs_machine.specs.Fresh.{fresh}
@@ -17,12 +17,11 @@ pub record IsSettled (old new : List (List ℕ)) : Type 0 where
   pub freed : AreFreed old new
 
 module _ {D : Type 0} (contents : D → List (List ℕ)) (failures : D → ℕ) where
-  -- Over this device, which has failed at no call, eight harts are idle; nothing is cached, recorded or open, and no inode but the root,
-  -- which is every hart's
-  -- directory, is referred to.
+  -- Over this device, which has failed at no call, eight harts are idle. Nothing is cached, recorded or open. No
+  -- inode is referred to but the root, which is every hart's directory.
   pub record Rests (device : D) (w : HartsOf D) : Type 0 where
     pub disk : IsSettled (contents device) (contents w.core.log.cache.device)
-    -- its blocks are whole, and of bytes; and the log lies in it
+    -- its blocks are whole, and of bytes; and the log is in it
     pub whole : HasWholeBlocks (contents w.core.log.cache.device)
     pub bytes : HasBytes (contents w.core.log.cache.device)
     pub placed : IsPlaced (contents w.core.log.cache.device) (sizes_of (contents device))
@@ -39,8 +38,8 @@ module _ {D : Type 0} (contents : D → List (List ℕ)) (failures : D → ℕ) 
     pub children : w.children ≡ replicate hart_count None
     pub idle : w.calls ≡ replicate hart_count None
 
-  -- The device is handed back. It has failed only where that is the answer, and is as it was but for a recovery, or the freeing of a node,
-  -- that it stopped.
+  -- The device is handed back. It has failed only if that is the answer. It is as it was but for a recovery, or the
+  -- freeing of a node, that the failure stopped.
   pub record HandsBack (device back : D) (fault : MountFault) : Type 0 where
     pub judges : JudgesFault (contents device) fault
     pub unwritten : fault ≢ DeviceFault → contents back ≡ contents device

@@ -69,7 +69,7 @@ abbrev pub NextMustWait : ℕ → State → Option Running → Type 0
 NextMustWait h s call = MatchOption call ⊥ (λ m. MatchOption (asks (running_of m)) ⊥ (MustWait h s))
 
 module _ {D : Type 0} (contents : D → List (List ℕ)) (failures : D → ℕ) where
-  -- a step of any hart waits only where the operation that its call makes next must
+  -- a step of any hart waits only when the operation that its call makes next must wait
   abbrev pub WaitsByTheRule : Super → HartsOf D → Type 0
   WaitsByTheRule sizes w =
       (h : ℕ) (x : Outside) (v : HartsOf D) → Answers contents failures sizes (Step h x) w

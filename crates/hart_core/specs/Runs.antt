@@ -64,9 +64,8 @@ module _ (sizes : Super) where
       PlainHonest (block_calls sizes) (block_code sizes) e p × AllAnswer es (plain_makes (block_calls sizes) (block_code sizes) e p).after
 
 module _ {D : Type 0} (contents : D → List (List ℕ)) (failures : D → ℕ) where
-  -- A history of a run from old to new: the same events with answers of the device, each of which is possible, at which they come to these
-  -- outcomes, and make
-  -- new of old, one after the other.
+  -- A history of a run from old to new: the same events, each with a possible answer of the device. With these
+  -- answers they have these outcomes, and make new of old, one after the other.
   pub record IsHistory (sizes : Super) (old : HartsOf D) (events : List Event) (outcomes : List Came) (new : HartsOf D)
       (history : List (EventOf Call Outside)) : Type 0 where
     pub asks : all_asked history ≡ events_of events
@@ -104,9 +103,9 @@ abbrev pub IsExplained : TreeData → Trace → Type 0
 IsExplained base t = (list : List Placed) × Explains base t list
 
 module _ {D : Type 0} (contents : D → List (List ℕ)) (failures : D → ℕ) where
-  -- Where the world was mounted, and in some history of the run no step found no room, one list of tree steps explains all calls that were
-  -- started, from the
-  -- image's tree: as long as no path climbs, or where one hart has made all calls.
+  -- Let the world be mounted, and let each step of some history of the run have found room. Then one list of tree
+  -- steps explains all calls that were started, from the image's tree, if no path climbs or one hart has made all
+  -- calls.
   abbrev pub OneHistory : WorldOf D → List Event → List Came → HartsOf D → Type 0
   OneHistory w events outcomes new =
       (device : D) (history : List (EventOf Call Outside)) → IsMounted contents failures device w

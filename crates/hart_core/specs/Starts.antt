@@ -68,8 +68,8 @@ module _ {D : Type 0} (w : HartsOf D) where
   others_refusal h (Inherit child) = child_refusal h child
   others_refusal h call = None
 
-  -- Why hart h's call isn't started: there is no such hart; it has a call, or is the child of another one's; the call has a fault; or last
-  -- its child can't be one.
+  -- Why hart h's call isn't started. There is no such hart; it has a call, or is the child of another one's; the call
+  -- has a fault; or, last, its child can't be one.
   abbrev pub refusal_of : ℕ → Call → Option StartRefused
   refusal_of h call = if nat_lt h hart_count
       then (if busy_in w.calls h || is_child h then Some start.Busy else or_else (fault_of call) (others_refusal h call))
@@ -84,7 +84,7 @@ reason_of start.TooLong = calls.TooLong
 reason_of start.NoSuchHart = calls.NoSuchHart
 reason_of start.NotEmptyHart = calls.NotEmptyHart
 
--- what a start came to; a refused one hands the call back
+-- the outcome of a start; a refused one hands the call back
 abbrev pub start_outcome : Result (Unit {0}) (Call × StartRefused) → OutcomeOf Kind Reply calls.Refusal
 start_outcome (Ok done) = Started
 start_outcome (Err e) = Refused (reason_of e.1)

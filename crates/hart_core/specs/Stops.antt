@@ -10,7 +10,7 @@ use Rattle.hart_core.specs.Harts.{HartsOf}
 use Rattle.hart_core.specs.Runs.{IsHistory, IsMounted, FoundRoom, NoneClimbs, OneHart, trace_in}
 use Rattle.hart_core.specs.Worlds.{WorldOf, calls_of}
 
--- the number of the last of so many events
+-- the number of the last of n events
 abbrev pub last_of : ℕ → Option ℕ
 last_of zero = None
 last_of (suc n) = Some n
@@ -24,13 +24,12 @@ abbrev pub up_to : Option ℕ → ℕ
 up_to None = 0
 up_to (Some n) = n + 1
 
--- so many are those up to the cut, or those up to the doubt where there is one
+-- k is the count up to the cut, or up to the doubt if there is one
 abbrev pub IsMarkedBy : Option ℕ → Option ℕ → ℕ → Type 0
 IsMarkedBy cut doubt k = (k ≡ up_to cut) ⊎ ((n : ℕ) × (doubt ≡ Some n) × (k ≡ n + 1))
 
--- One list of tree steps explains the trace, from this tree. The entries of its events up to the cut, or up to the doubt, are a beginning
--- of it; and the
--- disk's tree is what has names in the tree to which they lead.
+-- One list of tree steps explains the trace, from this tree. The entries of its events up to the cut, or up to the
+-- doubt, are a beginning of it. The disk's tree is what has names in the tree to which they lead.
 pub record HoldsABeginning (base : TreeData) (t : Trace) (disk : List (List ℕ)) (cut doubt : Option ℕ) : Type 0 where
   pub list : List Placed
   pub explains : Explains base t list
@@ -52,14 +51,14 @@ module _ (sizes : Super) where
   abbrev pub next_of : EventOf Call Outside → Plain (block_calls sizes) (block_code sizes) → Plain (block_calls sizes) (block_code sizes)
   next_of e p = (plain_makes (block_calls sizes) (block_code sizes) e p).after
 
-  -- the marks after these events, with n before them, by where each took the commit
+  -- the marks after these events, with n before them, by the place to which each took the commit
   abbrev pub marks_in : ℕ → List (EventOf Call Outside) → Plain (block_calls sizes) (block_code sizes) → Marks → Marks
   marks_in n [] p m = m
   marks_in n (e ∷ es) p m =
       marks_in (n + 1) es (next_of e p) (marks_told (n + 1) (log_of p).phase (at_point (log_of p)) (log_of (next_of e p)).phase m)
 
 module _ {D : Type 0} (contents : D → List (List ℕ)) (failures : D → ℕ) where
-  -- a history of a run, and the marks that it comes to
+  -- a history of a run, and the marks that result from it
   abbrev pub HasMarks : Super → HartsOf D → List Event → List Came → HartsOf D → Marks → Type 0
   HasMarks sizes old events outcomes new m =
       (history : List (EventOf Call Outside)) × IsHistory contents failures sizes old events outcomes new history
@@ -79,11 +78,10 @@ module _ {D : Type 0} (contents : D → List (List ℕ)) (failures : D → ℕ) 
   after_first w k history =
       plain_run (block_calls w.sizes) (block_code w.sizes) (take k history) (calls_of contents failures w.sizes w.harts)
 
-  -- There is a history of the run, such that, where the world was mounted, the cut and the doubt are what its events mark; nobody is in a
-  -- transaction after the
-  -- events up to them; and the cut has each step that began a commit, once its hart has replied. Where no step in it found no room, and no
-  -- path climbs or one
-  -- hart has made all calls, the disk holds a beginning of the one list that explains the run.
+  -- There is a history of the run as follows, if the world was mounted. The cut and the doubt are what its events
+  -- mark. Nobody is in a transaction after the events up to them. The cut has each step that began a commit, once its
+  -- hart has replied. The disk holds a beginning of the one list that explains the run, if no step found no room, and
+  -- no path climbs or one hart has made all calls.
   pub record RunLeavesABeginning (w : WorldOf D) (events : List Event) (outcomes : List Came) (new : HartsOf D)
       (cut doubt : Option ℕ) : Type 0 where
     pub history : List (EventOf Call Outside)

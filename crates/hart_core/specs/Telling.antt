@@ -1,4 +1,4 @@
--- What an event tells of the call of its hart: where it stands, and what it hears.
+-- What an event says of the call of its hart: how far it is, and what it hears.
 use Rattle.std.specs.Prelude.{◌≡◌, ℕ, Bool, List, [], ◌∷◌, Option, Some, None, get_or, slice_set}
 use Rattle.hart_core.specs.Vocabulary.{Super, Call, Heard, HasBegun, Running, State, TellsOf, heard_of, lacks_place_at, list_any}
 use Rattle.hart_core.specs.declared.events.Event.{Event}
@@ -20,13 +20,13 @@ abbrev pub rest_of : Option (Unit {0}) → Running → Option Running
 rest_of None m = Some m
 rest_of (Some end) m = None
 
--- A step of the call that stood there ran, and this was heard in it.
+-- A step of the call in this place ran, and this was heard in it.
 abbrev pub RanAt : ℕ → Option Running → Option (Unit {0}) → Option Heard → Option Running → (old new : State) → Type 0
 RanAt h None out heard after old new = ⊥
 RanAt h (Some m) out heard after old new =
     (left : Running) × TellsOf h m out left old new × (heard ≡ heard_of left) × (after ≡ rest_of out left)
 
--- the same call stands there, as far as it had come
+-- the same call is in the place, as far as it had come
 abbrev pub StaysAt : Option Running → Option Running → Type 0
 StaysAt None after = after ≡ None
 StaysAt (Some m) None = ⊥
@@ -47,7 +47,7 @@ heard_at last (Some m) = heard_of m
 abbrev pub heard_by : {D : Type 0} → WorldOf D → ℕ → Option Heard
 heard_by w h = heard_at w.last (get_or w.harts.calls h None)
 
--- a call claims an inode for which no place in memory was left, and isn't told so yet
+-- a call claims an inode, and no place in memory was left; the call hasn't heard so yet
 abbrev pub some_lacks_place : {D : Type 0} → HartsOf D → Bool
 some_lacks_place w = list_any lacks_place_at w.calls
 
@@ -76,7 +76,7 @@ abbrev pub hart_of : Event → ℕ
 hart_of (event.Start h call) = h
 hart_of (event.Step h) = h
 
--- what was heard in an event that came to this: nothing but in a step that ran
+-- what was heard in an event with this outcome: nothing but in a step that ran
 abbrev pub heard_after : Outcome → Option Heard → Option Heard
 heard_after outcome.Idle x = None
 heard_after outcome.Waits x = None
@@ -94,7 +94,7 @@ abbrev pub SetsAt : ℕ → List (Option Running) → List (Option Running) → 
 SetsAt h old new = new ≡ slice_set old h (get_or new h None)
 
 module _ {D : Type 0} (contents : D → List (List ℕ)) (failures : D → ℕ) where
-  -- The event changes the place of its hart alone, as is told there.
+  -- The event changes the place of its hart alone, as its place says.
   pub record TellsEvent (sizes : Super) (e : Event) (old : HartsOf D) (c : Came) (heard : Option Heard) (new : HartsOf D) : Type 0 where
     pub place : TellsPlace sizes e (get_or old.calls (hart_of e) None) c heard (get_or new.calls (hart_of e) None)
         (shared_of contents failures old) (shared_of contents failures new)
@@ -103,7 +103,7 @@ module _ {D : Type 0} (contents : D → List (List ℕ)) (failures : D → ℕ) 
   -- ---- of a run, to an observer
 
   module _ {O : Type 0} (Took : O → Came → Option Heard → O → Type 0) (sizes : Super) where
-    -- An event of the run, of which the observer was told.
+    -- An event of the run that the observer noted.
     pub record NotesEvent (e : Event) (old : HartsOf D) (before : O) (c : Came) (new : HartsOf D) (after : O) : Type 0 where
       pub makes : Makes contents failures sizes (with_answer (event_of e) (said_of c (shared_of contents failures new))) old (came_of c) new
       pub answers : Answers contents failures sizes (with_answer (event_of e) (said_of c (shared_of contents failures new))) old
@@ -112,7 +112,7 @@ module _ {D : Type 0} (contents : D → List (List ℕ)) (failures : D → ℕ) 
       pub fits : AreHarts (shared_of contents failures new) new.calls
       pub took : Took before c (heard_in c heard) after
 
-    -- These events, one after the other, came to these outcomes, and the observer was told of each.
+    -- These events, one after the other, had these outcomes, and the observer noted each.
     abbrev pub NotesRun : HartsOf D → O → List Event → List Came → HartsOf D → O → Type 0
     NotesRun old before [] [] new after = (new ≡ old) × (after ≡ before)
     NotesRun old before [] (c ∷ cs) new after = ⊥

@@ -2,7 +2,7 @@
 use Rattle.std.specs.Prelude.{◌≡◌, ℕ, ◌+◌, List, [], ◌∷◌, if◌then◌else◌}
 use Rattle.hart_core.specs.Vocabulary.{TracedCall, is_nothing}
 
--- their places, rising, where the first of these calls has this place
+-- their places, rising, if the first of these calls has this place
 unfoldable pub unfinished_from : ℕ → List TracedCall → List ℕ
 unfinished_from place [] = []
 unfinished_from place (c ∷ cs) = if is_nothing c.finished then place ∷ unfinished_from (place + 1) cs else unfinished_from (place + 1) cs

@@ -15,7 +15,7 @@ module _ {D : Type 0} (contents : D → List (List ℕ)) (failures : D → ℕ) 
   calls_of w = plain_at (block_calls sizes) (block_code sizes) running_of
       (record { state = shared_of contents failures w; children = children_in w.children }) w.stopped w.calls
 
-  -- an event makes these harts of those, and comes to this
+  -- an event makes these harts of those, and has this outcome
   abbrev pub Makes : Event Call Outside → HartsOf D → Outcome Kind Reply Refusal → HartsOf D → Type 0
   Makes event old came new =
       plain_makes (block_calls sizes) (block_code sizes) event (calls_of old) ≡ record { came = came; after = calls_of new }
@@ -27,7 +27,7 @@ module _ {D : Type 0} (contents : D → List (List ℕ)) (failures : D → ℕ) 
   -- The harts are as some list of events leaves them, of a disk that was mounted, whose sizes these are; and calls run on those.
   pub record IsWorld (w : HartsOf D) : Type 0 where
     pub disk : List (List ℕ)
-    -- so often the device had failed then
+    -- how often the device had failed then
     pub count : ℕ
     pub mountable : IsMountable disk
     pub sizes_are : sizes ≡ sizes_of disk

@@ -1,4 +1,4 @@
-// The calls that eight harts have under way.
+//! The calls that eight harts have under way.
 ghost use Rattle.std.specs.Prelude.{◌≡◌, ◌<◌, [], ◌∷◌, false, None, IfOk, get_or, is_some, replicate, slice_set};
 ghost use Rattle.std.specs.List.{list_any};
 ghost use Rattle.std.specs.Option.{MatchOption};
@@ -167,7 +167,7 @@ impl Calls {
         self.places[hart as usize].start(sizes, call);
     }
 
-    /// What the call under way of a hart heard in its last step, where an operation over whole inodes ended there.
+    /// What the call under way of a hart heard in its last step, if an operation over whole inodes ended there.
     pub fn heard(&self, hart: u8) -> Option<Heard>
         requires { hart < HARTS }
         ensures { MatchOption (get_or self.now hart None) (Unit {0}) (λ call. result ≡ heard_of call) }
@@ -175,7 +175,7 @@ impl Calls {
         self.places[hart as usize].heard()
     }
 
-    /// Whether one of them claims an inode for which no place in memory was left, and is to be told so in its next step.
+    /// Whether one of them claims an inode for which no place in memory was left, and will hear so in its next step.
     pub fn lacks_place(&self) -> bool
         ensures { result ≡ list_any lacks_place_at self.now }
     {

@@ -1,4 +1,4 @@
-// Events, and what they come to.
+//! Events, and their outcomes.
 ghost use Rattle.std.specs.Prelude.{◌≡◌};
 ghost use Rattle.hart_core.specs.Vocabulary.{with_answer, CallsOnce};
 ghost use Rattle.hart_core.specs.Events.{event_of, came_of, said_of};
@@ -15,30 +15,31 @@ use plain_tree::Call;
 /// A start or a step of one hart.
 #[derive(Clone, Drop)]
 pub enum Event {
-    /// The hart is to start this call.
+    /// The hart is asked to start this call.
     Start { hart: u8, call: Call },
-    /// The hart's call is to make one step.
+    /// The hart's call is asked to make one step.
     Step { hart: u8 },
 }
 
-/// What an event came to.
+/// The outcome of an event.
 #[derive(Drop)]
 pub enum Came {
     /// The call was started.
     Started,
     /// The call wasn't started, and nothing has changed.
     Refused(StartRefused),
-    /// What the step came to.
+    /// The outcome of the step.
     Stepped(Outcome),
 }
 
-/// A world after a list of events, what each of them came to, in their order, and how many of them a stop leaves.
+/// A world after a list of events, the outcome of each, in their order, and how many of them a stop leaves.
 pub struct Run<D: Device> {
     pub world: World<D>,
     pub outcomes: Vec<Came>,
     /// The number of the event, from 0 on, of the leave that began the commit of the last group whose head was written.
     pub cut: Option<u64>,
-    /// The number of the leave that began the commit in which the device failed to write the group's head: it may stand or not.
+    /// The number of the leave that began the commit in which the device failed to write the group's head: the disk
+    /// may have it or not.
     pub doubt: Option<u64>,
 }
 

@@ -1,4 +1,4 @@
-// Eight harts' machines over all that they share.
+//! Eight harts' machines over all that they share.
 ghost use Rattle.std.specs.Prelude.{◌≡◌, ◌<◌, ◌&&◌, false, Some, None, get_or, is_some, length, replicate, slice_get, slice_set};
 ghost use Rattle.atomic_programs.specs.Calls.{Start as StartOf, Step as StepOf, Started};
 ghost use Rattle.atomic_programs.specs.Plain.{plain_makes, PlainHonest};
@@ -133,8 +133,8 @@ impl<D: Device> Harts<D> {
         self.children[hart as usize] = child;
     }
 
-    /// One operation of a hart's call. It is idle where there is no such hart, or the hart has no call; and a call is stopped by the
-    /// device's failure in this very step, or since the device has failed before. At most one call of the device is made.
+    /// One operation of a hart's call. It is idle if there is no such hart, or the hart has no call. A call is
+    /// stopped if the device fails in this very step, or has failed before. At most one call of the device is made.
     /// What a call that replied heard in this step is left in `last`.
     #[inline(always)]
     pub fn step(&mut self, last: &mut Option<Heard>, hart: u8) -> Outcome
@@ -163,7 +163,8 @@ impl<D: Device> Harts<D> {
             .step(last, hart, &mut self.core, &mut self.stopped)
     }
 
-    /// What the hart's call heard in its last step, where an operation over whole inodes ended there; of a hart without a call, `last`.
+    /// What the hart's call heard in its last step, if an operation over whole inodes ended there; of a hart without
+    /// a call, `last`.
     /// What each call has in hand goes with the core.
     pub fn heard(&self, hart: u8, last: Option<Heard>) -> Option<Heard>
         ensures heard { result ≡ heard_at last (get_or self.now.calls hart None) }
@@ -175,14 +176,14 @@ impl<D: Device> Harts<D> {
         self.calls.heard(hart)
     }
 
-    /// Whether a call claims an inode for which no place in memory was left, and is to be told so in its next step.
+    /// Whether a call claims an inode for which no place in memory was left, and will hear so in its next step.
     pub fn lacks_place(&self) -> bool
         ensures { result ≡ some_lacks_place self.now }
     {
         self.calls.lacks_place()
     }
 
-    /// Where the log's commit is.
+    /// How far the log's commit is.
     pub fn phase(&self) -> Phase
         ensures { result ≡ self.now.core.log.phase }
     {

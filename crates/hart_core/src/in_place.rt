@@ -1,4 +1,4 @@
-// A step of a hart's call in its place.
+//! A step of a hart's call in its place.
 ghost use Rattle.std.specs.Prelude.{◌≡◌, ◌<◌, false};
 ghost use Rattle.hart_core.specs.Vocabulary.{PlainHonestStep, MayOf, hart_step, program_at, state_of, CallsOnce, LeavesTied, running_of};
 ghost use Rattle.hart_core.specs.Blocks.{blocks, code};
@@ -13,8 +13,8 @@ use fs_machine::Core;
 use path_walk::Heard;
 use syscalls::CallPlace;
 
-/// A step of the call that stands in this place, if one does, unless the world has stopped. Once it has replied the place is idle, and
-/// what it heard in this step stands in `last`.
+/// A step of the call in this place, if there is one, unless the world has stopped. Once the call has replied the
+/// place is idle, and `last` has what it heard in this step.
 #[inline(always)]
 pub(crate) fn step<D: Device>(
     place: &mut CallPlace,

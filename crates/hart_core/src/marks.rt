@@ -1,4 +1,4 @@
-// How much of a run a stop leaves.
+//! How much of a run a stop leaves.
 ghost use Rattle.std.specs.Prelude.{◌≡◌};
 ghost use Rattle.hart_core.specs.Vocabulary.{is_open, no_marks, marks_told};
 ghost use Rattle.hart_core.specs.Stops.{last_of, doubt_of};
@@ -28,7 +28,8 @@ fn is_open(phase: Phase) -> bool
     }
 }
 
-/// After so many events, the last of which found the commit there, at the write of the group's head or not, and left it here.
+/// After `count` events. The last one found the commit in phase `before`, at the write of the group's head or not,
+/// and left it in phase `after`.
 pub fn note(marks: Marks, count: u64, before: Phase, at_point: bool, after: Phase) -> Marks
     ensures { result ≡ marks_told count before at_point after marks }
 {
@@ -48,14 +49,14 @@ pub fn note(marks: Marks, count: u64, before: Phase, at_point: bool, after: Phas
     }
 }
 
-/// The number of the last of so many events.
+/// The number of the last of `count` events.
 pub fn last_of(count: u64) -> Option<u64>
     ensures { result ≡ last_of count }
 {
     if count == 0 { None } else { Some(count - 1) }
 }
 
-/// The same of a doubt, where there is one.
+/// The same of a doubt, if there is one.
 pub fn doubt_of(doubt: Option<u64>) -> Option<u64>
     ensures { result ≡ doubt_of doubt }
 {

@@ -1,4 +1,4 @@
-// How the harts come to be over a device.
+//! How a mount makes the harts over a device.
 ghost use Rattle.std.specs.Prelude.{◌≡◌, IfOk, IfErr};
 ghost use Rattle.hart_core.specs.Vocabulary.{HasBytes, HasWholeBlocks, ComesByCalls, sizes_of, buffer_count, unused_from, IsPlaced, IsWellFormed, faults_with};
 ghost use Rattle.fs_machine.specs.Fresh.{fresh};
@@ -61,7 +61,7 @@ fn prepare<D: Device>(alloc: Global, device: &mut D) -> Result<Ready, MountFault
 }
 
 /// Eight harts at rest over the settled disk, and its sizes; or the device, with the image's first damage, its own failure, or want
-/// of memory. Nothing was written then, unless the device failed in the recovery or behind it.
+/// of memory. Nothing was written then, unless the device failed in the recovery or after it.
 pub(crate) fn mount_harts<D: Device>(
     alloc: Global,
     device: D,

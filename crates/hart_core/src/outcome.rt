@@ -1,4 +1,4 @@
-// What a step comes to.
+//! The outcome of a step.
 use fs_machine::Kind;
 use plain_tree::Reply;
 
@@ -11,7 +11,7 @@ pub enum Stop {
     Halted = 32,
 }
 
-/// What a hart's step came to.
+/// The outcome of a hart's step.
 #[derive(Drop)]
 pub enum Outcome {
     /// The hart has no call.

@@ -1,4 +1,4 @@
-// Lists of events.
+//! Lists of events.
 ghost use Rattle.std.specs.Prelude.{◌≡◌, ◌≤◌, ℕ, IfOk, IfErr, Option, length, []};
 ghost use Rattle.hart_core.specs.Vocabulary.{vec_capacity};
 ghost use Rattle.hart_core.specs.Harts.{shared_of, AreHarts};
@@ -18,13 +18,13 @@ use path_walk::Heard;
 use plain_tree::NoMemory;
 use std::alloc::{AllocError, Global};
 
-/// Who is told of a run's events, in their order, as they are made. Nothing of the run depends on it.
+/// Who notes a run's events, in their order, as they are made. Nothing of the run depends on it.
 pub trait Observer {
-    // What it makes of what it is told.
+    // What it makes of what it notes.
     ghost Took: { Self → CameState → Option HeardState → Self → Type 0 };
 
-    /// What the next event came to; and, of a step that ran, what its hart's call heard, where one of its operations over whole inodes
-    /// ended in it.
+    /// The outcome of the next event. For a step that ran, also what its hart's call heard, if one of its operations
+    /// over whole inodes ended in it.
     fn noted(&mut self, came: &Came, heard: Option<Heard>)
         ensures { Took self.old came.now heard self.new };
 }
@@ -45,7 +45,7 @@ fn copies(alloc: Global, events: &[Event]) -> Result<Vec<Event>, AllocError>
     Ok(copies)
 }
 
-// A world after events, what they came to, and the marks.
+// A world after events, their outcomes, and the marks.
 struct Ran<D: Device> {
     world: World<D>,
     outcomes: Vec<Came>,
@@ -61,7 +61,7 @@ fn hart_of(event: &Event) -> u8
     }
 }
 
-// What the hart's call heard in an event that came to this.
+// What the hart's call heard in an event with this outcome.
 fn heard_in<D: Device>(world: &World<D>, hart: u8, came: &Came) -> Option<Heard>
     ensures heard { result ≡ heard_in came.now (heard_by world.now hart) }
     ensures fits { AreHarts (shared_of D.contents D.failures world.now.harts) world.now.harts.calls }
@@ -117,14 +117,15 @@ fn run_all<D: Device, O: Observer>(
     }
 }
 
-/// These events, one after the other, and what each came to. It copies all calls and takes room for all outcomes first; where memory
-/// is short for that, the world is handed back as it was.
+/// These events, one after the other, and the outcome of each. It copies all calls and takes room for all outcomes
+/// first; if memory is short for that, the world is handed back as it was.
 ///
-/// Each event makes of the world what `World::event` says: so the run has a history, of what the device answered in each step. Where
-/// the world was mounted, and no step found no room, also of a call that hasn't replied yet, one list of tree steps explains the
-/// trace of these events and outcomes, from the image's tree: as long as no path of a call that was started has the element "..",
-/// and where one hart alone has started calls for any paths. The tree on the disk, as recovery sees it, is then what has names in
-/// the tree after a beginning of that list: the steps of the events up to the cut, or up to the doubt.
+/// Each event makes of the world what `World::event` says: so the run has a history, of what the device answered in
+/// each step. If the world was mounted, one list of tree steps explains the trace of these events and outcomes, from
+/// the image's tree. That holds as long as no step found no room, also of a call that hasn't replied yet. No path of
+/// a call that was started may have the element "..", unless one hart alone has started calls. The tree on the disk,
+/// as recovery sees it, is then what has names in the tree after a beginning of that list. That beginning is the
+/// steps of the events up to the cut, or up to the doubt.
 pub fn run<D: Device>(
     alloc: Global,
     world: World<D>,
@@ -144,7 +145,7 @@ pub fn run<D: Device>(
     run_noted(alloc, world, events, &mut ())
 }
 
-/// The same, and an observer is told of each event as it is made.
+/// The same, and an observer notes each event as it is made.
 pub fn run_noted<D: Device, O: Observer>(
     alloc: Global,
     world: World<D>,

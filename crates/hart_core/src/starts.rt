@@ -1,4 +1,4 @@
-// What is tested before a call is started.
+//! What is tested before a call is started.
 ghost use Rattle.std.specs.Prelude.{◌≡◌, true, None};
 ghost use Rattle.hart_core.specs.Vocabulary.{child_of, are_bytes};
 ghost use Rattle.hart_core.specs.Starts.{fault_of, path_fault, part_fault, IsOfBytes};
@@ -28,8 +28,8 @@ pub enum StartRefused {
     NotEmptyHart = 46,
 }
 
-/// The first fault of a call itself: of each path in turn its length, then its zero bytes; or how many bytes are to be read or
-/// written. It takes no memory.
+/// The first fault of a call itself: of each path in turn its length, then its zero bytes; or the count of bytes to
+/// read or write. It takes no memory.
 #[inline(always)]
 pub fn find_fault(call: &Call) -> Option<StartRefused>
     ensures fault { result ≡ fault_of call.now }

@@ -1,4 +1,4 @@
-// What a list of events shows of calls.
+//! What a list of events shows of calls.
 ghost use Rattle.std.specs.Prelude.{◌≡◌, ◌∷◌, ◌++◌, [], None, IfOk, OnOk, map};
 ghost use Rattle.hart_core.specs.Vocabulary.{is_some, ends_at, noted};
 ghost use Rattle.hart_core.specs.Runs.{shown, shown_outcome, trace_in};
@@ -72,7 +72,7 @@ fn begin(
     Ok(())
 }
 
-// What a step of the hart that came to this shows of the calls.
+// What a step of the hart with this outcome shows of the calls.
 fn note_step(
     calls: &mut Vec<TracedCall>,
     unfinished: &mut Vec<usize>,
@@ -122,9 +122,10 @@ fn note(
     }
 }
 
-/// What a run of these events with these outcomes showed of calls: for each accepted start its hart, number and call, and once the
-/// call was finished the number of the event that gave its reply, and the reply. Refused starts are no calls. Of lists of different
-/// lengths it is the trace of so many events as the shorter one has.
+/// What a run of these events with these outcomes showed of calls. For each accepted start it has the hart, its
+/// number and the call. Once the call was finished, it has the number of the event that gave its reply, and the
+/// reply. Refused starts are no calls. Of lists of different lengths it is the trace of the events that the shorter
+/// one counts.
 pub fn trace(alloc: Global, events: &[Event], outcomes: &[Came]) -> Result<Trace, NoMemory>
     ensures { IfOk result (λ t. t ≡ trace_in events.now outcomes.now) }
 {

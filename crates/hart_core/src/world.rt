@@ -1,4 +1,4 @@
-// The world: eight harts with their calls on a mounted disk.
+//! The world: eight harts with their calls on a mounted disk.
 ghost use Rattle.std.specs.Prelude.{◌≡◌, IfOk, IfErr, None, get_or, length};
 ghost use Rattle.block_device.specs.Calls.{ComesByCalls};
 ghost use Rattle.atomic_programs.specs.Calls.{Start as StartOf, Step as StepOf};
@@ -49,9 +49,10 @@ impl<D: Device> Model for World<D> {
 }
 
 impl<D: Device> World<D> {
-    /// Examines the image on a device, takes all memory, and then recovers the disk and frees each node without a name. It answers the
-    /// image's first damage, a failure of the device, or want of memory, and hands the device back; nothing was written then, unless the
-    /// device failed in the recovery or behind it. Each hart is idle, in the root, and has no descriptors (xv6: `fsinit` with `readsb`,
+    /// Examines the image on a device, takes all memory, and then recovers the disk and frees each node without a
+    /// name. If it finds a damage, or the device fails, or memory is short, it answers that and hands the device
+    /// back. An image's first damage is the one answered. Nothing was written then, unless the device failed in the
+    /// recovery or after it. Each hart is idle, in the root, and has no descriptors (xv6: `fsinit` with `readsb`,
     /// `initlog` and `ireclaim`; `binit`, `iinit`, `fileinit`).
     pub fn mount(alloc: Global, device: D) -> Result<World<D>, (D, MountFault)>
         ensures ok { IfOk result (λ w. IsWellFormed (D.contents device) × Rests D.contents D.failures device w.harts
@@ -120,9 +121,9 @@ impl<D: Device> World<D> {
         }
     }
 
-    /// Starts a hart's call. It is refused, and handed back, where there is no such hart, where the hart has a call or is the child of
-    /// another one's, at the call's own first fault, and last where the child can't be one; nothing has changed then. A stopped
-    /// world takes starts as before. No start calls the device.
+    /// Starts a hart's call. It is refused, and handed back, if there is no such hart, or the hart has a call or is
+    /// the child of another one's. It is also refused at the call's own first fault, and last if the child can't be
+    /// one. A refusal changes nothing. A stopped world takes starts as before. No start calls the device.
     #[inline(always)]
     pub fn start(&mut self, hart: u8, call: Call) -> Result<(), (Call, StartRefused)>
         ensures makes { Makes D.contents D.failures self.old.sizes (StartOf hart call) self.old.harts
@@ -145,8 +146,8 @@ impl<D: Device> World<D> {
         }
     }
 
-    /// One operation of a hart's call. It is idle where there is no such hart, or the hart has no call; and a call is stopped by the
-    /// device's failure in this very step, or since the device has failed before. At most one call of the device is made.
+    /// One operation of a hart's call. It is idle if there is no such hart, or the hart has no call. A call is
+    /// stopped if the device fails in this very step, or has failed before. At most one call of the device is made.
     #[inline(always)]
     pub fn step(&mut self, hart: u8) -> Outcome
         ensures makes { Makes D.contents D.failures self.old.sizes
@@ -164,9 +165,10 @@ impl<D: Device> World<D> {
         self.harts.step(&mut self.last, hart)
     }
 
-    /// What a hart's call heard in its last step that ran, where one of its operations over whole inodes ended in that step; of a call that
-    /// has replied, until another one does. A reader who keeps the tree beside a world (the crate explain) goes on by it: `step` says what
-    /// it is after each step. What each call has in hand goes with what the harts share.
+    /// What a hart's call heard in its last step that ran, if one of its operations over whole inodes ended in that
+    /// step. Of a call that has replied it stays until another one does. A reader who keeps the tree beside a world
+    /// (the crate explain) goes on by it: `step` says what it is after each step. What each call has in hand goes
+    /// with what the harts share.
     pub fn heard(&self, hart: u8) -> Option<Heard>
         ensures heard { result ≡ heard_by self.now hart }
         ensures fits { AreHarts (shared_of D.contents D.failures self.now.harts) self.now.harts.calls }
@@ -174,16 +176,16 @@ impl<D: Device> World<D> {
         self.harts.heard(hart, self.last)
     }
 
-    /// Whether a call under way claims an inode for which none of the fifty places in memory was left, and is to be told so in its next
-    /// step. A reader who keeps the tree beside the world sees each other want of room in the very step that finds it; this one it has to
-    /// ask for, at the end of a run.
+    /// Whether a call under way claims an inode for which none of the fifty places in memory was left, and will hear
+    /// so in its next step. A reader who keeps the tree beside the world sees each other want of room in the step
+    /// that finds it. This one the reader has to ask for, at the end of a run.
     pub fn lacks_place(&self) -> bool
         ensures { result ≡ some_lacks_place self.now.harts }
     {
         self.harts.lacks_place()
     }
 
-    /// Where the log's commit is: none is under way, or so many of its blocks were copied.
+    /// How far the log's commit is: none is under way, or how many of its blocks were copied.
     pub fn phase(&self) -> Phase
         ensures { result ≡ self.now.harts.core.log.phase }
     {
@@ -197,8 +199,9 @@ impl<D: Device> World<D> {
         self.harts.is_at_point()
     }
 
-    /// Ends it at any moment, in mid-call or in the middle of a commit too, also after a failure of the device, without a call of the
-    /// device, and gives the device: its disk passes all checks as recovery sees it, so that it can be mounted again.
+    /// Ends it at any moment, also in mid-call, in the middle of a commit, or after a failure of the device. It makes
+    /// no call of the device, and gives the device back. Its disk passes all checks as recovery sees it, so that it
+    /// can be mounted again.
     pub fn unmount(self) -> D
         ensures device { result ≡ self.harts.core.log.cache.device }
         ensures well { IsWellFormed (D.contents result) }
@@ -219,18 +222,19 @@ impl<D: Device> World<D> {
         let _ = &self.harts;
     }
 
-    /// A law, for a reader; nothing is done. Unless a failure of the device has stopped the world: wherever no hart is in a
-    /// transaction, the blocks as the log and its buffers show them are a well-formed image, and so is the disk that recovery would
-    /// leave, also in the middle of a commit, with the same tree.
+    /// A law, for a reader; nothing is done. It holds unless a failure of the device has stopped the world. Whenever
+    /// no hart is in a transaction, the blocks as the log and its buffers show them are a well-formed image. So is
+    /// the disk that recovery would leave, also in the middle of a commit, with the same tree.
     pub fn quiet_blocks_are_an_image(&self)
         ensures { QuietBlocksAreAnImage D.contents D.failures self.now.harts }
     {
         let _ = &self.harts;
     }
 
-    /// A law, for a reader; nothing is done. A step waits only where the hart has a call, whose next operation must wait: another hart
-    /// has the very lock or the very buffer in its hand that this operation asks for, a commit that of the block which it copies next;
-    /// or it joins a transaction, and a commit is under way or the log has no room for one more.
+    /// A law, for a reader; nothing is done. A step waits only if the hart has a call, and its next operation must
+    /// wait. Either another hart has in hand the very lock or buffer that this operation asks for, or a commit has
+    /// the buffer of the block that it copies next. Or the operation joins a transaction, and a commit is under way
+    /// or the log has no room for one more.
     pub fn waits_by_the_rule(&self)
         ensures { WaitsByTheRule D.contents D.failures self.now.sizes self.now.harts }
     {

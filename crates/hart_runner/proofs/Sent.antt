@@ -1,5 +1,5 @@
--- The kernel may be shared by threads, and a seat may go to another one. Said part by part, since a search through all that stands under the
--- lock would be too long.
+-- The kernel may be shared by threads, and a seat may go to another one. Each part has its own proof, because a
+-- search through all that is under the lock would be too long.
 use mathlib.Core.List.{List, [], ◌∷◌}
 use denote.RattleType.{RattleType}
 use denote.Param.Send.{IsSend, IsSync, view_send, sendable}
@@ -49,7 +49,7 @@ kernel_sync L G g s = declared_sync (kernel.the_type L G g) (search (inside_send
 pub seat_send : (L : RattleType) (g : LedgerGhosts L.Denot) → IsSend L → IsSend (seat.the_row L g)
 seat_send L g s = view_send _ _ _ _ _ (declared_send (held.the_type L g) (search (share.the_send, reply.the_send, sendable, crosses) depth 60 fits 20000))
 
--- ---- tuples and closures of so many parts
+-- ---- tuples and closures of any count of parts
 
 abbrev EachSend : List RattleType → Type 0
 EachSend [] = Unit {0}

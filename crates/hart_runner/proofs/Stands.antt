@@ -1,7 +1,7 @@
--- A seat's reply stands in the list.
+-- A seat's reply is in the list.
 use Rattle.hart_runner.proofs.Vocabulary.{ℕ, ◌≡◌, ◌<◌, ◌++◌, ◌∷◌, [], ◌∙◌, List, All, Some, length, slice_get, slice_index_or, sym, ap, subst, arith, slice_get_read, length-append, get_or-append_seam, StoredRun, replies_of, Reply, SeatV}
 
--- what was added last stands there
+-- what was added last is there
 pub added : (xs : List Reply) (v : Reply) → slice_get (xs ++ v ∷ []) (length xs) ≡ Some v
 added xs v = slice_get_read (xs ++ v ∷ []) (length (xs ++ v ∷ [])) (length xs) v (λ i. length (xs ++ v ∷ [])) (omega (arith, length-append xs (v ∷ []))) (sym (get_or-append_seam xs v [] v))
 

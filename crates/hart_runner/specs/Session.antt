@@ -7,6 +7,6 @@ use Rattle.hart_runner.specs.Seats.{SeatV}
 abbrev pub Has : {L : _} → SeatV → Receipt L → Type 0
 Has t r = (r.hart ≡ t.hart) × (slice_get t.replies r.place ≡ Some (r.reply))
 
--- the receipt's reply stands in the list, at its place among its hart's
+-- the receipt's reply is in the list, at its place among its hart's
 abbrev pub StandsIn : {L : _} → StoredRun → Receipt L → Type 0
 StandsIn c r = slice_get (replies_of r.hart c) r.place ≡ Some (r.reply)

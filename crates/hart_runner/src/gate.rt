@@ -1,7 +1,7 @@
-//! Where workers ask before each step.
+//! What workers ask before each step.
 use std::sync::Wait;
 
-/// Where a worker asks before each step of a call, with no lock held.
+/// What a worker asks before each step of a call, with no lock held.
 pub trait Gate {
     /// Before this hart makes a try of its call; they are numbered from 0, and the greatest number stays.
     fn at(&self, rt: &impl Wait, hart: u8, number: u64);

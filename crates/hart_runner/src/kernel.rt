@@ -24,11 +24,12 @@ use std::time::Duration;
 // How often a worker looks for the lock before it sleeps until it is free.
 const LOOKS: u32 = 64;
 
-// So many microseconds it sleeps between two looks. What a step works on is in the cache of the processor that made the last one, and to move it takes
-// longer than many steps do. So each worker makes many events before another one has the lock, when several want it.
+// How many microseconds a worker sleeps between two looks. What a step works on is in the cache of the processor that
+// made the last one, and to move it takes longer than many steps do. So each worker makes many events before another
+// one has the lock, when several want it.
 const ASIDE: u64 = 1000;
 
-// What stands under the lock: the world, and how many workers wait for others.
+// What is under the lock: the world, and how many workers wait for others.
 struct Inside<L: Ledger> {
     locked: Box<Locked<L>>,
     waiting: usize,
@@ -211,8 +212,8 @@ impl<L: Ledger> BusySeat<L> {
 }
 
 impl<L: Ledger, G: Gate + Drop> Kernel<L, G> {
-    /// A kernel over this image, on a disk that passes so many calls and then fails, and a seat for each hart. It answers the image's
-    /// first damage, a failure of the device, or want of memory.
+    /// A kernel over this image, on a disk that passes `fuse` calls and then fails, and a seat for each hart. It
+    /// answers the image's first damage, a failure of the device, or want of memory.
     pub fn open(
         alloc: Global,
         blank: Blank,
@@ -247,8 +248,8 @@ impl<L: Ledger, G: Gate + Drop> Kernel<L, G> {
         Ok((kernel, seats_of(alloc, parts)))
     }
 
-    /// Ends the kernel, without a call of the device. `Ok` only where each seat's replies are those of its hart in the list, in their
-    /// order; as many calls were started and answered then, together, as the seats count.
+    /// Ends the kernel, without a call of the device. `Ok` only if each seat's replies are those of its hart in the
+    /// list, in their order. The seats together then count the calls that were started and answered.
     #[tactic(auto, using(crate::proofs::Listed::all_seats))]
     pub fn close(self, seats: [Seat<L>; 8]) -> Result<Closed<L>, Strange<L>>
         requires { L.parts ≡ 8 }
@@ -313,7 +314,7 @@ impl<L: Ledger, G: Gate + Drop> Kernel<L, G> {
         }
     }
 
-    /// Goes on with a call that was stopped. It is stopped again where nothing has changed.
+    /// Goes on with a call that was stopped. It is stopped again if nothing has changed.
     pub fn resume<R: Wait>(
         &self,
         rt: &R,
@@ -392,7 +393,7 @@ impl<L: Ledger, G: Gate + Drop> Kernel<L, G> {
         unreachable!()
     }
 
-    // Gives the lock up, and wakes those who wait where what was done may have freed what they wait for.
+    // Gives the lock up, and wakes those who wait, if what was done may have freed what they wait for.
     fn leave(&self, guard: MutexGuard<'_, Inside<L>>, may_free: bool) {
         let wakes = may_free && guard.waiting > 0;
         drop(guard);

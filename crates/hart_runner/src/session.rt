@@ -12,7 +12,7 @@ use std::sync::ledger::Ledger;
 use std::thread;
 use std::thread::Threads;
 
-// A call, with its receipt where there is a reply.
+// A call, with its receipt if there is a reply.
 #[tactic(auto, using(crate::proofs::Stands::added))]
 fn with_receipt<L: Ledger, G: Gate + Drop, R: Wait>(
     rt: &R,
@@ -44,7 +44,8 @@ fn all_of<L: Ledger>(a: Seat<L>, b: Seat<L>, others: [Seat<L>; 6]) -> [Seat<L>; 
     [a, b, c, d, e, f, g, h]
 }
 
-/// Two calls in two threads. Both replies stand in the one list, each at its place among its hart's, and each hands its call back.
+/// Two calls in two threads. Both replies are in the one list, each at its place among its hart's, and each hands its
+/// call back.
 #[tactic(auto, using(crate::proofs::Stands::stands))]
 pub fn two_calls<L: Ledger + Send + Sync, G: Gate + Drop + Sync, R: Threads + Wait + Sync>(
     rt: &R,

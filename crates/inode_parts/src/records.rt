@@ -1,4 +1,4 @@
-// Inodes changed whose locks are in hand.
+//! Inodes changed whose locks are in hand.
 ghost use Rattle.std.specs.Prelude.{◌≡◌, IsSome};
 ghost use Rattle.inode_parts.specs.Vocabulary.{bare, inode_at, no_index, with_index, with_record, IsLoadedAt};
 ghost use Rattle.inode_parts.specs.Carries.{with_note};

@@ -1,4 +1,4 @@
--- A run whose events are told to the keeper: what it keeps agrees with the theory from beginning to end.
+-- A run whose events the keeper notes: what it keeps agrees with the theory from beginning to end.
 use Rattle.std.specs.Prelude.{◌<◌, ◌+◌, ◌-◌, ◌^◌, ℕ, suc, List, [], ◌∷◌, Option, length}
 use Rattle.calls_on_blocks.proofs.Vocabulary.{sym, subst, arith}
 use Rattle.atomic_programs.specs.Calls.{Event, State, next, run, with_answer}
@@ -23,7 +23,7 @@ use Rattle.kept_histories.proofs.Events.{event_agrees}
 use Rattle.kept_histories.proofs.KeptHistory.{history_in}
 
 module _ {D : Type 0} (contents : D → List (List ℕ)) (failures : D → ℕ) (sizes : Super) (under : ℕ → ℕ → Option UnderWay) where
-  -- after so many events: it agrees, and the history is of so many events
+  -- after n events: it agrees, and the history is of n events
   pub record AgreesAt (n : ℕ) (s : State (block_calls sizes)) (b : History) (w : HartsOf D) (k : KeptTree) : Type 0 where
     pub agrees : Agrees contents failures sizes s b w k (under n)
     pub counted : IsCounted n b

@@ -1,5 +1,5 @@
--- A read's buffer in code fills as the read goes on: what is read stands at its front in the end, and so the call goes on as one whose
--- buffer was as it began.
+-- A read's buffer in code fills as the read goes on. In the end its front has what is read, and so the call goes on
+-- as one whose buffer was as it began.
 use Rattle.std.specs.Prelude.{◌≡◌, ◌⊎◌, ℕ, List, [], ◌++◌, length, take, drop}
 use Rattle.calls_on_blocks.proofs.Vocabulary.{refl, sym, ◌∙◌, ap, inl, inr}
 use Rattle.std.proofs.Math.Seq.{take-append_seam, drop-append_seam}
@@ -30,7 +30,7 @@ use Rattle.kept_histories.proofs.Controls.{Answers, goes_same, same_end}
 abbrev pub front : Message → List ℕ
 front x = take (count_in x.1) x.0
 
--- the same text, where behind those bytes stands what stood in this one
+-- the same text, with what this one had there after those bytes
 abbrev pub refilled : List ℕ → Handover Message Carry → List ℕ
 refilled text r = front r.answer ++ drop (length (front r.answer)) text
 
@@ -67,7 +67,7 @@ refilled_is text b c = ap (λ (z : List ℕ). z ++ drop (length z) text) (sym (f
 pub fills_so : (text : List ℕ) (q : Part) → FillsFrom text q → EndsFilled text q
 fills_so text q fills = fills (λ r. Ret (showing (r.answer.0))) (λ r. Ret (showing (refilled text r))) (λ b c. ap (λ (z : List ℕ). Ret (showing z)) (refilled_is text b c))
 
--- ---- what is left of a call, by what its text is by then
+-- ---- the rest of a call, by what its text is by then
 
 -- It is a read whose part is under way, of which this was the buffer as the part began; or the text is what it was.
 abbrev pub IsRead : (List ℕ → programs.P Reply) → List ℕ → Part → Type 0

@@ -1,5 +1,6 @@
--- A claim for whose inode there is no place in memory stands behind that for one step: it gives its block back, and then it is answered so. A
--- claim that finds no room otherwise ends in that step. And while each step finds room no claim stands so.
+-- A claim whose inode has no place in memory stays under way for one step more: it gives its block back, and then it
+-- is answered so. A claim that finds no room otherwise ends in that step. And while each step finds room no claim is
+-- at that point.
 use Rattle.std.specs.Prelude.{◌≡◌, ◌≢◌, ◌⊎◌, ℕ, zero, suc, ◌+◌, ◌<◌, Bool, true, false, nat_lt, if◌then◌else◌, List, [], ◌∷◌, ◌++◌, length, Option, Some, None, is_some, is_none, slice_get, position}
 use Rattle.calls_on_blocks.proofs.Vocabulary.{refl, sym, ◌∙◌, ap, subst, inl, inr, arith, append_assoc, append-nil, put}
 use Rattle.atomic_programs.proofs.Explains as explained
@@ -60,7 +61,7 @@ use Rattle.kept_histories.proofs.Basics.{longer, none_some, not_both}
 
 -- ---- what is left
 
--- what is left of a claim for which there was no place: its block is given back, and that is the answer
+-- the rest of a claim for which there was no place: its block is given back, and that is the answer
 pub record GivesBack (left : P (Handover above.ClaimResult Carry)) : Type 0 where
   pub block : ℕ
   pub carry : Carry
@@ -104,14 +105,14 @@ module _ (t : TablesState) (w : above.World) (shows : tables.Shows t w (tables.l
       let c : w.refs e.number ≡ e.references = shows.places.counts e.number ∙ ap (references_in t.entries) at ∙ ap references_at there in
       (shows.range e.number (omega (arith, c, lt))).1
 
-  -- where the table has a free place the world above has one
+  -- if the table has a free place, the world above has one
   has_place : (k : ℕ) → position is_unused t.entries ≡ Some k → nat_lt (referenced w) place_count ≡ true
   has_place k e =
       ap (nat_lt (referenced w)) (sym shows.sound.inodes.places)
       ∙ sym (room_is w.all.ninodes t.entries w.refs shows.sound.inodes.once below shows.places.counts)
       ∙ ap is_some e
 
-  -- where an inode was claimed there was one
+  -- if an inode was claimed, there was a place
   claimed_place : (h b : ℕ) (s s' : steps.State) (ns : List ℕ) (i : ℕ) → s.tables ≡ t → (o : Option ℕ) → first_free t.entries ns ≡ o → steps.claim_first h b s o ≡ Ran (steps.Claims i) s'
       → nat_lt (referenced w) place_count ≡ true
   claimed_place h b s s' ns i same None e ran = absurd cc
@@ -128,7 +129,7 @@ module _ (t : TablesState) (w : above.World) (shows : tables.Shows t w (tables.l
           let no : Ran steps.NoPlace (record s { tables = t }) ≡ Ran (steps.Claims i) s' = sym full ∙ ran in
           absurd cc
 
--- what a step came to in all that harts share
+-- the outcome of a step in all that harts share
 ran_state : (h : ℕ) (op : steps.Op) (m : steps.Answer op → Option Acts) (w : W) (d : ExecResult (steps.Answer op) steps.State) (b : steps.Answer op) (u : W)
     → both machine h m w.seen (exec_result_in (λ v. record (w.real) { blocks = v }) (came_to h op w.real.blocks d)) ≡ Ran b u → d ≡ Ran b u.real.blocks.state
 ran_state h op m w Waits b u e = absurd (never_ran b u e)
@@ -137,7 +138,7 @@ ran_state h op m w (Ran a t) b u e = λ i. Ran (answer_or b (e i)) ((ran_to u (e
 
 -- ---- a claim's program
 
--- a step that is answered so runs only where there is a place
+-- a step with this answer runs only if there is a place
 abbrev FindsPlace : Super → (op : steps.Op) → (steps.Answer op → Option Acts) → steps.Answer op → Type 0
 FindsPlace sizes op mark b =
     (h : ℕ) (x : Outside) (w u : W) → (block_calls sizes).M.go h x op mark w ≡ Ran b u → Shows w.real.blocks w.seen → nat_lt (referenced w.seen) place_count ≡ true
@@ -149,8 +150,8 @@ finds_place sizes b ns mark i = λ h x w u ran shows.
     claimed_place s.tables w.seen shows.tables h b s u.real.blocks.state ns i refl (first_free s.tables.entries ns) refl
     (ran_state h (steps.Claim b ns) mark w (steps.claim_first h b s (first_free s.tables.entries ns)) (steps.Claims i) u ran)
 
--- What one of its steps does above: nothing; or an inode is taken, for which there is a place; or there is no place, or no inode. Only where
--- there is no place it gives back then.
+-- What one of its steps does above: nothing; or an inode is taken, for which there is a place; or there is no place,
+-- or no inode. Only if there is no place it gives back then.
 data Turn (sizes : Super) (inode_type : InodeType) (m : above.ClaimResult → Option above.Mark) (op : steps.Op) (mark : steps.Answer op → Option Acts) (b : steps.Answer op)
     (left : P (Handover above.ClaimResult Carry)) : Type 0 where
   Quiet : mark b ≡ None → (GivesBack left → ⊥) → Turn sizes inode_type m op mark b left
@@ -173,7 +174,7 @@ module _ (sizes : Super) (inode_type : InodeType) (m : above.ClaimResult → Opt
       by None = (Quiet refl (reads_on b unmarked f), λ bytes. (Quiet refl (on bytes), each bytes))
 
   module _ (c : Carry) where
-    -- it goes on with the next block, where there is one
+    -- it goes on with the next block, if there is one
     more_on : (k q : ℕ) → GivesBack (claim_from k sizes inode_type c m q) → ⊥
     unfolding claim_from
     more_on zero q g = ends_on _ g
@@ -256,7 +257,7 @@ module _ (sizes : Super) (h : ℕ) (x : Outside) (w u : W) (op : steps.Op) (mark
         sees (acts (Claim inode_type) (above.Picks i) m) is
         ∙ ap (λ (e : Bool). ran_to w.seen (with_mark h m (if e then Ran (above.New i) (claimed h inode_type w.seen i) else Ran above.NoPlace w.seen))) room
 
-    -- where it finds no room it ends, or gives back next
+    -- if it finds no room, it ends, or gives back next
     turn_short : ((a : above.ClaimResult) → MakesNone (m a)) → ((a : above.ClaimResult) → spoils (m a) ≡ says_no_room (Claim inode_type) a) → Shows w.real.blocks w.seen
         → w.seen.clean ≡ true → u.seen.clean ≡ false → Turn sizes inode_type m op mark b left
         → ((z : Handover above.ClaimResult Carry) × (left ≡ Ret z) × (spoils (m z.answer) ≡ true)) ⊎ GivesBack left
@@ -268,7 +269,7 @@ module _ (sizes : Super) (h : ℕ) (x : Outside) (w u : W) (op : steps.Op) (mark
     turn_short none tells shows clean short (FindsNoPlace is gives) = inr gives
     turn_short none tells shows clean short (FindsNone is c ends) = inl (record { answer = above.NoInode; carry = c }, ends, tells above.NoInode)
 
-    -- where it gives back next it has found none
+    -- if it gives back next, it has found none
     turn_gives : spoils (m above.NoPlace) ≡ true → Turn sizes inode_type m op mark b left → GivesBack left → u.seen.clean ≡ false
     turn_gives tells (Quiet is on) gives = absurd (on gives)
     turn_gives tells (Takes i is place on) gives = absurd (on gives)
@@ -294,8 +295,8 @@ module _ (sizes : Super) (h : ℕ) (x : Outside) (w u : W) (op : steps.Op) (mark
 
 module _ (sizes : Super) (h : ℕ) (x : Outside) (s : State (block_calls sizes)) (made : Made (block_calls sizes)) (was now : ℕ → Option UnderWay) (r : RunsAStep sizes h x s made was now)
     (lead : LeadTo (handlers sizes r.under.hand r.under.op r.under.mark) r.under.ran r.under.left) (tells : (a : above.Answer r.under.op) → spoils (r.under.mark a) ≡ says_no_room r.under.op a) where
-  -- A claim that finds no room in this step ends in it, or gives its block back next. What the tables show of the world above counts, where an
-  -- inode was taken.
+  -- A claim that finds no room in this step ends in it, or gives its block back next. If an inode was taken, what the
+  -- tables show of the world above counts.
   pub claim_short : time_of r.under.op ≡ InOne → Shows s.world.real.blocks s.world.seen → ((a : above.Answer r.under.op) → MakesNone (r.under.mark a))
       → s.world.seen.clean ≡ true → made.after.world.seen.clean ≡ false → EndsShort r.under (r.rest r.answer) ⊎ GivesBackOf r.under.op (r.rest r.answer)
   claim_short time shows none clean short =
@@ -327,19 +328,19 @@ none_each Is under none h u e = none_some u (sym (none h) ∙ e)
 
 -- ---- marks
 
--- what is left of the call from this operation on fits
+-- the rest of the call from this operation on fits
 pub record FitsOn (u : UnderWay) : Type 0 where
   pub most : ℕ
   pub fits : AllFitUpTo most (Do u.op u.mark u.rest)
 
--- so its mark says that there was no room where its answer says so
+-- so its mark says that there was no room when its answer says so
 pub says_so : (u : UnderWay) → FitsOn u → (a : above.Answer u.op) → spoils (u.mark a) ≡ says_no_room u.op a
 says_so u f = f.fits.1
 
 abbrev pub AllSpoil : (ℕ → Option UnderWay) → Type 0
 AllSpoil under = (h : ℕ) (u : UnderWay) → under h ≡ Some u → FitsOn u
 
--- it is so where no call is under way
+-- it is so if no call is under way
 pub none_spoil : (under : ℕ → Option UnderWay) → ((h : ℕ) → under h ≡ None) → AllSpoil under
 none_spoil under none = none_each FitsOn under none
 
@@ -398,7 +399,7 @@ NoneGivesBack under = (h : ℕ) (u : UnderWay) → under h ≡ Some u → GivesB
 abbrev KeepsOn : UnderWay → Type 0
 KeepsOn u = GivesBackOf u.op u.left → ⊥
 
--- none does where no call is under way
+-- none does if no call is under way
 pub none_gives : (under : ℕ → Option UnderWay) → ((h : ℕ) → under h ≡ None) → NoneGivesBack under
 none_gives under none = none_each KeepsOn under none
 

@@ -1,4 +1,4 @@
--- Programs on the blocks as code has them: how one goes on with these answers, and where it is at its end.
+-- Programs on the blocks as code has them: how one goes on with these answers, and whether it is at its end.
 use Rattle.std.specs.Prelude.{◌≡◌, Bool, true, false, Option}
 use Rattle.calls_on_blocks.proofs.Vocabulary.{sym, ◌∙◌, ap}
 use Rattle.atomic_programs.specs.Prog.{Prog, Ret, Do, bind, plain}

@@ -1,5 +1,5 @@
--- Of a history of fewer events than a number can tell: its calls are no more than its events, and each of its entries has the number of its
--- event as code has it.
+-- Of a history of fewer events than a number can count. Its calls are no more than its events, and each of its
+-- entries has the number of its event as code has it.
 use Rattle.std.specs.Prelude.{◌≡◌, ◌≤◌, ◌<◌, ◌^◌, ℕ, zero, suc, List, [], ◌∷◌, ◌++◌, length, map, Option, Some, None}
 use Rattle.calls_on_blocks.proofs.Vocabulary.{refl, sym, ◌∙◌, ap, subst, arith}
 use Rattle.std.proofs.Math.Nat.{min-eq_left}

@@ -1,5 +1,5 @@
--- The event that is the first to find no room: it is a hart's step, and the kept tree knows of it then, or the hart's call stands right behind
--- a claim of which it is told in its next step. No other event finds none.
+-- The event that is the first to find no room is a hart's step. Either the kept tree knows of it then, or the hart's
+-- call is just after a claim whose want of room it hears in its next step. No other event finds none.
 use Rattle.std.specs.Prelude.{◌≡◌, ◌⊎◌, ℕ, Bool, true, false, not, ◌&&◌, List, Option, Some, None, get_or, nat_lt, ◌==◌}
 use Rattle.calls_on_blocks.proofs.Vocabulary.{refl, sym, ◌∙◌, ap, subst, inl, inr}
 use Rattle.atomic_programs.specs.Calls.{Began, Begins, DidEnd, DidRun, DidStop, DidWait, Event, EventOutcome, Made, Refused, Refuses, Started, WasIdle, WasStopped, Run, Start, State, Step, Theory, begun, busy_in, makes, moved, next, start_run, step_prog, step_run, step_unless, tried, with_answer}
@@ -137,8 +137,8 @@ module _ (sizes : Super) (s : State (block_calls sizes)) where
 -- ---- what is known of the event
 
 module _ (sizes : Super) where
-  -- The operations under way go on as they act, each in its hart's call, and their marks say what their answers say of room; what the tree
-  -- shows has the mark of the answer; and the world above holds, and is shown.
+  -- The operations under way go on as they act, each in its hart's call, and their marks say what their answers say
+  -- of room. What the tree shows has the mark of the answer; and the world above holds, and is shown.
   pub record KnownShort (f : Event Call Outside) (s : State (block_calls sizes)) (was now : ℕ → Option UnderWay) : Type 0 where
     pub does : EventDoes sizes f s (makes (block_calls sizes) f s) was now
     pub fits : (h : ℕ) → Fits sizes (s.running h) (was h)
@@ -211,7 +211,7 @@ module _ {D : Type 0} (contents : D → List (List ℕ)) (failures : D → ℕ) 
         | inr lacks ↦ absurd (let q : Some tt ≡ None = lacks.0 in cc)
       ]
 
-  -- Where the event is the first to find no room, that is known, or a call lacks a place that it isn't told of yet.
+  -- If the event is the first to find no room, that is known, or a call lacks a place and hasn't heard so yet.
   pub event_short : (e : HartEvent) (c : Came) (n : NotesEvent contents failures (λ a d x z. KeepsEvent a e d x z) sizes e old k c new k')
       → let f = with_answer (event_of e) (said_of c (shared_of contents failures new)) in
       KnownShort sizes f s was now → (next (block_calls sizes) f s).world.seen.clean ≡ false → (k'.full ≡ true) ⊎ SomeLacks new k'

@@ -20,7 +20,7 @@ use Rattle.run_laws.specs.Vocabulary.{Outside}
 use Rattle.tree_laws.specs.History.{History, passes}
 use Rattle.tree_laws.specs.Moves.{Deed, Stage}
 
--- ---- what an event came to, in code and in the theory
+-- ---- the outcome of an event, in code and in the theory
 
 module _ (sizes : Super) where
   abbrev L : Theory

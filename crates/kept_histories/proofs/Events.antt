@@ -115,7 +115,7 @@ module _ {D : Type 0} (contents : D → List (List ℕ)) (failures : D → ℕ) 
       (after_as (Step h Passes) c n.makes) (are_amid contents failures new n.fits) known.found known.clean (sees h made r known (subst HasRun (sym is) tt))
       tt refl (known.rests h) made.after refl k' reply n.took.ends)
 
-  -- An event that code makes and tells the keeper of takes all three on together.
+  -- An event that code makes and reports to the keeper takes all three on together.
   pub event_agrees : (e : HartEvent) (c : Came) (n : NotesEvent contents failures (λ a d x z. KeepsEvent a e d x z) sizes e old k c new k')
       → let f = with_answer (event_of e) (said_of c (shared_of contents failures new)) in
       Known sizes f s was now → AgreesAfter f

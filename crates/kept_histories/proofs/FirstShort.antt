@@ -1,5 +1,5 @@
--- The step that is the first to find no room: the kept tree knows of it then, or the hart's call stands right behind a claim of an inode for
--- which no place in memory was left, of which it is told in its next step.
+-- The step that is the first to find no room. Either the kept tree knows of it then, or the hart's call is just after
+-- a claim of an inode for which no place in memory was left. It hears so in its next step.
 use Rattle.std.specs.Prelude.{◌≡◌, ◌⊎◌, ℕ, Bool, true, false, not, ◌&&◌, ◌||◌, List, [], Option, Some, None, get_or, is_some}
 use Rattle.calls_on_blocks.proofs.Vocabulary.{refl, sym, ◌∙◌, ap, subst, inl, inr}
 use Rattle.atomic_programs.proofs.Explains.{Some-inj}
@@ -97,7 +97,7 @@ sort (Claim inode_type) = inr (inr (inl (refl, refl, (refl, λ m fine a. fine a)
 sort Leave = inr (inr (inr (λ a. refl)))
 sort op = inr (inl (refl, refl))
 
--- a claim whose block is given back is one, and its mark says that there was no room where it is answered so
+-- a claim whose block is given back is one, and its mark says that there was no room if it is answered so
 claim_spoils : (op : above.Op) (m : above.Answer op → Option above.Mark) (left : P (Handover (above.Answer op) Carry)) → GivesBackOf op left
     → ((a : above.Answer op) → spoils (m a) ≡ says_no_room op a) → (t : InodeType) × (op ≡ Claim t) × (spoils (m (answer_to [] op (heard.Claimed claimed.NoPlace))) ≡ true)
 claim_spoils (Claim t) m left gives tells = (t, refl, tells above.NoPlace)
@@ -114,7 +114,7 @@ end_of (Do op m k) e = absurd cc
 
 -- ---- the step
 
--- Where the kept tree's mark is that of an operation that found no room, that is known.
+-- If the kept tree's mark is that of an operation that found no room, that is known.
 module _ (k : KeptTree) (h : ℕ) (v : Under) (m : Option above.Mark) where
   known_by : (o : Option Mark) (between : KeptTree) → MovesByAny k h o between → marked_as (action_in v.whole) o ≡ m → spoils m ≡ true → between.full ≡ true
   known_by None between by same e = true_false (sym e ∙ ap spoils (sym same))
@@ -187,7 +187,7 @@ module _ {D : Type 0} (contents : D → List (List ℕ)) (failures : D → ℕ) 
   acted : or_else r.acts r.under.acted ≡ Some acts.a
   acted = ap (λ (o : Option (above.Answer r.under.op)). or_else o r.under.acted) acts.is
 
-  -- where it ends, with that answer
+  -- if it ends, with that answer
   ended : (z : Handover (above.Answer r.under.op) Carry) → r.rest r.answer ≡ Ret z → acts.a ≡ z.answer
   ended z is = Some-inj acts.a z.answer (sym acted ∙ subst (EndsAsActed r.under (or_else r.acts r.under.acted)) is r.ends)
 
@@ -299,7 +299,7 @@ module _ {D : Type 0} (contents : D → List (List ℕ)) (failures : D → ℕ) 
   never_short : (m : Option above.Mark) → spoils m ≡ false → spoils m ≡ true → Result
   never_short m room e = true_false (sym e ∙ room)
 
-  -- Full is known then, or the call lacks a place that it isn't told of yet.
+  -- Full is known then, or the call lacks a place and hasn't heard so yet.
   pub first_short : Result
   first_short = by (sort r.under.op)
     where

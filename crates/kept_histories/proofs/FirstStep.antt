@@ -1,5 +1,5 @@
--- An operation that takes an inode's lock, where its program goes on after the first step: the settled tree has the inode as the world above
--- has it on its disk.
+-- When an operation takes an inode's lock, its program may go on after the first step. Then the settled tree has the
+-- inode as the world above has it on its disk.
 use Rattle.std.specs.Prelude.{◌≡◌, ◌⊎◌, ◌<◌, ◌≤◌, ◌&&◌, ◌==◌, nat_lt, ℕ, Bool, true, false, if◌then◌else◌, IsSome, Option, Some, None}
 use Rattle.std.specs.Option.{option_map}
 use Rattle.inodes_on_blocks.proofs.Vocabulary.{refl, sym, ◌∙◌, ap, subst, inl, inr, arith, nat_tests, none-some, and_true, load_unless, Named, search, largest_size}
@@ -92,7 +92,7 @@ module _ (sizes : Super) (h n : ℕ) (w : W) (lt : h < hart_count) (shows : Show
   abbrev goal : Type 0
   goal = ShownAlike (settle w.seen.all) w.seen n
 
-  -- where nobody has its lock nobody keeps it
+  -- if nobody has its lock, nobody keeps it
   unkept : w.seen.lock n ≡ None → w.seen.keeper n ≡ None
   unkept free = by (w.seen.keeper n) refl
     where

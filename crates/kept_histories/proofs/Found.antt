@@ -48,7 +48,7 @@ acts_room h x op m v w a e clean = ran_room h m v w a (exec h x op v) (goes_on h
 
 -- ---- the operations under way
 
--- where it has acted, it found room
+-- if it has acted, it found room
 abbrev pub FoundBy : UnderWay → Type 0
 FoundBy u = (a : above.Answer u.op) → u.acted ≡ Some a → spoils (u.mark a) ≡ false
 
@@ -78,7 +78,7 @@ changed_found was now h o is new all j u e = by (same_or j h)
 
 module _ (sizes : Super) (h : ℕ) (x : Outside) (s : State (block_calls sizes)) (made : Made (block_calls sizes)) (was now : ℕ → Option UnderWay) (r : RunsAStep sizes h x s made was now)
     (clean : made.after.world.seen.clean ≡ true) where
-  -- it has found room where it has acted by now
+  -- it has found room if it has acted by then
   pub acted_room : AllFound was → (a : above.Answer r.under.op) → or_else r.acts r.under.acted ≡ Some a → spoils (r.under.mark a) ≡ false
   acted_room all a e = by r.acts r.does e
     where

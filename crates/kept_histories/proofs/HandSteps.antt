@@ -243,7 +243,7 @@ module _ (sizes : Super) where
               subst (InHands h made.after.world.seen) (sym (ap (λ (f : ℕ → Option UnderWay). f h) r.goes_on ∙ changed_same was h (gone_on sizes u (or_else r.acts u.acted) (r.op, r.answer) (r.rest r.answer)) h refl))
               (gone sizes h made.after.world.seen u (or_else r.acts u.acted) (r.op, r.answer) (r.rest r.answer) r.ends on_it)
 
-      -- the world above is as it was, where no step ran
+      -- the world above is as it was, if no step ran
       abbrev HasRun : EventOutcome (block_calls sizes) → Type 0
       HasRun (DidRun did) = Unit {0}
       HasRun (DidEnd reply) = Unit {0}

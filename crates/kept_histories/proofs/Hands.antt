@@ -1,5 +1,5 @@
--- What a call has in hand as its program runs over whole inodes: the program takes the lock of an inode that it has counted up, where the
--- mark depends on what is seen of it.
+-- What a call has in hand as its program runs over whole inodes. If a mark depends on what is seen of an inode, the
+-- program takes the lock of one that it has counted up.
 use Rattle.std.specs.Prelude.{◌≡◌, ◌⊎◌, ◌≤◌, ℕ, ◌+◌, ◌-◌, ◌==◌, Bool, true, false, Option, Some, None}
 use Rattle.atomic_programs.specs.Prog.{Ret, Do}
 use Rattle.inode_machine.specs.Inodes.{Query, AtNothing, AtName, AtEntries}
@@ -7,7 +7,7 @@ use Rattle.inode_machine.specs.Parts.{P}
 use Rattle.inode_machine.specs.World.{Op, Answer, Mark, LocksIt}
 use Rattle.inode_machine.specs.World.Op.{Take, UnlockInode, UpStart, Up, WalkDown, Store, StatFile, LockFile, LockOpen, Join}
 
--- how often it has counted up each inode and not down again, and which one it has counted up just now
+-- how often it has counted up each inode and not down again, and which one it has counted up last
 pub record Hands : Type 0 where
   pub has : ℕ → ℕ
   pub last : Option ℕ

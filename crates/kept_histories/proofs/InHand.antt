@@ -19,8 +19,8 @@ use Rattle.inode_machine.specs.World.Mark.{Fills, Frees, Makes, Mends, Orphans, 
 use Rattle.inode_machine.specs.World.Op.{Take, UnlockInode, UpStart, Up, WalkDown, Store, Join}
 use Rattle.kept_histories.proofs.Hands.{AsksSo, Hands, after, counted, down, one, started, uncounted, up}
 
--- Hart h has this in hand, besides its current directory: it has counted each inode up so often, and nobody keeps one alone. What it
--- counted up just now stands in a directory that it keeps.
+-- Hart h has this in hand, besides its current directory. It has counted each inode up at least as often as this
+-- says, and nobody keeps one alone. What it counted up last has a name in a directory that it keeps.
 pub record HasInHand (h : ℕ) (g : Hands) (w : World) : Type 0 where
   pub hart : h < hart_count
   pub free : (w.desks h).lender ≡ None
@@ -111,7 +111,7 @@ stays_in_hand h g v w s was =
       stands = λ n e. absurd (let q : None ≡ Some n = e in cc);
     }
 
--- a desk where nothing but these other things changed
+-- a desk, if nothing but these other things changed
 desk_still : (h : ℕ) (v w : World) (d : Desk) → w.desks h ≡ d → d.directory ≡ (v.desks h).directory → d.lender ≡ (v.desks h).lender → ((n : ℕ) → (w.harts h).refs n ≡ (v.harts h).refs n) → ((n : ℕ) → v.alone n ≡ false → w.alone n ≡ false) → Stays h v w
 desk_still h v w d is at lender refs shared = record { directory = ap (λ (z : Desk). z.directory) is ∙ at; lender = ap (λ (z : Desk). z.lender) is ∙ lender; refs = refs; shared = shared }
 
@@ -178,7 +178,7 @@ mark_still h (Some (Spoils s)) v =
 
 -- ---- what an operation does, before its mark
 
--- where it ran
+-- if it ran
 record RanSo {A : Type 0} (h : ℕ) (m : A → Option Mark) (d : ExecResult A World) (a : A) (w : World) : Type 0 where
   then_is : World
   ran : d ≡ Ran a then_is

@@ -34,7 +34,7 @@ no_end : {X : Type 0} (op : above.Op) (m : above.Answer op → Option above.Mark
     → ◌≡◌ {A = programs.P Reply} (Do op m k) (Ret r) → X
 no_end op m k r e = absurd (let q : Some op ≡ None = ap asks e in cc)
 
--- what is answered doesn't lie in the text, but for a read
+-- what is answered isn't in the text, but for a read
 pub same_heard : (op : above.Op) (m : above.Answer op → Option above.Mark) → IsFineOp op m → (text other : List ℕ) (x : Heard) → answer_to text op x ≡ answer_to other op x
 same_heard (ReadFile fd n offset count) m fine text other x = absurd fine
 same_heard op m fine text other x = refl
@@ -70,7 +70,7 @@ module _ (u : UnderWay) (v : Under) (x : Heard) (text : List ℕ) (a : above.Ans
   reads_next (whole.Close fd c) ns t e = absurd t
   reads_next (whole.Inherit child c) ns t e = absurd t
 
-  -- what is left of the kept call is that too, or both are at their reply
+  -- the rest of the kept call is that too, or both are at their reply
   kept_next : (Do op m k ≡ hears (text_in v.whole) (whole_of v.listed v.whole) x)
       ⊎ ((r q : Reply) × (Do op m k ≡ programs.say r) × (hears (text_in v.whole) (whole_of v.listed v.whole) x ≡ programs.say q))
   kept_next = elim kept [

@@ -1,4 +1,4 @@
--- The events that the keeper was told of, with what the device said in each, are a history of the run.
+-- The events that the keeper noted, with what the device said in each, are a history of the run.
 use Rattle.std.specs.Prelude.{◌≡◌, ℕ, List, [], ◌∷◌}
 use Rattle.calls_on_blocks.proofs.Vocabulary.{refl, sym, ◌∙◌, ap, subst}
 use Rattle.atomic_programs.specs.Calls.{Event, Start, Step, asked, with_answer}

@@ -1,5 +1,5 @@
--- What is kept of a run of a mounted world is the run's own list, whichever history of it one takes, where each step found room; and that each
--- did is known just then.
+-- What is kept of a run of a mounted world is the run's own list, whichever history of it one takes, if each step
+-- found room. And the keeper knows of a step that found none exactly if there is one.
 use Rattle.std.specs.Prelude.{◌≡◌, ◌⊎◌, ◌↔◌, ◌<◌, ◌^◌, ◌||◌, ℕ, Bool, true, false, List, [], Option, Some, None, length}
 use Rattle.std.proofs.lemmas.Bool.{or_parts}
 use Rattle.calls_on_blocks.proofs.Vocabulary.{refl, sym, ◌∙◌, ap, subst, inl, inr, arith, AllHonest, RunsFrom, IsMoving}
@@ -60,7 +60,7 @@ module _ {D : Type 0} (contents : D → List (List ℕ)) (failures : D → ℕ) 
     abbrev world : WorldOf D
     world = record { harts = w; sizes = sizes; last = last }
 
-    -- the history that the keeper was told of
+    -- the history that the keeper noted
     abbrev told : List (Event Call Outside)
     told = history_in contents failures sizes events cs w new (nothing_kept base) k r
 
@@ -110,7 +110,7 @@ module _ {D : Type 0} (contents : D → List (List ℕ)) (failures : D → ℕ) 
     harts : AreHarts (shared_of contents failures new) new.calls
     harts = harts_at_end contents failures sizes events cs w new (nothing_kept base) k r (idle_harts contents failures w rests.idle)
 
-    -- each step found room just where the keeper knows of none that didn't
+    -- each step found room exactly if the keeper knows of none that didn't
     told_room : length events < 2 ^ 64 → FoundRoom contents failures world told ↔ ((ended (some_lacks_place new) k).full ≡ false)
     told_room few = elim (ends few) [
       | inl e ↦ (

@@ -1,5 +1,5 @@
--- Where no place in memory was left for an inode that a call claims, the claim gives its block back next, and that is its answer: so it is
--- in code just where it is so in the theory, and no other part ends with that.
+-- If no place in memory was left for an inode that a call claims, the claim gives its block back next, and that is
+-- its answer. So it is in code exactly if it is so in the theory, and no other part ends with that.
 use Rattle.std.specs.Prelude.{◌≡◌, ◌⊎◌, ℕ, zero, suc, ◌+◌, ℤ, Bool, true, false, List, [], ◌∷◌, Option, Some, None}
 use Rattle.calls_on_blocks.proofs.Vocabulary.{refl, sym, ◌∙◌, ap, subst, inl, inr}
 use Rattle.atomic_programs.proofs.Explains.{Some-inj}
@@ -93,12 +93,12 @@ is_no_place (above.New n) = false
 is_no_place above.NoInode = false
 is_no_place above.NoPlace = true
 
--- where it has ended, it isn't heard that there was no place
+-- if it has ended, it doesn't hear that there was no place
 abbrev HearsElse : Part → Type 0
 HearsElse (Ret r) = is_no_place (claimed_in (r.answer.1)) ≡ false
 HearsElse (Do o m k) = Unit {0}
 
--- .. nor where it ends in its next step
+-- .. nor if it ends in its next step
 abbrev NextElse : Part → Type 0
 NextElse (Ret r) = Unit {0}
 NextElse (Do o m k) = (a : steps.Answer o) → HearsElse (k a)
@@ -277,7 +277,7 @@ part_gives : (path : List ℕ) (m : Notes) (q : InodePart) (h : Hand) → finds_
 part_gives path m (part.Claim p) h e = claim_gives path (carry_in path m h) p.claim h e
 part_gives path m q h e = absurd cc
 
--- So the part's next step ends it, and is told that there was no place.
+-- So the part's next step ends it, and hears that there was no place.
 pub lacks_next : (l : Lowered) (h : Hand) → lacks_place l ≡ true → (block : ℕ) × (text : List ℕ) × (carry : Carry)
     × (part_of l h ≡ Do (steps.Put block None) unmarked (λ _. Ret (record { answer = (text, heard.Claimed claimed.NoPlace); carry = carry })))
 lacks_next l h lacks = part_gives (text_in l.call) l.notes l.part h lacks
@@ -308,7 +308,7 @@ lacks_claims u l h stands ready lacks =
     let asked : asks (whole_of l.list l.call) ≡ Some (above.Claim claims.0) = ready.way.asked ∙ ap Some claims.1 in
     (claims.0, Some-inj u.op (above.Claim claims.0) (ap asks stands.program ∙ claim_with l.list l.call stands.text claims.0 asked))
 
--- what is left of it, but for the marks
+-- the rest of it, but for the marks
 abbrev pub GivesBackPlainly : (op : above.Op) → P (Handover (above.Answer op) Carry) → Type 0
 GivesBackPlainly (above.Claim s) left = (block : ℕ) × (carry : Carry)
     × (plain left ≡ Do (steps.Put block None) unmarked (λ _. Ret (record { answer = above.NoPlace; carry = carry })))
@@ -379,7 +379,7 @@ gives_so (Do (steps.Put d None) m k) b c e silent =
     record { block = d; carry = c; is = λ i. Do (steps.Put d None) (λ x. silent.0 i) (λ x. ends i) }
 gives_so (Do o m k) b c e silent = absurd (let q : Some o ≡ Some (steps.Put b None) = ap asks_below e in cc)
 
--- Such a part in code is that of a claim that gives its block back, where what is left of it is what its steps led to.
+-- Such a part in code is that of a claim that gives its block back, if the rest of it is what its steps led to.
 pub lacks_gives : (sizes : Super) (u : UnderWay) (l : Lowered) (h : Hand) → LeadTo (handlers sizes u.hand u.op u.mark) u.ran u.left → StandsAt u l h → LoweredReady l h
     → lacks_place l ≡ true → GivesBackOf u.op u.left
 lacks_gives sizes u l h leads stands ready lacks = by u.op u.mark u.left leads (lacks_gives_plainly u l h stands ready lacks)

@@ -1,5 +1,5 @@
--- What is known of want of room stays known. A call that stands behind a claim for which there was no place in memory stands there until it
--- is told so in its next step, and then that is known.
+-- What is known of want of room stays known. A call just after a claim for which there was no place in memory stays
+-- at that point. In its next step it hears so, and then that is known.
 use Rattle.std.specs.Prelude.{◌≡◌, ◌≢◌, ◌⊎◌, ℕ, suc, Bool, true, false, ◌||◌, List, [], ◌∷◌, length, Option, Some, None, get_or}
 use Rattle.std.specs.List.{list_any}
 use Rattle.std.specs.Option.{option_map}
@@ -50,7 +50,7 @@ use Rattle.kept_histories.proofs.Marks.{calls_stay, or_true, spoils_none, spoils
 use Rattle.kept_histories.proofs.Together.{StillCalled, still_called}
 use Rattle.kept_histories.proofs.Lacking.{lacks_next}
 
--- A hart's call stands behind such a claim, in code and in the kept tree.
+-- A hart's call is just after such a claim, in code and in the kept tree.
 pub record Lacks (m : Running) (v : Under) : Type 0 where
   pub code : lacks_place m.control ≡ true
   pub op : (t : InodeType) × (asks (whole_of v.listed v.whole) ≡ Some (above.Claim t))
@@ -198,7 +198,7 @@ stays_full k (event.Step h) (came.Stepped (outcome.Ran kind)) x k' right p full 
 stays_full k (event.Step h) (came.Stepped (outcome.Done reply)) x k' right p full = replied_full p.amid h k' p.ends (ran_full k h x p.amid p.runs full)
 stays_full k (event.Step h) (came.Stepped (outcome.Stopped why)) x k' right p full = passed_full k k' p full
 
--- ---- the step in which the call is told
+-- ---- the step in which the call hears it
 
 -- in code
 told_so : (l : Lowered) (h : Hand) (answer : (o : steps.Op) → steps.Answer o) (out : Option (Unit {0})) (k : Lowered) (g : Hand) → lacks_place l ≡ true
@@ -284,7 +284,7 @@ module _ {D : Type 0} (contents : D → List (List ℕ)) (failures : D → ℕ) 
         inl (replied_full n.took.amid h k' n.took.ends (runs n.heard x n.took.amid (subst (λ (j : ℕ). HasRun k j n.heard n.took.amid) (sym e) n.took.runs)))
     own (event.Step h) (came.Stepped (outcome.Stopped stop)) n e = inr (stays_there (subst (λ (j : ℕ). StaysAt (get_or old.calls j None) (get_or new.calls j None)) (sym e) n.tells.place) n.took)
 
-    -- Such a call stands there still, or it was told, and that is known.
+    -- Such a call is at that point still, or it has heard it, and that is known.
     pub event_lasts : (e : HartEvent) (c : Came) → NotesEvent contents failures (λ a d x b. KeepsEvent a e d x b) sizes e old k c new k' → (k'.full ≡ true) ⊎ SomeLacks new k'
     event_lasts e c n = elim (same_or s.hart (hart_of e)) [
       | inl same ↦ own e c n same
@@ -295,7 +295,7 @@ module _ {D : Type 0} (contents : D → List (List ℕ)) (failures : D → ℕ) 
 
   -- ---- a run
 
-  -- So at its end: it is known that there was no room, or a call lacks a place that it isn't told of yet.
+  -- So at its end: it is known that there was no room, or a call lacks a place and hasn't heard so yet.
   pub run_lasts : (es : List HartEvent) (cs : List Came) (old new : HartsOf D) (k k' : KeptTree) → KeepsRun contents failures sizes old k es cs new k' → (k.full ≡ true) ⊎ SomeLacks old k
       → (k'.full ≡ true) ⊎ (some_lacks_place new ≡ true)
   run_lasts [] [] old new k k' r (inl full) = inl (ap (λ (z : KeptTree). z.full) r.1 ∙ full)

@@ -1,5 +1,5 @@
--- The kept tree's marks are the theory's: what a step places is one move, and then the kept tree's mark makes that; or both make none, and
--- then the mark doesn't say that there was no room.
+-- The kept tree's marks are the theory's. If what a step places is one move, the kept tree's mark makes that. Else
+-- both make none, and then the mark doesn't say that there was no room.
 use Rattle.std.specs.Prelude.{◌≡◌, ◌⊎◌, ℕ, Bool, true, false, ◌||◌, List, [], ◌∷◌, Option, Some, None}
 use Rattle.std.specs.Option.{option_map}
 use Rattle.calls_on_blocks.proofs.Vocabulary.{refl, sym, ◌∙◌, ap, subst, inl, inr}
@@ -19,7 +19,7 @@ use Rattle.inode_machine.specs.Vocabulary.{MoveStep}
 use Rattle.whole_calls.specs.Wholes.{action_in}
 use Rattle.kept_histories.proofs.Heads.{MakesNone}
 
--- A step placed these; this mark, of the same step for this action, makes a move just where one was placed.
+-- A step placed these; this mark, of the same step for this action, makes a move exactly if one was placed.
 abbrev pub PlacesNone : List (ℕ × MoveStep) → Action → Option Mark → Type 0
 PlacesNone ps s o = (ps ≡ []) × MakesNone (marked_as s o) × (spoils (marked_as s o) ≡ false)
 
@@ -29,7 +29,7 @@ PlacesOne h ps s o = (v : Move) × (d : Option Deed) × (ps ≡ (h, record { mov
 abbrev pub PlacesAlike : ℕ → List (ℕ × MoveStep) → Action → Option Mark → Type 0
 PlacesAlike h ps s o = PlacesNone ps s o ⊎ PlacesOne h ps s o
 
--- what is placed by the same mark, where that found room
+-- what is placed by the same mark, if that found room
 pub alike : (h : ℕ) (op : above.Op) (a : above.Answer op) (w : above.World) (ps : List (ℕ × MoveStep)) (s : Action) (o : Option Mark)
     (m : Option above.Mark) → ps ≡ places h op a m w → marked_as s o ≡ m → spoils m ≡ false → PlacesAlike h ps s o
 alike h op a w ps s o None is same room = inl (is, subst MakesNone (sym same) tt, ap spoils same ∙ room)
@@ -66,7 +66,7 @@ makes_none_is s (mark.Orphans n) none = refl
 makes_none_is s mark.Mends none = refl
 makes_none_is s mark.Fills none = refl
 
--- it says that there was no room just where the theory's mark does
+-- it says that there was no room exactly if the theory's mark does
 pub spoils_so : (s : Action) (m : Mark) → spoils (Some (mark_in s m)) ≡ kept_spoils m
 spoils_so s mark.Begin = refl
 spoils_so s (mark.Look new) = refl

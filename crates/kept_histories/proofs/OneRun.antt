@@ -33,7 +33,7 @@ use Rattle.run_laws.specs.Vocabulary.{sizes_of}
 use Rattle.tree_laws.specs.History.{History, passes}
 use Rattle.tree_laws.specs.Moves.{Deed, Stage}
 
--- ---- what an operation comes to, by what the device answers
+-- ---- the outcome of an operation, by what the device answers
 
 abbrev pub IsStop : {A S : Type 0} → ExecResult A S → Type 0
 IsStop Waits = ⊥
@@ -68,7 +68,7 @@ commit_alike : (x y : Outside) (l : LogPart) (out : Bool) → Alike (commit_if x
 commit_alike x y l true = inl refl
 commit_alike x y l false = write_alike x y l
 
--- Only a read and a write of a commit ask the device, and each stops the world where that fails.
+-- Only a read and a write of a commit ask the device, and each stops the world if the device fails.
 exec_alike : (h : ℕ) (x y : Outside) (op : steps.Op) (s : steps.State) → Alike (steps.exec h x op s) (steps.exec h y op s)
 unfolding steps.exec
 exec_alike h x y steps.Join s = inl refl
@@ -150,7 +150,7 @@ module _ (sizes : Super) where
     abbrev Below : Type 0
     Below = ExecResult (steps.Answer op) World
 
-    -- what an operation that came to this makes of the state, and places
+    -- what an operation with this outcome makes of the state, and places
     abbrev of : Below → ExecResult (steps.Answer op) L.M.World
     of d = both U h mark s.world.seen d
 
@@ -236,7 +236,7 @@ module _ (sizes : Super) where
   stays h x s None still = (refl, λ u v d b. refl)
   stays h x s (Some r) still = subst (λ (z : Bool). ((step_unless L h x s z r).after ≡ unchanged L s) × ((u v : Stage) (d : Option Deed) (b : History) → kept_step N h (step_unless L h x s z r).came u v d b ≡ passes b)) (sym still) (refl, λ u v d b. refl)
 
-  -- a start sees the blocks, but where it comes to the same it leaves the rest alike
+  -- a start sees the blocks, but if its outcome is the same it leaves the rest alike
   begun_alike : (h : ℕ) (call : Call) (s : State (block_calls sizes)) (r : World) (g : U.World) (d e : Began L.Refusal World) → s.stopped ≡ true
       → by_kind L C (begun L h call s (began_both g d)).came ≡ by_kind L C (begun L h call (over r s) (began_both g e)).came
       → Beside (begun L h call s (began_both g d)).after (begun L h call (over r s) (began_both g e)).after
@@ -285,7 +285,7 @@ module _ (sizes : Super) where
   seen_alike s t (inl is) = ap (λ (z : State (block_calls sizes)). z.world.seen) is
   seen_alike s t (inr (still, (r, is))) = ap (λ (z : State (block_calls sizes)). z.world.seen) is
 
-  -- What is asked and what it comes to determine what is kept, and the world above.
+  -- What is asked and its outcome determine what is kept, and the world above.
   pub runs_alike : (a b : List (Event Call Outside)) (s t : State (block_calls sizes)) (k : History) → Beside s t → all_asked a ≡ all_asked b
       → all_by_kind (block_calls sizes) (block_code sizes) (outcomes (block_calls sizes) a s) ≡ all_by_kind (block_calls sizes) (block_code sizes) (outcomes (block_calls sizes) b t)
       → (kept (block_moves sizes) a s k ≡ kept (block_moves sizes) b t k) × ((run (block_calls sizes) a s).world.seen ≡ (run (block_calls sizes) b t).world.seen)
@@ -305,7 +305,7 @@ module _ {D : Type 0} (contents : D → List (List ℕ)) (failures : D → ℕ) 
   abbrev start : State (block_calls w.sizes)
   start = fresh (block_calls w.sizes) (first (contents w.harts.core.log.cache.device) (failures w.harts.core.log.cache.device))
 
-  -- what the events of a history come to in the theory
+  -- the outcomes of a history's events in the theory
   outcomes_as : (device : D) (events : List HartEvent) (came : List Came) (new : HartsOf D) (a : List (Event Call Outside)) → IsMounted contents failures device w
       → IsHistory contents failures w.sizes w.harts events came new a → all_by_kind (block_calls w.sizes) (block_code w.sizes) (outcomes (block_calls w.sizes) a start) ≡ outcomes_of came
   outcomes_as device events came new a mounted is =

@@ -17,7 +17,7 @@ use Rattle.inode_machine.specs.MoveCalls.{MoveMachine}
 use Rattle.plain_tree.specs.declared.call.Call.{Call}
 use Rattle.run_laws.specs.Vocabulary.{Outside}
 
--- answers that the device may give, in the first events and in those behind
+-- answers that the device may give, in the first events and in the rest
 pub honest_parts : (L : Theory) (es rest : List (Event L.Call L.M.Outside)) (s : State L) → AllHonest L (es ++ rest) s → AllHonest L es s × AllHonest L rest (run L es s)
 honest_parts L [] rest s honest = (tt, honest)
 honest_parts L (e ∷ es) rest s honest = let parts = honest_parts L es rest (next L e s) honest.1 in ((honest.0, parts.0), parts.1)

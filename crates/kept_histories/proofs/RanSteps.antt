@@ -128,7 +128,7 @@ module _ {D : Type 0} (contents : D → List (List ℕ)) (failures : D → ℕ) 
       subst (λ (z : KeptTree). IsBook z then_) (sym kept.hears.kept)
       (book_put kept.between then_ h still.call kept.hears.under still.is (stands_still still.call heard kept.hears.under heard_by) (moved.book b agree.book))
 
-  -- the harts, where this one's is as it should be, and the others' calls have not changed since
+  -- the harts, if this one's is as it should be, and the others' calls have not changed after that
   all_at : (k' : KeptTree) → HartAt sizes (now h) (get_or new.calls h None) (hart_in k' h) → ((j : ℕ) → j ≢ h → hart_in k' j ≡ hart_in kept.between j)
       → (j : ℕ) → HartAt sizes (now j) (get_or new.calls j None) (hart_in k' j)
   all_at k' at others j = by (same_or j h)

@@ -1,5 +1,5 @@
--- A run in which some step found no room: at its end the keeper knows, or a call lacks a place that it isn't told of yet. And no call does in
--- a run in which each step found room.
+-- A run in which some step found no room: at its end the keeper knows, or a call lacks a place and hasn't heard so
+-- yet. And no call does in a run in which each step found room.
 use Rattle.std.specs.Prelude.{◌≡◌, ◌⊎◌, ◌<◌, ◌+◌, ◌^◌, ℕ, suc, Bool, true, false, List, [], ◌∷◌, ◌++◌, Option, Some, None, length}
 use Rattle.calls_on_blocks.proofs.Vocabulary.{refl, sym, ◌∙◌, ap, subst, inl, inr, append_assoc, append-nil, arith, AllHonest, RunsFrom}
 use Rattle.calls_on_blocks.proofs.History.{runs_from}
@@ -107,14 +107,15 @@ module _ (disk : List (List ℕ)) (count : ℕ) (whole : List (Event Call Outsid
         by true e = not_both (next L f (at past)).world.seen.clean (ap (λ (z : State L). z.world.seen.clean) (sym (then_at past f)) ∙ back e) bad
 
   module _ {D : Type 0} (contents : D → List (List ℕ)) (failures : D → ℕ) where
-    -- at its end: each step found room, and all agrees; no operation under way is to give back the block of a claim without place
+    -- at its end: each step found room, and all agrees; no operation under way has to give back the block of a claim
+    -- without place
     pub record EndsWithRoom (new : HartsOf D) (k : KeptTree) : Type 0 where
       pub clean : (so_far disk count whole).world.seen.clean ≡ true
       pub book : History
       pub agrees : AgreesAt contents failures (sizes_of disk) goes.under (length whole) (so_far disk count whole) book new k
       pub none : NoneGivesBack (goes.under (length whole))
 
-    -- .. or some step found none, and that is known, or a call isn't told of it yet
+    -- .. or some step found none, and that is known, or a call hasn't heard so yet
     pub record EndsShort (new : HartsOf D) (k : KeptTree) : Type 0 where
       pub short : (so_far disk count whole).world.seen.clean ≡ false
       pub known : (k.full ≡ true) ⊎ (some_lacks_place new ≡ true)
@@ -182,11 +183,11 @@ module _ (disk : List (List ℕ)) (count : ℕ) (whole : List (Event Call Outsid
               event_gives_none sizes (at past) (makes L f (at past)) (goes.under (length past)) (goes.under (suc (length past))) (goes.fits past (f ∷ rest) is) ok
               (all_spoil sizes (first disk count) whole goes past (f ∷ rest) is) f (goes.leads_on past f rest is) none
 
-          -- at a place one behind
+          -- at a place one later
           at_more : (P : ℕ → Type 0) → P (suc (length past)) → P (length more)
           at_more P p = subst P (sym (longer past f)) p
 
-          -- it goes on where each step found room so far
+          -- it goes on if each step found room so far
           ends : (z : Bool) → (next L f (at past)).world.seen.clean ≡ z → ((next L f (at past)).world.seen.clean ≡ true → EndsWithRoom new k' ⊎ EndsShort new k')
               → EndsWithRoom new k' ⊎ EndsShort new k'
           ends true ok goes_on = goes_on ok
@@ -198,7 +199,7 @@ module _ (disk : List (List ℕ)) (count : ℕ) (whole : List (Event Call Outsid
                     (known_short past f rest is here) bad);
               })
 
-    -- ---- no call lacks a place where each step found room
+    -- ---- no call lacks a place if each step found room
 
     lacks_none_at : (new : HartsOf D) (k : KeptTree) (ends : EndsWithRoom new k) (h : ℕ) (u : Option UnderWay) (m : Running) (v : Option Under) → goes.under (length whole) h ≡ u
         → HartAt sizes u (Some m) v → LoweredReady m.control m.hand → lacks_place m.control ≡ true → ⊥

@@ -1,5 +1,5 @@
--- What a tree that has settled shows of an inode whose lock is taken, where the operation's program goes on after that step: it is what the
--- operation is answered, where its mark depends on that.
+-- What a tree that has settled shows of an inode whose lock is taken, if the operation's program goes on after that
+-- step. It is what the operation is answered, if its mark depends on that.
 use Rattle.std.specs.Prelude.{◌≡◌, ◌⊎◌, ◌<◌, ◌≤◌, ◌^◌, ℕ, ◌+◌, ◌==◌, Bool, true, false, List, [], ◌∷◌, ◌++◌, length, is_some, Option, Some, None}
 use Rattle.calls_on_blocks.proofs.Vocabulary.{refl, sym, ◌∙◌, ap, subst, inl, inr, arith}
 use Rattle.atomic_programs.proofs.Explains as explained
@@ -44,8 +44,9 @@ use Rattle.kept_histories.proofs.Hands.{AsksSo, Hands, IsAlike, TakesInHand, Tak
 use Rattle.kept_histories.proofs.InHand.{Holds}
 use Rattle.kept_histories.proofs.Controls.{at_end}
 
--- Of the world above: where a mark depends on what is seen of an inode, the tree has it as it is on disk; an open file's inode is locked, and
--- marked the same wherever it stands; and a descriptor's state is marked the same, whatever it is.
+-- Of the world above: if a mark depends on what is seen of an inode, the tree has it as it is on disk. An open file's
+-- inode is locked, and marked the same whatever inode and offset it has. And a descriptor's state is marked the same,
+-- whatever it is.
 abbrev pub ShowsTruly : Tree → World → (op : Op) → (Answer op → Option Mark) → Answer op → Type 0
 ShowsTruly t w (Take n looking) m a = IsAlike m ⊎ ((t.nodes n ≡ w.disk n) × (n < t.ninodes) × FewSlotsIn (t.nodes n))
 ShowsTruly t w (LockFile fd) m (NotLocked why) = ⊥
@@ -76,7 +77,7 @@ never_refused h w u m (Some e) None why may none ran = by (w.lock e.file.number)
     by (Some g) q = cc q
 
 module _ (sizes : Super) (h : ℕ) (w : W) (shows : Shows w.real.blocks w.seen) (inv : Inv w.seen) where
-  -- what is in hand is shared, and what was counted up just now is alive
+  -- what is in hand is shared, and what was counted up last is alive
   seen_taken : (n : ℕ) (looking : Query) (c : Carry) (m : Sight → Option Mark) (g : Option Hands) → TakesInHand g n looking → Holds h g w.seen
       → GoesOn sizes h w (ShownAlike (settle w.seen.all) w.seen n) (handlers sizes c (Take n looking) m)
   seen_taken n looking c m None takes holds = absurd takes
@@ -170,7 +171,7 @@ module _ (sizes : Super) where
     abbrev was : ℕ → Option UnderWay
     was = goes.under (length es)
 
-    -- A step that is the first of its operation's program, at which that doesn't end, where the operation is answered this.
+    -- A step that is the first of its operation's program and doesn't end it, if the operation is answered this.
     pub shows_truly : (h : ℕ) (x : Outside) (made : Made (block_calls sizes)) (now : ℕ → Option UnderWay)
         (r : RunsAStep sizes h x (run (block_calls sizes) es (fresh (block_calls sizes) start)) made (goes.under (length es)) now)
         → none_ran r.under.ran ≡ true → at_end (r.rest r.answer) ≡ false → (a : Answer r.under.op) → or_else r.acts r.under.acted ≡ Some a

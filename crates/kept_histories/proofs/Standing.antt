@@ -1,5 +1,5 @@
--- A hart's call in code stands where the operation under way stands: its control asks for the same operation, and what is left of the part
--- is what is left of the operation's program. So it is after each step.
+-- A hart's call in code is as far as the operation under way. Its control asks for the same operation, and the rest
+-- of the part is the rest of the operation's program. So it is after each step.
 use Rattle.std.specs.Prelude.{◌≡◌, ℕ, List, [], Bool, true, false, Option, Some, None}
 use Rattle.calls_on_blocks.proofs.Vocabulary.{refl, sym, ◌∙◌, ap, subst}
 use Rattle.atomic_programs.proofs.Explains.{Some-inj}
@@ -28,7 +28,7 @@ use Rattle.kept_histories.proofs.Controls.{Answers, at_end, goes_on_still, plain
 use Rattle.kept_histories.proofs.ReadRooms.{RoomOf, room_asked}
 use Rattle.kept_histories.proofs.Basics.{none_some}
 
--- what a part's end is to the operation
+-- what the operation sees in a part's end
 abbrev pub handed : (op : above.Op) → Handover Message Carry → Handover (above.Answer op) Carry
 handed op r = record { answer = answer_by op r.answer; carry = r.carry }
 
@@ -133,7 +133,7 @@ module _ (sizes : Super) (u : UnderWay) (l : Lowered) (h : Hand) (stands : Stand
             (subst (λ (z : programs.P Reply). AsksOrEnds l.sizes p.ends.carry z out k g) same p.call);
       }
 
-  -- So it stands after a step, with what is left of the operation's program, where a part that goes on isn't at its end.
+  -- So far it is after a step, with the rest of the operation's program, if a part that goes on isn't at its end.
   pub went : (out : Option (Unit {0})) → LoweredTells l h answer out k g → (k.ended ≡ false → at_end (part_of k g) ≡ false)
       → Went sizes u (rest (answer op)) out k.ended k g
   went out tells goes = by out k.ended tells.goes goes

@@ -1,5 +1,5 @@
--- The mark that the kept tree has for a step is that at which the step placed a move; and where the step found room, it doesn't say that
--- there was none.
+-- The mark that the kept tree has for a step is that at which the step placed a move. If the step found room, it
+-- doesn't say that there was none.
 use Rattle.std.specs.Prelude.{◌≡◌, ◌⊎◌, ℕ, Bool, true, false, not, List, [], Option, Some, None}
 use Rattle.calls_on_blocks.proofs.Vocabulary.{refl, sym, ◌∙◌, ap, subst, inl, inr}
 use Rattle.atomic_programs.proofs.Explains.{Some-inj}
@@ -146,7 +146,7 @@ module _ (sizes : Super) (h : ℕ) (x : Outside) (s : State (block_calls sizes))
   marked_at y text m =
       sym (m v.listed) ∙ sym (same_marks (Do u.op u.mark u.rest) v kept y) ∙ text_marks (Do u.op u.mark u.rest) v kept [] text y
 
-  -- where it ends, it has acted with that answer
+  -- if it ends, it has acted with that answer
   ended : (z : Handover (above.Answer u.op) Carry) → left ≡ Ret z → or_else r.acts u.acted ≡ Some z.answer
   ended z is = subst (EndsAsActed u (or_else r.acts u.acted)) is r.ends
 
@@ -205,7 +205,7 @@ module _ (sizes : Super) (h : ℕ) (x : Outside) (s : State (block_calls sizes))
       marks true m = m
       marks false m = m
 
-  -- it acts in its first step, where what is seen of the inode is the same in the kept tree
+  -- it acts in its first step, if what is seen of the inode is the same in the kept tree
   first : (at_end left ≡ false → (y : Heard) (a : above.Answer u.op) → SeenFor t (Some u.op) y → SeesTruly u.op a s.world.seen → or_else r.acts u.acted ≡ Some a → u.mark a ≡ u.mark (answer_to [] u.op y))
       → (y : Option Heard) → HeardAt u left y → PlacesAt sizes h x s made was now InFirst true r left → MarksIn t v (Some u.op) true false y o → Alike
   first sees (Some y) at p m =

@@ -1,5 +1,5 @@
--- A step of a call in code is the step of the theory: its operation has the same answer, and the call stands after it where the operation
--- then under way does.
+-- A step of a call in code is the step of the theory: its operation has the same answer. After it the call is as far
+-- as the operation then under way.
 use Rattle.std.specs.Prelude.{◌≡◌, ℕ, List, [], ◌∷◌, ◌++◌, Bool, true, false, Option, Some, None}
 use Rattle.calls_on_blocks.proofs.Vocabulary.{refl, sym, ◌∙◌, ap, subst}
 use Rattle.calls_on_blocks.proofs.Lawful.{is_code}
@@ -46,7 +46,7 @@ asked_still : {A B : Type 0} (q : Part) (op : steps.Op) (f : _ → A) (g : _ →
 asked_still (Ret r) op f g e = absurd cc
 asked_still (Do o m k) op f g e = e
 
--- ---- where the call stands then
+-- ---- how far the call is then
 
 module _ (sizes : Super) (u : UnderWay) (left : P (Handover (above.Answer u.op) Carry)) (n : Option UnderWay) (k : Lowered) (g : Hand) where
   -- in the same operation, of which a step more has run
@@ -141,7 +141,7 @@ module _ (sizes : Super) (h : ℕ) (s : State (block_calls sizes)) (made : Made 
       same_answer (tells.answer r.op) r.answer _ _
       (sym (ap (exec_result_in (λ (t : steps.State). record shared { state = t })) (ap (λ (t : steps.State). steps.exec h Passes r.op t) shares ∙ ran)) ∙ code)
 
-  -- So the call stands where the operation does that is under way after the step.
+  -- So the call is as far as the operation that is under way after the step.
   pub comes_to : m.control.sizes ≡ sizes → (left.control.ended ≡ false → at_end (part_of left.control left.hand) ≡ false)
       → Comes sizes r.under (r.rest r.answer) (now h) left.control left.hand out left.control.ended
   comes_to sized goes =

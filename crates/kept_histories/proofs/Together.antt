@@ -62,7 +62,7 @@ pub still_called : (v : Under) (o p : Option Under) → p ≡ Some v → option_
 still_called v None p is same = none_some (walking None v) (same ∙ ap (option_map (walking None)) is)
 still_called v (Some w) p is same = record { call = w; is = refl; same = Some-inj (walking None w) (walking None v) (same ∙ ap (option_map (walking None)) is) }
 
--- the stage is the same, where the hart's walk is
+-- the stage is the same, if the hart's walk is
 pub stage_same : (k : KeptTree) (h : ℕ) (w : Under) (o : Option Under) → hart_in k h ≡ Some w → walk_under o ≡ walk_under (Some w) → stage_of (with_hart k h o) ≡ stage_of k
 stage_same k h w o is walk =
     stage_put k h o (is_hart k h w is)

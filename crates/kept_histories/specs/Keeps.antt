@@ -1,4 +1,4 @@
--- What a keeper makes of a run's events: the tree, the walks and the list that it keeps go on as each event tells.
+-- What a keeper makes of a run's events: the tree, the walks and the list that it keeps go on as each event says.
 use Rattle.std.specs.Prelude.{◌≡◌, ◌<◌, ◌-◌, ◌^◌, ℕ, List, [], ◌∷◌, Option, None}
 use Rattle.fs_layout.specs.declared.superblock.Super.{Super}
 use Rattle.hart_core.specs.Harts.{HartsOf}
@@ -57,13 +57,13 @@ KeepsStep k h came.Started heard k' = Passes k k'
 KeepsStep k h (came.Refused why) heard k' = Passes k k'
 KeepsStep k h (came.Stepped outcome) heard k' = KeepsOutcome k h outcome heard k'
 
--- one event, which came to this
+-- one event, with this outcome
 abbrev pub KeepsEvent : KeptTree → Event → Came → Option Heard → KeptTree → Type 0
 KeepsEvent k (event.Start h call) c heard k' = KeepsStart k h call c k'
 KeepsEvent k (event.Step h) c heard k' = KeepsStep k h c heard k'
 
 module _ {D : Type 0} (contents : D → List (List ℕ)) (failures : D → ℕ) (sizes : Super) where
-  -- These events of a run, one after the other, each of which the keeper was told.
+  -- These events of a run, one after the other, each of which the keeper noted.
   abbrev pub KeepsRun : HartsOf D → KeptTree → List Event → List Came → HartsOf D → KeptTree → Type 0
   KeepsRun old k [] [] new k' = (new ≡ old) × (k' ≡ k)
   KeepsRun old k [] (c ∷ cs) new k' = ⊥

@@ -15,9 +15,10 @@ use Rattle.tree_histories.specs.Keeping.{KeptTree, ended, nothing_kept}
 use Rattle.kept_histories.specs.Keeps.{KeepsRun}
 
 module _ {D : Type 0} (contents : D → List (List ℕ)) (failures : D → ℕ) where
-  -- A keeper was told of each event of a run of this world, which is as a mount left it, from the image's tree on, and that the run has
-  -- ended. Each step of a history of the run found room just where the keeper knows of none that didn't; and then it has kept just that
-  -- history's list of tree steps. There are fewer events than a number can tell.
+  -- A keeper noted each event of a run of this world, which is as a mount left it, from the image's tree on, and that
+  -- the run has ended. Each step of a history of the run found room exactly if the keeper knows of none that didn't.
+  -- If each found room, it has kept just that history's list of tree steps. There are fewer events than a number can
+  -- count.
   abbrev pub KeptListsAreTheRuns : WorldOf D → Type 0
   KeptListsAreTheRuns w =
       (device : D) (events : List Event) (came : List Came) (new : HartsOf D) (k : KeptTree) (history : List (EventOf Call Outside))

@@ -1,4 +1,4 @@
--- Wherever a call's program ends, the reply hands the call back: of all calls but read.
+-- When a call's program ends, the reply hands the call back: of all calls but read.
 use Rattle.image_versions.specs.declared.version.Version.TheVariants.{One}
 use Rattle.locked_world.proofs.Vocabulary.{◌≡◌, [], Bool, true, false, Reply, Call, Prog, Ret, Do, bind, plain, Machine, PartOf, LowerLayer, Handlers, lowered, Above as P, program}
 use Rattle.plain_tree.specs.declared.call.Call.TheVariants as calls

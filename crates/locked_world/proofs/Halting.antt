@@ -1,4 +1,4 @@
--- A world's stop, as it is told.
+-- A world's stop, as the answer gives it.
 use Rattle.locked_world.proofs.Vocabulary.{◌≡◌, ℕ, sym, subst, Stopped, Stop, DeviceFault, LockedRun, Steps, HaltAnswers, halt_for, Halt}
 use Rattle.hart_core.specs.declared.outcome.Stop.TheVariants.{Halted}
 

@@ -120,7 +120,7 @@ fit_step s w v spares h x o run sizes makes fit =
     (subst (λ (m : PlainMade (block_calls w.sizes) (block_code w.sizes)). (k : ℕ) → SpareFits (get_or spares k None) (m.after.running k)) makes
     (step_keeps w.sizes h x (λ k. get_or spares k None) p fit (answers_fit s w run h x) (p.running h) refl (may_here s w run h)))
 
--- and where it gave a reply, the hart's was of its call
+-- and if it gave a reply, the hart's spare copy was of its call
 ended : (s : StoredRun) (w v : WorldOf Fuse) (spares : List (Option Call)) (h : ℕ) (x : Outside) (r : Reply) → IsRunOf s w → Makes contents failures w.sizes (Step h x) w.harts (DidEnd r) v.harts → (fit : AllFit spares w)
     → Ends w.sizes h x (λ k. get_or spares k None) (calls_of contents failures w.sizes w.harts) fit r (calls_of contents failures w.sizes v.harts)
 ended s w v spares h x r run makes fit =

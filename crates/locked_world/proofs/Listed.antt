@@ -19,7 +19,7 @@ slice_get_mid : (xs : List Reply) (r : Reply) (rest : List Reply) → slice_get 
 slice_get_mid [] r rest = refl
 slice_get_mid (x ∷ xs) r rest = slice_get_mid xs r rest
 
--- this reply stands behind those before it
+-- this reply comes after those before it
 pub reply_stands : (h : ℕ) (gs : List Given) (i : ℕ) (g : Given) (r : Reply) (k : ℕ) → i < length gs → g ≡ get_or gs i g → reply_to h g ≡ r ∷ [] → length (upto h gs i) ≡ k → slice_get (given_to h gs) k ≡ Some r
 reply_stands h gs i g r k lt is here at =
     let rest : List Reply = given_to h (drop (i + 1) gs) in

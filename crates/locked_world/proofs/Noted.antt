@@ -1,4 +1,4 @@
--- One note more, and what notes tell.
+-- One note more, and what notes say.
 use Rattle.locked_world.proofs.Vocabulary.{◌≡◌, ℕ, zero, suc, ◌+◌, ◌<◌, ◌≤◌, Bool, true, false, if◌then◌else◌, ◌==◌, Option, Some, None, List, [], ◌∷◌, ◌++◌, length, map, drop, get_or, refl, sym, ap, ◌∙◌, subst, arith, append-nil, append_assoc, length-append, slice_get, Reply, Call, Event, Came, Given, Note, What, all_shown, shown, replied_by, replies_in, past, each, takers, is_start, is_reply, starts, replies, event_at, came_at, event_noted, came_noted, noted_events, noted_outcomes, noted_pairs, answered, IsNoted, given_to}
 use Rattle.locked_world.specs.declared.note.What.TheVariants as what
 use Rattle.locked_world.specs.Stories.{first}
@@ -110,14 +110,14 @@ shown_step h k what.Done cs (g ∷ gs) harts rest e ih =
     let there : harts ≡ map (λ (g : Given). g.hart) gs = (let q = e in cc (q)) in
     (λ j. (if h == here j then g.reply ∷ [] else []) ++ ih gs there j)
 
--- the replies that notes tell are those that are kept
+-- the replies in the notes are those that are kept
 pub told_replies : (h : ℕ) (ns : List Note) (cs : List Call) (gs : List Given) → answered ns ≡ map (λ (g : Given). g.hart) gs → replies_in h (all_shown (noted_events ns cs) (noted_outcomes ns gs)) ≡ given_to h gs
 told_replies h [] cs [] e = refl
 told_replies h [] cs (g ∷ gs) e = absurd (omega (arith, ap length e))
 told_replies h (n ∷ ns) cs gs e =
     shown_step h n.hart n.what cs gs (answered ns) (λ zs. replies_in h (all_shown (noted_events ns (past (starts n) cs)) (noted_outcomes ns zs))) e (λ zs m. told_replies h ns (past (starts n) cs) zs m)
 
--- ---- what one note more tells
+-- ---- what one note more says
 
 module _ (ns ns' : List Note) (cs : List Call) (gs : List Given) (n : Note) where
   pub plain_event : ns' ≡ ns ++ n ∷ [] → IsNoted ns cs gs → is_start n.what ≡ false → (es : List Event) → noted_events ns cs ≡ es → noted_events ns' cs ≡ es ++ event_at n.hart None ∷ []
@@ -179,7 +179,7 @@ is_done (what.Stopped why) r = absurd (let q = r in cc (q))
 drop_step : {X : Type 0} (i : ℕ) (xs : List X) (x : X) → i < length xs → x ≡ get_or xs i x → drop i xs ≡ x ∷ drop (i + 1) xs
 drop_step i xs x lt is = let e : suc i ≡ i + 1 = omega arith in drop_cons i xs x lt is ∙ ap (λ (z : ℕ). x ∷ drop z xs) e
 
--- one more event than those before place i, where the calls from place k on are still to come
+-- one more event than those before place i, if the calls from place k on are still to come
 pub told_start : (es : List Event) (ns : List Note) (cs : List Call) (i k : ℕ) (n : Note) (e : Event) → i < length ns → n ≡ get_or ns i n → starts n ≡ true → e ≡ event_at n.hart (slice_get cs k)
     → es ++ noted_events (drop i ns) (drop k cs) ≡ noted_events ns cs → (es ++ e ∷ []) ++ noted_events (drop (i + 1) ns) (drop (k + 1) cs) ≡ noted_events ns cs
 told_start es ns cs i k n e lt is s here so_far =
@@ -200,7 +200,7 @@ told_step es ns cs i k n lt is s so_far =
 pub told_all : (es : List Event) (ns : List Note) (cs xs : List Call) (i : ℕ) → length ns ≤ i → es ++ noted_events (drop i ns) xs ≡ noted_events ns cs → es ≡ noted_events ns cs
 told_all es ns cs xs i le so_far = sym (append-nil es) ∙ ap (λ (z : List Note). es ++ noted_events z xs) (sym (drop_none i ns le)) ∙ so_far
 
--- the same of what they came to
+-- the same of their outcomes
 pub told_reply : (os : List Came) (ns : List Note) (gs : List Given) (i k : ℕ) (n : Note) (o : Came) → i < length ns → n ≡ get_or ns i n → replies n ≡ true → o ≡ came_at what.Done (slice_get gs k)
     → os ++ noted_outcomes (drop i ns) (drop k gs) ≡ noted_outcomes ns gs → (os ++ o ∷ []) ++ noted_outcomes (drop (i + 1) ns) (drop (k + 1) gs) ≡ noted_outcomes ns gs
 told_reply os ns gs i k n o lt is r here so_far =
@@ -232,7 +232,7 @@ pub pair_events : (ns : List Note) (cs : List Call) (gs : List Given) → map (�
 pair_events [] cs gs = refl
 pair_events (n ∷ ns) cs gs = ap (λ (z : List Event). event_noted n (first (starts n) cs) ∷ z) (pair_events ns (past (starts n) cs) (past (replies n) gs))
 
--- their second parts what these came to
+-- their second parts are the outcomes of these
 pub pair_outcomes : (ns : List Note) (cs : List Call) (gs : List Given) → map (λ (p : Event × Came). p.1) (noted_pairs ns cs gs) ≡ noted_outcomes ns gs
 pair_outcomes [] cs gs = refl
 pair_outcomes (n ∷ ns) cs gs = ap (λ (z : List Came). came_noted n (first (replies n) gs) ∷ z) (pair_outcomes ns (past (starts n) cs) (past (replies n) gs))

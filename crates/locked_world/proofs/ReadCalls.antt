@@ -1,4 +1,4 @@
--- A read hands back a buffer of the length that it was given, with the bytes behind those that it read.
+-- A read hands back a buffer of the length that it was given, with its own bytes after those that it read.
 use Rattle.locked_world.proofs.Vocabulary.{◌≡◌, ℕ, zero, suc, ◌+◌, ◌-◌, ◌/◌, ◌%◌, ◌≤◌, List, [], ◌++◌, length, take, drop, Option, Some, None, refl, arith, drop-append-drop, length-append, length-drop, length-take, overwrite, Dinode, Super, Read, Reply, ActOf, Handover, lowered, Prog, Ret, Do, bind, plain, LockedState, Locks, fetch, read_unless, Op, Answer, Get, Address, Direct, InTable, address, table_of, FetchedBlock, FilledMemory, filled_with, give_fetched, fetch_number, fetch_named, fetch_at, fetch_block, next_block, blocks_between, part_of, read_part, read_blocks, end_of, read_from, read_on, read_program, read_reply, own_step, say, machine, LockResult, NotLocked, LocksIt, load_unless, file_locked, give_read, read_file, with_file, Carry, handlers, record_in, layer, HandsBack, KeepsAfter, FitsBlock, EndsWith}
 use Rattle.plain_tree.specs.declared.step.Action.TheVariants as actions
 use Rattle.fs_machine.specs.Inodes.{Refuses}
@@ -55,7 +55,7 @@ part_few from upto block short = omega (arith, length-take (upto - from) (drop (
 part_within : (from upto : ℕ) (block : List ℕ) → length block ≤ 1024 → length (part_of from upto block) + from ≤ next_block from
 part_within from upto block short = omega (arith, short, length-take (upto - from) (drop (from % 1024) block), length-drop (from % 1024) block)
 
--- all that is read, behind what was read before
+-- all that is read, after what was read before
 abbrev AreFew : ℕ → FilledMemory → Type 0
 AreFew most f = length f.bytes ≤ most
 
@@ -79,7 +79,7 @@ module _ (sizes : Super) (fd : ℕ) (buffer : List ℕ) where
   abbrev HandsIt : Reply → Type 0
   HandsIt = HandsBack (Read fd buffer)
 
-  -- so many bytes at most were read
+  -- no more bytes were read than the buffer has
   abbrev Fits : Handover (List ℕ) Carry → Type 0
   Fits r = length r.answer ≤ length buffer
 

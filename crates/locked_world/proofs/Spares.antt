@@ -1,7 +1,7 @@
 -- A copy of each call that is under way is laid by: events keep that.
 use Rattle.locked_world.proofs.Vocabulary.{◌≡◌, ℕ, Bool, true, false, Option, Some, None, if◌then◌else◌, nat_eq, inl, inr, refl, sym, ◌∙◌, subst, eqb_tells, Super, Reply, Call, Ret, Do, ExecResult, Waits, Ran, Stops, Refused, DidWait, DidEnd, Began, Refuses, Begins, changed, Plain, PlainMade, MayOf, plain_step, plain_unless, plain_prog, plain_tried, plain_moved, plain_start, plain_begun, Kind, Outside, P, Op, Answer, May, Refusal, SharedState, exec_shared, block_calls, block_code, HandsBack, FitsBlock, EndsWith, SpareFits}
 
--- In this state, where the device answers x, every block that hart h is answered fits, where it may ask.
+-- In this state, if the device answers x, every block that hart h is answered fits, when it may ask.
 abbrev pub AnswersFit : ℕ → Outside → SharedState → Type 0
 AnswersFit h x s = (op : Op) (a : Answer op) (t : SharedState) → May h op s.state → exec_shared h x op s ≡ Ran a t → FitsBlock op a
 
@@ -23,7 +23,7 @@ module _ (sizes : Super) (h : ℕ) (x : Outside) (spares : ℕ → Option Call) 
   abbrev Keeps : PlainMade (block_calls sizes) (block_code sizes) → Type 0
   Keeps m = (k : ℕ) → SpareFits (spares k) (m.after.running k)
 
-  -- where a reply is given the copy is of its call, and the hart has no call any more
+  -- if a reply is given, the copy is of its call, and the hart has no call any more
   pub record Ends (reply : Reply) (after : Plain (block_calls sizes) (block_code sizes)) : Type 0 where
     pub call : Call
     pub spare : spares h ≡ Some call

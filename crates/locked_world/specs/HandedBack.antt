@@ -14,7 +14,7 @@ read_count answers.Done = 0
 read_count (answers.Failed cause) = 0
 read_count (answers.Full what) = 0
 
--- the buffer has its length, and its bytes behind the first n
+-- the buffer has its length, and its bytes after the first n
 abbrev pub KeepsAfter : ℕ → List ℕ → List ℕ → Type 0
 KeepsAfter n given back = (length back ≡ length given) × (drop n back ≡ drop n given)
 
@@ -38,7 +38,7 @@ FitsBlock (steps.Get b) a = IfSome a (λ bytes. length bytes ≤ block_len)
 FitsBlock (steps.Read b) a = length a ≤ block_len
 FitsBlock op a = Unit {0}
 
--- Wherever the program ends, it ends so.
+-- If the program ends, it ends so.
 abbrev pub EndsWith : {A : Type 0} → (A → Type 0) → P A → Type 0
 EndsWith Is (Ret a) = Is a
 EndsWith Is (Do op m k) = (a : Answer op) → FitsBlock op a → EndsWith Is (k a)

@@ -1,5 +1,5 @@
--- What is kept under a lock: an image, a fuse, and the events with what they came to, beside the world that they made; and what is left of
--- it.
+-- What is kept under a lock: an image, a fuse, and the events with their outcomes, beside the world that they made;
+-- and what remains of it.
 use Rattle.std.specs.Prelude.{◌≡◌, ◌⊎◌, ℕ, ◌+◌, ◌<◌, ◌==◌, if◌then◌else◌, List, [], ◌∷◌, ◌++◌, length, Option, None, slice_index_or, get_or}
 use Rattle.locked_world.specs.Vocabulary.{blocks_of, ComesByCalls, Fuse, IsFusedCall, tree_in, Reply, Call, Shown, Started, Replied, Other, Event, Came, all_shown, trace_in, IsMounted, HasHistory, FoundRoom, NoneClimbs, OneHart, IsExplained, WorldOf, calls_of}
 use Rattle.locked_world.specs.HandedBack.{SpareFits}
@@ -8,7 +8,7 @@ pub record StoredRun : Type 0 where
   pub image : List ℕ
   pub fuse : ℕ
   pub events : List Event
-  -- what each of them came to, in their order
+  -- the outcome of each of them, in their order
   pub outcomes : List Came
 
 -- what is stored, and the world that it has made
@@ -38,7 +38,7 @@ contents d = blocks_of d.bytes
 abbrev pub failures : Fuse → ℕ
 failures d = d.faults
 
--- the image on a disk that passes so many calls
+-- the image on a disk whose fuse passes a count of calls
 abbrev pub disk_of : StoredRun → Fuse
 disk_of s = record { bytes = s.image; left = s.fuse; faults = 0 }
 
@@ -46,7 +46,7 @@ disk_of s = record { bytes = s.image; left = s.fuse; faults = 0 }
 abbrev pub device_of : WorldOf Fuse → Fuse
 device_of w = w.harts.core.log.cache.device
 
--- calls lead from the image, on a disk that passes so many, to this one
+-- calls lead from the image, on a disk with that fuse, to this one
 abbrev pub ComesFromImage : StoredRun → Fuse → Type 0
 ComesFromImage s d = ComesByCalls IsFusedCall (disk_of s) d
 
@@ -54,8 +54,8 @@ ComesFromImage s d = ComesByCalls IsFusedCall (disk_of s) d
 abbrev pub closed_of : LockedRun → ClosedRun
 closed_of s = record { stored = s.stored; disk = (device_of s.world).bytes }
 
--- A run of what is stored: a world was mounted on the disk, the events came to their outcomes, one after the other, and made this world of
--- it.
+-- A run of what is stored: a world was mounted on the disk, the events had their outcomes, one after the other, and
+-- made this world of it.
 pub record IsRunOf (s : StoredRun) (w : WorldOf Fuse) : Type 0 where
   pub first : WorldOf Fuse
   pub mounted : IsMounted contents failures (disk_of s) first
@@ -70,9 +70,8 @@ IsRun s = IsRunOf s.stored s.world
 abbrev pub LeavesDisk : StoredRun → List ℕ → Type 0
 LeavesDisk s bytes = (w : WorldOf Fuse) × IsRunOf s w × (bytes ≡ (device_of w).bytes) × ComesFromImage s (device_of w)
 
--- In this run of what is stored, if no step of it found no room, one list of tree steps explains all calls that were started, from the
--- image's tree: as long as
--- no path climbs, or where one hart has made all calls.
+-- In this run of what is stored, if no step of it found no room, one list of tree steps explains all calls that were
+-- started, from the image's tree. That holds as long as no path climbs, or if one hart has made all calls.
 abbrev pub OneListExplains : (s : StoredRun) (w : WorldOf Fuse) → IsRunOf s w → Type 0
 OneListExplains s w run =
     FoundRoom contents failures run.first run.history.0 → NoneClimbs (trace_in s.events s.outcomes) ⊎ OneHart (trace_in s.events s.outcomes)

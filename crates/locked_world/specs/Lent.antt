@@ -1,4 +1,4 @@
--- What a lent event is, and what it came to, as values of their own.
+-- A lent event and its outcome, as values of their own.
 use Rattle.locked_world.specs.Vocabulary.{Event, Came}
 use Rattle.hart_core.specs.declared.events.Event.TheVariants as event
 use Rattle.hart_core.specs.declared.events.Came.TheVariants as came
@@ -20,6 +20,6 @@ owned_came (lent_came.Ran kind) = came.Stepped (outcome.Ran kind)
 owned_came (lent_came.Done reply) = came.Stepped (outcome.Done reply.now)
 owned_came (lent_came.Stopped why) = came.Stepped (outcome.Stopped why)
 
--- an event with what it came to
+-- an event with its outcome
 abbrev pub owned : EventRef × CameRef → Event × Came
 owned p = (owned_event p.0, owned_came p.1)

@@ -1,5 +1,5 @@
--- What is kept of a list of events and of what they came to: a note of each, with the calls of the starts and the replies in lists of
--- their own.
+-- What is kept of a list of events and of their outcomes: a note of each, with the calls of the starts and the
+-- replies in lists of their own.
 use Rattle.std.specs.Prelude.{ℕ, ◌+◌, ◌≡◌, ◌≤◌, Bool, true, false, if◌then◌else◌, ◌==◌, List, [], ◌∷◌, ◌++◌, Option, Some, None, length, map}
 use Rattle.locked_world.specs.Vocabulary.{Reply, Call, Event, Came}
 use Rattle.hart_core.specs.declared.events.Event.TheVariants as event
@@ -13,7 +13,7 @@ use Rattle.locked_world.specs.declared.note.What.TheVariants as what
 -- ---- a row of things, some of which take the next one of a list
 
 module _ {X : Type 0} where
-  -- the next one, where one is taken
+  -- the next one, if one is taken
   abbrev pub first : Bool → List X → Option X
   first false xs = None
   first true [] = None
@@ -61,12 +61,12 @@ starts n = is_start n.what
 abbrev pub replies : Note → Bool
 replies n = is_reply n.what
 
--- the event of a hart, with a call where it is a start
+-- the event of a hart, with a call if it is a start
 abbrev pub event_at : ℕ → Option Call → Event
 event_at h None = event.Step h
 event_at h (Some call) = event.Start h call
 
--- what it came to, with the reply where it gave one
+-- its outcome, with the reply if it gave one
 abbrev pub came_at : What → Option Given → Came
 came_at what.Started g = came.Started
 came_at (what.Refused why) g = came.Refused why
@@ -88,7 +88,7 @@ noted_events ns cs = each starts event_noted ns cs
 abbrev pub noted_outcomes : List Note → List Given → List Came
 noted_outcomes ns gs = each replies came_noted ns gs
 
--- each event with what it came to
+-- each event with its outcome
 abbrev pub noted_pairs : List Note → List Call → List Given → List (Event × Came)
 noted_pairs [] cs gs = []
 noted_pairs (n ∷ ns) cs gs =
@@ -114,7 +114,7 @@ abbrev pub given_to : ℕ → List Given → List Reply
 given_to h [] = []
 given_to h (g ∷ gs) = reply_to h g ++ given_to h gs
 
--- the events, what they came to, and how much room there is for more
+-- the events, their outcomes, and how much room there is for more
 pub record StoryOf : Type 0 where
   pub events : List Event
   pub outcomes : List Came
@@ -122,7 +122,7 @@ pub record StoryOf : Type 0 where
   pub calls_left : ℕ
   pub replies_left : ℕ
 
--- there is room for one event, whatever it comes to
+-- there is room for one event, whatever its outcome
 pub record HasRoom (s : StoryOf) : Type 0 where
   pub notes : 1 ≤ s.notes_left
   pub calls : 1 ≤ s.calls_left

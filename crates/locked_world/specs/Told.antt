@@ -15,13 +15,14 @@ use Rattle.locked_world.specs.declared.locked.LockedOutcome.TheVariants as told
 
 -- ---- what is made of the world
 
--- a start of the hart's call came to this, and made world v of w, without a call of the device
+-- a start of the hart's call had this outcome, and made world v of w, without a call of the device
 pub record MakesStart (w : WorldOf Fuse) (h : ℕ) (call : Call) (c : Came) (v : WorldOf Fuse) : Type 0 where
   pub makes : Makes contents failures w.sizes (StartOf h call) w.harts (came_of c) v.harts
   pub sizes : v.sizes ≡ w.sizes
   pub core : v.harts.core ≡ w.harts.core
 
--- a step of the hart came to this, and made world v of w, with at most one call of the device; what that answered is possible
+-- a step of the hart had this outcome, and made world v of w, with at most one call of the device; what that answered
+-- is possible
 pub record MakesStep (w : WorldOf Fuse) (h : ℕ) (o : Outcome) (v : WorldOf Fuse) : Type 0 where
   pub makes : Makes contents failures w.sizes (StepOf h (said o (shared_of contents failures v.harts))) w.harts (outcome_of o) v.harts
   pub honest : MayAnswer contents failures w.sizes (StepOf h (said o (shared_of contents failures v.harts))) w.harts
@@ -34,7 +35,7 @@ IsUnmoved w v = calls_of contents failures w.sizes v.harts ≡ calls_of contents
 
 -- ---- what is stored of it
 
--- the start of a call, which came to this, is stored, and is what was made of the world
+-- the start of a call, with this outcome, is stored, and is what was made of the world
 abbrev pub Starts : LockedRun → ℕ → Call → Came → LockedRun → Type 0
 Starts s h call c t = (t.stored ≡ with_event s.stored (Start h call) c) × MakesStart s.world h call c t.world
 

@@ -1,4 +1,4 @@
-// What a locked world leaves.
+//! What a locked world leaves.
 ghost use Rattle.std.specs.Prelude.{◌≡◌, ◌≢◌, IfOk, IfNone, IfSome, map, slice_get};
 ghost use Rattle.locked_world.specs.Kept.{replies_of, HasOneHistory, LeavesDisk};
 
@@ -69,7 +69,7 @@ impl<L: Ledger> Closed<L> {
         self.fuse
     }
 
-    /// The events in their order, each with what it came to. It takes no memory: calls and replies are lent.
+    /// The events in their order, each with its outcome. It takes no memory: calls and replies are lent.
     pub fn iter(&self) -> Iter<'_>
         ensures events { map (λ p. p.0) result ≡ self.now.stored.events }
         ensures outcomes { map (λ p. p.1) result ≡ self.now.stored.outcomes }
@@ -84,7 +84,7 @@ impl<L: Ledger> Closed<L> {
         self.story.events(alloc)
     }
 
-    /// Copies of what each event came to, in their order. An error is want of memory.
+    /// Copies of the events' outcomes, in their order. An error is want of memory.
     pub fn outcomes(&self, alloc: Global) -> Result<Vec<Came>, AllocError>
         ensures { IfOk result (λ outcomes. outcomes.items ≡ self.now.stored.outcomes) }
     {
@@ -99,9 +99,10 @@ impl<L: Ledger> Closed<L> {
         self.story.difference(hart, replies)
     }
 
-    /// A law, for a reader; nothing is done. The events came to their outcomes in some run, whose world has this disk; and of whichever
-    /// run they are: if no step of it found no room, one list of tree steps explains all calls that were started, from the image's tree,
-    /// as long as no path has the element "..", or where one hart has made all calls.
+    /// A law, for a reader; nothing is done. The events had their outcomes in some run, whose world has this disk. Of
+    /// whichever run they are: if no step of it found no room, one list of tree steps explains all calls that were
+    /// started, from the image's tree. That holds as long as no path has the element "..", or if one hart has made
+    /// all calls.
     pub fn one_list_explains_it(&self)
         ensures { HasOneHistory self.now }
     {

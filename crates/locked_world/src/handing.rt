@@ -1,4 +1,4 @@
-// What a call hands back when it ends.
+//! What a call hands back when it ends.
 ghost use Rattle.std.specs.Prelude.{◌≡◌, ◌↔◌, IfOk, IsTrue, drop, length};
 ghost use Rattle.locked_world.specs.HandedBack.{HandsBack, KeepsAfter, read_count};
 
@@ -70,7 +70,8 @@ fn keeps_after(count: u32, given: &[u8], back: &[u8]) -> bool
     back.len() == given.len() && after(back, count) == after(given, count)
 }
 
-/// Whether the reply's call is the one given, but for the bytes that a read has read: as many at the beginning of its buffer as it was answered.
+/// Whether the reply's call is the one given, but for the bytes that a read has read. These are at the beginning of
+/// its buffer, and their number is the answer.
 pub fn is_handed_back(given: &Call, reply: &Reply) -> bool
     ensures { IsTrue result ↔ HandsBack given.now reply.now }
 {

@@ -1,4 +1,4 @@
-// The stored list, read where it stands.
+//! The stored list, read in place.
 ghost use Rattle.std.specs.Prelude.{◌≡◌};
 ghost use Rattle.std.specs.Iterator.{YieldsFirstBy, item_count};
 ghost use Rattle.locked_world.specs.Lent.{owned, owned_came, owned_event};
@@ -14,13 +14,13 @@ use std::marker::Model;
 /// A stored event, with its call lent.
 #[derive(Clone, Copy)]
 pub enum EventRef<'a> {
-    /// The hart was to start this call.
+    /// The hart was asked to start this call.
     Start { hart: u8, call: &'a Call },
-    /// The hart's call was to make one step.
+    /// The hart's call was asked to make one step.
     Step { hart: u8 },
 }
 
-/// What a stored event came to, with its reply lent. A step that waits isn't stored.
+/// The outcome of a stored event, with its reply lent. A step that waits isn't stored.
 #[derive(Clone, Copy)]
 pub enum CameRef<'a> {
     /// The call was started.
@@ -37,7 +37,7 @@ pub enum CameRef<'a> {
     Stopped(Stop),
 }
 
-/// The stored events in their order, each with what it came to. It takes no memory. A contract sees those that are left.
+/// The stored events in their order, each with its outcome. It takes no memory. A contract sees those that are left.
 #[derive(Drop)]
 pub struct Iter<'a> {
     notes: &'a [Note],
@@ -89,7 +89,7 @@ impl<'a> Iterator for Iter<'a> {
 
 impl<'a> FusedIterator for Iter<'a> {}
 
-// The event of a note, and the calls that are left for those behind it.
+// The event of a note, and the calls that are left for the notes after it.
 fn event_lent<'a>(note: Note, calls: &'a [Call]) -> (EventRef<'a>, &'a [Call])
     ensures event { owned_event result.0 ≡ event_noted note (first (starts note) calls.now) }
     ensures left { result.1.now ≡ past (starts note) calls.now }
@@ -104,7 +104,7 @@ fn event_lent<'a>(note: Note, calls: &'a [Call]) -> (EventRef<'a>, &'a [Call])
     }
 }
 
-// What a note says that its event came to, and the replies that are left for those behind it.
+// The outcome that a note says its event had, and the replies that are left for the notes after it.
 fn came_lent<'a>(what: What, replies: &'a [Given]) -> (CameRef<'a>, &'a [Given])
     ensures came { owned_came result.0 ≡ came_at what (first (is_reply what) replies.now) }
     ensures left { result.1.now ≡ past (is_reply what) replies.now }

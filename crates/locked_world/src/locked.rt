@@ -1,4 +1,4 @@
-// The value under the kernel's lock. It is a run of its stored list, and changes by one event at a time.
+//! The value under the kernel's lock. It is a run of its stored list, and changes by one event at a time.
 ghost use Rattle.std.specs.Prelude.{◌≡◌, ◌≢◌, ◌<◌, ◌≤◌, ◌+◌, ◌∷◌, [], Some, None, IfOk, IfErr, IfNone, IfSome, MatchOption, All, map, sum_by, length, slice_get, slice_set, get_or};
 ghost use Rattle.block_device.specs.Blocks.{blocks_of};
 ghost use Rattle.image_tree.specs.VersionOne.{IsWellFormed, JudgesFault};
@@ -56,7 +56,7 @@ pub enum Halt {
     NoMemory = 33,
 }
 
-/// What a step of the locked world came to.
+/// The outcome of a step of the locked world.
 #[derive(Drop)]
 pub enum LockedOutcome<L: Ledger> {
     /// The hart has no call.
@@ -79,8 +79,8 @@ pub enum NotStarted {
     NoMemory,
 }
 
-/// A world with the list of the events that made it, and what they came to. A contract sees the image, the fuse, the events and their
-/// outcomes, and the world itself.
+/// A world with the list of the events that made it, and their outcomes. A contract sees the image, the fuse, the
+/// events and their outcomes, and the world itself.
 ///
 /// It must be ended.
 pub struct Locked<L: Ledger> {
@@ -175,8 +175,8 @@ impl<L: Ledger> Receipt<L> {
 }
 
 impl<L: Ledger> Locked<L> {
-    /// A world mounted on a disk of this image that passes so many calls and then fails, with no events; and a share for each hart. It
-    /// answers the image's first damage, a failure of the device, or want of memory.
+    /// A world mounted on a disk of this image that passes `fuse` calls and then fails, with no events; and a share
+    /// for each hart. It answers the image's first damage, a failure of the device, or want of memory.
     pub fn new(
         alloc: Global,
         blank: Blank,
@@ -224,8 +224,9 @@ impl<L: Ledger> Locked<L> {
         Ok((locked, shares))
     }
 
-    /// One event: the start of a hart's call. Where it was not started the call comes back, and the share and the world stay; for want of
-    /// memory nothing changes. It calls no device. It makes the copies of the call that its reply will want.
+    /// One event: the start of a hart's call. If it was not started, the call comes back, and the share and the world
+    /// stay; for want of memory nothing changes. It calls no device. It makes the copies of the call that its reply
+    /// will want.
     pub fn start(
         &mut self,
         share: &mut Share<L>,
@@ -307,9 +308,10 @@ impl<L: Ledger> Locked<L> {
         }
     }
 
-    /// A law, for a reader; nothing is done. What is stored is a run of this very world: one was mounted on the image, on a disk that
-    /// passes so many calls, and the events came to their outcomes, one after the other, and made this one of it. And its device is
-    /// what calls have made of that disk: each has burned one of its fuse, and has failed where none was left.
+    /// A law, for a reader; nothing is done. What is stored is a run of this very world: one was mounted on the
+    /// image, on a disk whose fuse passes a given count of calls. The events had their outcomes, one after the other,
+    /// and made this one of it. And its device is what calls have made of that disk: each has burned one of its fuse,
+    /// and has failed if none was left.
     pub fn is_run(&self)
         ensures run { IsRun self.now }
         ensures calls { ComesFromImage self.now.stored (device_of self.now.world) }
@@ -317,8 +319,8 @@ impl<L: Ledger> Locked<L> {
         let _ = &self.world;
     }
 
-    /// Ends the world at any moment, without a call of the device, and leaves its disk. As many calls were started and answered, together,
-    /// as the shares count.
+    /// Ends the world at any moment, without a call of the device, and leaves its disk. The shares together count the
+    /// calls that were started and answered.
     pub fn end(self, shares: [Share<L>; 8]) -> Closed<L>
         requires { L.parts ≡ 8 }
         ensures same { result ≡ closed_of self }

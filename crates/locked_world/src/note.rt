@@ -1,4 +1,4 @@
-// What is kept of an event.
+//! What is kept of an event.
 ghost use Rattle.std.specs.Prelude.{◌≡◌, ◌↔◌, true, IsTrue};
 ghost use Rattle.locked_world.specs.Stories.{is_start, is_reply};
 
@@ -6,7 +6,7 @@ use fs_machine::Kind;
 use hart_core::{StartRefused, Stop};
 use plain_tree::Reply;
 
-// What an event came to. The call of a start, and a reply, stand in lists of their own.
+// The outcome of an event. The call of a start, and a reply, are in lists of their own.
 #[derive(Clone, Copy)]
 pub(crate) enum What {
     Started,

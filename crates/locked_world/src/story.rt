@@ -1,4 +1,4 @@
-// The events that have been, and what they came to, in little memory.
+//! The events that have been, and their outcomes, in little memory.
 ghost use Rattle.std.specs.Prelude.{◌≡◌, ◌≢◌, ◌<◌, ◌^◌, ◌++◌, ◌∷◌, [], ℕ, Some, None, IfOk, IfNone, IfSome, MatchOption, length, map, slice_get, vec_len, vec_capacity, false};
 ghost use Rattle.hart_core.specs.declared.events.Came.TheVariants as came;
 ghost use Rattle.hart_core.specs.declared.events.Event.TheVariants as event;
@@ -17,9 +17,8 @@ use plain_tree::{Call, Reply};
 use std::alloc::{AllocError, Global};
 use std::marker::Model;
 
-/// The events that have been, and what each of them came to: a note of three bytes each, and the calls and the replies in lists of their
-/// own. A
-/// contract sees the two lists, and how much room there is for more.
+/// The events that have been, and the outcome of each: a note of three bytes each, and the calls and the replies in
+/// lists of their own. A contract sees the two lists, and how much room there is for more.
 #[derive(Drop)]
 pub(crate) struct Story {
     notes: Vec<Note>,
@@ -68,7 +67,7 @@ impl Story {
         }
     }
 
-    /// Room for one event more, whatever it comes to.
+    /// Room for one event more, whatever its outcome.
     #[inline(always)]
     pub fn make_room(&mut self) -> Result<(), AllocError>
         ensures same { (self.new.events ≡ self.old.events) × (self.new.outcomes ≡ self.old.outcomes) }
@@ -150,7 +149,7 @@ impl Story {
         self.calls.push_reserved(call);
     }
 
-    /// The events in their order, each with what it came to; calls and replies are lent.
+    /// The events in their order, each with its outcome; calls and replies are lent.
     pub fn iter(&self) -> Iter<'_>
         ensures events { map (λ p. p.0) result ≡ self.now.events }
         ensures outcomes { map (λ p. p.1) result ≡ self.now.outcomes }
@@ -165,7 +164,7 @@ impl Story {
         events_told(alloc, &self.notes, &self.calls)
     }
 
-    /// Copies of what each of them came to.
+    /// Copies of their outcomes.
     pub fn outcomes(&self, alloc: Global) -> Result<Vec<Came>, AllocError>
         ensures { IfOk result (λ outcomes. outcomes.items ≡ self.now.outcomes) }
     {

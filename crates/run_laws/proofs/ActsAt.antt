@@ -24,7 +24,7 @@ last_bind : {A B : Type 0} (p : P A) (f : A → P B) → MarksNone p → ((a : A
 last_bind (Ret a) f here behind = behind a
 last_bind (Do op m k) f here behind = λ a. inr ((here a).0, last_bind (k a) f (here a).1 behind)
 
--- where what the first part ends with counts
+-- if the end of the first part counts
 last_bind_as : {A B : Type 0} (Is : A → Type 0) (p : P A) (f : A → P B) → MarksNone p → EndsAs Is p → ((a : A) → Is a → MarksLast (f a)) → MarksLast (bind p f)
 last_bind_as Is (Ret a) f here ends behind = behind a ends
 last_bind_as Is (Do op m k) f here ends behind = λ a. inr ((here a).0, last_bind_as Is (k a) f (here a).1 (ends a) behind)
@@ -238,7 +238,7 @@ known_below d x f is = at (min (slots_known x) (slot_count d)) (first_gap 0 (tak
             let below : s < most_slots = grind (arith, nat_tests, q, few) in
             subst (λ (z : Found). z.slot < most_slots) (let z : record { slot = s; number = 0 } ≡ f = cc in z) below
 
--- the slot of a new name, where that is below the most
+-- the slot of a new name, if that is below the most
 abbrev FitsIn : Dinode → Searched → Type 0
 FitsIn d o = slot_for d o.found < most_slots
 

@@ -5,7 +5,7 @@ use Rattle.run_laws.proofs.Wants.{step_wants}
 use Rattle.run_laws.proofs.Worlds.{worlds_refine}
 
 module _ (sizes : Super) where
-  -- where an operation of a call stands among all
+  -- the place of a call's operation among all
   record Stands (call : ℕ) (x : Operation) (es : List (PlacedStep (lowered_inode_calls sizes))) : Type 0 where
     operation : PlacedStep (lowered_inode_calls sizes)
     before : List (PlacedStep (lowered_inode_calls sizes))

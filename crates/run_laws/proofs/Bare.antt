@@ -1,4 +1,5 @@
--- What a run comes to doesn't depend on the history that is kept beside: the state without it, and what an event makes of that.
+-- The result of a run doesn't depend on the history that is kept beside it: the state without it, and what an event
+-- makes of that.
 use Rattle.run_laws.proofs.Vocabulary.{◌≡◌, ℕ, suc, nat_eq, if◌then◌else◌, Bool, true, false, Option, Some, None, List, [], refl, ◌∙◌, ap, Prog, Ret, Do, asks, OfNext, ExecResult, Waits, Ran, Stops, PartOf as P, OpWithAnswer, own, onto, Theory, Began, Refuses, Begins, Run, State, EventOf as Event, Start, Step, OutcomeOf as Outcome, Started, WasRefused as Refused, WasIdle, DidWait, DidRun, DidEnd, DidStop, WasStopped, Made, HonestStep, IsHonest, all_told, begun, busy_in, changed, is_called as is_some, makes, moved, start_run, step_prog, step_run, step_unless, told, tried}
 
 pub record Bare (World Program : Type 0) : Type 0 where

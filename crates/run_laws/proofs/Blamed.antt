@@ -45,7 +45,7 @@ some_run (Do op m k) =
     )
 
 module _ (room : Full) where
-  -- these operations were made, the newest first, and p is left: where the call ends for want of the room, one wanted it
+  -- these operations were made, the newest first, and p is left: if the call ends for want of the room, one wanted it
   abbrev pub IsBlamed : P Reply → List Operation → Type 0
   IsBlamed p fs = HasWanted fs room ⊎ Blames room p
 

@@ -1,7 +1,7 @@
 -- The number of a call's steps that a state keeps is the one that its events show; so no call takes more than its limit.
 use Rattle.run_laws.proofs.Vocabulary.{◌≡◌, ◌≢◌, ◌≤◌, ◌+◌, ℕ, suc, Bool, true, false, nat_eq, if◌then◌else◌, Option, Some, None, List, [], ◌∷◌, refl, sym, ◌∙◌, ap, subst, inl, arith, eqb-true, eqb-false, Ret, Do, ExecResult, Waits, Ran, Stops, PartOf as P, OpWithAnswer, own, onto, Theory, Began, Refuses, Begins, Lawful, Run, FinishedCall, State, Made, EventOf as Event, Start, Step, hart_of, AllHonest, changed, told, all_told, moved, tried, step_prog, step_unless, step_run, begun, busy_in, start_run, makes, next, outcomes, In, Keeps, Keeps-next, changed_same, changed_other, Some-inj, with_outcome, steps_ran, OfBegun, OfEachCall}
 
--- hart h's call is r, and later so many of its steps run
+-- hart h's call is r, and `later` of its steps run after this
 module _ (L : Theory) (h : ℕ) (s : State L) (r : Run L) (is : s.running h ≡ Some r) (later : ℕ) where
   -- after the event, with the later steps, the call is within its limit; and so is each that has finished
   pub record Fits (m : Made L) : Type 0 where

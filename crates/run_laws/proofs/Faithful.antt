@@ -72,7 +72,7 @@ module _ (U : Machine) (R : LowerLayer U.World) (handler : Handlers U R) (IsOf :
 
 -- ---- the program of one operation
 
--- Its steps are noted, and where it acts, among them. E: which ending is claimed; yet: none is.
+-- Its steps are noted, and among them the one in which it acts. E: which ending is claimed; yet: none is.
 module _ (L : Machine) (alone : Alone L) (clean : (w : L.World) → L.Clean w) (quiet : (h : ℕ) (op : L.Op) (b : L.Answer op) (w : L.World) → L.places h op b None w ≡ []) (h : ℕ) {A C E : Type 0} (IsOf : A → L.Step → Type 0) (Open : E → Type 0) (Then : E → Handover A C → Notes L → Type 0) (Whole : E → Notes L → Type 0)
     (yet : E) (opens : Open yet) (seam : (x : Handover A C) → Then yet x []) where
   -- nothing is placed yet

@@ -1,4 +1,5 @@
--- The calls of a layer below are right with what is noted of them, where each operation acts with the answer that its program ends with.
+-- The calls of a layer below are right with what is noted of them, if each operation acts with the answer that its
+-- program ends with.
 use Rattle.run_laws.proofs.Vocabulary.{◌≡◌, ◌⊎◌, inl, inr, ◌+◌, ℕ, Bool, false, Option, Some, None, [], refl, sym, ◌∙◌, ap, subst, arith, Ret, bind, oldest_first, Wp, Theory, Began, Begins, BeginsWhole, Begun, Ends, Lawful, LowerLayer, Both, joined, LowerLaws, Handlers, Lasts, BeginsSome, IsStarted, Uses, Starts, StartsBoth, began_to, lowered_calls, Budget, Affords, AtomicWithin, whole_begins, ends_last, begun_both, Alone, Wp-weaker, Wp-more, Wp-bind, IsFaithful, Notes, stepwise}
 use Rattle.run_laws.proofs.Faithful.{PlacesItself, handles, none_noted, stepwise_laws}
 

@@ -1,10 +1,11 @@
--- What is asked of whole inodes fits: a new one is a file or a directory, a name fits into an entry, and what is written is bytes, and some, and not too many.
--- And a mark says that there was no room just where the answer says so.
+-- What is asked of whole inodes fits: a new one is a file or a directory, and a name fits into an entry. What is
+-- written is bytes, and some, and not too many. And a mark says that there was no room exactly when the answer says
+-- so.
 use Rattle.run_laws.proofs.Vocabulary.{◌≡◌, ◌<◌, ◌≤◌, ℕ, length, IsBytes, Ret, Do, P, Answer, Claim, Enter, WriteFile, IsMade, says_no_room, name_len}
 use Rattle.inode_machine.specs.World.{Op}
 use Rattle.call_programs.specs.Asks.{spoils}
 
--- no more than so many bytes are written at once
+-- no more than `most` bytes are written at once
 abbrev pub Fits : ℕ → Op → Type 0
 Fits most (Claim inode_type) = IsMade inode_type
 Fits most (Enter d e n) = length e ≤ name_len

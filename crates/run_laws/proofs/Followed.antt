@@ -38,7 +38,7 @@ module _ (sizes : Super) where
 
   -- ---- by number
 
-  -- after so many of them
+  -- after this count of them
   abbrev under_at : ℕ → (es : List (Event Call Outside)) (s : State L) (under : ℕ → Option UnderWay) → Followed es s under → ℕ → Option UnderWay
   under_at zero es s under f = under
   under_at (suc n) [] s under f = under

@@ -15,7 +15,7 @@ use Rattle.run_laws.proofs.Searches.{fetched, read_back, split}
 
 -- ---- what goes before
 
--- behind some of these steps the others are that program's, which ends so
+-- after some of these steps the others are that program's, which ends so
 record Behind {A : Type 0} (after : P A) (es : List AnsweredStep) (r : A) : Type 0 where
   front : List AnsweredStep
   back : List AnsweredStep

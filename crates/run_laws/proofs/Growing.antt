@@ -48,8 +48,8 @@ module _ (disk : List (List ℕ)) (failures : ℕ) where
   abbrev pub list_on : List (Event Call Outside) → List Placed
   list_on events = history_of (block_moves (sizes_of disk)) (first disk failures) events
 
-  -- After the first k events: the list so far is a beginning of the whole list; it explains what was shown; and the disk's tree is what
-  -- has names in the tree to which the entries up to a mark lead.
+  -- After the first k events: the list so far is a beginning of the whole list, and explains what was shown. The
+  -- disk's tree is what has names in the tree to which the entries up to a mark lead.
   pub record IsSoFar (events : List (Event Call Outside)) (k : ℕ) : Type 0 where
     pub so_far : before k (list_on events) ≡ list_on (take k events)
     pub rest : List Placed

@@ -1,4 +1,4 @@
--- A hart without a call has begun nothing; and where no hart has one nothing is left of any call.
+-- A hart without a call has begun nothing; and if no hart has one, nothing remains of any call.
 use Rattle.run_laws.proofs.Vocabulary.{◌≡◌, ◌≢◌, ℕ, Bool, true, false, if◌then◌else◌, List, Option, Some, None, get_or, sym, ◌∙◌, ap, subst, Super, sizes_of, Call, eq_self, Theory, AllHonest, EventOf, State, fresh, run, Holds, IsExplained, program_at, Code, Plain, erase, plain_run, erase-run, explains, Outside, Running, running_of, Held, Idle, Inv, if_kept, view, Shows, loaded, IsMountable, ShowsItsTree, mounts_show_their_trees, quiet_worlds_are_images, first, block_calls, block_code, first_holds, first_idle, is_code, lawful, HartsOf, AllAnswer, IsHistory, WorldOf, calls_of, all_honest, mountable, rests_erased, nones, CountsReferences, HasBegunNothing, IdleHartsAreThrough, IdleHartsHaveBegunNothing, NothingIsLeft}
 use Rattle.fs_machine.specs.Steps as steps
 use Rattle.inode_machine.specs.World as above
@@ -26,7 +26,7 @@ begun_nothing h w rests = record {
   place = rests.hand;
 }
 
--- ---- where the events of a mounted disk lead
+-- ---- the states to which the events of a mounted disk lead
 
 module _ {D : Type 0} (contents : D → List (List ℕ)) (failures : D → ℕ) (disk : List (List ℕ)) (count : ℕ) (may : IsMountable disk) where
   abbrev L : Theory
@@ -66,7 +66,7 @@ module _ {D : Type 0} (contents : D → List (List ℕ)) (failures : D → ℕ) 
     counts : CountsReferences t.tables seen
     counts n = all_counted n t.tables seen (loaded t.tables) known.0 known.1
 
-    -- ---- where no hart has a call
+    -- ---- if no hart has a call
 
     module _ (none : (h : ℕ) → s.running h ≡ None) where
       rests : (h : ℕ) → Idle h seen

@@ -46,7 +46,7 @@ module _ (n : ℕ) (t : TablesState) (w : World) (load : ℕ → Option Loaded) 
   pub all_counted : references_of n t ≡ count_by (is_file_of n) t.files + sum_below hart_count (λ g. (w.harts g).refs n)
   all_counted = let a = files_are in let b = inv.counts n in let c = shows.places.counts n in omega (arith, a, b, c)
 
-  -- where each hart refers to its directory alone
+  -- if each hart refers to its directory alone
   pub none_more : ((g : ℕ) → g < hart_count → (w.harts g).refs n ≡ one_if ((w.desks g).directory == n)) → references_of n t ≡ owed n t
   none_more alone =
       let a = all_counted in

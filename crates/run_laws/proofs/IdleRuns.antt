@@ -71,7 +71,7 @@ module _ (L : Theory) where
     abbrev s : State L
     s = run L es (fresh L w)
 
-    -- where all harts are idle it hasn't stopped
+    -- if all harts are idle it hasn't stopped
     pub idle_runs : ((h : ℕ) → s.running h ≡ None) → s.stopped ≡ false
     idle_runs idle = by s.stopped refl
       where

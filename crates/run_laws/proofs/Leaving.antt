@@ -1,4 +1,4 @@
--- What a program's operations have changed where it ends for want of room: of a run of it, and of each call's program.
+-- What a program's operations have changed when it ends for want of room: of a run of it, and of each call's program.
 use Rattle.image_versions.specs.declared.version.Version.TheVariants.{One}
 use Rattle.run_laws.proofs.Vocabulary.{◌≡◌, ◌⊎◌, inl, inr, ℕ, Bool, true, false, if◌then◌else◌, List, [], ◌∷◌, ◌++◌, Option, Some, None, refl, sym, ◌∙◌, ap, subst, append_assoc, append-nil, Full, Reply, Call, eq_self, In, Ret, Do, P, program, Answer, Mark, New, Free, Claim, Frees, Change, Freed, Sighting, by_free, changed_by, changes_after, seen_by, Stands, wanted, HasWanted, IsRunOf, Operation}
 use Rattle.plain_tree.specs.declared.answer.Answer.TheVariants as answers
@@ -63,11 +63,12 @@ still_so None w = refl
 still_so (Some room) w = refl
 
 module _ (call : Call) where
-  -- what stands with the reply, where some operation has found no room
+  -- what stays with the reply, if some operation has found no room
   abbrev pub Ends : Bool → List Change → Reply → Type 0
   Ends found_none cs r = found_none ≡ true → (room : Full) → r.answer ≡ answers.Full room → Stands room call cs
 
-  -- After these changes the program comes to what stands, whatever its operations answer; the operation just before it has seen this.
+  -- After these changes the program ends with what stays, whatever its operations answer; the operation just before
+  -- it has seen this.
   abbrev pub LeavesFrom : Option Sighting → Bool → List Change → P Reply → Type 0
   LeavesFrom seen b cs (Ret r) = Ends b cs r
   LeavesFrom seen b cs (Do op m k) =

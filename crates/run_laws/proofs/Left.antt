@@ -1,4 +1,4 @@
--- What a stop leaves: the tree of the state after the events that a mark tells.
+-- What a stop leaves: the tree of the state after the events that a mark counts.
 use Rattle.run_laws.proofs.Vocabulary.{◌≡◌, inl, inr, ℕ, zero, suc, ◌+◌, ◌≤◌, ◌<◌, false, List, [], ◌∷◌, ◌++◌, length, get_or, take, refl, sym, subst, ap, ◌∙◌, arith, add-one, take_more, take_all, Super, sizes_of, Call, Placed, IsNamedPart, tree_of, tree_in, IsRecoveredSo, Marks, AgreeOutside, joined_count as joined, seen_of, IsMarked, no_marks, before, Theory, EventOf as Event, Step, State, IsHonest, AllHonest, next, run, Sound, run-append, sound_run, Outside, Passes, block_calls, marks_after, marks_next, log_at, AreEventsOn, disk_after, marks_at, state_after, itself, log_in, next_now, Followed, followed_on, stored_respects, itself_stored, quiet_stored, first_state, first_followed, first_image, next_same}
 use Rattle.group_log.specs.CrashLaw.{Blocks}
 use Rattle.run_laws.proofs.Numbered.{before_numbered, entry, long_numbered, numbered}
@@ -33,7 +33,7 @@ module _ (disk : List (List ℕ)) where
   abbrev pub HasTreeOf : State (block_calls (sizes_of disk)) → List (List ℕ) → Type 0
   HasTreeOf s d = IsNamedPart ((block_calls (sizes_of disk)).M.tree s.world).tree (tree_of (tree_in d))
 
--- A mark tells some of the events, and the disk has the tree of the state after those.
+-- A mark counts the first of the events, and the disk has the tree of the state after those.
 pub record Leaves (disk : List (List ℕ)) (failures : ℕ) (events : List (Event Call Outside)) : Type 0 where
   pub count : ℕ
   pub marked : IsMarked (marks_at disk failures events) count
@@ -73,7 +73,7 @@ module _ (disk : List (List ℕ)) (failures : ℕ) (events : List (Event Call Ou
       ap (λ (es : List (Event Call Outside)). marks_after S es start no_marks) (first_more n lt)
       ∙ marks_more S (take n events) (event n) start no_marks
 
-  -- each disk that recovery would leave so has the tree after as many events as there are entries
+  -- each disk that recovery would leave so has the tree after the events that the list's length counts
   abbrev Image : List Placed → Blocks → Type 0
   Image list blocks = (d : List (List ℕ)) → length d ≡ length disk → IsRecoveredSo S blocks d → HasTreeOf disk (state (length list)) d
 

@@ -1,4 +1,4 @@
--- The list that is kept beside a run explains it, where each call that was started is one that its hart may make.
+-- The list that is kept beside a run explains it, if each call that was started is one that its hart may make.
 use Rattle.image_versions.specs.declared.version.Version.TheVariants.{One}
 use Rattle.run_laws.proofs.Vocabulary.{◌≡◌, ℕ, List, [], ◌∷◌, ◌++◌, map, refl, sym, ◌∙◌, ap, subst, append_assoc, Call, Placed, Shown, Explains, trace_of, Tree, tree_of, TreeData, History, Stage, Told, Turn, Goings, opened, shown_of, Steps, Nothing, runs_more, runs_none, AllMayStart, opened_ok, run_explained, run_ok, Theory, EventOf as Event, Sound, State, AllHonest, fresh, makes, next, run, append_nil, sound_keeps, sound_fresh, sound_run, MoveMachine, IsMoving, RunsFrom, shows, theory_of, IsTheHistory, history_of, kept, kept_by, kept_on, nothing_yet, told_of, Beside, clean_before, event_turns, AllStarted}
 use Rattle.tree_laws.specs.Runs.Event.{Starts}

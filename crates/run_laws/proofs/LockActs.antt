@@ -1,4 +1,5 @@
--- An operation that acts in the first step of its program does so where that step ran: the tables show that a lock was taken.
+-- An operation that acts in the first step of its program does so when that step ran: the tables show that a lock was
+-- taken.
 use Rattle.run_laws.proofs.Vocabulary.{◌≡◌, ℕ, Option, Some, None, List, [], refl, sym, ◌∙◌, ap, subst, put_same, Super, Prog, Ret, Do, ExecResult, Waits, Ran, Stops, exec_result_in, ActOf, Both, both, ran_to, act_places, acts, seen_after, own, own_one, Outside, AnswerBelow, LockedState, file_named, lock_file, lock_inode, lock_open, refusal_of, came_to, in_tables, loaded, Loaded, Carry, handlers, file_locked, stat_locked, machine, Mark, Take, StatFile, LockFile, LockOpen, World, block_calls, IsAtEnd, InFirst, time_of, Operation, whole_inodes, told_by}
 use Rattle.fs_machine.specs.Inodes as inodes
 use Rattle.fs_machine.specs.Steps as steps
@@ -16,7 +17,7 @@ use Rattle.run_laws.proofs.Whole.{answer_or}
 
 -- ---- tables
 
--- where a lock was taken, the tables don't show the same world as before
+-- if a lock was taken, the tables don't show the same world as before
 lock_taken : (h n : ℕ) (t u : TablesState) (w : above.World) (load later : ℕ → Option Loaded) (content : Option Loaded) → tables.Shows t w load → tables.Shows u w later → lock_inode h n t ≡ Ran content u → ⊥
 unfolding lock_inode
 lock_taken h n t u w load later content shows after ran = at (place_of n t.entries) refl

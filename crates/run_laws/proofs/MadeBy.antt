@@ -1,4 +1,4 @@
--- What a step makes of a state, by its hart's call and by what the operation comes to.
+-- What a step makes of a state, by its hart's call and by the outcome of the operation.
 use Rattle.inode_machine.specs.VersionOne as one
 use Rattle.run_laws.proofs.Vocabulary.{◌≡◌, ℕ, suc, Option, Some, None, Bool, true, false, List, [], refl, ◌∙◌, ap, Prog, Ret, Do, ExecResult, PartOf as P, OpWithAnswer, own, onto, Theory, Run, State, Step, WasIdle, WasStopped, DidRun, Made, changed, placed, all_told, unchanged, moved, tried, step_prog, step_unless, step_run, makes, MoveMachine, Reply, theory_of, IsAtEnd}
 use Rattle.inode_machine.specs.Kept as kept

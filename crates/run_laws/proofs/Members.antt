@@ -45,7 +45,7 @@ one_more_in (Some k ∷ ms) (suc h) = one_more_in ms h
 
 -- ---- and the steps
 
--- the hart is in a transaction by the log just where it is by its steps
+-- the hart is in a transaction by the log exactly if it is by its steps
 abbrev pub Agrees : ℕ → LogPart → Recorded → Type 0
 Agrees h l o = is_in (slice_get l.members h) ≡ is_some o
 
@@ -74,7 +74,7 @@ mapped f None = refl
 mapped f (Some blocks) = refl
 
 module _ (h : ℕ) (st : State) (o : Recorded) (was : Agrees h st.log o) where
-  -- so it is after a step, where that ran
+  -- so it is after a step, if that ran
   abbrev pub AgreesAfter : {A : Type 0} → (A → Recorded) → ExecResult A State → Type 0
   AgreesAfter f Waits = Unit {0}
   AgreesAfter f (Ran a t) = Agrees h t.log (f a)

@@ -9,7 +9,7 @@ use Rattle.run_laws.proofs.Whole.{keeps_whole, whole_laws}
 -- ---- the operations
 
 module _ (sizes : Super) (h : ℕ) where
-  -- an operation's program acts at one moment, where the hart's transaction has room for what it records
+  -- an operation's program acts at one moment, if the hart's transaction has room for what it records
   abbrev pub Within : (op : above.Op) → (above.Answer op → Option above.Mark) → Type 1
   Within op m = AtomicWithin whole_inodes (layer sizes) (handlers sizes) (recorded_blocks operations) (λ r s. HasSpent sizes h s r.blocks) h op m
 

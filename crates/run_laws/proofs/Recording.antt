@@ -1,4 +1,4 @@
--- What a program records in its hart's transaction, by its text: the blocks that it names, and so many more.
+-- What a program records in its hart's transaction, by its text: the blocks that it names, and a count of more.
 use Rattle.run_laws.proofs.Vocabulary.{◌≡◌, ◌≤◌, ◌&&◌, ℕ, Bool, true, false, List, [], ◌∷◌, ◌++◌, length, Option, Some, None, if◌then◌else◌, refl, sym, ap, subst, arith, length-append, slice_get, Super, one_if, Open, has, members_with, one_more, with_block, pick, Ret, Do, bind, LogPart, AnswerBelow as Answer, JoinToWrite, Op, Put, inode_block, Spent, size, with_contents, Accounts, IsSpent, recorded_in, used, Acts, NoMore, other_put, spent_put, has_last, put_grows, AreAtMostTen, recorded_after}
 use Rattle.fs_machine.specs.Steps.{Join}
 use Rattle.inodes_on_blocks.specs.Handlers.{P}
@@ -123,7 +123,7 @@ module _ (sizes : Super) where
 
   -- ---- programs
 
-  -- where s covers what was recorded, t does after the program
+  -- if s covers what was recorded, t does after the program
   pub record Within (s : Spent) {A : Type 0} (p : P A) (t : Spent) : Type 0 where
     pub stays : (o : Recorded) → Covers o s → StaysSmall o p (λ a u. Covers u t)
 

@@ -10,7 +10,7 @@ use Rattle.run_laws.proofs.SearchEnds.{dots_spelled, spelled}
 
 -- ---- how many blocks
 
--- a slot's bytes lie in one
+-- a slot's bytes are in one
 slot_block : (slot : ℕ) → blocks_between (dirent_len * slot) (dirent_len * slot + dirent_len) ≤ 1
 slot_block slot = let many = many_between (dirent_len * slot) (dirent_len * slot + dirent_len) (omega arith) in omega (arith, many)
 
@@ -114,7 +114,7 @@ module _ (sizes : Super) where
       by true = small_bind (take_one sizes) (name_direct i d) (IsTaken s o) Q o (takes_one s bitmap few o covers) named
       by false = inr covers
 
-  -- one whose number stands in the indirect block, which costs what it costs to record
+  -- a block whose number is in the indirect block: to find it costs what it costs to record
   looks_up : (s full less : Spent) → IsSpent sizes s sizes.bmapstart → size s + 1 ≤ 10 → NoMore s full → NoMore s less
       → (i : ℕ) (d : Dinode) (table : ℕ) (bytes : List ℕ) (o : Recorded) → Covers sizes o s
       → ((u : Recorded) → Keeps o u → Covers sizes u (with_contents 1 s) → Covers sizes (put_on sizes table u) full)
@@ -173,7 +173,7 @@ module _ (sizes : Super) where
 
   -- ---- blocks written
 
-  -- a block that was located is written, and then the ones behind it
+  -- a block that was located is written, and then the ones after it
   writes_at : (full less t : Spent) → size full ≤ 10 → NoMore less full → NoMore full t → NoMore (with_contents 1 less) full
       → (more : Dinode → P WriteResult) → ((x : Dinode) → Within sizes full (more x) t)
       → (at : ℕ) (bytes : List ℕ) (x : Dinode) (n : Option ℕ) (u : Recorded) → IsLocated full less n u
@@ -213,7 +213,7 @@ module _ (sizes : Super) where
           upto sizes (more x) (twice (2 * k) 2 (2 * suc k) s (omega arith))
           (again (at + length (front_of at bytes)) (drop (length (front_of at bytes)) bytes) x)
 
-  -- so many at most
+  -- two blocks for each of n at most
   writes_few : (k n : ℕ) (at : ℕ) (bytes : List ℕ) (d : Dinode) (s : Spent) → IsSpent sizes s sizes.bmapstart → k ≤ n → size s + 2 * n ≤ 10
       → Within sizes s (write_blocks k sizes at bytes d) (with_contents (2 * n) s)
   writes_few k n at bytes d s bitmap le few =

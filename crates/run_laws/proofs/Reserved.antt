@@ -9,7 +9,7 @@ not_at i k below above e = absurd (omega (arith, below, above, e))
 is_below : (i n : ℕ) → nat_lt i n ≡ true → i < n
 is_below i n e = grind (arith, nat_tests)
 
--- where a call serves a child, no descriptor is on its way yet
+-- if a call serves a child, no descriptor is on its way yet
 none_yet : (child i : ℕ) → on_the_way (serving child None) i ≡ None
 none_yet child i = by (nat_lt i descriptor_count) refl
   where

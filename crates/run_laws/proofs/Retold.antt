@@ -1,4 +1,4 @@
--- Runs of calls with their notes come to the same where each call ends with Some of its reply.
+-- Runs of calls with their notes have the same outcomes if each call ends with Some of its reply.
 use Rattle.run_laws.proofs.Vocabulary.{◌≡◌, inl, inr, ℕ, suc, Option, Some, None, Bool, true, false, List, [], ◌∷◌, refl, sym, ◌∙◌, ap, subst, nat_eq, if◌then◌else◌, Ret, Do, bind, ExecResult, Waits, Ran, Stops, asks, OfNext, PartOf as P, OpWithAnswer, own, onto, Theory, Began, Refuses, Begins, IsBeginning, Run, PlacedStep, FinishedCall, State, EventOf as Event, Start, Step, changed, is_called as is_some, start_of, placed, told, all_told, moved, tried, step_prog, step_unless, step_run, begun, busy_in, start_run, HonestStep, IsHonest, AllHonest, next, run, fresh, In, IsExplained, history, steps_of, Notes, with_steps}
 use Rattle.run_laws.proofs.FaithfulCalls.{telling}
 

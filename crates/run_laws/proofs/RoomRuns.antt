@@ -1,4 +1,4 @@
--- A run found room at each step just where none of its operations found none.
+-- A run found room at each step exactly if none of its operations found none.
 use Rattle.run_laws.proofs.Vocabulary.{◌≡◌, inl, inr, ℕ, Bool, true, false, ◌&&◌, not, nat_eq, if◌then◌else◌, Option, Some, None, List, [], ◌∷◌, ◌++◌, refl, sym, ◌∙◌, ap, subst, eq-eqb, Super, sizes_of, Call, put, and_true, Theory, Began, Refuses, Begins, EventOf, FinishedCall, PlacedStep, Run, Start, Started, State, begun, busy_in, fresh, makes, next, run, start_run, Chain, In, IsOfCall, history, steps_of, Both, ran_to, PartOf as P, began_to, Ret, Do, ExecResult, Waits, Ran, Stops, EventReport, IsTraced, happened, begun_both, traced, Outside, exec, marked, with_mark, program, machine, Refusal, Mark, Fills, Frees, Makes, Mends, Orphans, Spoils, first_world, first, World, shared_of, begins, block_calls, child_of, served_calls, serves, served_is, begun_here, WorldOf, IsRunFrom, RefinesWholeInodes, operations_made, operations_of, RoomIsToldByAnswers, finds_no_room, says_no_room, IsRunOf, IsStep, Operation, lowered_inode_calls, unreserved}
 use Rattle.inode_machine.specs.World as above
 use Rattle.run_laws.proofs.CallFits.{call_fits, most_written}
@@ -31,7 +31,7 @@ step_clean t u h e s same =
     ∙ after_clean h e.mark s.before s.after e.answer (exec h s.outside e.op s.before) (goes_on h s.outside e.op s.before) s.goes
     ∙ (λ i. not (same i) && (s.from i).clean)
 
--- ---- marks tell what answers do
+-- ---- marks say what answers do
 
 in_run : (most : ℕ) {A : Type 0} (p : P machine A) (es : List Operation) (r : A) (x : Operation) → AllFitUpTo most p → IsRunOf p es r → In x es → spoils x.mark ≡ says_no_room x.op x.answer
 in_run most (Ret a) [] r x f g i = absurd i

@@ -1,4 +1,4 @@
--- No operation on whole inodes stops the world, and what its mark is to change it leaves alone. And each has some answer.
+-- No operation on whole inodes stops the world, and it leaves alone what its mark changes. And each has some answer.
 use Rattle.run_laws.proofs.Vocabulary.{◌≢◌, ◌⊎◌, inl, inr, ◌+◌, ◌-◌, length, take, ◌≡◌, ℕ, ◌==◌, Bool, true, false, nat_lt, if◌then◌else◌, List, [], Option, Some, None, refl, sym, ◌∙◌, ap, Cause, OpenFile, has_room, node_or, write_kind, Name, Tree, put, put_is, Walk, ExecResult, Waits, Ran, Stops, changed_record, claim_if, claimed, close_at, close_if, counted_down, counted_up, double_at, double_if, down_if, enter_if, entry_of, exec, file_count, fill_if, first_from, has_place, install_if, is_empty_slot, is_full_directory, is_last, join_at, lend_if, lend_last, lock_at, lock_if, locked, moved_in, next_used, offset_of, place_count, read_at, read_refused, referenced, slot_at, slot_if, start_if, start_number, stat_at, unlocked, up_if, walk_down_if, with_bytes, with_found, with_lent, with_offset, with_refs, write_at, write_if, write_refused, wrote_in, InodeType, face_of, face_or, seen_in, go, with_mark, Answer, ClaimResult, Entry, Mine, InPlace, Joined, LocksIt, Mark, Moved, New, NoPlace, Picks, Room, RoomFor, Whole, Take, UnlockInode, UpStart, Up, WalkDown, Down, Free, Forget, Claim, Store, Fill, Enter, Clear, Empty, Slot, Install, StatFile, LockFile, ReadFile, CheckFile, JoinFile, LockOpen, WriteFile, Double, Shut, SetDirectory, Lend, LendDirectory, Release, Join, Leave, Say}
 use Rattle.inode_machine.specs.Exec.{enter_in, write_in}
 use Rattle.inode_machine.specs.VersionOne.{part_of}

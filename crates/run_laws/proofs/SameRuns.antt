@@ -1,4 +1,5 @@
--- The calls on blocks come to the same with either history beside them: the moves on the tree, or the operations on whole inodes.
+-- The calls on blocks have the same outcomes with either history beside them: the moves on the tree, or the
+-- operations on whole inodes.
 use Rattle.run_laws.proofs.Vocabulary.{◌≡◌, ℕ, Option, Some, None, List, [], ◌∷◌, refl, sym, ◌∙◌, ap, subst, Super, Reply, Call, Prog, Ret, Do, bind, ExecResult, Waits, Ran, Stops, PartOf as P, Theory, State, EventOf as Event, AllHonest, EventOutcome, makes, next, outcomes, run, ActOf, Both, both, lowered, seen_after, Outside, AnswerBelow as Answer, Op, program, machine, Carry, nothing, handlers, World, layer, block_calls, lowered_inode_calls, whole_inodes}
 use Rattle.inode_machine.specs.World as above
 use Rattle.calls_on_blocks.specs.Layer.{exec}

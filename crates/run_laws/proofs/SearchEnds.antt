@@ -77,7 +77,7 @@ module _ (sizes : Super) where
   seen_front es xs ys is DiskInodes saw = λ n some below. in_use_front es xs ys is n (saw n some below)
   seen_front es xs ys is Directory saw = tt
 
-  -- so many bytes were written, or no block was seen
+  -- the write ended at k, or no block was seen
   none_or : (es xs ys : List AnsweredStep) → es ≡ xs ++ ys → (w : WriteResult) (k : ℕ) → SawNoBlock sizes xs ⊎ (w.upto ≡ k)
       → SawNoBlock sizes es ⊎ (w.upto ≡ k)
   none_or es xs ys is w k (inl saw) = inl (saw_front sizes es xs ys is saw)
@@ -189,7 +189,7 @@ module _ (sizes : Super) where
   -- ---- a piece of a file
 
   module _ (fd n offset : ℕ) (bytes : List ℕ) (c : Carry) (m : Wrote → Option above.Mark) where
-    -- the inode is stored, up to where it was written
+    -- the inode is stored, and the place up to which it was written stays the same
     pub stored_upto : (w v : WriteResult) (es : List AnsweredStep) → ComesTo {M = Acts} (store_written sizes n w) es v → v.upto ≡ w.upto
     stored_upto w v es q =
         let s = split (store sizes.inodestart n (grown w)) (λ _. ends) es v q in
@@ -272,7 +272,7 @@ module _ (sizes : Super) where
     no_answer a [] r want q = ap (λ (z : Made). wanted_to_claim z.answer) q ∙ want
     no_answer a (y ∷ es) r want q = absurd q
 
-    -- a block of inodes was looked through, and the ones behind it were
+    -- a block of inodes was looked through, and so were the ones after it
     record Passes (q : ℕ) (block : List ℕ) (more : P Made) (ys : List AnsweredStep) (r : Made) : Type 0 where
       claims : In (steps.Claim (sizes.inodestart + q) (free_in sizes.ninodes q block), steps.NoInode) ys
       step : AnsweredStep
@@ -315,7 +315,7 @@ module _ (sizes : Super) where
         (passed_behind es xs ys is (q + 1 + j) (passed_behind ys (p.step ∷ []) p.later p.is (q + 1 + j)
         (rest p.later p.goes j (omega (arith, lt)))))
 
-    -- block q is passed over, and then the ones behind it
+    -- block q is passed over, and then the ones after it
     claim_passes : (k q : ℕ) (es : List AnsweredStep) (r : Made) → wanted_to_claim r.answer ≡ Some DiskInodes
         → ComesTo (claim_from k sizes inode_type c m q) es r → (j : ℕ) → j < k → PassedBlock es (q + j)
     unfolding claim_from

@@ -13,7 +13,7 @@ pub in_back : {A : Type 0} (x : A) (xs ys : List A) → In x ys → In x (xs ++ 
 in_back x [] ys i = i
 in_back x (z ∷ xs) ys i = inr (in_back x xs ys i)
 
--- what a program comes to whose operations begin these
+-- the result of a program whose operations begin these
 pub record Splits {M A B : Type 0} (p : Prog Op Answer M A) (f : A → Prog Op Answer M B) (es : List AnsweredStep) (r : B) : Type 0 where
   pub value : A
   pub front : List AnsweredStep

@@ -274,7 +274,7 @@ module _ (sizes : Super) where
       to x (inl (inr i)) = inr (in_front x (step_of_event sizes e s) (steps_made sizes es (next L e s)) i)
       to x (inr i) = inr (in_back x (step_of_event sizes e s) (steps_made sizes es (next L e s)) i)
 
-  -- ---- what each step came to
+  -- ---- the outcome of each step
 
   abbrev Happened : MadeStep → Type 0
   Happened e = (x : Outside) × (t : steps.State) × (steps.exec e.hart x e.step.0 e.before ≡ Ran e.step.1 t)

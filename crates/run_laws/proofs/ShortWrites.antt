@@ -245,7 +245,7 @@ module _ (sizes : Super) (old : Dinode) where
       counts : n ≡ blocks_between (at + f) ((at + f) + length (drop f bytes))
       counts = next_count sizes n at (length bytes) f is part ∙ ap (λ (z : ℕ). blocks_between (at + f) ((at + f) + z)) (sym rest)
 
-      -- where more are to come the block was filled
+      -- if more bytes come, the block was filled
       next : 0 < n → at / block_len + 1 ≡ (at + f) / block_len
       next pos =
           let one : suc (n - 1) ≡ n = omega (arith, pos) in

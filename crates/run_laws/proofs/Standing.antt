@@ -1,4 +1,4 @@
--- A call that found no room leaves what stands.
+-- A call that found no room leaves what stays with its reply.
 use Rattle.run_laws.proofs.Vocabulary.{◌≡◌, inr, ℕ, false, List, [], Option, None, subst, Super, sizes_of, Full, Reply, Call, TracedCall, fresh, run, program, first, trace_in, WorldOf, changes_of, operations_of, CallsWithoutRoomTakeBack, LeavesThat, Stands, IsRunOfCall, Operation, lowered_inode_calls, IsRun, RunsTo}
 use Rattle.plain_tree.specs.declared.answer.Answer.TheVariants as answers
 use Rattle.run_laws.proofs.Answered.{both_of}

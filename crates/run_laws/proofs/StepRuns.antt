@@ -184,7 +184,7 @@ module _ (L : Theory) (Written : L.Call → Notes L.M → L.Reply → Type 0)
   honest_all [] s t e a = tt
   honest_all (x ∷ es) s t e a = (honest_event x s (subst (IsHonest L x) (sym e) a.0), honest_all es (next N x s) (next L x t) ((λ i. (makes_alone x s i).after) ∙ ap (next L x) e) a.1)
 
-  -- the same events are honest with the notes, come to the same outcomes, and make the same operations
+  -- the same events are honest with the notes, have the same outcomes, and make the same operations
   module _ (w : L.M.World) (es : List (Event L.Call L.M.Outside)) where
     pub steps_honest : AllHonest L es (fresh L w) → AllHonest (with_steps L Written) es (fresh (with_steps L Written) w)
     steps_honest a = honest_all es (fresh N w) (fresh L w) refl a

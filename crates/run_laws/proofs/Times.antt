@@ -26,7 +26,7 @@ no_mark (Some x) s n = cc
 
 -- ---- marks
 
--- what is left of a program is marked so, where no step of it ran yet, or some
+-- the rest of a program has these marks, if no step of it ran yet, or if some did
 abbrev pub MarkedSo : ActingTime → Bool → {Op : Type 0} {Answer : Op → Type 0} {M A : Type 0} → Prog Op Answer M A → Type 0
 MarkedSo InFirst true p = MarksFirst p
 MarkedSo InFirst false p = MarksNone p
@@ -82,7 +82,8 @@ module _ {A : Type 0} (op : steps.Op) (m : steps.Answer op → Option Acts) (k :
   acts_then InLast false t s = last_then t s
   acts_then InOne first t s = tt
 
--- It doesn't, since it has done so; or in a step that isn't the first of one that acts there, and behind which the program goes on.
+-- It doesn't, because it has done so; or in a step that isn't the first of one that acts there, if the program goes
+-- on after it.
 
 pub acted_then : (time : ActingTime) (first last : Bool) → HasActed time first true → ActsThen time first last false
 acted_then InFirst true last h = absurd (let e : true ≡ false = h in cc)
@@ -103,7 +104,7 @@ never_yet InFirst = refl
 never_yet InLast = refl
 never_yet InOne = tt
 
--- after one step more, behind which the program goes on
+-- after one step more, if the program goes on after it
 pub acted_on : {A : Type 0} (time : ActingTime) (first last : Bool) (acts acted : Option A) → last ≡ false → HasActed time first (is_some acted) → ActsThen time first last (is_some acts)
     → HasActed time false (is_some (or_else acts acted))
 acted_on InFirst first last (Some a) acted e h t = refl

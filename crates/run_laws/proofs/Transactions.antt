@@ -11,7 +11,7 @@ use Rattle.run_laws.proofs.RecordingCalls.{call_small}
 
 -- ---- after each step
 
--- its operation may be made where it is made
+-- its operation may be made when it is made
 abbrev MayBeMade : MadeStep → Type 0
 MayBeMade e = premises.May e.hart e.step.0 e.before
 

@@ -39,7 +39,7 @@ module _ (sizes : Super) where
   abbrev J : Machine
   J = (lowered_inode_calls sizes).M
 
-  -- what is noted from here on, where the operation has acted so, or hasn't yet
+  -- what is noted from here on, if the operation has acted so, or hasn't yet
   abbrev pub ReadsOn : Option Reply → (u : UnderWay) → Option (above.Answer u.op) → P (Handover (above.Answer u.op) Carry) → Notes (lowered_inode_calls sizes).M → Type 0
   ReadsOn r u None left rest = ActsWithin J {C = Carry} (IsOperation u.op u.mark) (IsUnderWay r) (λ x more. IsFaithful whole_inodes (layer sizes) (handlers sizes) IsOperation r x.carry (u.rest x.answer) more) left rest
   ReadsOn r u (Some a) left rest = EndsWith J {C = Carry} (IsOperation u.op u.mark) (IsUnderWay r) (λ x more. IsFaithful whole_inodes (layer sizes) (handlers sizes) IsOperation r x.carry (u.rest x.answer) more) a left rest
@@ -97,7 +97,7 @@ module _ (sizes : Super) where
     abbrev Then : Option Reply → Handover (above.Answer u.op) Carry → Notes (lowered_inode_calls sizes).M → Type 0
     Then r z more = IsFaithful whole_inodes (layer sizes) (handlers sizes) IsOperation r z.carry (u.rest z.answer) more
 
-    -- this is what the step did, where the operation had acted so before
+    -- what the step did, if the operation had acted so before
     pub record Turned (acted : Option (above.Answer u.op)) : Type 0 where
       pub acts : Option (above.Answer u.op)
       pub at : ActsThen (time_of u.op) (none_ran u.ran) (is_at_end (k b)) (is_some acts)

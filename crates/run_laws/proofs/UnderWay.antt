@@ -1,4 +1,5 @@
--- Beside a run of the calls on blocks stands what is under way in each hart's call, and the same run with its notes: one step of both.
+-- Beside a run of the calls on blocks there are what is under way in each hart's call, and the same run with its
+-- notes. This is one step of both.
 use Rattle.inode_machine.specs.VersionOne as one
 use Rattle.run_laws.proofs.Vocabulary.{◌≡◌, ◌≢◌, ℕ, Bool, true, false, nat_eq, if◌then◌else◌, Option, Some, None, is_some, List, [], ◌∷◌, ◌++◌, refl, sym, ◌∙◌, ap, subst, eqb-false, ne_eqb, Super, Reply, Prog, Ret, Do, bind, Ran, own, own_one, onto, or_else, Theory, Run, State, Made, Step, changed, told, moved, act_places, Handover, lowered, Outside, AnswerBelow, HasInodes, Carry, handlers, layer, machine, Mark, block_calls, block_moves, lowered_inode_calls, whole_inodes, IsAtEnd, IsFaithful, IsOperation, Notes, AreOf, EndsAsActed, HasActed, IsMadeBy, LeadTo, RunsAStep, StepDoes, UnderWay, at_beginning, gone_on, none_ran, is_at_end, time_of, call_outcome, step_outcome}
 use Rattle.fs_machine.specs.Steps as steps

@@ -1,4 +1,4 @@
--- Where no hart has a call what has no links is open, or a current directory.
+-- If no hart has a call, what has no links is open, or a current directory.
 use Rattle.run_laws.proofs.Vocabulary.{◌≡◌, inl, inr, ℕ, pos, ◌==◌, true, false, List, [], ◌∷◌, Option, sym, ◌∙◌, ap, subst, arith, nat_tests, Super, sizes_of, Theory, PlacedStep, fresh, run, Chain, Both, first_world, first, block_calls, WorldOf, Node}
 use Rattle.image_tree.specs.Inodes.{inode_of, is_live, is_node, is_positive}
 use Rattle.image_tree.specs.Trees.{count_of}
@@ -57,7 +57,7 @@ module _ (sizes : Super) where
   chain_keeps base t [] c dead = subst (λ (z : World). DeadAreReferredTo z) (sym c) dead
   chain_keeps base t (e ∷ es) c dead = chain_keeps c.0 t es c.2 (step_keeps base c.0 e.hart e.step c.1 dead)
 
--- ---- where no hart has a call
+-- ---- if no hart has a call
 
 pub nothing_is_lost : {D : Type 0} (contents : D → List (List ℕ)) (failures : D → ℕ) (w : WorldOf D) → NothingIsLost contents failures w
 nothing_is_lost contents failures w device events came new history mounted is idle n dead =

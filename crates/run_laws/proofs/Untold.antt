@@ -1,4 +1,4 @@
--- An operation of which no change is told leaves inodes that have a name, open files and what harts have of them.
+-- An operation that reports no change leaves inodes that have a name, open files and what harts have of them.
 use Rattle.run_laws.proofs.Vocabulary.{◌≡◌, ◌≢◌, ◌⊎◌, inl, inr, ℕ, ◌==◌, Bool, true, false, nat_lt, if◌then◌else◌, List, [], ◌∷◌, take, Option, Some, None, refl, sym, ◌∙◌, ap, subst, append-nil, Cause, Node, OpenFile, has_room, lowest, node_or, write_kind, Name, Tree, all_slots, first_slot, is_live, live_directory, look, put, IsWellFormed, look_live, eq_is, put_is, put_other, put_same, ran_to, ExecResult, Waits, Ran, Stops, claim_if, claimed, close_at, close_if, double_at, double_if, down_if, entry_of, enter_if, exec, file_count, fill_if, first_from, has_place, install_if, is_empty_slot, is_full_directory, is_last, join_at, lend_if, lock_at, lock_if, locked, next_used, offset_of, place_count, read_at, read_refused, referenced, released, slot_at, slot_if, start_if, start_number, stat_at, unlocked, up_if, walk_down_if, write_at, write_if, write_refused, InodeType, face_of, face_or, seen_in, type_of, go, made_by, marked, mended, new_id, spoiled, with_left, with_made, with_mark, with_noted, with_opened, Answer, ClaimResult, Desk, Entry, LocksIt, Mark, New, NoPlace, Picks, Room, RoomFor, Inv, Fills, Frees, Makes, Mends, Orphans, Spoils, CheckFile, Claim, Clear, Double, Down, Empty, Enter, Fill, Forget, Free, UnlockInode, Install, Join, JoinFile, Leave, Lend, LendDirectory, LockFile, LockOpen, ReadFile, Release, Say, SetDirectory, Shut, Slot, StatFile, Store, Take, Up, UpStart, WalkDown, WriteFile, OwnMove as Own, Change, ChangesAreTold, Claimed, Cleared, Entered, Filled, Freed, GaveBack, HasNoName, TookPlace, by_count, by_free, changed_by}
 use Rattle.inode_machine.specs.Exec.{with_record, write_in}
 use Rattle.inode_machine.specs.Marks.{Made}
@@ -116,7 +116,7 @@ marked_kept h (Some (Spoils s)) w =
 
 -- ---- operations
 
--- where no change is told of the answer
+-- if the answer reports no change
 abbrev Goes : {A : Type 0} → (A → List Change) → Op → World → ExecResult A World → Type 0
 Goes told op w Waits = Unit {0}
 Goes told op w (Ran a u) = told a ≡ [] → LeavesBut w op u
@@ -125,7 +125,7 @@ Goes told op w (Stops u) = Unit {0}
 some_told : (c : Change) (cs : List Change) → c ∷ cs ≡ [] → ⊥
 some_told c cs e = cc
 
--- some change is told
+-- some change is reported
 lies : (w : World) (op : Op) (u : World) (c : Change) (cs : List Change) → c ∷ cs ≡ [] → LeavesBut w op u
 lies w op u c cs e = absurd (some_told c cs e)
 

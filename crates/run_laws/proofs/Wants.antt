@@ -5,7 +5,7 @@ use Rattle.inode_machine.specs.Exec.{write_in}
 use Rattle.inode_machine.specs.World.{Op, Outside, World}
 use Rattle.run_laws.proofs.Worlds.{worlds_refine}
 
--- ---- where there is none
+-- ---- when there is none
 
 not_less : (n k : ℕ) → nat_lt n k ≡ false → k ≤ n
 not_less n k e = grind (arith, nat_tests)

@@ -1,5 +1,5 @@
--- A call's program ends for want of a room only where one of its operations wanted it, or where a claim gave it an inode that it had
--- locked; and each name that it enters fits.
+-- A call's program ends for want of a room only if one of its operations wanted it, or a claim gave it an inode that
+-- it had locked. And each name that it enters fits.
 use Rattle.image_versions.specs.declared.version.Version.TheVariants.{One}
 use Rattle.run_laws.proofs.Vocabulary.{◌≡◌, ◌≢◌, ◌⊎◌, inl, inr, ℕ, List, [], Option, Some, None, refl, ap, subst, Change, Full, Blocks, Descriptors, Directory, DiskInodes, MemInodes, OpenFiles, Reply, Call, Ret, Do, P, program, Answer, Mark, New, Claim, Enter, NameFits, wanted}
 use Rattle.plain_tree.specs.declared.answer.Answer.{Answer as ReplyAnswer}
@@ -58,7 +58,7 @@ module _ (room : Full) where
   Goes (Claim inode_type) (New n) p does = ((room ≡ MemInodes) × GivesBack n p) ⊎ does
   Goes op a p does = does
 
-  -- whatever else its operations answer, it ends for want of this room only where one of them wanted it
+  -- whatever else its operations answer, it ends for want of this room only if one of them wanted it
   abbrev pub Blames : P Reply → Type 0
   Blames (Ret r) = Not r
   Blames (Do op m k) = NameFits op × ((a : Answer op) → (wanted op a ≡ Some room) ⊎ Goes op a (k a) (Blames (k a)))

@@ -39,7 +39,7 @@ own_none : (g h : ℕ) (e : Operation) → g ≢ h → own g ((h, e) ∷ []) ≡
 own_none g h e ne = rw (ne_eqb h g (λ q. ne (sym q))) refl
 
 module _ (call : Call) where
-  -- after these operations, the newest first, p is what is left of the call's program
+  -- after these operations, the newest first, p is the rest of the call's program
   record OnWay (p : P machine Reply) (fs : List Operation) : Type 0 where
     runs : (rest : List Operation) (r : Reply) → IsRunOf p rest r → IsRunOf (program call) (onto fs rest) r
     blamed : (room : Full) → IsBlamed room p fs

@@ -1,4 +1,4 @@
--- What a write is told to have written it has written.
+-- A write has written what its answer says that it has written.
 use Rattle.run_laws.proofs.Vocabulary.{◌≡◌, ◌<◌, ℕ, Bool, true, false, nat_lt, if◌then◌else◌, List, [], ◌∷◌, length, take, Option, Some, None, refl, sym, ◌∙◌, ap, subst, Cause, BadDescriptor, Node, node_or, write_kind, put, descriptor_count, put_same, ran_to, ExecResult, Ran, changed_record, entry_at, entry_moved, entry_of, slot_at, unlocked, with_bytes, with_offset, write_at, write_if, wrote_in, with_mark, HonestPiece, Writes, Entry, Mark, Picks, Refused, Room, RoomFor, Short, Whole, Wrote as WriteResult, Change, HasWritten, ShortWritesAreShort, WritesAreMade, by_write}
 use Rattle.inode_machine.specs.World.{Outside, World}
 use Rattle.run_laws.specs.Changes.{Wrote}
@@ -66,7 +66,7 @@ module _ (h fd n : ℕ) (w : World) (e : Entry) (opened : entry_of w h fd ≡ So
     has c v q h' =
         written_between h fd b w w v u refl h' (ap (λ (d : ExecResult WriteResult World). kept_of (ran_to w d)) (sym q) ∙ marked_kept h m v)
 
-    -- the bytes that were written are those that are told
+    -- the bytes that were written are those of the reported change
     written : (c : WriteResult) (some : List ℕ) → by_write fd bytes c ≡ Wrote fd some ∷ []
         → with_mark h (λ (z : WriteResult). m) (Ran c (wrote_in w (slot_at w h fd) e n some)) ≡ Ran a u → HasWritten w h fd b u
     written c some told q =

@@ -17,12 +17,12 @@ abbrev pub MarksNone : {Op : Type 0} {Answer : Op → Type 0} {M A : Type 0} →
 MarksNone (Ret a) = Unit {0}
 MarksNone {Op} {Answer} (Do op m k) = (a : Answer op) → (m a ≡ None) × MarksNone (k a)
 
--- the first one is marked, and no other
+-- only the first one is marked
 abbrev pub MarksFirst : {Op : Type 0} {Answer : Op → Type 0} {M A : Type 0} → Prog Op Answer M A → Type 0
 MarksFirst (Ret a) = ⊥
 MarksFirst {Op} {Answer} (Do op m k) = (a : Answer op) → (is_some (m a) ≡ true) × MarksNone (k a)
 
--- the last one is, and no other
+-- only the last one is
 abbrev pub MarksLast : {Op : Type 0} {Answer : Op → Type 0} {M A : Type 0} → Prog Op Answer M A → Type 0
 MarksLast (Ret a) = ⊥
 MarksLast {Op} {Answer} (Do op m k) = (a : Answer op) → ((is_some (m a) ≡ true) × IsAtEnd (k a)) ⊎ ((m a ≡ None) × MarksLast (k a))
@@ -34,8 +34,9 @@ MarksOne {Op} {Answer} (Do op m k) = (a : Answer op) → ((is_some (m a) ≡ tru
 
 -- ---- the law
 
--- Where an inode's lock is taken, and where a transaction is left, the operation acts at its program's first step; the others do at the
--- last one. A claim alone acts between: where it picks an inode, or finds no place for one, the block goes back behind that.
+-- An operation that takes an inode's lock, or leaves a transaction, acts at its program's first step; the others do
+-- at the last one. A claim alone acts between: when it has picked an inode, or found no place for one, the block goes
+-- back after that.
 abbrev pub ActsAt : (op : above.Op) → P (Handover (above.Answer op) Carry) → Type 0
 ActsAt (Take n looking) p = MarksFirst p
 ActsAt (StatFile fd) p = MarksFirst p

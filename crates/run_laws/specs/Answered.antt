@@ -1,4 +1,4 @@
--- What a call is answered that there is none of, one of its operations has not found, where there was none.
+-- If a call is answered that there is none of a thing, one of its operations has not found it, when there was none.
 use Rattle.std.specs.Prelude.{◌≡◌, ℕ, List, ◌∷◌, ◌++◌, Some}
 use Rattle.std.specs.List.{All}
 use Rattle.run_laws.specs.Vocabulary.{Super, sizes_of, Full, Reply, Call, TracedCall, Theory, EventOf, PlacedStep, State, fresh, run, Chain, Outside, World, first_world, first, Came, Event, HartsOf, IsHistory, IsMounted, trace_in, WorldOf}
@@ -25,14 +25,14 @@ module _ (disk : List (List ℕ)) (failures : ℕ) (history : List (EventOf Call
   abbrev inodes : Theory
   inodes = lowered_inode_calls (sizes_of disk)
 
-  -- So has a call of a trace, where it is answered that there is no room.
+  -- So has a call of a trace, if it is answered that there is no room.
   abbrev pub IsAnsweredRightly : TracedCall → Type 0
   IsAnsweredRightly c =
       (number : ℕ) (reply : Reply) (room : Full) → c.finished ≡ Some (number, reply) → reply.answer ≡ answers.Full room
       → FoundNone (sizes_of disk) (run inodes history (fresh inodes (first disk failures))) (first_world disk) c.start room
 
 module _ {D : Type 0} (contents : D → List (List ℕ)) (failures : D → ℕ) where
-  -- So has each call of the trace, in each history of a run of this world, where it is as a mount left it.
+  -- So has each call of the trace, in each history of a run of this world, if the world is as a mount left it.
   abbrev pub CallsFindNoneWhereThereIsNone : WorldOf D → Type 0
   CallsFindNoneWhereThereIsNone w =
       (device : D) (events : List Event) (came : List Came) (new : HartsOf D) (history : List (EventOf Call Outside))

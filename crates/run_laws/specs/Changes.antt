@@ -12,14 +12,14 @@ changes_after seen (e ∷ es) = changed_by seen e.op e.answer e.mark ++ changes_
 abbrev pub changes_of : List Operation → List Change
 changes_of es = changes_after None es
 
--- ---- what is told is all
+-- ---- the reported changes are all
 
 -- no other directory has a name for this inode
 abbrev pub HasNoName : World → ℕ → Type 0
 HasNoName w n = (d : ℕ) (e : Name) → d ≢ n → look w.all.nodes d e ≢ Some n
 
--- These are left: each inode on the disk, but one without a name; each open file, with its offset; and of each hart its descriptors, its
--- place in hand and its current directory.
+-- These stay: each inode on the disk that has a name; each open file, with its offset; and each hart's descriptors,
+-- its place in hand and its current directory.
 pub record LeavesAll (t u : World) : Type 0 where
   pub inodes : (n : ℕ) → (u.disk n ≡ t.disk n) ⊎ HasNoName t n
   pub files : (k : ℕ) → u.files k ≡ t.files k
@@ -27,26 +27,26 @@ pub record LeavesAll (t u : World) : Type 0 where
   pub places : (g : ℕ) → (u.desks g).hand ≡ (t.desks g).hand
   pub directories : (g : ℕ) → (u.desks g).directory ≡ (t.desks g).directory
 
--- The inode that hart h has open by this descriptor has these bytes in its content, from where the file stood on; and the file stands
--- behind them.
+-- The inode that hart h has open by this descriptor has these bytes in its content, from the file's offset on. The
+-- new offset is just after them.
 pub record HasWritten (t : World) (h fd : ℕ) (bytes : List ℕ) (u : World) : Type 0 where
   pub entry : Entry
   pub opened : entry_of t h fd ≡ Some entry
   pub content : u.disk entry.file.number ≡ Some (with_bytes entry.file.offset bytes (node_or (t.disk entry.file.number)))
   pub stands : entry_of u h fd ≡ Some (entry_moved entry (length bytes))
 
--- So does each operation of which no change is told.
+-- So does each operation that reports no change.
 abbrev pub ChangesAreTold : Type 0
 ChangesAreTold = (t u : World) (h : ℕ) (e : Operation) → IsStep t h e u → changes_of (e ∷ []) ≡ [] → LeavesAll t u
 
--- And one that is told to have written bytes has written just these.
+-- And an operation that reports to have written bytes has written just these.
 abbrev pub WritesAreMade : Type 0
 WritesAreMade =
     (t u : World) (h fd n offset : ℕ) (bytes b : List ℕ) (wrote : WriteResult) (mark : Option Mark) (told : Option Deed)
     → IsStep t h (record { op = WriteFile fd n offset bytes; answer = wrote; mark = mark; told = told }) u
     → by_write fd bytes wrote ≡ Wrote fd b ∷ [] → HasWritten t h fd b u
 
--- And one that is answered that there was no block for all of its bytes has written fewer than it was to.
+-- And one that is answered that there was no block for all of its bytes has written fewer than it was asked to.
 abbrev pub ShortWritesAreShort : Type 0
 ShortWritesAreShort =
     (t u : World) (h fd n offset k : ℕ) (bytes : List ℕ) (mark : Option Mark) (told : Option Deed)

@@ -14,8 +14,8 @@ pub record StepNote (E S : Type 0) : Type 0 where
 abbrev pub Notes : Machine → Type 0
 Notes L = List (StepNote (OpWithAnswer L) L.Step)
 
--- The same machine, where each step that runs is noted for its hart, with all that is placed in it. No step is placed for another hart;
--- and where the placed ones lead isn't asked again.
+-- The same machine, with each step that runs noted for its hart, with all that is placed in it. No step is placed for
+-- another hart; and nothing is asked again of the states to which the placed ones lead.
 abbrev pub stepwise : Machine → Machine
 stepwise L =
     record {
@@ -59,8 +59,8 @@ module _ (L : Theory) (Written : L.Call → Notes L.M → L.Reply → Type 0) wh
 
 -- ---- the program of one operation
 
--- What is noted of it, the oldest first. IsOf a s: s is the operation with answer a. Where the notes end within the program, this is Open;
--- from its end on they are as Then says, of what it ends with.
+-- What is noted of it, the oldest first. IsOf a s: s is the operation with answer a. If the notes end within the
+-- program, this is Open; from its end on they are as Then says, of what it ends with.
 module _ (L : Machine) {A C : Type 0} (IsOf : A → L.Step → Type 0) (Open : Type 0) (Then : Handover A C → Notes L → Type 0) where
   -- It has acted with this answer: its program runs on, in which nothing more is made, and ends with the same answer.
   abbrev pub EndsWith : A → P L (Handover A C) → Notes L → Type 0
@@ -92,9 +92,9 @@ IsReply a (Some r) = a ≡ r
 
 module _ (U : Machine) (R : LowerLayer U.World) (handler : Handlers U R)
     (IsOf : (op : U.Op) → (U.Answer op → Option U.Mark) → U.Answer op → U.Step → Type 0) where
-  -- Notes of a program above that ends with r; where no r is given it is under way. For each of its operations, one after the other, they
-  -- have the steps of the operation's own program, in which it acts once; that program ends with the answer with which it acted, and by
-  -- this answer the program above goes on. c: what is in hand.
+  -- Notes of a program above that ends with r; if no r is given it is under way. For each of its operations, one
+  -- after the other, they have the steps of the operation's own program, in which it acts once. That program ends
+  -- with the answer with which it acted, and by this answer the program above goes on. c: what is in hand.
   abbrev pub IsFaithful : {A : Type 0} → Option A → R.Carry → P U A → Notes (joined U R) → Type 0
   IsFaithful r c (Ret a) [] = IsReply a r
   IsFaithful r c (Ret a) (e ∷ es) = ⊥
@@ -150,7 +150,7 @@ module _ (disk : List (List ℕ)) (failures : ℕ) (events : List (EventOf Call 
     pub under_way : (h : ℕ) (r : Run noted) → ran.running h ≡ Some r → AreOf (sizes_of disk) r.call None (notes_of r.start)
 
 module _ {D : Type 0} (contents : D → List (List ℕ)) (failures : D → ℕ) where
-  -- So it is in each history of a run of this world, where it is as a mount left it.
+  -- So it is in each history of a run of this world, if the world is as a mount left it.
   abbrev pub CallsGoOnAsTheyActed : WorldOf D → Type 0
   CallsGoOnAsTheyActed w =
       (device : D) (events : List Event) (came : List Came) (new : HartsOf D) (made : List (EventOf Call Outside))

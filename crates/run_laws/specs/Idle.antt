@@ -5,9 +5,9 @@ use Rattle.fs_machine.specs.Steps.{State}
 
 -- ---- one hart
 
--- Hart h has begun nothing. It holds no inode for a link, and so has raised no link count for a name to come. It refers to its current
--- directory, once, and to no other inode: to those of its open files these refer. It keeps no inode, as it keeps one that it has locked,
--- has made or is to free; and no place for an open file.
+-- Hart h has begun nothing. It holds no inode for a link, and so has raised no link count for a name to come. It
+-- refers to its current directory, once, and to no other inode: its open files refer to theirs. It keeps no inode, as
+-- it keeps one that it has locked, has made or has to free; and no place for an open file.
 pub record HasBegunNothing (h : ℕ) (w : World) : Type 0 where
   pub link : w.all.holds h ≡ None
   pub references : (n : ℕ) → (w.harts h).refs n ≡ one_if ((w.desks h).directory == n)
@@ -20,8 +20,9 @@ pub record HasBegunNothing (h : ℕ) (w : World) : Type 0 where
 abbrev pub CountsReferences : TablesState → World → Type 0
 CountsReferences t w = (n : ℕ) → references_of n t ≡ count_by (is_file_of n) t.files + sum_below hart_count (λ h. (w.harts h).refs n)
 
--- Nothing is left of any call. The references to each inode are as many as open files and current directories have; no place is taken for
--- a file that isn't open; and the blocks as they are seen are a well-formed image, whose link counts no link has raised.
+-- Nothing remains of any call. Open files and current directories account for all references to each inode. No place
+-- is taken for a file that isn't open. The blocks as they are seen are a well-formed image, whose link counts no link
+-- has raised.
 pub record NothingIsLeft (s : State) : Type 0 where
   pub references : (n : ℕ) → references_of n s.tables ≡ owed n s.tables
   pub places : (k : ℕ) → slice_get s.tables.files k ≢ Some Taken
@@ -42,10 +43,10 @@ module _ {D : Type 0} (contents : D → List (List ℕ)) (failures : D → ℕ) 
     pub few : (h n : ℕ) → h < hart_count → (w.harts h).refs n ≤ reference_limit
     -- a hart without a call
     pub idle : (h : ℕ) → get_or new.calls h None ≡ None → HasBegunNothing h w
-    -- where no hart has one; and then no failure of the device has stopped them
+    -- if no hart has one; and then no failure of the device has stopped them
     pub all : AreIdle new.calls → (new.stopped ≡ false) × NothingIsLeft (shared_of contents failures new)
 
-  -- So it is wherever a history of a run leads, from a world as a mount left it.
+  -- So it is after each history of a run, from a world as a mount left it.
   abbrev pub IdleHartsHaveBegunNothing : WorldOf D → Type 0
   IdleHartsHaveBegunNothing w =
       (device : D) (events : List Event) (came : List Came) (new : HartsOf D) (history : List (EventOf Call Outside))

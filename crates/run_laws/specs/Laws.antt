@@ -28,8 +28,8 @@ module _ (sizes : Super) (s : State (lowered_inode_calls sizes)) where
     pub leads : Chain L base operations_made (unreserved s.world.seen)
     pub rises : IsRising L 0 operations_made
     pub shown : s.stopped ≡ false → (layer sizes).Shows s.world.real s.world.seen
-    -- a finished call's are a run of its program, which ends with the reply that was given; those of a call under way begin one. Where
-    -- the reply is that there is no room, one of them wanted it.
+    -- a finished call's are a run of its program, which ends with the reply that was given; those of a call under way
+    -- begin one. If the reply is that there is no room, one of them wanted it.
     pub whole : (f : FinishedCall L) → In f s.finished → IsRunOfCall f.call (operations_of f.start) f.reply
     pub begun : (h : ℕ) (r : Run L) → s.running h ≡ Some r → BeginsRun r.call (operations_of r.start)
     -- each is of a call, and is made between the call's start and its return, or the last event
@@ -49,15 +49,16 @@ module _ (disk : List (List ℕ)) (failures : ℕ) (events : List (EventOf Call 
   abbrev start : Both World above.World
   start = first disk failures
 
-  -- Events on a mounted disk, with the operations on whole inodes that they make: they come to the same outcomes and the same world as
-  -- without, and those operations are a run of their machine from the image's tree.
+  -- Events on a mounted disk, with the operations on whole inodes that they make. They have the same outcomes and
+  -- lead to the same world as without, and those operations are a run of their machine from the image's tree.
   pub record RefinesWholeInodes : Type 0 where
     pub outcomes_are : outcomes inodes events (fresh inodes start) ≡ outcomes calls events (fresh calls start)
     pub world_is : (run inodes events (fresh inodes start)).world ≡ (run calls events (fresh calls start)).world
     pub runs : IsRunFrom (sizes_of disk) (run inodes events (fresh inodes start)) (first_world disk)
 
--- Whatever happens on a mounted disk, at answers that the device may give, is a run of the machine of whole inodes with the same replies:
--- of any harts, also where paths climb, after a step found no room, and where the device fails at any moment.
+-- Whatever happens on a mounted disk, at answers that the device may give, is a run of the machine of whole inodes
+-- with the same replies. That holds for any harts, also if paths climb, after a step found no room, and if the device
+-- fails at any moment.
 abbrev pub RunsRefineWholeInodes : Type 0
 RunsRefineWholeInodes =
     (disk : List (List ℕ)) (failures : ℕ) (events : List (EventOf Call Outside)) → IsMountable disk

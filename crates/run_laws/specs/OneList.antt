@@ -26,7 +26,7 @@ module _ {D : Type 0} (contents : D → List (List ℕ)) (failures : D → ℕ) 
     pub begins : IsBeginningOf (list_of w (take k history)) (list_of w history)
     -- It explains the calls that were started so far, and their replies.
     pub explains : Explains base (trace_in (take k events) (take k came)) (list_of w (take k history))
-    -- Where the world is stopped now, so many events are stored: those up to the cut, or up to the doubt.
+    -- If the world stops at this point, this count of events is stored: those up to the cut, or up to the doubt.
     pub stored : ℕ
     pub marked : IsMarked (marks_of contents failures w (take k history)) stored
     pub past : stored ≤ k
@@ -35,8 +35,8 @@ module _ {D : Type 0} (contents : D → List (List ℕ)) (failures : D → ℕ) 
     pub leads : Chain (tree_of base) (before stored (list_of w history)) tree
     pub named : IsNamedPart tree (tree_of (tree_in (disk_after w k history)))
 
-  -- In each history of a run of this world, where it is as a mount left it, all beginnings agree with one list, from the image's tree: as
-  -- long as no step found no room, and no path climbs or one hart has made all calls.
+  -- If this world is as a mount left it, in each history of a run all beginnings agree with one list, from the
+  -- image's tree. That holds as long as no step found no room, and no path climbs or one hart has made all calls.
   abbrev pub RunsHaveOneList : WorldOf D → Type 0
   RunsHaveOneList w =
       (device : D) (events : List Event) (came : List Came) (new : HartsOf D) (history : List (EventOf Call Outside))

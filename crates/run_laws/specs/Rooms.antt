@@ -1,4 +1,4 @@
--- Where a run found no room: what the answers of its operations say.
+-- Whether a run found no room: what the answers of its operations say.
 use Rattle.std.specs.Prelude.{◌≡◌, ◌↔◌, ℕ, Bool, false, List}
 use Rattle.run_laws.specs.Vocabulary.{sizes_of, Call, Theory, EventOf, PlacedStep, fresh, run, In, Outside, says_no_room, first, Came, Event, HartsOf, FoundRoom, IsHistory, IsMounted, WorldOf}
 use Rattle.run_laws.specs.Laws.{operations_made}
@@ -19,7 +19,8 @@ module _ (disk : List (List ℕ)) (failures : ℕ) (events : List (EventOf Call 
       → In e (operations_made (sizes_of disk) (run inodes events (fresh inodes (first disk failures)))) → finds_no_room e.step ≡ false
 
 module _ {D : Type 0} (contents : D → List (List ℕ)) (failures : D → ℕ) where
-  -- In a history of a run of this world, where it is as a mount left it, no step found no room just where each operation made found room.
+  -- If this world is as a mount left it, in a history of a run each step found room exactly if each operation found
+  -- room.
   abbrev pub RoomIsToldByAnswers : WorldOf D → Type 0
   RoomIsToldByAnswers w =
       (device : D) (events : List Event) (came : List Came) (new : HartsOf D) (history : List (EventOf Call Outside))

@@ -1,4 +1,5 @@
--- The search for a block or for an inode ends without one only where it has looked everywhere: whatever its steps are answered.
+-- The search for a block or for an inode ends without one only if it has looked everywhere, whatever its steps are
+-- answered.
 use Rattle.std.specs.Prelude.{◌≡◌, ◌⊎◌, ℕ, ◌<◌, ◌≤◌, true, false, List, [], ◌∷◌, length, Option, Some, IsSome}
 use Rattle.run_laws.specs.Vocabulary.{Super, bit_of, dinode_at, Full, Blocks, Descriptors, Directory, DiskInodes, MemInodes, OpenFiles, name_len, In, Handover, Prog, Ret, Do, Ran, place_in_memory, Outside, AnswerBelow as Answer, Get, HasNoInode as NoInode, Read, exec, is_zero, inode_block, place_of, Enter, Carry, handlers}
 use Rattle.fs_machine.specs.Steps.{Claim, Op, State}
@@ -52,15 +53,17 @@ abbrev pub NameFits : above.Op → Type 0
 NameFits (Enter d e n) = length e ≤ name_len
 NameFits op = Unit {0}
 
--- Whatever the program of an operation on whole inodes is answered: where it ends for want of a block it has read the bitmap, and no bit
--- was clear; where it ends for want of an inode it has read each inode's block, and the inode was in use, or could not be claimed.
+-- Whatever the program of an operation on whole inodes is answered, it has looked everywhere. If it ends for want of
+-- a block it has read the bitmap, and no bit was clear. If it ends for want of an inode it has read each inode's
+-- block, and the inode was in use, or could not be claimed.
 abbrev pub SearchesSeeAll : Type 0
 SearchesSeeAll =
     (sizes : Super) (c : Carry) (op : above.Op) (m : above.Answer op → Option above.Mark) (es : List AnsweredStep)
     (r : Handover (above.Answer op) Carry) (room : Full)
     → NameFits op → ComesTo (handlers sizes c op m) es r → wanted op r.answer ≡ Some room → SawNone sizes es room
 
--- And what is answered that none of its candidates could be claimed is made where to each of them a reference stands.
+-- And if the answer is that none of its candidates could be claimed, a reference to each of them was there when it
+-- was made.
 abbrev pub ClaimsFindReferences : Type 0
 ClaimsFindReferences =
     (h : ℕ) (x : Outside) (b : ℕ) (candidates : List ℕ) (s t : State) → exec h x (Claim b candidates) s ≡ Ran NoInode t

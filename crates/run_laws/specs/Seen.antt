@@ -55,7 +55,7 @@ abbrev pub answered : List MadeStep → List AnsweredStep
 answered [] = []
 answered (e ∷ es) = e.step ∷ answered es
 
--- As the free inodes of its block were to be claimed, and none could be, a reference to inode n stood.
+-- When the free inodes of its block were to be claimed, and none could be, there was a reference to inode n.
 pub record IsReferredTo (sizes : Super) (es : List MadeStep) (n : ℕ) : Type 0 where
   pub look : MadeStep
   pub made : In look es
@@ -63,7 +63,7 @@ pub record IsReferredTo (sizes : Super) (es : List MadeStep) (n : ℕ) : Type 0 
   pub claims : look.step ≡ (Claim (inode_block sizes.inodestart n) candidates, NoInode)
   pub stands : IsSome (place_in_memory n look.before.tables.entries)
 
--- The block of inode n was read, and the inode was in use: it has a type there, or a reference to it stood.
+-- The block of inode n was read, and the inode was in use: it has a type there, or there was a reference to it.
 pub record IsInUse (sizes : Super) (es : List MadeStep) (n : ℕ) : Type 0 where
   pub block : List ℕ
   pub read : HasRead (answered es) (inode_block sizes.inodestart n) block
@@ -74,18 +74,20 @@ module _ (sizes : Super) (all : List MadeStep) (f : FinishedCall (block_calls si
   abbrev pub AreItsOwn : List MadeStep → Type 0
   AreItsOwn es = (e : MadeStep) → In e es → In e all × (e.hart ≡ f.hart) × (f.start < e.number) × (e.number ≤ f.number)
 
-  -- Where the call was answered that there is no block, its steps have read the bitmap, and no bit below the size was clear there.
+  -- If the call was answered that there is no block, its steps have read the bitmap, and no bit below the size was
+  -- clear there.
   abbrev pub SeesNoBlock : Type 0
   SeesNoBlock = f.reply.answer ≡ answers.Full Blocks → (es : List MadeStep) × AreItsOwn es × SawNoBlock sizes (answered es)
 
-  -- Where it was answered that there is no inode, they have read the block of each inode of the disk, and each was in use.
+  -- If it was answered that there is no inode, they have read the block of each inode of the disk, and each was in
+  -- use.
   abbrev pub SeesNoInode : Type 0
   SeesNoInode =
       f.reply.answer ≡ answers.Full DiskInodes
       → (es : List MadeStep) × AreItsOwn es × ((n : ℕ) → 1 ≤ n → n < sizes.ninodes → IsInUse sizes es n)
 
 module _ {D : Type 0} (contents : D → List (List ℕ)) (failures : D → ℕ) where
-  -- So it is with each finished call in each history of a run of this world, where it is as a mount left it.
+  -- So it is with each finished call in each history of a run of this world, if the world is as a mount left it.
   abbrev pub CallsLookEverywhere : WorldOf D → Type 0
   CallsLookEverywhere w =
       (device : D) (events : List Event) (came : List Came) (new : HartsOf D) (history : List (EventOf Call Outside))

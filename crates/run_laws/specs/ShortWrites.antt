@@ -1,4 +1,5 @@
--- Where a write ends for want of a block: just before that block of the content, whatever its steps are answered.
+-- The place at which a write ends for want of a block: just before that block of the content, whatever its steps are
+-- answered.
 use Rattle.std.specs.Prelude.{◌≡◌, ◌⊎◌, ℕ, ◌+◌, ◌*◌, ◌<◌, max, slice_index, List, length, Option}
 use Rattle.run_laws.specs.Vocabulary.{Super, Handover, Carry, Short, handlers}
 use Rattle.fs_layout.specs.declared.inode.Dinode.{Dinode}
@@ -18,8 +19,8 @@ IsMissing es d (Direct i) = slice_index d.addrs i ≡ 0
 IsMissing es d (InTable i) =
     (table_of d ≡ 0) ⊎ ((table : List ℕ) × HasRead es (table_of d) table × (slice_index (numbers_in table) i ≡ 0))
 
--- Of bytes from an offset on so many were written: those before one block of the content, and no others. The inode lacked that block, and
--- none was free.
+-- Of bytes from an offset on, `count` were written: those before one block of the content, and only those. The inode
+-- lacked that block, and none was free.
 pub record EndsBeforeMissing (sizes : Super) (es : List AnsweredStep) (d : Dinode) (offset : ℕ) (bytes : List ℕ) (count : ℕ) : Type 0 where
   pub block : ℕ
   pub reached : offset < block_len * (block + 1)

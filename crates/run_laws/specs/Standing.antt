@@ -1,4 +1,4 @@
--- What stands after a call that found no room.
+-- What stays after a call that found no room.
 use Rattle.std.specs.Prelude.{◌≡◌, ℕ, List, Some}
 use Rattle.std.specs.List.{All}
 use Rattle.run_laws.specs.Vocabulary.{sizes_of, Full, Reply, Call, TracedCall, EventOf, fresh, run, Outside, first, Came, Event, HartsOf, IsHistory, IsMounted, trace_in, WorldOf}
@@ -19,7 +19,7 @@ module _ (disk : List (List ℕ)) (failures : ℕ) (history : List (EventOf Call
       → Stands room c.call (changes_of (operations_of (sizes_of disk) s c.start))
 
 module _ {D : Type 0} (contents : D → List (List ℕ)) (failures : D → ℕ) where
-  -- So it is of each call of the trace, in each history of a run of this world, where it is as a mount left it.
+  -- So it is of each call of the trace, in each history of a run of this world, if the world is as a mount left it.
   abbrev pub CallsWithoutRoomTakeBack : WorldOf D → Type 0
   CallsWithoutRoomTakeBack w =
       (device : D) (events : List Event) (came : List Came) (new : HartsOf D) (history : List (EventOf Call Outside))

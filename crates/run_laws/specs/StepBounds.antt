@@ -10,9 +10,8 @@ most_steps = 1000000
 abbrev pub AreFew : Call → ℕ → Type 0
 AreFew call steps = (steps ≤ limit call) × (limit call ≤ most_steps)
 
--- Whatever happens on a mounted disk, at answers that the device may give, the steps of each call are few: also where a step found no
--- room, where paths climb, and
--- where the device fails at any moment.
+-- Whatever happens on a mounted disk, at answers that the device may give, the steps of each call are few. That holds
+-- also after a step found no room, if paths climb, and if the device fails at any moment.
 abbrev pub CallsTakeFewSteps : Type 0
 CallsTakeFewSteps =
     (disk : List (List ℕ)) (failures : ℕ) (events : List (EventOf Call Outside)) → IsMountable disk
@@ -20,7 +19,7 @@ CallsTakeFewSteps =
     → OfEachCall AreFew events (outcomes (block_calls (sizes_of disk)) events (fresh (block_calls (sizes_of disk)) (first disk failures)))
 
 module _ {D : Type 0} (contents : D → List (List ℕ)) (failures : D → ℕ) where
-  -- So it is in each run of this world, where it is as a mount left it.
+  -- So it is in each run of this world, if the world is as a mount left it.
   abbrev pub RunsTakeFewSteps : WorldOf D → Type 0
   RunsTakeFewSteps w =
       (device : D) (events : List Event) (came : List Came) (new : HartsOf D) → IsMounted contents failures device w

@@ -11,8 +11,9 @@ abbrev pub after_join : JoinResult → Option (List ℕ) → Option (List ℕ)
 after_join (RefusesJoin why) recorded = recorded
 after_join (Joins n) recorded = Some []
 
--- The blocks that a hart's transaction has recorded, each once; None where the hart is in none. So it is after a step of the hart: a
--- transaction begins with no block, has one more with each that it records, whether the group had that already or not, and ends.
+-- The blocks that a hart's transaction has recorded, each once; None if the hart is in none. So it is after a step of
+-- the hart. A transaction begins with no block and ends. Between, it has one more with each that it records, whether
+-- the group had that already or not.
 abbrev pub recorded_after : (op : Op) → Answer op → Option (List ℕ) → Option (List ℕ)
 recorded_after Join a recorded = Some []
 recorded_after (JoinToWrite fd) a recorded = after_join a recorded
@@ -44,7 +45,7 @@ module _ (made : List MadeStep) where
   abbrev pub RecordAtMostTen : Type 0
   RecordAtMostTen = (h : ℕ) (before after : List MadeStep) → made ≡ before ++ after → AreAtMostTen (recorded_in h before)
 
-  -- Those before a step have left a hart in a transaction just where the log has it in one as that step is made.
+  -- Those before a step have left a hart in a transaction exactly if the log has it in one as that step is made.
   abbrev pub JoinAndLeaveInTheLog : Type 0
   JoinAndLeaveInTheLog =
       (h : ℕ) (before after : List MadeStep) (e : MadeStep) → made ≡ before ++ e ∷ after
@@ -57,7 +58,7 @@ module _ (made : List MadeStep) where
       → IsSome (recorded_in e.hart before)
 
 module _ {D : Type 0} (contents : D → List (List ℕ)) (failures : D → ℕ) where
-  -- So it is with the steps of each history of a run of this world, where it is as a mount left it.
+  -- So it is with the steps of each history of a run of this world, if the world is as a mount left it.
   abbrev pub TransactionsRecordAtMostTen : WorldOf D → Type 0
   TransactionsRecordAtMostTen w =
       (device : D) (events : List Event) (came : List Came) (new : HartsOf D) (history : List (EventOf Call Outside))

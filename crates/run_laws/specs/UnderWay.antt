@@ -10,9 +10,9 @@ use Rattle.run_laws.specs.Searches.{AnsweredStep}
 
 -- ---- an operation under way
 
--- An operation on whole inodes that a hart's call is in, with its mark, and how the call's program goes on by its answer; what was in hand
--- as it began; the steps of its own program on the blocks that ran, the oldest first; what is left of that program; and the answer with
--- which it has acted, if it has.
+-- An operation on whole inodes that a hart's call is in, with its mark, and how the call's program goes on by its
+-- answer. It has what was in hand as it began, and the steps of its own program on the blocks that ran, the oldest
+-- first. It also has the rest of that program, and the answer with which it has acted, if it has.
 pub record UnderWay : Type 0 where
   pub op : Op
   pub mark : Answer op → Option Mark
@@ -74,19 +74,20 @@ abbrev pub SeesTruly : (op : Op) → Answer op → World → Type 0
 SeesTruly (Take n looking) a w = a ≡ seen_in n looking (w.disk n)
 SeesTruly op a w = Unit {0}
 
--- Where it acts with this answer the machine of whole inodes answers so, and goes from v to w; where it doesn't, nothing is done there.
+-- If it acts with this answer the machine of whole inodes answers so, and goes from v to w; if it doesn't, nothing is
+-- done there.
 abbrev pub IsMadeBy : ℕ → (u : UnderWay) → Option (Answer u.op) → (v w : World) → Type 0
 IsMadeBy h u None v w = w ≡ v
 IsMadeBy h u (Some a) v w = ((x : above.Outside) × (go h x u.op u.mark v ≡ Ran a w)) × SeesTruly u.op a v
 
--- what is placed by its mark at this answer, where it acts
+-- what is placed by its mark at this answer, if it acts
 abbrev pub placed_by : ℕ → (u : UnderWay) → Option (Answer u.op) → World → List (ℕ × MoveStep)
 placed_by h u None w = []
 placed_by h u (Some a) w = places h u.op a (u.mark a) w
 
 -- ---- how it goes on
 
--- where its program ends, it has acted, with the answer that this ends with
+-- if its program ends, it has acted, with the answer that this ends with
 abbrev pub EndsAsActed : (u : UnderWay) → Option (Answer u.op) → P (Handover (Answer u.op) Carry) → Type 0
 EndsAsActed u acted (Ret z) = acted ≡ Some z.answer
 EndsAsActed u acted (Do op m k) = Unit {0}
@@ -106,7 +107,7 @@ module _ (sizes : Super) where
   gone_on u acted step (Ret z) = at_beginning z.carry (u.rest z.answer)
   gone_on u acted step (Do op m k) = Some (record u { ran = u.ran ++ step ∷ []; left = Do op m k; acted = acted })
 
-  -- what the step came to: the reply, where the call's program is at its end too
+  -- the outcome of the step: the reply, if the call's program is at its end too
   abbrev pub call_outcome : AnsweredStep → Above Reply → EventOutcome (block_calls sizes)
   call_outcome step (Ret reply) = DidEnd reply
   call_outcome step (Do op m k) = DidRun step
@@ -115,7 +116,7 @@ module _ (sizes : Super) where
   step_outcome u step (Ret z) = call_outcome step (u.rest z.answer)
   step_outcome u step (Do op m k) = DidRun step
 
-  -- what is left of the call's program on the blocks
+  -- the rest of the call's program on the blocks
   abbrev pub program_left : UnderWay → P Reply
   program_left u = bind u.left (λ z. lowered machine (layer sizes) (handlers sizes) z.carry (u.rest z.answer))
 
@@ -126,7 +127,7 @@ module _ (sizes : Super) where
     pub goes_on : IsAtEnd u.left → ⊥
     pub acted : HasActed (time_of u.op) (none_ran u.ran) (is_some u.acted)
 
-  -- a hart is in an operation just where it has a call
+  -- a hart is in an operation exactly if it has a call
   abbrev pub Fits : Option (Run (block_calls sizes)) → Option UnderWay → Type 0
   Fits None None = Unit {0}
   Fits (Some r) (Some u) = IsInOperation r.prog u
@@ -134,7 +135,8 @@ module _ (sizes : Super) where
 
   -- ---- an event
 
-  -- Hart h's step ran, and made this of the state; was and now: what each hart's call is in before it, and after it.
+  -- Hart h's step ran, and made this of the state; `was` and `now`: what each hart's call is in before it, and after
+  -- it.
   pub record RunsAStep (h : ℕ) (x : Outside) (s : State (block_calls sizes)) (made : Made (block_calls sizes))
       (was now : ℕ → Option UnderWay) : Type 0 where
     pub under : UnderWay
@@ -203,9 +205,9 @@ module _ (sizes : Super) where
         → es ++ e ∷ rest ≡ events
         → let s = run L es (fresh L start) in EventDoes e s (makes L e s) (under (length es)) (under (suc (length es)))
 
--- So an operation that acts first places, in its first step, what its mark makes at an answer that it has from there on, and nothing
--- behind that; one that acts last places, in the step in which its program ends, what its mark makes at the answer that this ends with, and
--- nothing before.
+-- So an operation that acts first places, in its first step, what its mark makes at an answer that it has from there
+-- on, and nothing after that. One that acts last places, in the step in which its program ends, what its mark makes
+-- at the answer that this ends with, and nothing before.
 abbrev pub StepsPlaceInTime : Type 0
 StepsPlaceInTime =
     (sizes : Super) (h : ℕ) (x : Outside) (s : State (block_calls sizes)) (made : Made (block_calls sizes)) (was now : ℕ → Option UnderWay)
@@ -213,7 +215,7 @@ StepsPlaceInTime =
     → PlacesAt sizes h x s made was now (time_of r.under.op) (none_ran r.under.ran) r (r.rest r.answer)
 
 module _ {D : Type 0} (contents : D → List (List ℕ)) (failures : D → ℕ) where
-  -- So it is in each history of a run of this world, where it is as a mount left it.
+  -- So it is in each history of a run of this world, if the world is as a mount left it.
   abbrev pub MovesAreMadeAsOperationsAct : WorldOf D → Type 0
   MovesAreMadeAsOperationsAct w =
       (device : D) (events : List Event) (came : List Came) (new : HartsOf D) (made : List (EventOf Call Outside))

@@ -1,4 +1,5 @@
--- Nothing is lost: where no hart has a call each inode without links is open, or a current directory; and what is freed has no type.
+-- Nothing is lost: if no hart has a call, each inode without links is open, or a current directory. And what is freed
+-- has no type.
 use Rattle.std.specs.Prelude.{◌≡◌, ◌<◌, ℕ, pos, true, List, [], ◌∷◌, ◌++◌, Option, Some}
 use Rattle.run_laws.specs.Vocabulary.{Super, Handover, Carry, handlers, inode_block, Put, Call, EventOf, TablesState, owed, Outside, World, Came, Event, AreIdle, HartsOf, shared_of, IsHistory, IsMounted, WorldOf}
 use Rattle.fs_layout.specs.declared.inode.Dinode.{Dinode}
@@ -14,7 +15,7 @@ abbrev pub DeadAreInUse : World → TablesState → Type 0
 DeadAreInUse w t = (n : ℕ) → is_dead (w.disk n) ≡ true → 0 < owed n t
 
 module _ {D : Type 0} (contents : D → List (List ℕ)) (failures : D → ℕ) where
-  -- So it is wherever a history of a run leads, from a world as a mount left it, where no hart has a call.
+  -- So it is after each history of a run, from a world as a mount left it, if no hart has a call.
   abbrev pub NothingIsLost : WorldOf D → Type 0
   NothingIsLost w =
       (device : D) (events : List Event) (came : List Came) (new : HartsOf D) (history : List (EventOf Call Outside))

@@ -1,4 +1,4 @@
--- No room is found only where there is none.
+-- No room is found only if there is none.
 use Rattle.std.specs.Prelude.{◌≡◌, ◌⊎◌, ℕ, ◌<◌, ◌≤◌, List, [], ◌∷◌, length, Option, Some, IsSome}
 use Rattle.std.specs.List.{All}
 use Rattle.run_laws.specs.Vocabulary.{Super, sizes_of, Full, Blocks, Descriptors, Directory, DiskInodes, MemInodes, OpenFiles, Call, Node, all_slots, descriptor_count, hart_count, EventOf, PlacedStep, fresh, run, Outside, file_count, place_count, referenced, slot_limit, Op, World, Enter, first_world, first, Came, Event, HartsOf, IsHistory, IsMounted, WorldOf}
@@ -6,7 +6,7 @@ use Rattle.run_laws.specs.Laws.{operations_made}
 use Rattle.call_programs.specs.Wanted.{wanted}
 use Rattle.run_laws.specs.WholeInodes.{IsStep, Operation, lowered_inode_calls, unreserved}
 
--- ---- where there is none
+-- ---- when there is none
 
 -- as many inodes are referred to as have a place in memory: all fifty, or more
 abbrev pub AllPlacesAreTaken : World → Type 0
@@ -28,7 +28,7 @@ AllDescriptorsAreTaken w h = (fd : ℕ) → fd < descriptor_count → IsSome ((w
 abbrev pub IsFullDirectory : Option Node → Type 0
 IsFullDirectory v = (length (all_slots v) ≡ slot_limit) × All IsSome (all_slots v)
 
--- so is the directory in which the operation was to enter a name
+-- so is the directory in which the operation enters a name
 abbrev pub EntersInFull : World → Op → Type 0
 EntersInFull w (Enter d e n) = IsFullDirectory (w.disk d)
 EntersInFull w op = ⊥
@@ -61,8 +61,8 @@ module _ (disk : List (List ℕ)) (failures : ℕ) (events : List (EventOf Call 
       LeadsThroughWants (sizes_of disk) (first_world disk) (operations_made (sizes_of disk) s) (unreserved s.world.seen)
 
 module _ {D : Type 0} (contents : D → List (List ℕ)) (failures : D → ℕ) where
-  -- In each history of a run of this world, where it is as a mount left it, an operation is answered that there is no room only in a world
-  -- that has none: in that to which the operations before it lead.
+  -- It holds of this world if it is as a mount left it, and of each history of a run. An operation is answered that
+  -- there is no room only in a world that has none: the world to which the operations before it lead.
   abbrev pub NoRoomOnlyWhereThereIsNone : WorldOf D → Type 0
   NoRoomOnlyWhereThereIsNone w =
       (device : D) (events : List Event) (came : List Came) (new : HartsOf D) (history : List (EventOf Call Outside))

@@ -19,7 +19,7 @@ unreserved_desk d = record d { lent = on_the_way d.lent; lender = None }
 abbrev pub unreserved : World → World
 unreserved w = record w { desks = λ h. unreserved_desk (w.desks h) }
 
--- what a call is told of a step on the tree that it takes in this world, by the mark of an operation of hart h
+-- what a call hears of a step on the tree that it takes in this world, by the mark of an operation of hart h
 abbrev pub told_by : ℕ → Option Mark → World → Option Deed
 told_by h None w = None
 told_by h (Some (Makes v)) w = (made_by w.all h (new_id w) (w.harts h).walk v).told
@@ -29,15 +29,16 @@ told_by h (Some Fills) w = None
 told_by h (Some Mends) w = None
 told_by h (Some (Spoils s)) w = None
 
--- an operation with its answer; for the proof, its mark, which says what it does to the tree, and what its call is told of that
+-- an operation with its answer; for the proof, its mark, which says what it does to the tree, and what its call hears
+-- of that
 pub record Operation : Type 0 where
   pub op : Op
   pub answer : Answer op
   pub mark : Option Mark
   pub told : Option Deed
 
--- Hart h makes this operation, where it may be made, at an answer from outside that may be given: it leads from t to u, but for what starts
--- reserve.
+-- Hart h makes this operation, when it may be made, at an answer from outside that may be given: it leads from t to
+-- u, but for what starts reserve.
 pub record IsStep (t : World) (h : ℕ) (e : Operation) (u : World) : Type 0 where
   pub before : World
   pub after : World
@@ -64,8 +65,8 @@ IsRunOf (Do op m k) (e ∷ es) r =
 abbrev pub HasWanted : List Operation → Full → Type 0
 HasWanted es room = (e : Operation) × In e es × (wanted e.op e.answer ≡ Some room)
 
--- A whole call's operations: they are a run of its program, which ends with this reply; and where that is that there is no room, one of
--- them wanted it.
+-- A whole call's operations: they are a run of its program, which ends with this reply. If that is that there is no
+-- room, one of them wanted it.
 pub record IsRunOfCall (call : Call) (es : List Operation) (reply : Reply) : Type 0 where
   pub runs : IsRunOf (program call) es reply
   pub wants : (room : Full) → reply.answer ≡ answers.Full room → HasWanted es room

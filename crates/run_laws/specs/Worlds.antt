@@ -5,8 +5,8 @@ use Rattle.run_laws.specs.Vocabulary.{sizes_of, Reply, Call, TracedCall, Theory,
 use Rattle.run_laws.specs.Laws.{BeginsRun, RefinesWholeInodes, operations_of}
 use Rattle.run_laws.specs.WholeInodes.{IsRunOfCall, Operation, lowered_inode_calls}
 
--- these operations are a run of the call's program, which ends with this reply, and one of them wanted what that says there is none of; or
--- they begin one, where it has none yet
+-- These operations are a run of the call's program, which ends with this reply. If the reply says that there is none
+-- of a thing, one of them wanted it. If there is no reply yet, they begin a run.
 abbrev pub RunsTo : Call → List Operation → Option (ℕ × Reply) → Type 0
 RunsTo call es (Some r) = IsRunOfCall call es r.1
 RunsTo call es None = BeginsRun call es
@@ -20,9 +20,8 @@ module _ (disk : List (List ℕ)) (failures : ℕ) (history : List (EventOf Call
   IsRun c = RunsTo c.call (operations_of (sizes_of disk) (run inodes history (fresh inodes (first disk failures))) c.start) c.finished
 
 module _ {D : Type 0} (contents : D → List (List ℕ)) (failures : D → ℕ) where
-  -- Each history of a run of this world, where it is as a mount left it, is a run of the machine of whole inodes; and each call of the
-  -- trace,
-  -- with its reply, is a run of its program there.
+  -- If this world is as a mount left it, each history of a run is a run of the machine of whole inodes. Each call of
+  -- the trace, with its reply, is a run of its program there.
   abbrev pub WorldsRefineWholeInodes : WorldOf D → Type 0
   WorldsRefineWholeInodes w =
       (device : D) (events : List Event) (came : List Came) (new : HartsOf D) (history : List (EventOf Call Outside))
