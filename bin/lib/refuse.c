@@ -1,5 +1,5 @@
 /* Loaded before a program's C library: refuses the allocation whose number, counted from 1, REFUSED names, or as many in a row from it on
- * as TIMES says. Where MARKED is set those alone count that are asked for behind a line "call" that the program writes, up to the next
+ * as TIMES says. If MARKED is set, only those count that are asked for after a line "call" that the program writes, up to the next
  * line "done". As the program exits, the file that COUNTED names, if any, is given how many were asked for, and how many refused. It
  * serves bin/short-memory alone. */
 #define _GNU_SOURCE

@@ -1,8 +1,8 @@
 # shellcheck shell=sh
 # Sourced by bin/gate-times and bin/test: what the checks of a gate that runs take. Times are looked up once a second, so up to a second of each check is lost.
 
-# A line for each check that runs now: its process with the tick at which it began, the crate, what of it is checked, and its processor time in ticks, with
-# that of the processes that it has begun.
+# A line for each check that runs: its process with the tick at which it began, the crate, what of it is checked, and its processor time. The time is in
+# ticks, with that of the processes that it has begun.
 look() {
   for process in $(pgrep -s 0 -f 'bin/rattle (build|check) '); do
     words=$(tr '\0' ' ' <"/proc/$process/cmdline") && place=$(readlink "/proc/$process/cwd") &&
